@@ -166,10 +166,6 @@ Matches p Other = IsNotBegun p.phase
 pub not_both : (b : Bool) → b ≡ true → b ≡ false → ⊥
 not_both b e f = cc
 
-same_phase : (p q : Phase) (sent so_far : ℕ) → p ≡ Class1Polling so_far → q ≡ p
-    → q ≡ Class1Polling sent → sent ≡ so_far
-same_phase p q sent so_far e f g = cc
-
 -- so many of class 1, by the phase
 most : (phase : Phase) (many so_far n : ℕ) → OneMore phase many → phase ≡ Class1Polling so_far
     → so_far ≤ n

@@ -14,7 +14,6 @@ use Rattle.link.specs.Saved.{bit_number, bit_from, service_numbers, link_numbers
 use Rattle.link.specs.Saved.{command_service, service_from, held_with, held_missed, link_from}
 use Rattle.link.specs.Saved.{FitsSavedCommand, FitsSavedService, FitsSavedLink, LinkReadsBack}
 use Rattle.link.specs.Saved.{FitsSavedStation, flags_numbers, flags_from, station_by}
-use Rattle.link.specs.Saved.{StationReadsBack}
 use Rattle.link.specs.Saved.{no_command_numbers, lines_of}
 
 pub bit_back : (b : Bool) → bit_from (bit_number b) ≡ Some b
@@ -69,10 +68,6 @@ bare_back : (s : StationState) → s.address < 65536
 bare_back s lt =
     let on : nat_lt s.address 65536 ≡ true = grind arith in
     rw (bit_back s.acd, bit_back s.dfc, bit_back s.session.has_gap, on) refl
-
-pub station_back : (s : StationState) → FitsSavedStation s → StationReadsBack s
-station_back s fits =
-    rw (bare_back s fits.address, link_back s.link fits.link) refl
 
 pub first_line : (s : StationState) (rest all behind : List (List ℕ)) (flags : List ℕ)
     → all ≡ flags_numbers s ∷ link_numbers s.link ∷ rest

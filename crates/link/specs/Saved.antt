@@ -149,11 +149,6 @@ pub record FitsSavedStation (s : StationState) : Type 0 where
   pub address : s.address < 65536
   pub link : FitsSavedLink s.link
 
--- the station that its first two lines say is the station
-abbrev pub StationReadsBack : StationState → Type 0
-StationReadsBack s =
-    station_by (flags_from (flags_numbers s)) (link_from (link_numbers s.link)) ≡ Some s
-
 -- no command of the station is kept here
 abbrev pub no_command_numbers : List ℕ
 no_command_numbers = 0 ∷ []
