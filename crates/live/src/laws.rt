@@ -21,6 +21,11 @@ ghost use Rattle.live.specs.Passed.{centre_in, centre_out, opened_in, accepted_i
 ghost use Rattle.live.specs.Passed.{taken_of, example_log, example_line};
 ghost use Rattle.live.specs.Late.{dropped_of, CountsLate};
 ghost use Rattle.live.specs.Walls.{is_wall};
+ghost use Rattle.live.specs.Redial.{Redial, is_due, settled, known_by};
+ghost use Rattle.live.specs.declared.redial.Dialled.TheVariants.{Reached, Failed};
+ghost use Rattle.live.specs.declared.ends.Got.TheVariants.{Octets};
+ghost use Rattle.live.specs.declared.ends.Got.TheVariants as ended;
+ghost use Rattle.live.specs.declared.ends.Presence.TheVariants.{There, Away, Receiving};
 ghost use Rattle.live.specs.OctetStreams.{IsNew};
 ghost use Rattle.live.specs.declared.timing.WrittenRequest.{WrittenRequest};
 
@@ -247,6 +252,25 @@ pub fn what_is_noted_is_noted_to_the_end()
 pub fn late_octets_are_those_that_were_dropped()
     ensures { (start end : LiveEnds) → start.late ≡ 0 → IsNew start.line → LiveRun start end →
         CountsLate end }
+{}
+
+/// When a stream that is away is tried, by literal numbers: at once, then a second after the last
+/// try began, and not while one goes on. Behind each stream that was reached and gave nothing at
+/// twice the distance, up to 30 s; behind octets a second again.
+pub fn tries_by_example()
+    ensures due { (r : Redial) → (is_due (record r { is_trying = false; tried = None }) 7 ≡ true)
+        × (is_due (record r { is_trying = false; tried = Some 5000; wait = 1000 }) 5999 ≡ false)
+        × (is_due (record r { is_trying = false; tried = Some 5000; wait = 1000 }) 6000 ≡ true) }
+    ensures one { (r : Redial) (now : ℕ) → is_due (record r { is_trying = true }) now ≡ false }
+    ensures reached { (r : Redial) → ((settled (Reached None)
+        (record r { wait = 1000 })).wait ≡ 2000) × ((settled (Reached None)
+        (record r { wait = 16000 })).wait ≡ 30000) × ((settled (Reached None)
+        (record r { wait = 30000 })).wait ≡ 30000) }
+    ensures others { (r : Redial) → ((settled Failed r).wait ≡ r.wait)
+        × ((known_by (Octets 1) r).wait ≡ 1000) }
+    ensures shown { (r : Redial) → ((settled (Reached None) r).presence ≡ There)
+        × ((settled Failed r).presence ≡ Away) × ((known_by (Octets 1) r).presence ≡ Receiving)
+        × ((known_by ended.Gone r).presence ≡ Away) }
 {}
 
 /// What the words of these laws count, by worked examples: the octets and requests of a log, those

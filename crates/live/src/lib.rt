@@ -89,7 +89,7 @@ pub use laws::{
     no_exchange_ends_unread, no_source_hides_another, only_allowed_addresses_connect,
     the_ends_are_looked_at_between_wall_moments, the_log_has_what_passed,
     the_round_goes_on_behind_the_last_event, the_wall_clock_is_given_each_second,
-    the_wall_clock_is_that_of_its_moment, what_is_noted_is_noted_to_the_end,
+    the_wall_clock_is_that_of_its_moment, tries_by_example, what_is_noted_is_noted_to_the_end,
     what_passed_by_example, what_the_centre_sent_is_given_in_time,
 };
 pub use port::Live;
