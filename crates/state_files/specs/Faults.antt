@@ -2,10 +2,10 @@
 use Rattle.state.specs.declared.folder.FolderFault.{FolderFault}
 use Rattle.state.specs.declared.folder.FolderFault.TheVariants.{InUse, Foreign, Device, NoMemory}
 use Rattle.std.specs.IoError.{error_kind}
-use Rattle.std_io.specs.declared.io.error_kind.ErrorKind.{ErrorKind}
-use Rattle.std_io.specs.declared.io.error_kind.ErrorKind.TheVariants.{Unsupported, OutOfMemory}
+use Rattle.std.specs.declared.io.ErrorKind.{ErrorKind}
+use Rattle.std.specs.declared.io.ErrorKind.TheVariants.{Unsupported, OutOfMemory}
 use Rattle.sqlite_std_file.specs.declared.pair.OpenError.{OpenError}
-use Rattle.sqlite_std_file.specs.declared.pair.OpenError.TheVariants as open
+use Rattle.sqlite_std_file.specs.declared.pair.OpenError.TheVariants as openings
 
 -- what no such file system has, and want of memory; all else is the device
 abbrev pub fault_by : ErrorKind → FolderFault
@@ -14,7 +14,7 @@ fault_by OutOfMemory = NoMemory
 fault_by kind = Device
 
 abbrev pub refusal_of : OpenError → FolderFault
-refusal_of open.Busy = InUse
-refusal_of open.HotJournal = Foreign
-refusal_of open.OutOfMemory = NoMemory
-refusal_of (open.Io fault) = fault_by (error_kind fault)
+refusal_of openings.Busy = InUse
+refusal_of openings.HotJournal = Foreign
+refusal_of openings.OutOfMemory = NoMemory
+refusal_of (openings.Io fault) = fault_by (error_kind fault)

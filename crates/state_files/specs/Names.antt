@@ -1,5 +1,5 @@
 -- What is done to the names of files in a directory (this gateway's own profile).
-use Rattle.std.specs.Prelude.{◌≡◌, ℕ, ◌<◌, ◌≤◌, Bool, true, false, List, ◌∷◌, ◌++◌, codes, Option}
+use Rattle.std.specs.Prelude.{◌≡◌, ℕ, ◌<◌, ◌≤◌, Bool, true, false, List, [], ◌∷◌, ◌++◌, codes, Option}
 use Rattle.std.specs.Prelude.{Some, None, Result, Ok, Err}
 use Rattle.std.specs.Fmt.{decimal}
 
@@ -50,17 +50,22 @@ pub data HasMark (before after : Steps) : Type 0 where
 abbrev pub unread_name : ℕ → List ℕ
 unread_name n = codes "unread-" ++ decimal n
 
--- Both files get names with a number from 1 to 9. Unless that is 9, no file had its name.
-pub record IsPutAside (before after : Steps) : Type 0 where
-  pub number : ℕ
-  pub least : 1 ≤ number
-  pub most : number ≤ 9
-  pub between : Steps
-  pub free : number < 9 → (earlier : Steps)
-      × (between ≡ noted earlier (Sought (unread_name number) (Some false)))
-  pub first : Bool
-  pub second : Bool
-  pub renamed : after
-      ≡ noted (noted (noted between (Renamed (codes "segments") (unread_name number) (Some first)))
-      (Renamed (codes "segments-wal") (unread_name number ++ codes "-wal") (Some second)))
-      (Synced true)
+-- a file got this name, if it was there
+abbrev pub IsRenamed : (from to : List ℕ) → (before after : Steps) → Type 0
+IsRenamed from to before after =
+    (was_there : Bool) × (after ≡ noted before (Renamed from to (Some was_there)))
+
+-- both files got the names with this number, and then the names were synced
+abbrev pub AreRenamed : (number : ℕ) → (before after : Steps) → Type 0
+AreRenamed n before after =
+    (between then : Steps) × IsRenamed (codes "segments") (unread_name n ++ []) before between
+    × IsRenamed (codes "segments-wal") (unread_name n ++ codes "-wal") between then
+    × (after ≡ noted then (Synced true))
+
+-- Both files got names with a number from 1 to 9. Unless that is 9, no file had its name.
+abbrev pub IsPutAside : (after : Steps) → Type 0
+IsPutAside after =
+    (n : ℕ) × (sought : Steps) × (1 ≤ n) × (n ≤ 9)
+    × (n < 9 → (earlier : Steps)
+    × (sought ≡ noted earlier (Sought (unread_name n) (Some false))))
+    × AreRenamed n sought after

@@ -1,7 +1,7 @@
 //! What the names of files in a directory say of the state there.
-ghost use Rattle.std.specs.Prelude.{◌≡◌, ◌<◌, ◌≤◌, codes, false, true, IfOk, None, Some};
-ghost use Rattle.state_files.specs.Names.{HasMark, IsMarkedAs, IsPutAside, Sought, Steps, Synced};
-ghost use Rattle.state_files.specs.Names.{noted, unread_name};
+ghost use Rattle.std.specs.Prelude.{◌≡◌, ◌<◌, ◌≤◌, ◌++◌, codes, false, true, IfOk, None, Some};
+ghost use Rattle.state_files.specs.Names.{AreRenamed, HasMark, IsMarkedAs, IsPutAside};
+ghost use Rattle.state_files.specs.Names.{IsRenamed, Sought, Steps, Synced, noted, unread_name};
 
 use crate::names::{Names, named};
 use std::alloc::Global;
@@ -109,17 +109,35 @@ impl<N: Names> Marks<N> {
         Ok(MOST_UNREAD)
     }
 
-    /// Renames both files, so that a run begins anew.
-    pub(crate) fn set_aside(&mut self, alloc: Global) -> io::Result<()>
-        ensures aside { IfOk result (λ _. IsPutAside (N.steps self.old.names)
+    /// Gives a file the name with this number, and another word behind it.
+    fn rename_to(&mut self, alloc: Global, from: &str, number: u32, ending: &str) -> io::Result<()>
+        ensures renamed { IfOk result (λ _. IsRenamed from.now
+            (unread_name number ++ ending.now) (N.steps self.old.names)
             (N.steps self.new.names)) }
         ensures mark { self.new.mark ≡ self.old.mark }
     {
-        let number = self.unread_number(alloc)?;
-        let name = named(format!(in alloc; "unread-{number}"))?;
-        self.names.rename("segments", name.as_str())?;
-        let name = named(format!(in alloc; "unread-{number}-wal"))?;
-        self.names.rename("segments-wal", name.as_str())?;
+        let name = named(format!(in alloc; "unread-{number}{ending}"))?;
+        self.names.rename(from, name.as_str())?;
+        Ok(())
+    }
+
+    /// Gives both files the names with this number, and syncs the names.
+    fn rename_both(&mut self, alloc: Global, number: u32) -> io::Result<()>
+        ensures renamed { IfOk result (λ _. AreRenamed number (N.steps self.old.names)
+            (N.steps self.new.names)) }
+        ensures mark { self.new.mark ≡ self.old.mark }
+    {
+        self.rename_to(alloc, "segments", number, "")?;
+        self.rename_to(alloc, "segments-wal", number, "-wal")?;
         self.names.sync()
+    }
+
+    /// Renames both files, so that a run begins anew.
+    pub(crate) fn set_aside(&mut self, alloc: Global) -> io::Result<()>
+        ensures aside { IfOk result (λ _. IsPutAside (N.steps self.new.names)) }
+        ensures mark { self.new.mark ≡ self.old.mark }
+    {
+        let number = self.unread_number(alloc)?;
+        self.rename_both(alloc, number)
     }
 }
