@@ -24,8 +24,8 @@ use Rattle.capture.specs.Captures.{Captured, after_line, after_lines, begun, blo
 use Rattle.capture.specs.Captures.{after_logged, blocks_of_lines, last_packets, line_blocks}
 use Rattle.capture.specs.Recorded.{entry_logged, is_line}
 use Rattle.capture.specs.Texts.{ArePassed, ArePut, AreWritten, IsCaptureFault, IsCaptured}
-use Rattle.capture.specs.Texts.{IsEndFault, IsFirstWrong, IsPartBegun, IsPartFault, IsPartly}
-use Rattle.capture.specs.Texts.{IsReadFault, IsWhole, IsWrongPart, IsWrongRecord, are_lines}
+use Rattle.capture.specs.Texts.{IsEndFault, IsPartBegun, IsPartFault, IsPartly}
+use Rattle.capture.specs.Texts.{IsReadFault, IsWrongPart, IsWrongRecord, are_lines}
 use Rattle.capture.specs.Texts.{ended_blocks, entries_in, file_of, kept_line, kept_lines}
 use Rattle.capture.specs.declared.passing.Passed.TheVariants.{All, Wrong}
 use Rattle.capture.specs.declared.whole.CaptureFault.{CaptureFault}

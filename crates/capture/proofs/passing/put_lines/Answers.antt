@@ -1,9 +1,9 @@
-use Rattle.std.proofs.Common.{◌≡◌, ℕ, ◌∷◌, List, Option, map, ap, refl, subst, sym, ◌∙◌}
+use Rattle.std.proofs.Common.{ℕ, ◌∷◌, List, Option, map, ap, refl, subst, sym, ◌∙◌}
 use Rattle.std.specs.Borrow.{Bor}
 use Rattle.std.specs.Option.{option_copied}
 use Rattle.traces.specs.Fields.{parts_after}
 use Rattle.capture.specs.Texts.{kept_line}
-use Rattle.capture.proofs.WholeLemmas.{PutTo, put_all, put_begins, put_on, put_wrong}
+use Rattle.capture.proofs.WholeLemmas.{PutTo, put_begins, put_on, put_wrong}
 use Rattle.capture.proofs.passing.put_lines.Goals as goal
 
 pub passing-init : goal.passing-init

@@ -1,4 +1,4 @@
-use Rattle.std.proofs.Common.{◌≡◌, ◌++◌, Option, List, ℕ, ap, refl, subst, sym, ◌∙◌}
+use Rattle.std.proofs.Common.{◌++◌, List, ℕ, ap, refl, subst, sym, ◌∙◌}
 use Rattle.std.specs.Option.{option_copied}
 use Rattle.record.proofs.BlockLemmas.{AreOf}
 use Rattle.traces.specs.Blocks.{Gives, Reading}
