@@ -1,6 +1,7 @@
 -- Which octet of an ASDU stands where (IEC 60870-5-101, 7.1 and 7.2.1 to 7.2.6). An octet's place
 -- is the number of octets before it. Nothing here is borrowed from `spelled`.
-use Rattle.std.specs.Prelude.{◌≡◌, ℕ, ◌+◌, ◌*◌, ◌/◌, ◌%◌, ◌<◌, ◌≤◌, nat_le, if◌then◌else◌, List, length}
+use Rattle.std.specs.Prelude.{◌≡◌, ℕ, ◌+◌, ◌*◌, ◌/◌, ◌%◌, ◌<◌, ◌≤◌, nat_le, if◌then◌else◌, List}
+use Rattle.std.specs.Prelude.{length}
 use Rattle.std.specs.Prelude.{slice_index, Some, is_some}
 use Rattle.elements.specs.declared.types.TypeId.{TypeId}
 use Rattle.elements.specs.Types.{row}

@@ -1,5 +1,6 @@
 //! The place of each octet, in the standard's words.
-ghost use Rattle.std.specs.Prelude.{◌≡◌, ◌+◌, ◌*◌, ◌/◌, ◌%◌, ◌^◌, ◌<◌, ◌≤◌, ℕ, List, length, slice_get, slice_index};
+ghost use Rattle.std.specs.Prelude.{◌≡◌, ◌+◌, ◌*◌, ◌/◌, ◌%◌, ◌^◌, ◌<◌, ◌≤◌, ℕ, List, length};
+ghost use Rattle.std.specs.Prelude.{slice_get, slice_index};
 ghost use Rattle.std.specs.Prelude.{if◌then◌else◌, true, false, Some, None};
 ghost use Rattle.elements.specs.Octets.{AreOctets};
 ghost use Rattle.elements.specs.Types.{row, type_of};
@@ -9,8 +10,8 @@ ghost use Rattle.asdu.specs.declared.sizes.CauseSize.TheVariants as causes;
 ghost use Rattle.asdu.specs.Asdu.{AsduValue, Info};
 ghost use Rattle.asdu.specs.Layout.{OfEachAsdu, common_address_at, common_address_place};
 ghost use Rattle.asdu.specs.Layout.{objects_place, address_octets, content_octets};
-ghost use Rattle.asdu.specs.Layout.{StandsApart, StandsInSequence, HaveOneHead, IsSameIn, IsLongEnough};
-ghost use Rattle.asdu.specs.Layout.{length_by, object_address_at};
+ghost use Rattle.asdu.specs.Layout.{StandsApart, StandsInSequence, HaveOneHead, IsSameIn};
+ghost use Rattle.asdu.specs.Layout.{IsLongEnough, length_by, object_address_at};
 ghost use Rattle.std.specs.List.{AllByRecursion};
 ghost use Rattle.asdu.specs.declared.sizes.Sizes.{Sizes};
 ghost use Rattle.asdu.specs.Translation.{report_pieces};
@@ -62,8 +63,8 @@ pub fn other_sizes_keep_the_asdu()
     ensures { (s : Sizes) (u : AsduValue) → IsSameIn s u (carried s u) }
 {}
 
-/// Which refusal octets get (this gateway's own numbers): 1 to 5, each where none before it applies,
-/// whatever the type, the sizes and the octets.
+/// Octets get the first refusal that applies (this gateway's own numbers, 1 to 5), whatever the
+/// type, the sizes and the octets.
 pub fn refusals_are_the_first_that_applies()
     ensures short { (s : Sizes) (xs : List ℕ) →
         length xs < objects_place s.cause s.ca + address_octets s.ioa → refusal s xs ≡ Some 1 }
