@@ -43,13 +43,13 @@ use Rattle.asdu.proofs.Reports.{pieces_are}
 
 -- ---- Sizes
 
-place-is : (c : CauseSize) (a : CaSize) → 2 + cause_len c + ca_len a ≡ objects_place c a
+pub place-is : (c : CauseSize) (a : CaSize) → 2 + cause_len c + ca_len a ≡ objects_place c a
 place-is causes.One cas.One = refl
 place-is causes.One cas.Two = refl
 place-is causes.Two cas.One = refl
 place-is causes.Two cas.Two = refl
 
-width-is : (w : IoaSize) → ioa_len w ≡ address_octets w
+pub width-is : (w : IoaSize) → ioa_len w ≡ address_octets w
 width-is ioas.One = refl
 width-is ioas.Two = refl
 width-is ioas.Three = refl
@@ -76,7 +76,7 @@ three-is : (place : ℕ) (xs : List ℕ)
 three-is place xs =
     omega (arith, first-is place xs, octet-is place 1 xs, octet-is place 2 xs)
 
-address-is : (w : IoaSize) (place : ℕ) (xs : List ℕ)
+pub address-is : (w : IoaSize) (place : ℕ) (xs : List ℕ)
     → object_address_at w place xs ≡ little_number (ioa_len w) (drop place xs)
 address-is ioas.One place xs = one-is place xs
 address-is ioas.Two place xs = two-is place xs

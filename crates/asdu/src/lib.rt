@@ -36,6 +36,7 @@ pub use laws::{
 };
 pub use layout::{
     octets_stand_where_the_standard_has_them, other_sizes_keep_the_asdu, pieces_keep_the_head,
+    refusals_are_the_first_that_applies,
 };
 pub use objects::{Object, Objects};
 pub use reading::{head, read};
