@@ -12,7 +12,7 @@ use Rattle.link.specs.declared.answer.Answer.{Answer}
 use Rattle.link.specs.declared.answer.Answer.TheVariants as answer
 use Rattle.link.specs.Exchanges.{Exchange, answer_to}
 use Rattle.link.specs.Delivery.{learnt, learnt_by, commands, first_sending, pending_by}
-use Rattle.gateway.specs.Works.{Works, logged_silent}
+use Rattle.gateway.specs.Works.{Works, unless_silent_works}
 use Rattle.delivery.specs.Commands.{LineStep, Begun, Confirmed, Busy, Lost, said_of, missed_by}
 use Rattle.delivery.specs.Commands.{goes_down, steps_at, steps_in, confirmed_by, steps_logged}
 use Rattle.delivery.specs.Commands.{sent_to}
@@ -87,7 +87,8 @@ confirmed_learnt s a missed pending (x ∷ xs) =
 
 -- what is still to be logged confirms nothing, and sends nothing
 pub confirmed_alike : (k : ℕ) (o : Option ℕ) (w : Works)
-    → confirmed_by (steps_logged k w.history) ≡ confirmed_by (steps_logged k (logged_silent o w))
+    → confirmed_by (steps_logged k w.history)
+    ≡ confirmed_by (steps_logged k (unless_silent_works o w).history)
 confirmed_alike k None w = refl
 confirmed_alike k (Some j) w = go (k == j)
   where
@@ -99,6 +100,6 @@ confirmed_alike k (Some j) w = go (k == j)
     go false = refl
 
 pub sent_alike : (k : ℕ) (o : Option ℕ) (w : Works) → sent_to k w.history
-    ≡ sent_to k (logged_silent o w)
+    ≡ sent_to k (unless_silent_works o w).history
 sent_alike k None w = refl
 sent_alike k (Some j) w = refl

@@ -16,7 +16,6 @@ use Rattle.link.specs.declared.answer.Answer.{Answer}
 use Rattle.link.specs.declared.answer.Answer.TheVariants as answer
 use Rattle.link.specs.declared.outcome.Outcome.{Outcome}
 use Rattle.link.specs.declared.outcome.Outcome.TheVariants as outcome
-use Rattle.link.specs.declared.procedure.Link.TheVariants.{Down}
 use Rattle.link.specs.Exchanges.{Exchange, LineExchange, OpenExchange, Exchanges, all_of, answer_to}
 use Rattle.link.specs.Exchanges.{view, views, with_station}
 use Rattle.link.specs.declared.settings.LinkSettings.{LinkSettings}

@@ -1,13 +1,15 @@
 -- What the works of the course log of commands.
 use Rattle.std.proofs.Common.{◌≡◌, ℕ, Bool, true, false, List, [], ◌∷◌, Option, Some, None, refl}
 use Rattle.std.proofs.Common.{◌∙◌, if◌then◌else◌}
-use Rattle.command.specs.State.{State, has_answer_place, offered, first_answer}
+use Rattle.arrayvec.specs.ArrayVec.{ArrayVec}
+use Rattle.apci.specs.declared.apdu.Apdu.TheVariants.{I}
+use Rattle.command.specs.State.{State, has_answer_place, first_answer}
 use Rattle.command.specs.Judging.{judged}
 use Rattle.command.specs.History.{Judged, Offered, Answered, Ended, History}
-use Rattle.command.specs.Calls.{Call, Judge, Own, SendOwn, Run, after_call, after_answer}
+use Rattle.command.specs.Calls.{Call, Judge, Own, Run, after_call, after_answer}
 use Rattle.gateway.specs.Reports.{Setup}
-use Rattle.gateway.specs.Serial.{kept_until, listed}
-use Rattle.gateway.specs.Works.{Works, tasks_of, logged, logged_kept, logged_judged}
+use Rattle.gateway.specs.Serial.{listed}
+use Rattle.gateway.specs.Works.{Works, tasks_of, kept_own, received_works, answered_works}
 use Rattle.delivery.specs.Commands.{LineStep, last_sent, steps_logged, sent_to, judged_in}
 use Rattle.delivery.specs.Joined.{mirrored_in}
 use Rattle.gateway.proofs.Waiting.{AllFitLine, AnswersStay, IsFitCall, call_fits}
@@ -51,26 +53,24 @@ judged_ignore = record {
       λ h. refl;
 }
 
-pub keeping : {X : Type 0} (F : History → X) → Ignores F
-    → (xs : List (List ℕ)) (s : State) (h : History)
-    → F (logged_kept xs s h) ≡ F h
-keeping {X} F i [] s h = refl
-keeping {X} F i (x ∷ xs) s h = go (has_answer_place s)
-    (keeping F i xs (offered x s) (Offered x (has_answer_place s) ∷ h))
+pub keeping : {X : Type 0} (F : History → X) → Ignores F → (xs : List (List ℕ)) (r : Run)
+    → F (kept_own xs r).history ≡ F r.history
+keeping {X} F i [] r = refl
+keeping {X} F i (x ∷ xs) r = go (has_answer_place r.state) (keeping F i xs next)
   where
-    one : F (Offered x (has_answer_place s) ∷ h) ≡ F h
-    one = i.kept x (has_answer_place s) h
+    next : Run
+    next = after_call (Own x) r
 
-    go : (b : Bool) → F (logged_kept xs (offered x s) (Offered x (has_answer_place s) ∷ h))
-        ≡ F (Offered x (has_answer_place s) ∷ h) →
-        F (if b then logged_kept xs (offered x s) (Offered x (has_answer_place s) ∷ h)
-        else Offered x
-        (has_answer_place s) ∷ h) ≡ F h
+    one : F next.history ≡ F r.history
+    one = i.kept x (has_answer_place r.state) r.history
+
+    go : (b : Bool) → F (kept_own xs next).history ≡ F next.history
+        → F (if b then kept_own xs next else next).history ≡ F r.history
     go true ih = ih ∙ one
     go false ih = one
 
-pub sending_own : {X : Type 0} (F : History → X) → Ignores F → (w : Works) → F (logged SendOwn w)
-    ≡ F w.history
+pub sending_own : {X : Type 0} (F : History → X) → Ignores F → (w : Works)
+    → F (answered_works w).history ≡ F w.history
 sending_own {X} F i w = go (first_answer w.serial.commands.answers)
   where
     go : (o : Option (List ℕ)) → F (after_answer o (tasks_of w)).history ≡ F w.history
@@ -78,12 +78,12 @@ sending_own {X} F i w = go (first_answer w.serial.commands.answers)
     go (Some octets) = i.answered octets w.history
 
 pub judging : {X : Type 0} (F : History → X) → Ignores F
-    → (xs : List ℕ) (now : ℕ) (wall : Option ℕ) (w : Works)
-    → F (logged_judged xs now wall w)
-    ≡ F (Judged now wall xs (judged xs now wall w.serial.commands).0
-    ∷ w.history)
-judging {X} F i xs now wall w = keeping F i (listed (judged xs now wall w.serial.commands).0)
-    (judged xs now wall w.serial.commands).1 (logged (Judge xs now wall) w)
+    → (ns nr : ℕ) (asdu : ArrayVec ℕ) (now : ℕ) (wall : Option ℕ) (w : Works)
+    → F (received_works (I ns nr asdu) now wall w).history
+    ≡ F (Judged now wall asdu.items (judged asdu.items now wall w.serial.commands).0 ∷ w.history)
+judging {X} F i ns nr asdu now wall w =
+    keeping F i (listed (judged asdu.items now wall w.serial.commands).0)
+    (after_call (Judge asdu.items now wall) (tasks_of w))
 
 -- What waits fits the line.
 
@@ -95,15 +95,18 @@ pub one_fits : (stay : AnswersStay) (p : Setup) (call : Call) (r : Run) → IsFi
     → WaitsFit p (after_call call r).state
 one_fits stay p call r h k = call_fits stay p.link.size call r h k
 
-pub kept_fit : (stay : AnswersStay) (p : Setup) (xs : List (List ℕ)) (s : State) → WaitsFit p s
-    → WaitsFit p (kept_until xs s)
-kept_fit stay p [] s h = h
-kept_fit stay p (x ∷ xs) s h = go (has_answer_place s) (kept_fit stay p xs (offered x s) one)
+pub kept_fit : (stay : AnswersStay) (p : Setup) (xs : List (List ℕ)) (r : Run) → WaitsFit p r.state
+    → WaitsFit p (kept_own xs r).state
+kept_fit stay p [] r h = h
+kept_fit stay p (x ∷ xs) r h = go (has_answer_place r.state) (kept_fit stay p xs next one)
   where
-    one : WaitsFit p (offered x s)
-    one = one_fits stay p (Own x) (record { state = s; history = [] }) tt h
+    next : Run
+    next = after_call (Own x) r
 
-    go : (b : Bool) → WaitsFit p (kept_until xs (offered x s))
-        → WaitsFit p (if b then kept_until xs (offered x s) else offered x s)
+    one : WaitsFit p next.state
+    one = one_fits stay p (Own x) r tt h
+
+    go : (b : Bool) → WaitsFit p (kept_own xs next).state
+        → WaitsFit p (if b then kept_own xs next else next).state
     go true ih = ih
     go false ih = one

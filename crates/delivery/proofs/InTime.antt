@@ -19,8 +19,7 @@ use Rattle.command.specs.Laws.{AfterEachDue}
 use Rattle.command.specs.Selections.{IsInTime}
 use Rattle.gateway.specs.Log.{Log, latest}
 use Rattle.gateway.specs.Reports.{Setup}
-use Rattle.gateway.specs.Serial.{unless_silent}
-use Rattle.gateway.specs.Works.{logged_silent, settled_works, unasked_works}
+use Rattle.gateway.specs.Works.{tasks_of, unless_silent_works, settled_works, unasked_works}
 use Rattle.gateway.specs.Course.{Course, room_in, Runs}
 use Rattle.gateway.proofs.Called.{IsCalled, IsAt, called_more, silence, all_so, all_made}
 use Rattle.delivery.specs.Selections.{EndInTime, AreAt, LogsAtMoments}
@@ -44,11 +43,7 @@ pub end_in_time : (p : Setup) → TimeLaw → (log : Log) (c : Course) → Runs 
     → EndInTime p log c
 end_in_time p law log c r due xs =
     let at : ℕ = latest log in
-    let quiet : Run = record {
-      state = (unless_silent c.works.serial.silent c.works.serial).commands;
-      history =
-          logged_silent c.works.serial.silent c.works;
-    } in
+    let quiet : Run = tasks_of (unless_silent_works c.works.serial.silent c.works) in
     subst
     (λ (b : Bool). AllByRecursion (IsInTime p.sizes p.stations p.select_ms p.max_age_ms (latest log)
     (if b then unasked_works (latest log) (room_in p log c) (settled_works (latest log) c.works)

@@ -33,7 +33,8 @@ use Rattle.gateway.specs.Traffic.{ActsRightly}
 use Rattle.gateway.specs.Serial.{answer_outcome, is_first_command, next_request, waiting_in}
 use Rattle.gateway.specs.Works.{Works, tasks_of, LearnsOf, octets_works, begun_works, cut_works}
 use Rattle.gateway.specs.Works.{gapless_works, settled_works, unasked_works}
-use Rattle.gateway.specs.Works.{done_works, logged_put, logged_silent, asked_works, restarted_works}
+use Rattle.gateway.specs.Works.{done_works, put_first, unless_silent_works, asked_works}
+use Rattle.gateway.specs.Works.{restarted_works}
 use Rattle.gateway.specs.Course.{Course, with_frames, with_sent, closed_course, with_works, IsLeft}
 use Rattle.gateway.specs.Course.{SendsNext, room_in, Runs}
 use Rattle.delivery.specs.Joined.{IsSetUp, mirrored_in, command_reports, skipped_among, AreValues}
@@ -147,7 +148,7 @@ module _ (laws : LinkLaws) (stay : AnswersStay) (p : Setup) where
         (silent_logged k (due_outcome w.serial.line at) (begun_works at w))
         (subst (λ (o : Option ℕ). IsLogged p.link (address_at p.addresses k)
         (exchanges_at (front_of p.link.size) k e) k
-        (logged_silent o w)) none (j.logged k));
+        (unless_silent_works o w).history) none (j.logged k));
     left = λ due. cc;
     mirrors =
         subst (λ (l : List (ℕ × List ℕ)). AreValues p.sizes (mirrored_in w.history)
@@ -178,9 +179,11 @@ module _ (laws : LinkLaws) (stay : AnswersStay) (p : Setup) where
               (laws.octets p.link p.addresses w.serial.line e octets j.matches);
           logged = λ k. received_logged laws p w.serial.line e j.matches octets k w.history
               (all_logged z)
-              (ap (λ (o : Option ℕ). line_logged k (logged_silent o z)) quiet ∙ learnt.logged k)
+              (ap (λ (o : Option ℕ). line_logged k (unless_silent_works o z).history) quiet
+              ∙ learnt.logged k)
               (subst (λ (o : Option ℕ). IsLogged p.link (address_at p.addresses k)
-              (exchanges_at (front_of p.link.size) k e) k (logged_silent o w)) none (j.logged k));
+              (exchanges_at (front_of p.link.size) k e) k (unless_silent_works o w).history) none
+              (j.logged k));
           left = λ due. quiet;
           mirrors = subst (λ (l : List (ℕ × List ℕ)). AreValues p.sizes (mirrored_in z.history)
               (command_reports p.sizes l))
@@ -203,7 +206,8 @@ module _ (laws : LinkLaws) (stay : AnswersStay) (p : Setup) where
       all_given laws stay p w e (record {
         matches = j.matches;
         logged = λ k. subst (λ (o : Option ℕ). IsLogged p.link (address_at p.addresses k)
-            (exchanges_at (front_of p.link.size) k e) k (logged_silent o w)) none (j.logged k);
+            (exchanges_at (front_of p.link.size) k e) k (unless_silent_works o w).history) none
+            (j.logged k);
         silent = none;
         fits = j.fits;
         mirrored = refl;
@@ -215,7 +219,7 @@ module _ (laws : LinkLaws) (stay : AnswersStay) (p : Setup) where
         logged = λ k. subst (λ (o : Option ℕ). IsLogged p.link (address_at p.addresses k)
             (exchanges_at (front_of p.link.size) k
             (commands_given_up p.link (front_of p.link.size) p.addresses e)) k
-            (logged_silent o (restarted_works w))) (sym g.silent) (g.logged k);
+            (unless_silent_works o (restarted_works w)).history) (sym g.silent) (g.logged k);
         left = λ due. g.silent;
         mirrors = subst (λ (vs : List AsduValue). AreValues p.sizes vs (command_reports p.sizes
             (reports_by (commands_given_up p.link (front_of p.link.size) p.addresses e))))
@@ -302,17 +306,17 @@ module _ (laws : LinkLaws) (stay : AnswersStay) (p : Setup) where
         (fits_line room e w j) j.matches);
     logged = λ k. subst (λ (o : Option ℕ). IsLogged p.link (address_at p.addresses k)
         (exchanges_at (front_of p.link.size) k (begun_by at (Some s) e)) k
-        (logged_silent o (asked_works at room s w)))
+        (unless_silent_works o (asked_works at room s w)).history)
         (sym none)
         (asked_logged laws p w.serial.line e j.matches room (waiting_in w.serial.commands) s at k
-        w.history (logged_put (is_first_command w.serial.line s) s.station w)
+        w.history (put_first (is_first_command w.serial.line s) s.station (tasks_of w)).history
         (fits_line room e w j) is
         (put_logged (is_first_command w.serial.line s) s.station s.request w k
         (λ first. (and_parts (is_command s.request)
         (not (is_held (station_at w.serial.line.stations s.station).link)) first).0) waits)
         (subst (λ (o : Option ℕ). IsLogged p.link (address_at p.addresses k)
         (exchanges_at (front_of p.link.size) k e) k
-        (logged_silent o w)) none (j.logged k)));
+        (unless_silent_works o w).history) none (j.logged k)));
     left = λ due. none;
     mirrors = subst (λ (vs : List AsduValue). AreValues p.sizes vs
         (command_reports p.sizes (reports_by (begun_by at (Some s) e))))

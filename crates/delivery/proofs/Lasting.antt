@@ -32,8 +32,8 @@ use Rattle.command.specs.Selections.{IsInTime}
 use Rattle.gateway.specs.Log.{Log, LineOut, TcpOut, Closed, GapOut, Came, Went, latest}
 use Rattle.gateway.specs.Connections.{present}
 use Rattle.gateway.specs.Reports.{Setup}
-use Rattle.gateway.specs.Serial.{is_first_command, unless_silent}
-use Rattle.gateway.specs.Works.{Works, tasks_of, logged_silent, settled_works}
+use Rattle.gateway.specs.Serial.{is_first_command}
+use Rattle.gateway.specs.Works.{Works, tasks_of, unless_silent_works, settled_works}
 use Rattle.gateway.specs.Course.{Course, Runs}
 use Rattle.delivery.specs.Selections.{StayInTime, is_asked}
 use Rattle.gateway.proofs.Called.{IsAt, IsCalled, IsMade, all_made, taken_fit}
@@ -313,11 +313,7 @@ module _ (p : Setup) (stay : SettingLaw) (some : 0 < p.select_ms) where
   -- the timers leave none that is over
   settles : (at : ℕ) (w : Works) → IsMade p at w → Q at (tasks_of (settled_works at w))
   settles at w made =
-      let quiet : Run = record {
-        state = (unless_silent w.serial.silent w.serial).commands;
-        history =
-            logged_silent w.serial.silent w;
-      } in
+      let quiet : Run = tasks_of (unless_silent_works w.serial.silent w) in
       let c : IsCalled p at quiet = silence p at (IsCalled p at) (called_more p at) w.serial.silent
       w made in
       let same : quiet.state.select_ms ≡ p.select_ms =
@@ -333,7 +329,7 @@ module _ (p : Setup) (stay : SettingLaw) (some : 0 < p.select_ms) where
       let ready : Works = settled_works at r.0.works in
       subst (λ (c : Course). Q at (tasks_of c.works)) (sym r.2.is)
       (put p at (Q at) (lasts at) (is_first_command ready.serial.line r.2.request)
-      r.2.request.station ready
+      r.2.request.station (tasks_of ready)
       (settles at r.0.works (all_made p log r.0 r.1)))
   asked_lasts (Went now (GapOut station session) ∷ log) c r h =
       subst (λ (c : Course). Q (latest log) (tasks_of c.works)) (sym r.2.is)
@@ -344,7 +340,7 @@ module _ (p : Setup) (stay : SettingLaw) (some : 0 < p.select_ms) where
       (receive_all p at (Q at) (lasts at) r.4.frames _ r.1
       (taken_fit p (Went now (TcpOut octets) ∷ log) at r.4.frames r.1 r.4.each)
       (subst (λ (c : Course). Q at (tasks_of c.works)) (sym r.3.put)
-      (send p at (Q at) (lasts at) log r.3.frame at r.0 r.3.next (asked_lasts log r.0 r.2 h))))
+      (send p at (Q at) (lasts at) r.3.frame at r.0 (asked_lasts log r.0 r.2 h))))
   asked_lasts (Went now (Closed cause) ∷ log) c r h =
       let at : ℕ = latest log in
       subst (λ (c : Course). Q at (tasks_of c.works)) (sym r.2)

@@ -17,7 +17,6 @@ use Rattle.link.specs.Exchanges.{view, views, whole_of, with_station}
 use Rattle.link.specs.Procedure.{MaySend, KeepsFrameCountBit, is_held, link_after, after_silence}
 use Rattle.link.specs.Runs.{silence_outcome}
 use Rattle.link.specs.Turns.{station_at}
-use Rattle.link.specs.Carried.{given_up}
 use Rattle.link.specs.Gaps.{gap_at}
 use Rattle.link.specs.declared.outcome.Outcome.{Outcome}
 use Rattle.link.specs.declared.outcome.Outcome.TheVariants as outcome

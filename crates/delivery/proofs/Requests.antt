@@ -16,7 +16,7 @@ use Rattle.link.specs.declared.procedure.Link.{Link}
 use Rattle.link.specs.declared.procedure.Link.TheVariants.{Down, Available, Next, Held}
 use Rattle.link.specs.Exchanges.{Exchange, answer_to}
 use Rattle.link.specs.declared.settings.LinkSettings.{LinkSettings}
-use Rattle.link.specs.Procedure.{MaySend, is_held, is_up, held, after_silence}
+use Rattle.link.specs.Procedure.{MaySend, is_held, is_up, after_silence}
 use Rattle.link.specs.Runs.{silence_outcome}
 use Rattle.link.specs.Primary.{is_command}
 use Rattle.link.specs.Delivery.{pending_by, pending_after, first_sending}

@@ -1,7 +1,7 @@
 -- What the parts of a step make of the works of a course, beside its exchanges.
 use Rattle.std.specs.Prelude.{◌==◌, option_map}
-use Rattle.std.proofs.Common.{◌≡◌, ℕ, zero, suc, ◌≤◌, Bool, true, false, List, [], ◌∷◌, ◌++◌}
-use Rattle.std.proofs.Common.{length, Option, Some, None, refl, ap, sym, subst, ◌∙◌, arith}
+use Rattle.std.proofs.Common.{◌≡◌, ℕ, Bool, true, false, List, [], ◌∷◌, ◌++◌}
+use Rattle.std.proofs.Common.{Option, Some, None, refl, ap, sym, subst, ◌∙◌}
 use Rattle.std.proofs.Common.{if◌then◌else◌}
 use Rattle.std.proofs.lemmas.List.{append-nil}
 use Rattle.asdu.specs.declared.sizes.Sizes.{Sizes}
@@ -16,29 +16,25 @@ use Rattle.arrayvec.specs.ArrayVec.{ArrayVec}
 use Rattle.link.specs.declared.outcome.Outcome.{Outcome}
 use Rattle.link.specs.declared.outcome.Outcome.TheVariants as outcome
 use Rattle.std.specs.Io.Iter.{u64_saturate}
-use Rattle.link.specs.Exchanges.{Exchanges}
 use Rattle.link.specs.Requests.{IsUserData}
 use Rattle.link.specs.Runs.{AreUserData}
 use Rattle.ft12.specs.declared.frame.LinkSize.{LinkSize}
-use Rattle.link.specs.Primary.{Primary, is_command}
-use Rattle.link.specs.declared.settings.LinkSettings.{LinkSettings}
-use Rattle.link.specs.Matching.{Matches, report_in}
+use Rattle.link.specs.Primary.{is_command}
+use Rattle.link.specs.Matching.{report_in}
 use Rattle.command.specs.declared.waiting.Waiting.{Waiting}
-use Rattle.command.specs.State.{State, octets_waiting, oldest, oldest_for, put_out, given_up}
+use Rattle.command.specs.State.{State, octets_waiting, oldest, oldest_for}
 use Rattle.command.specs.State.{is_used, line_of}
-use Rattle.command.specs.Mirrors.{mirrored}
 use Rattle.command.specs.Judging.{judged}
 use Rattle.command.specs.History.{History, Sent}
-use Rattle.command.specs.Calls.{Judge, PutOnLine, Accept, Busy, Lose, Mirror, after_sending}
+use Rattle.command.specs.Calls.{Judge, PutOnLine, Accept, Busy, Lose, Mirror, SendOwn, Run}
+use Rattle.command.specs.Calls.{after_call, after_sending}
 use Rattle.gateway.specs.Objects.{has_objects}
 use Rattle.gateway.specs.Reports.{Setup}
-use Rattle.gateway.specs.Serial.{refusals, reported, with_gap, listed, silent_by, unless_silent}
-use Rattle.gateway.specs.Serial.{put_on_line, waiting_in}
-use Rattle.gateway.specs.Works.{Works, tasks_of, logged, LearnsOf, LearnsReport, is_command_report}
+use Rattle.gateway.specs.Serial.{refusals, reported, with_gap, listed, silent_by, waiting_in}
+use Rattle.gateway.specs.Works.{Works, tasks_of, called, LearnsOf, LearnsReport, is_command_report}
 use Rattle.gateway.specs.Works.{mirrored_works, accepted_works, refused_works, given_up_works}
-use Rattle.gateway.specs.Works.{received_works, answered_works, sent_works, logged_silent}
-use Rattle.gateway.specs.Works.{settled_works}
-use Rattle.gateway.specs.Works.{logged_put}
+use Rattle.gateway.specs.Works.{received_works, answered_works, sent_works, unless_silent_works}
+use Rattle.gateway.specs.Works.{settled_works, put_first}
 use Rattle.delivery.specs.Commands.{Lost, judged_in}
 use Rattle.delivery.specs.Joined.{mirrored_in, command_reports, skipped_among, AreValues}
 use Rattle.delivery.proofs.Skipping.{skip_one, skip_none, lost_skips}
@@ -48,12 +44,11 @@ use Rattle.delivery.proofs.History.{judged_ignore, keeping, sending_own, judging
 use Rattle.delivery.proofs.History.{one_fits, kept_fit}
 use Rattle.delivery.proofs.Exchanging.{logged_by}
 use Rattle.delivery.proofs.Requests.{logged_asked, logged_due}
-use Rattle.delivery.proofs.LinkLaws.{LinkLaws}
 
 -- The history once all is logged
 
 abbrev pub all_logged : Works → History
-all_logged w = logged_silent w.serial.silent w
+all_logged w = (unless_silent_works w.serial.silent w).history
 
 -- where the step is done, nothing is still to be logged
 abbrev pub IsAllLogged : Works → Type 0
@@ -62,7 +57,8 @@ IsAllLogged w = w.is_due ≡ false → w.serial.silent ≡ None
 -- what is still to be logged makes no difference
 pub logged_alike : (k : ℕ) (o : Option ℕ) (w z : Works) → line_logged k z.history
     ≡ line_logged k w.history
-    → line_logged k (logged_silent o z) ≡ line_logged k (logged_silent o w)
+    → line_logged k (unless_silent_works o z).history
+    ≡ line_logged k (unless_silent_works o w).history
 logged_alike k None w z same = same
 logged_alike k (Some j) w z same =
     ap (λ (l : LineLogged).
@@ -75,7 +71,7 @@ logged_alike k (Some j) w z same =
 
 -- what the line's silence logs
 pub silent_logged : (k : ℕ) (o : Outcome) (w : Works)
-    → line_logged k (logged_silent (silent_by o) w)
+    → line_logged k (unless_silent_works (silent_by o) w).history
     ≡ line_logged k (logged_due o w.history)
 silent_logged k outcome.None w = refl
 silent_logged k (outcome.Started station) w = refl
@@ -189,20 +185,19 @@ accepted_learnt stay p station w = record {
 busy_learnt : (stay : AnswersStay) (p : Setup) (station : ℕ) (w : Works)
     → IsLearnt p (outcome.Busy station) w (refused_works station w)
 busy_learnt stay p station w =
-    let s : State = given_up station w.serial.commands in
     let own : List (List ℕ) = refusals station w.serial in
-    let matches : History = logged (Busy station) w in
+    let matches : Run = after_call (Busy station) (tasks_of w) in
     record {
       line = refl;
       silent = refl;
-      logged = λ k. keeping (line_logged k) (line_ignores k) own s matches;
-      fits = λ f. kept_fit stay p own s (one_fits stay p (Busy station) (tasks_of w) tt f);
+      logged = λ k. keeping (line_logged k) (line_ignores k) own matches;
+      fits = λ f. kept_fit stay p own matches (one_fits stay p (Busy station) (tasks_of w) tt f);
       mirrors =
           λ rs h. subst (λ (vs : List AsduValue). AreValues p.sizes vs
           (command_reports p.sizes (rs ++ [])))
-          (sym (keeping mirrored_in mirrors_ignore own s matches))
+          (sym (keeping mirrored_in mirrors_ignore own matches))
           (no_report p.sizes (mirrored_in w.history) rs h);
-      judged = keeping judged_in judged_ignore own s matches;
+      judged = keeping judged_in judged_ignore own matches;
       skips = λ rs h. same_skips p.sizes w.serial.counts.skipped w.serial.counts.skipped rs refl h;
     }
 
@@ -244,7 +239,7 @@ module _ (stay : AnswersStay) (p : Setup) (at : ℕ) (station : ℕ) (asdu : Arr
       ≡ true
       → IsAsdu p.sizes v asdu.items →
       AreValues p.sizes (mirrored_in w.history) (command_reports p.sizes rs)
-      → AreValues p.sizes (mirrored_in (logged (Mirror v at) w))
+      → AreValues p.sizes (mirrored_in (called (Mirror v at) w).history)
       (command_reports p.sizes (rs ++ (station, asdu.items) ∷ []))
   more_mirrored v rs command value h =
       subst (λ (l : List (List ℕ)). AreValues p.sizes (mirrored_in w.history ++ v ∷ []) l)
@@ -258,18 +253,18 @@ module _ (stay : AnswersStay) (p : Setup) (at : ℕ) (station : ℕ) (asdu : Arr
       → is_command_report p.sizes asdu.items ≡ true → IsAsdu p.sizes v asdu.items
       → IsLearnt p said w (mirrored_works at running v pieces w)
   command_report true v pieces command value =
-      let s : State = mirrored v at w.serial.commands in
-      let matches : History = logged (Mirror v at) w in
+      let matches : Run = after_call (Mirror v at) (tasks_of w) in
       record {
         line = refl;
         silent = refl;
-        logged = λ k. keeping (line_logged k) (line_ignores k) pieces s matches;
-        fits = λ f. kept_fit stay p pieces s (one_fits stay p (Mirror v at) (tasks_of w) tt f);
+        logged = λ k. keeping (line_logged k) (line_ignores k) pieces matches;
+        fits = λ f. kept_fit stay p pieces matches (one_fits stay p (Mirror v at) (tasks_of w) tt
+            f);
         mirrors = λ rs h. subst (λ (vs : List AsduValue). AreValues p.sizes vs
             (command_reports p.sizes (rs ++ (station, asdu.items) ∷ [])))
-            (sym (keeping mirrored_in mirrors_ignore pieces s matches))
+            (sym (keeping mirrored_in mirrors_ignore pieces matches))
             (more_mirrored v rs command value h);
-        judged = keeping judged_in judged_ignore pieces s matches;
+        judged = keeping judged_in judged_ignore pieces matches;
         skips = λ rs h. h ∙ ap u64_saturate (sym (skip_none p.sizes station asdu.items rs command));
       }
   command_report false v pieces command value = record {
@@ -329,11 +324,11 @@ received_quiet stay p (I ns nr asdu) now wall w fits =
     let s : State = w.serial.commands in
     record {
       logged = λ k. logged_alike k w.serial.silent w (received_works (I ns nr asdu) now wall w)
-          (judging (line_logged k) (line_ignores k) asdu.items now wall w);
+          (judging (line_logged k) (line_ignores k) ns nr asdu now wall w);
       left = λ h. h;
-      mirrors = judging mirrored_in mirrors_ignore asdu.items now wall w;
+      mirrors = judging mirrored_in mirrors_ignore ns nr asdu now wall w;
       fits = λ f. kept_fit stay p (listed (judged asdu.items now wall s).0)
-          (judged asdu.items now wall s).1
+          (after_call (Judge asdu.items now wall) (tasks_of w))
           (one_fits stay p (Judge asdu.items now wall) (tasks_of w) fits.2 f);
       skips = refl;
     }
@@ -366,7 +361,7 @@ judged_by frame wall = []
 pub received_judged : (frame : Apdu) (now : ℕ) (wall : Option ℕ) (w : Works)
     → judged_in (received_works frame now wall w).history ≡ judged_in w.history
     ++ judged_by frame wall
-received_judged (I ns nr asdu) now wall w = judging judged_in judged_ignore asdu.items now wall w
+received_judged (I ns nr asdu) now wall w = judging judged_in judged_ignore ns nr asdu now wall w
 received_judged (S nr) now wall w = sym (append-nil (judged_in w.history))
 received_judged (U u) now wall w = sym (append-nil (judged_in w.history))
 
@@ -389,7 +384,7 @@ sent_quiet stay p (I ns nr asdu) w = go (has_objects asdu.items)
       left = λ h. h;
       mirrors =
           sending_own mirrored_in mirrors_ignore w;
-      fits = λ f. f;
+      fits = λ f. one_fits stay p SendOwn (tasks_of w) tt f;
       skips = refl;
     }
 sent_quiet stay p (S nr) w = record {
@@ -439,23 +434,24 @@ settled_quiet stay p at w = record {
   skips = count w.serial.silent;
 }
   where
-    answers : (o : Option ℕ) → mirrored_in (logged_silent o w) ≡ mirrored_in w.history
+    answers : (o : Option ℕ) → mirrored_in (unless_silent_works o w).history ≡ mirrored_in w.history
     answers None = refl
     answers (Some station) = refl
 
     fit : (o : Option ℕ) → WaitsFit p w.serial.commands
-        → WaitsFit p (unless_silent o w.serial).commands
+        → WaitsFit p (unless_silent_works o w).serial.commands
     fit None f = f
     fit (Some station) f = one_fits stay p (Lose station) (tasks_of w) tt f
 
-    count : (o : Option ℕ) → (unless_silent o w.serial).counts.skipped ≡ w.serial.counts.skipped
+    count : (o : Option ℕ) → (unless_silent_works o w).serial.counts.skipped
+        ≡ w.serial.counts.skipped
     count None = refl
     count (Some station) = lost_skips (is_used (line_of station w.serial.commands)) w.serial.counts
 
 pub settled_line : (at : ℕ) (w : Works) → (settled_works at w).serial.line ≡ w.serial.line
 settled_line at w = go w.serial.silent
   where
-    go : (o : Option ℕ) → (unless_silent o w.serial).line ≡ w.serial.line
+    go : (o : Option ℕ) → (unless_silent_works o w).serial.line ≡ w.serial.line
     go None = refl
     go (Some station) = refl
 
@@ -463,7 +459,7 @@ pub settled_judged : (at : ℕ) (w : Works) → judged_in (settled_works at w).h
     ≡ judged_in w.history
 settled_judged at w = go w.serial.silent
   where
-    go : (o : Option ℕ) → judged_in (logged_silent o w) ≡ judged_in w.history
+    go : (o : Option ℕ) → judged_in (unless_silent_works o w).history ≡ judged_in w.history
     go None = refl
     go (Some station) = refl
 
@@ -485,7 +481,7 @@ pub put_logged : (first : Bool) (station : ℕ) (request : Asked) (w : Works) (k
     → (first ≡ true → is_command request ≡ true) →
     ((fcb : Bool) (asdu : List ℕ) → request ≡ Counted fcb (Command asdu) → first ≡ true
     → octets_waiting station w.serial.commands ≡ Some asdu) →
-    line_logged k (logged_put first station w)
+    line_logged k (put_first first station (tasks_of w)).history
     ≡ line_logged k (logged_asked first station request w.history)
 put_logged false station request w k command waits = refl
 put_logged true station Status w k command waits = let no : is_command Status ≡ true =
@@ -508,7 +504,7 @@ put_logged true station (Counted fcb (Command asdu)) w k command waits =
         ap (λ (l : List ℕ). line_logged k (Sent station l ∷ w.history)) same
 
 pub put_mirrors : (first : Bool) (station : ℕ) (w : Works)
-    → mirrored_in (logged_put first station w) ≡ mirrored_in w.history
+    → mirrored_in (put_first first station (tasks_of w)).history ≡ mirrored_in w.history
 put_mirrors false station w = refl
 put_mirrors true station w = go (oldest_for station w.serial.commands)
   where
@@ -517,7 +513,8 @@ put_mirrors true station w = go (oldest_for station w.serial.commands)
     go None = refl
     go (Some x) = refl
 
-pub put_judged : (first : Bool) (station : ℕ) (w : Works) → judged_in (logged_put first station w)
+pub put_judged : (first : Bool) (station : ℕ) (w : Works)
+    → judged_in (put_first first station (tasks_of w)).history
     ≡ judged_in w.history
 put_judged false station w = refl
 put_judged true station w = go (oldest_for station w.serial.commands)
@@ -529,14 +526,6 @@ put_judged true station w = go (oldest_for station w.serial.commands)
 
 pub put_fits : (stay : AnswersStay) (p : Setup) (first : Bool) (station : ℕ) (w : Works)
     → WaitsFit p w.serial.commands
-    → WaitsFit p (put_on_line first station w.serial.commands)
+    → WaitsFit p (put_first first station (tasks_of w)).state
 put_fits stay p false station w f = f
-put_fits stay p true station w f = go (oldest_for station w.serial.commands) refl
-    (one_fits stay p (PutOnLine station) (tasks_of w) tt f)
-  where
-    go : (o : Option Waiting) → oldest_for station w.serial.commands ≡ o
-        → WaitsFit p (after_sending o station (tasks_of w)).state
-        → WaitsFit p (put_out o station w.serial.commands)
-    go None e h = h
-    go (Some x) e h =
-        subst (λ (o : Option Waiting). WaitsFit p (put_out o station w.serial.commands)) e h
+put_fits stay p true station w f = one_fits stay p (PutOnLine station) (tasks_of w) tt f

@@ -2,7 +2,7 @@
 -- command with a time tag was then (IEC 60870-5-104, 8: types 58 to 62; how old one may be is this
 -- gateway's own profile).
 use Rattle.std.specs.Io.Iter.{u64_saturate}
-use Rattle.std.specs.Prelude.{◌≡◌, ℕ, ◌+◌, ◌-◌, ◌^◌, ◌≤◌, Bool, List, [], ◌∷◌, ◌++◌, map}
+use Rattle.std.specs.Prelude.{◌≡◌, ℕ, ◌+◌, ◌-◌, ◌≤◌, Bool, List, [], ◌∷◌, ◌++◌, map}
 use Rattle.std.specs.Prelude.{length, get_or, if◌then◌else◌}
 use Rattle.elements.specs.TimeTag.{verdict_of}
 use Rattle.elements.specs.declared.tag.Verdict.TheVariants.{Good}

@@ -14,7 +14,7 @@ use Rattle.gateway.specs.Log.{Log}
 use Rattle.gateway.specs.Objects.{monitor_objects}
 use Rattle.gateway.specs.Reports.{Setup, AreFound, address_at}
 use Rattle.gateway.specs.Reports.{exchanges_of, exchanges_with, reports_in}
-use Rattle.gateway.specs.Works.{is_command_report, logged_silent}
+use Rattle.gateway.specs.Works.{is_command_report, unless_silent_works}
 use Rattle.gateway.specs.Course.{Course, here_of}
 use Rattle.delivery.specs.Commands.{steps_in, steps_logged, confirmed_by, first_sendings, sent_to}
 use Rattle.delivery.specs.Commands.{judged_in, as_judged}
@@ -67,7 +67,7 @@ pub record IsJoined (p : Setup) (log : Log) (c : Course) : Type 0 where
   -- the link busy, is what the exchanges show; and what stands on a line is given up exactly where
   -- they show that its link goes down. What silence takes down is logged in the same step, once the
   -- event's frames are taken; so this is said of the history with what is still to be logged.
-  pub steps : (k : ℕ) → steps_logged k (logged_silent c.works.serial.silent c.works)
+  pub steps : (k : ℕ) → steps_logged k (unless_silent_works c.works.serial.silent c.works).history
       ≡ steps_in p.link (address_at p.addresses k) 0 None (exchanges_with p k log)
   -- once the step is done, nothing is
   pub all_logged : c.works.is_due ≡ false → c.works.serial.silent ≡ None

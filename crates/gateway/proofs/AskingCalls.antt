@@ -1,8 +1,7 @@
 -- The calls by which a request is asked for, and those by which a step ends before an event.
-use Rattle.std.specs.Prelude.{if◌then◌else◌, nat_lt, not, option_map}
+use Rattle.std.specs.Prelude.{if◌then◌else◌, option_map}
 use Rattle.std.proofs.Common.{◌≡◌, ℕ, ◌<◌, Bool, true, false, List, [], ◌∷◌, ◌++◌}
-use Rattle.std.proofs.Common.{length, Option, Some, None, refl, ap, sym, subst, ◌∙◌, arith}
-use Rattle.std.proofs.lemmas.Bool.Decides.{nat_tests}
+use Rattle.std.proofs.Common.{length, Option, Some, None, refl, ap, sym, subst, ◌∙◌}
 use Rattle.ft12.specs.Fronts.{front_of}
 use Rattle.link.specs.declared.settings.LinkSettings.{LinkSettings}
 use Rattle.link.specs.Exchanges.{Exchanges, Sending, begun_by, given_up_at}
@@ -23,8 +22,8 @@ use Rattle.gateway.specs.Log.{Went, LineOut, TcpOut, Closed, GapOut, latest}
 use Rattle.gateway.specs.Connections.{present}
 use Rattle.gateway.specs.Reports.{Setup, exchanges_of}
 use Rattle.gateway.specs.Serial as serial
-use Rattle.gateway.specs.Serial.{Serial, unless_silent, waiting_in, next_request}
-use Rattle.gateway.specs.Works.{Works, settled_works, unasked_works}
+use Rattle.gateway.specs.Serial.{Serial, waiting_in, next_request}
+use Rattle.gateway.specs.Works.{unless_silent_works, Works, settled_works, unasked_works}
 use Rattle.gateway.specs.Course.{Course, room_in, HasTakenAll, IsLeft, Runs}
 use Rattle.gateway.specs.Calling.{is_asking, waiting_by, Asks, EndsStep}
 use Rattle.gateway.proofs.Waiting.{AnswersStay}
@@ -120,7 +119,7 @@ module _ (laws : Laws) (p : Setup) where
   pub settled_line : (at : ℕ) (w : Works) → (settled_works at w).serial.line ≡ w.serial.line
   settled_line at w = by_silent w.serial.silent
     where
-      by_silent : (o : Option ℕ) → (unless_silent o w.serial).line ≡ w.serial.line
+      by_silent : (o : Option ℕ) → (unless_silent_works o w).serial.line ≡ w.serial.line
       by_silent None = refl
       by_silent (Some i) = refl
 

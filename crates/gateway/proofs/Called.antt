@@ -3,7 +3,7 @@
 use Rattle.std.specs.Prelude.{if◌then◌else◌, min}
 use Rattle.std.proofs.Common.{◌≡◌, ℕ, zero, suc, length, ◌≤◌, Bool, true, false, List, [], ◌∷◌}
 use Rattle.std.proofs.Common.{Option, Some, None}
-use Rattle.std.proofs.Common.{refl, ap, sym, ◌∙◌, subst, le_refl, le_trans}
+use Rattle.std.proofs.Common.{refl, ap, sym, subst, le_refl, le_trans}
 use Rattle.std.proofs.Math.Nat.{le-max_left}
 use Rattle.asdu.specs.Asdu.{AsduValue}
 use Rattle.apci.specs.declared.apdu.Apdu.{Apdu}
@@ -14,11 +14,8 @@ use Rattle.link.specs.declared.outcome.Outcome.TheVariants as outcome
 use Rattle.session.specs.declared.kinds.Close.{Close}
 use Rattle.session.specs.declared.kinds.Close.TheVariants.{Grammar, SendNumber, ReceiveNumber}
 use Rattle.session.specs.declared.kinds.Close.TheVariants.{Stopped, Timeout, OwnAnswers, Replaced}
-use Rattle.command.specs.declared.waiting.Waiting.{Waiting}
-use Rattle.command.specs.State as tasks
-use Rattle.command.specs.State.{has_answer_place, first_answer, oldest_for}
+use Rattle.command.specs.State.{has_answer_place}
 use Rattle.command.specs.Judging.{judged}
-use Rattle.command.specs.History.{Offered, History}
 use Rattle.command.specs.Calls as calls
 use Rattle.command.specs.Calls.{Call, Judge, PutOnLine, Accept, Busy, Lose, Mirror, Own, SendOwn}
 use Rattle.command.specs.Calls.{Cut, Due, Run, run, first_run, after_call, after_answer}
@@ -30,16 +27,15 @@ use Rattle.gateway.specs.Log.{Came, Went, LineOut, TcpOut, Closed, GapOut, lates
 use Rattle.gateway.specs.Streams.{AllFit}
 use Rattle.gateway.specs.Connections.{present}
 use Rattle.gateway.specs.Reports.{Setup}
-use Rattle.gateway.specs.Serial.{kept_until, listed, refusals, is_first_command, put_on_line}
-use Rattle.gateway.specs.Serial.{unless_silent}
-use Rattle.gateway.specs.Works.{Works, tasks_of, logged_kept, is_command_report, mirrored_works}
+use Rattle.gateway.specs.Serial.{listed, refusals, is_first_command}
+use Rattle.gateway.specs.Works.{Works, tasks_of, kept_own, is_command_report, mirrored_works}
 use Rattle.gateway.specs.Works.{LearnsReport, LearnsOf, received_works, answered_works}
-use Rattle.gateway.specs.Works.{logged_silent}
-use Rattle.gateway.specs.Works.{settled_works, unasked_works, done_works, logged_put}
+use Rattle.gateway.specs.Works.{unless_silent_works}
+use Rattle.gateway.specs.Works.{settled_works, unasked_works, done_works, put_first}
 use Rattle.gateway.specs.Works.{link_given_up_works, command_given_up_works}
 use Rattle.gateway.specs.Works.{commands_given_up_works_upto, restarted_works}
 use Rattle.link.specs.Carried.{awaits_command}
-use Rattle.gateway.specs.Course.{Course, with_frames, with_sent, IsNext, closed_course, IsLeft}
+use Rattle.gateway.specs.Course.{Course, with_frames, with_sent, closed_course, IsLeft}
 use Rattle.gateway.specs.Course.{AreTaken, room_in, Runs}
 use Rattle.gateway.proofs.Waiting.{IsFitCall}
 
@@ -93,32 +89,17 @@ module _ (p : Setup) (at : ℕ) (Q : Run → Type 0) (one : (call : Call) (r : R
   now_is : (n : ℕ) → n ≤ at → (n ≤ at) × (at ≤ at)
   now_is n h = (h, le_refl at)
 
-  keep : (xs : List (List ℕ)) (s : tasks.State) (h : History)
-      → Q (record { state = s; history = h })
-      → Q (record { state = kept_until xs s; history = logged_kept xs s h })
-  keep [] s h c = c
-  keep (x ∷ xs) s h c =
-      go (has_answer_place s) here (keep xs (tasks.offered x s) (Offered x (has_answer_place s) ∷ h)
-      here)
+  keep : (xs : List (List ℕ)) (r : Run) → Q r → Q (kept_own xs r)
+  keep [] r c = c
+  keep (x ∷ xs) r c = go (has_answer_place r.state) here (keep xs next here)
     where
-      here : Q (record { state = tasks.offered x s; history = Offered x (has_answer_place s) ∷ h })
-      here = one (Own x) (record { state = s; history = h }) (record { when = still; octets = tt })
-          c
+      next : Run
+      next = after_call (Own x) r
 
-      go : (b : Bool)
-          → Q (record { state = tasks.offered x s; history = Offered x (has_answer_place s) ∷ h }) →
-          Q (record {
-            state = kept_until xs (tasks.offered x s);
-            history =
-                logged_kept xs (tasks.offered x s) (Offered x (has_answer_place s) ∷ h);
-          }) →
-          Q (record {
-            state = if b then kept_until xs (tasks.offered x s) else tasks.offered x s;
-            history =
-                if b then logged_kept xs (tasks.offered x s) (Offered x (has_answer_place s) ∷ h)
-                else Offered x
-                (has_answer_place s) ∷ h;
-          })
+      here : Q next
+      here = one (Own x) r (record { when = still; octets = tt }) c
+
+      go : (b : Bool) → Q next → Q (kept_own xs next) → Q (if b then kept_own xs next else next)
       go true here all = all
       go false here all = here
 
@@ -128,8 +109,7 @@ module _ (p : Setup) (at : ℕ) (Q : Run → Type 0) (one : (call : Call) (r : R
       → Q (tasks_of (mirrored_works at running v pieces w))
   mirror false v pieces w c = one (Mirror v at) (tasks_of w) (record { when = now_is; octets = tt })
       c
-  mirror true v pieces w c = keep pieces (after_call (Mirror v at) (tasks_of w)).state
-      (after_call (Mirror v at) (tasks_of w)).history
+  mirror true v pieces w c = keep pieces (after_call (Mirror v at) (tasks_of w))
       (one (Mirror v at) (tasks_of w) (record { when = now_is; octets = tt }) c)
 
   report : (running b : Bool) (asdu : List ℕ) (w z : Works) → LearnsReport p at running b asdu w z
@@ -152,7 +132,7 @@ module _ (p : Setup) (at : ℕ) (Q : Run → Type 0) (one : (call : Call) (r : R
       (one (Lose k) (tasks_of w) (record { when = still; octets = tt }) c)
   learn running (outcome.Busy k) w z is c =
       subst (λ (w : Works). Q (tasks_of w)) (sym is) (keep (refusals k w.serial)
-      (after_call (Busy k) (tasks_of w)).state (after_call (Busy k) (tasks_of w)).history
+      (after_call (Busy k) (tasks_of w))
       (one (Busy k) (tasks_of w) (record { when = still; octets = tt }) c))
   learn running (outcome.Report k asdu) w z is c = report running
       (is_command_report p.sizes asdu.items) asdu.items w z is c
@@ -165,7 +145,7 @@ module _ (p : Setup) (at : ℕ) (Q : Run → Type 0) (one : (call : Call) (r : R
   receive (U u) wall w fits c = c
   receive (I ns nr asdu) wall w fits c =
       let soon : Run = after_call (Judge asdu.items at wall) (tasks_of w) in
-      keep (listed (judged asdu.items at wall w.serial.commands).0) soon.state soon.history
+      keep (listed (judged asdu.items at wall w.serial.commands).0) soon
       (one (Judge asdu.items at wall) (tasks_of w) (record { when = now_is; octets = fits.2 }) c)
 
   pub receive_all : (frames : List Apdu) (wall : Option ℕ) (c : Course) → AllFit frames
@@ -176,42 +156,26 @@ module _ (p : Setup) (at : ℕ) (Q : Run → Type 0) (one : (call : Call) (r : R
       receive frame wall (with_frames p frames at wall c).works fit.0
       (receive_all frames wall c fit.1 made)
 
-  answer : (w : Works) (x : List ℕ) → first_answer w.serial.commands.answers ≡ Some x
-      → Q (tasks_of w)
-      → Q (tasks_of (answered_works w))
-  answer w x is c = subst Q so (one SendOwn (tasks_of w) (record { when = still; octets = tt }) c)
-    where
-      so : after_call SendOwn (tasks_of w) ≡ tasks_of (answered_works w)
-      so = ap (λ (o : Option (List ℕ)). after_answer o (tasks_of w)) is
-          ∙ ap (λ (h : History). let r : Run =
-          record { state = tasks.answered w.serial.commands; history = h } in
-          r) (sym (ap (λ (o : Option (List ℕ)). (after_answer o (tasks_of w)).history) is))
-
-  pub send : (log : Log) (frame : Apdu) (now : ℕ) (c : Course) → IsNext p log frame c
-      → Q (tasks_of c.works)
+  pub send : (frame : Apdu) (now : ℕ) (c : Course) → Q (tasks_of c.works)
       → Q (tasks_of (with_sent frame now c).works)
-  send log (S nr) now c next made = made
-  send log (U u) now c next made = made
-  send log (I ns nr asdu) now c next made = go (has_objects asdu.items) next.own
+  send (S nr) now c made = made
+  send (U u) now c made = made
+  send (I ns nr asdu) now c made = go (has_objects asdu.items)
     where
-      go : (b : Bool) → (b ≡ false → first_answer c.works.serial.commands.answers ≡ Some asdu.items)
-          → Q (tasks_of (if b then c.works else answered_works c.works))
-      go true own = made
-      go false own = answer c.works asdu.items (own refl) made
+      go : (b : Bool) → Q (tasks_of (if b then c.works else answered_works c.works))
+      go true = made
+      go false = one SendOwn (tasks_of c.works) (record { when = still; octets = tt }) made
 
   -- A step is done
 
   pub silence : (o : Option ℕ) (w : Works) → Q (tasks_of w)
-      → Q (record { state = (unless_silent o w.serial).commands; history = logged_silent o w })
+      → Q (tasks_of (unless_silent_works o w))
   silence None w c = c
   silence (Some k) w c = one (Lose k) (tasks_of w) (record { when = still; octets = tt }) c
 
   pub settle : (w : Works) → Q (tasks_of w) → Q (tasks_of (settled_works at w))
-  settle w c = one (Due at) (record {
-    state = (unless_silent w.serial.silent w.serial).commands;
-    history =
-        logged_silent w.serial.silent w;
-  }) (record { when = now_is; octets = tt }) (silence w.serial.silent w c)
+  settle w c = one (Due at) (tasks_of (unless_silent_works w.serial.silent w))
+      (record { when = now_is; octets = tt }) (silence w.serial.silent w c)
 
   pub finish : (room : Bool) (w : Works) → Q (tasks_of w) → Q (tasks_of (done_works at room w))
   finish room w c = go w.is_due
@@ -220,26 +184,9 @@ module _ (p : Setup) (at : ℕ) (Q : Run → Type 0) (one : (call : Call) (r : R
       go true = settle w c
       go false = c
 
-  pub put : (b : Bool) (k : ℕ) (w : Works) → Q (tasks_of w)
-      → Q (record { state = put_on_line b k w.serial.commands; history = logged_put b k w })
-  put false k w c = c
-  put true k w c = subst Q (go (oldest_for k w.serial.commands) refl)
-      (one (PutOnLine k) (tasks_of w) (record { when = still; octets = tt }) c)
-    where
-      go : (o : Option Waiting) → oldest_for k w.serial.commands ≡ o
-          → after_sending o k (tasks_of w) ≡ record {
-            state = tasks.put_out o k w.serial.commands;
-            history =
-                (after_sending o k (tasks_of w)).history;
-          }
-      go None is = refl
-      go (Some x) is =
-          ap (λ (o : Option Waiting).
-          let r : Run = record {
-            state = tasks.put_out o k w.serial.commands;
-            history =
-                (after_sending (Some x) k (tasks_of w)).history;
-          } in r) is
+  pub put : (b : Bool) (k : ℕ) (r : Run) → Q r → Q (put_first b k r)
+  put false k r c = c
+  put true k r c = one (PutOnLine k) r (record { when = still; octets = tt }) c
 
   given_up_one : (k : ℕ) (w : Works) → Q (tasks_of w) → Q (tasks_of (command_given_up_works k w))
   given_up_one k w c = go (awaits_command w.serial.line k)
@@ -325,15 +272,15 @@ module _ (p : Setup) (P : Log → Run → Type 0) (one : (log : Log) (call : Cal
       subst (So new) (sym r.2.is)
       (put p (latest new) (P new) (one new) (is_first_command
       (settled_works (latest log) r.0.works).serial.line r.2.request) r.2.request.station
-      (settled_works (latest log) r.0.works) ready)
+      (tasks_of (settled_works (latest log) r.0.works)) ready)
   all_so start (Went now (GapOut station session) ∷ log) c r =
       subst (So (Went now (GapOut station session) ∷ log)) (sym r.2.is)
       (next (Went now (GapOut station session)) log (tasks_of r.0.works) (all_so start log r.0 r.1))
   all_so start (Went now (TcpOut octets) ∷ log) c r =
       let new : Log = Went now (TcpOut octets) ∷ log in
       let sent : So new r.1 =
-      subst (So new) (sym r.3.put) (send p (latest new) (P new) (one new) log r.3.frame (latest log)
-      r.0 r.3.next
+      subst (So new) (sym r.3.put) (send p (latest new) (P new) (one new) r.3.frame (latest log)
+      r.0
       (next (Went now (TcpOut octets)) log (tasks_of r.0.works) (all_so start log r.0 r.2))) in
       subst (So new) (sym r.4.taken) (receive_all p (latest new) (P new) (one new) r.4.frames _ r.1
       (taken_fit p new (latest new) r.4.frames r.1 r.4.each) sent)

@@ -33,6 +33,7 @@ use Rattle.gateway.specs.Course.{closed_course, IsCause, Runs}
 use Rattle.gateway.specs.Phases.{Phase, Fresh, Taking, Judged, Idle, Crowded, Timed, Asked}
 use Rattle.gateway.specs.Phases.{IsLeftIn, IsPhase, works_in, IsAsked}
 use Rattle.gateway.specs.Agrees.{Presently, Carries, Talks, Agrees, pieces_of, IsAnswered}
+use Rattle.gateway.proofs.Alike.{settled_due}
 use Rattle.gateway.proofs.Talking.{at, kept_talk, talk_cut}
 use Rattle.gateway.proofs.Tied.{fault_cases}
 use Rattle.gateway.proofs.Frames.{nothing_waits}
@@ -314,7 +315,7 @@ closed_does s cause Judged at room other w timely d = absurd (not_judged cause t
 closed_does s cause Fresh at room other w timely d = absurd (not_fresh cause timely)
 
 works_due : (cause : Close) (at : ℕ) (w : Works) → (works_at cause at w).is_due ≡ w.is_due
-works_due Timeout at w = refl
+works_due Timeout at w = settled_due at w
 works_due Grammar at w = refl
 works_due SendNumber at w = refl
 works_due ReceiveNumber at w = refl

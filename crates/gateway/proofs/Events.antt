@@ -28,6 +28,7 @@ use Rattle.gateway.specs.State.{disconnected, connected}
 use Rattle.gateway.specs.Steps.{ReceivesEvent, Begins, MayClose}
 use Rattle.gateway.specs.Agrees.{Talks, Agrees, ArePlain, Tracks, Awaits, Leaves, HasCome, IsClear}
 use Rattle.gateway.specs.Agrees.{IsUndue, pending}
+use Rattle.gateway.proofs.Alike.{settled_serial}
 use Rattle.gateway.proofs.Working.{settled_gap}
 use Rattle.gateway.proofs.Closing.{stands_overfull}
 use Rattle.gateway.proofs.Receiving.{now_idle}
@@ -56,7 +57,8 @@ now_settled p s log a = record {
   talk = a.talk;
   stands = record {
     does = ap (λ m. serial.settled m s.serial) a.clock
-        ∙ ap (serial.settled (latest log)) a.stands.does;
+        ∙ ap (serial.settled (latest log)) a.stands.does
+        ∙ sym (settled_serial (latest log) a.course.works);
     asks = a.stands.asks;
     phase_is = a.stands.phase_is;
     placed = a.stands.placed;

@@ -12,13 +12,13 @@ use Rattle.session.specs.declared.kinds.Close.{Close}
 use Rattle.session.specs.declared.kinds.Close.TheVariants.{Grammar, SendNumber, ReceiveNumber}
 use Rattle.session.specs.declared.kinds.Close.TheVariants.{Stopped, Timeout, OwnAnswers, Replaced}
 use Rattle.command.specs.declared.waiting.Waiting.{Waiting}
-use Rattle.command.specs.State as tasks
-use Rattle.command.specs.State.{has_answer_place, first_answer, oldest_for, is_used, line_of}
+use Rattle.command.specs.State.{has_answer_place, first_answer, oldest_for, line_of}
 use Rattle.command.specs.State.{refusal_of}
 use Rattle.command.specs.Judging.{judged}
 use Rattle.command.specs.Mirrors as mirrors
-use Rattle.command.specs.History.{History, Judged, Refused, Mirrored, Offered, mirror_tag}
-use Rattle.command.specs.Calls.{Run, after_answer, after_sending}
+use Rattle.command.specs.History.{History, Mirrored, Offered, mirror_tag}
+use Rattle.command.specs.Calls.{Run, Judge, Busy, Mirror, Own, after_call, after_answer}
+use Rattle.command.specs.Calls.{after_sending}
 use Rattle.command.specs.CommandLaws.{CommandLaws}
 use Rattle.gateway.specs.Objects.{has_objects}
 use Rattle.gateway.specs.Log.{Log, LineIn, Opened, TcpIn, CutOff, Ticked, WallIs, Restarted, Came}
@@ -26,18 +26,18 @@ use Rattle.gateway.specs.Log.{Went, LineOut, TcpOut, Closed, GapOut, latest}
 use Rattle.gateway.specs.Connections.{present}
 use Rattle.gateway.specs.Reports.{Setup}
 use Rattle.gateway.specs.Serial.{listed, is_first_command, answer_outcome}
-use Rattle.gateway.specs.Works.{Works, octets_works, tasks_of, logged_kept, is_command_report}
+use Rattle.gateway.specs.Works.{Works, octets_works, tasks_of, kept_own, is_command_report}
 use Rattle.gateway.specs.Works.{LearnsReport, LearnsOf, received_works, sent_works, answered_works}
-use Rattle.gateway.specs.Works.{logged_silent, settled_works, unasked_works}
+use Rattle.gateway.specs.Works.{unless_silent_works, settled_works, unasked_works}
 use Rattle.gateway.specs.Works.{done_works}
-use Rattle.gateway.specs.Works.{logged_put, asked_works}
+use Rattle.gateway.specs.Works.{put_first, asked_works}
 use Rattle.gateway.specs.Course.{Course, came_frames, with_frames, closed_course, IsLeft, room_in}
 use Rattle.gateway.specs.Course.{Runs}
 use Rattle.gateway.specs.Frames.{transfers}
 use Rattle.gateway.specs.Given.{due_in, is_passing_on, IsOwed, GivesWhatIsDue, AreHandedOver}
 use Rattle.gateway.specs.Given.{IsGivenOn, GivesAnswer}
 use Rattle.gateway.proofs.Restarting.{kept_over}
-use Rattle.gateway.proofs.Reached.{IsReached, left_reached}
+use Rattle.gateway.proofs.Reached.{left_reached}
 
 -- nothing is left due
 abbrev pub AreGiven : History → Type 0
@@ -46,61 +46,59 @@ AreGiven h = GivesWhatIsDue h × (due_in h ≡ None)
 -- Own answers
 
 -- the answer that an entry leaves due is handed over
-one_kept : (o : Option (List ℕ)) (s : tasks.State) (h : History) → GivesWhatIsDue h → due_in h ≡ o
-    → AreGiven (logged_kept (listed o) s h)
-one_kept None s h g e = (g, e)
-one_kept (Some x) s h g e = by_room (has_answer_place s)
+one_kept : (o : Option (List ℕ)) (r : Run) → GivesWhatIsDue r.history → due_in r.history ≡ o
+    → AreGiven (kept_own (listed o) r).history
+one_kept None r g e = (g, e)
+one_kept (Some x) r g e = by_room (has_answer_place r.state)
   where
-    owed : IsOwed (due_in h) h x
-    owed = subst (λ (o : Option (List ℕ)). IsOwed o h x) (sym e) refl
+    next : Run
+    next = after_call (Own x) r
 
-    by_room : (b : Bool) → AreGiven (if b then Offered x (has_answer_place s) ∷ h
-        else Offered x (has_answer_place s) ∷ h)
+    owed : IsOwed (due_in r.history) r.history x
+    owed = subst (λ (o : Option (List ℕ)). IsOwed o r.history x) (sym e) refl
+
+    by_room : (b : Bool) → AreGiven (if b then next else next).history
     by_room true = ((owed, g), refl)
     by_room false = ((owed, g), refl)
 
 -- so are the pieces of a station's answer
-pieces_kept : (xs : List (List ℕ)) (s : tasks.State) (h : History) → AreGiven h → is_passing_on h
-    ≡ true
-    → AreGiven (logged_kept xs s h)
-pieces_kept [] s h g on = g
-pieces_kept (x ∷ xs) s h g on =
-    by_room (has_answer_place s) refl
-    (λ all. pieces_kept xs (tasks.offered x s) (Offered x (has_answer_place s) ∷ h)
-    ((owed, g.0), refl) (ap (λ (b : Bool). b && is_passing_on h) all ∙ on))
+pieces_kept : (xs : List (List ℕ)) (r : Run) → AreGiven r.history → is_passing_on r.history ≡ true
+    → AreGiven (kept_own xs r).history
+pieces_kept [] r g on = g
+pieces_kept (x ∷ xs) r g on =
+    by_room (has_answer_place r.state) refl
+    (λ all. pieces_kept xs next ((owed, g.0), refl)
+    (ap (λ (b : Bool). b && is_passing_on r.history) all ∙ on))
   where
-    owed : IsOwed (due_in h) h x
-    owed = subst (λ (o : Option (List ℕ)). IsOwed o h x) (sym g.1) on
+    next : Run
+    next = after_call (Own x) r
 
-    by_room : (b : Bool) → has_answer_place s ≡ b
-        → (has_answer_place s ≡ true
-        → AreGiven (logged_kept xs (tasks.offered x s) (Offered x (has_answer_place s) ∷ h)))
-        → AreGiven (if b then logged_kept xs (tasks.offered x s) (Offered x (has_answer_place s)
-        ∷ h)
-        else Offered x
-        (has_answer_place s) ∷ h)
+    owed : IsOwed (due_in r.history) r.history x
+    owed = subst (λ (o : Option (List ℕ)). IsOwed o r.history x) (sym g.1) on
+
+    by_room : (b : Bool) → has_answer_place r.state ≡ b
+        → (has_answer_place r.state ≡ true → AreGiven (kept_own xs next).history)
+        → AreGiven (if b then kept_own xs next else next).history
     by_room true all more = more all
     by_room false all more = ((owed, g.0), refl)
 
 -- and they are handed over one after another
-pub handed_over : (xs : List (List ℕ)) (s : tasks.State) (h : History)
-    → AreHandedOver xs h (logged_kept xs s h)
-handed_over [] s h = refl
-handed_over (x ∷ xs) s h =
-    by_room (has_answer_place s) refl (handed_over xs (tasks.offered x s) (Offered x true ∷ h))
+pub handed_over : (xs : List (List ℕ)) (r : Run)
+    → AreHandedOver xs r.history (kept_own xs r).history
+handed_over [] r = refl
+handed_over (x ∷ xs) r = by_room (has_answer_place r.state) refl (handed_over xs next)
   where
-    by_room : (b : Bool) → has_answer_place s ≡ b
-        → AreHandedOver xs (Offered x true ∷ h)
-        (logged_kept xs (tasks.offered x s) (Offered x true ∷ h))
-        → AreHandedOver (x ∷ xs) h (if b
-        then logged_kept xs (tasks.offered x s) (Offered x (has_answer_place s)
-        ∷ h) else Offered x (has_answer_place s) ∷ h)
+    next : Run
+    next = after_call (Own x) r
+
+    by_room : (b : Bool) → has_answer_place r.state ≡ b
+        → AreHandedOver xs next.history (kept_own xs next).history
+        → AreHandedOver (x ∷ xs) r.history (if b then kept_own xs next else next).history
     by_room true all more =
         inr
-        (subst (λ (b : Bool). AreHandedOver xs (Offered x true ∷ h)
-        (logged_kept xs (tasks.offered x s) (Offered x b
-        ∷ h))) (sym all) more)
-    by_room false none more = inl (ap (λ (b : Bool). Offered x b ∷ h) none)
+        (subst (λ (b : Bool). AreHandedOver xs (Offered x b ∷ r.history) (kept_own xs next).history)
+        all more)
+    by_room false none more = inl (ap (λ (b : Bool). Offered x b ∷ r.history) none)
 
 -- What came of an exchange
 
@@ -109,8 +107,7 @@ learnt_report : (p : Setup) (at : ℕ) (transferring b : Bool) (report : List �
 learnt_report p at true true report w z learns g =
     let v : AsduValue = learns.0 in
     subst (λ (w : Works). AreGiven w.history) (sym learns.5)
-    (pieces_kept learns.2 (mirrors.mirrored v at w.serial.commands) (Mirrored at v ∷ w.history)
-    ((g.1, g.0), refl) refl)
+    (pieces_kept learns.2 (after_call (Mirror v at) (tasks_of w)) ((g.1, g.0), refl) refl)
 learnt_report p at false true report w z learns g =
     subst (λ (w : Works). AreGiven w.history) (sym learns.5) ((g.1, g.0), refl)
 learnt_report p at transferring false report w z learns g =
@@ -126,8 +123,7 @@ learnt p at transferring (outcome.Accepted station) w z learns g =
 learnt p at transferring (outcome.Busy station) w z learns g =
     let o : Option (List ℕ) = refusal_of (line_of station w.serial.commands) in
     subst (λ (w : Works). AreGiven w.history) (sym learns)
-    (one_kept o (tasks.given_up station w.serial.commands) (Refused station o ∷ w.history)
-    (g.1, g.0) refl)
+    (one_kept o (after_call (Busy station) (tasks_of w)) (g.1, g.0) refl)
 learnt p at transferring (outcome.Down station) w z learns g =
     subst (λ (w : Works). AreGiven w.history) (sym learns) ((g.1, g.0), refl)
 learnt p at transferring outcome.None w z learns g =
@@ -144,9 +140,8 @@ learnt p at transferring (outcome.Empty station) w z learns g =
 arrived : (f : Apdu) (now : ℕ) (wall : Option ℕ) (w : Works) → AreGiven w.history
     → AreGiven (received_works f now wall w).history
 arrived (I ns nr asdu) now wall w g =
-    let judgement = judged asdu.items now wall w.serial.commands in
-    one_kept judgement.0 judgement.1 (Judged now wall asdu.items judgement.0 ∷ w.history) (g.1, g.0)
-    refl
+    one_kept (judged asdu.items now wall w.serial.commands).0
+    (after_call (Judge asdu.items now wall) (tasks_of w)) (g.1, g.0) refl
 arrived (S nr) now wall w g = g
 arrived (U u) now wall w g = g
 
@@ -178,7 +173,7 @@ sent (U u) w g = g
 settled : (at : ℕ) (w : Works) → AreGiven w.history → AreGiven (settled_works at w).history
 settled at w g = by_silent w.serial.silent
   where
-    by_silent : (o : Option ℕ) → AreGiven (logged_silent o w)
+    by_silent : (o : Option ℕ) → AreGiven (unless_silent_works o w).history
     by_silent None = g
     by_silent (Some k) = ((g.1, g.0), refl)
 
@@ -191,7 +186,8 @@ done at room w g = by_due w.is_due
     by_due true = settled at w g
     by_due false = g
 
-put : (b : Bool) (k : ℕ) (w : Works) → AreGiven w.history → AreGiven (logged_put b k w)
+put : (b : Bool) (k : ℕ) (w : Works) → AreGiven w.history
+    → AreGiven (put_first b k (tasks_of w)).history
 put false k w g = g
 put true k w g = by_oldest (oldest_for k w.serial.commands)
   where
@@ -288,8 +284,7 @@ report_given p at true report w z of learns tags =
       tagged = learns.4;
       given = subst (λ (u : Works). AreHandedOver pieces (Mirrored at v ∷ w.history) u.history)
           (sym learns.5)
-          (handed_over pieces (mirrors.mirrored v at w.serial.commands)
-          (Mirrored at v ∷ w.history));
+          (handed_over pieces (after_call (Mirror v at) (tasks_of w)));
     }
 
 answer_given : (p : Setup) (at : ℕ) (o : Outcome) (w z : Works) → LearnsOf p at true o w z

@@ -14,14 +14,14 @@ use Rattle.command.specs.State as tasks
 use Rattle.command.specs.State.{line_of, refusal_of}
 use Rattle.command.specs.History.{History}
 use Rattle.command.specs.Mirrors as mirrors
-use Rattle.command.specs.Calls.{Run, Busy, Mirror}
+use Rattle.command.specs.Calls.{Busy, Mirror, after_call}
 use Rattle.gateway.specs.Log.{Log, Restarted, Came, latest}
 use Rattle.gateway.specs.Gaps.{gaps_of, gaps_reported, gap_for}
 use Rattle.gateway.specs.Reports.{Setup}
 use Rattle.gateway.specs.Serial as serial
 use Rattle.gateway.specs.Serial.{Serial, refusals, mirrored}
 use Rattle.gateway.specs.State.{State, with_serial}
-use Rattle.gateway.specs.Works.{tasks_of, Works, has_lacked_place, logged, is_command_report}
+use Rattle.gateway.specs.Works.{tasks_of, Works, has_lacked_place, is_command_report}
 use Rattle.gateway.specs.Works.{mirrored_works}
 use Rattle.gateway.specs.Works.{LearnsReport, accepted_works, given_up_works, refused_works}
 use Rattle.gateway.specs.Works.{LearnsOf, settled_works, unasked_works, done_works}
@@ -31,6 +31,7 @@ use Rattle.command.specs.CommandLaws.{CommandLaws}
 use Rattle.gateway.specs.Steps as steps
 use Rattle.gateway.specs.Steps.{Keeps, Mirrors, Learns}
 use Rattle.gateway.specs.Agrees.{Agrees, ArePlain}
+use Rattle.gateway.proofs.Alike.{refused_serial, mirrored_serial}
 use Rattle.gateway.proofs.Working.{gap_in, kept_overfull, kept_placed, kept_plain}
 use Rattle.gateway.proofs.Reached.{IsReached}
 use Rattle.gateway.proofs.Plain.{no_monitor}
@@ -153,10 +154,10 @@ module _ (p : Setup) (at : ℕ) (s : State) (h : History) (is_due : Bool) (laws 
       record {
         z = refused_works i w;
         learns = refl;
-        serial = ap (λ (x : State). x.serial) e.0;
+        serial = ap (λ (x : State). x.serial) e.0 ∙ sym (refused_serial i w);
         due = refl;
-        full = λ off. kept_overfull own c (logged (Busy i) w) (sym e.1 ∙ off);
-        placed = λ on. kept_placed own c (logged (Busy i) w) (sym e.1 ∙ on);
+        full = λ off. kept_overfull own (after_call (Busy i) (tasks_of w)) (sym e.1 ∙ off);
+        placed = λ on. kept_placed own (after_call (Busy i) (tasks_of w)) (sym e.1 ∙ on);
         gap = λ i. ap (λ (x : State). gap_for i x.serial.gap) e.0 ∙ ap (gap_for i) no_gap;
         plain = subst ArePlain (sym (ap (λ (x : State). x.serial.commands.answers) e.0))
             (kept_plain own c (refusal_plain i (refusal_of (line_of i s.serial.commands)) refl)
@@ -176,10 +177,12 @@ module _ (p : Setup) (at : ℕ) (s : State) (h : History) (is_due : Bool) (laws 
             subst (λ b. LearnsReport p at true b report.items w
             (mirrored_works at true m.v m.pieces w)) (sym of)
             (m.v, m.plain, m.pieces, m.passed, m.tagged, refl);
-        serial = m.after;
+        serial = m.after ∙ sym (mirrored_serial at true m.v m.pieces w);
         due = refl;
-        full = λ off. kept_overfull m.pieces c (logged (Mirror m.v at) w) (sym m.all ∙ off);
-        placed = λ on. kept_placed m.pieces c (logged (Mirror m.v at) w) (sym m.all ∙ on);
+        full = λ off. kept_overfull m.pieces (after_call (Mirror m.v at) (tasks_of w)) (sym m.all
+            ∙ off);
+        placed = λ on. kept_placed m.pieces (after_call (Mirror m.v at) (tasks_of w)) (sym m.all
+            ∙ on);
         gap = λ i. ap (λ (x : Serial). gap_for i x.gap) m.after ∙ ap (gap_for i) no_gap;
         plain = subst ArePlain (sym (ap (λ (x : Serial). x.commands.answers) m.after))
             (kept_plain m.pieces c m.unmonitored (subst ArePlain

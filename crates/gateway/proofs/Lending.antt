@@ -7,8 +7,8 @@ use Rattle.command.specs.declared.waiting.Waiting.{Waiting}
 use Rattle.command.specs.State.{oldest}
 use Rattle.gateway.specs.Log.{Log}
 use Rattle.gateway.specs.Reports.{Setup}
-use Rattle.gateway.specs.Serial.{unless_silent, waiting_in}
-use Rattle.gateway.specs.Works.{Works, settled_works}
+use Rattle.gateway.specs.Serial.{waiting_in}
+use Rattle.gateway.specs.Works.{unless_silent_works, Works, settled_works}
 use Rattle.gateway.specs.Course.{Course, Runs}
 use Rattle.gateway.proofs.Waiting.{AnswersStay, AllFitLine, call_fits, oldest_fits}
 use Rattle.gateway.proofs.Called.{all_so}
@@ -24,7 +24,7 @@ pub settled_waiting : (at : ℕ) (w : Works) → (settled_works at w).serial.com
     ≡ w.serial.commands.waiting
 settled_waiting at w = by_silent w.serial.silent
   where
-    by_silent : (o : Option ℕ) → (unless_silent o w.serial).commands.waiting
+    by_silent : (o : Option ℕ) → (unless_silent_works o w).serial.commands.waiting
         ≡ w.serial.commands.waiting
     by_silent None = refl
     by_silent (Some i) = refl

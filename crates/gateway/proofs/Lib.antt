@@ -8,6 +8,7 @@ pub mod Tied
 pub mod Frames
 pub mod Objects
 pub mod Acknowledging
+pub mod Alike
 pub mod Working
 pub mod Restarting
 pub mod Waiting

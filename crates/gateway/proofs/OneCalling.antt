@@ -1,6 +1,6 @@
 -- A log shows one list of calls.
-use Rattle.std.proofs.Common.{◌≡◌, Bool, true, false, List, [], ◌∷◌, ◌++◌, refl, ap, sym}
-use Rattle.std.proofs.Common.{◌∙◌, subst}
+use Rattle.std.proofs.Common.{◌≡◌, Bool, true, false, List, [], ◌∷◌, ◌++◌, ap, sym}
+use Rattle.std.proofs.Common.{◌∙◌}
 use Rattle.link.specs.Runs.{Call, Next}
 use Rattle.gateway.specs.Log.{Log, LineOut, TcpOut, Closed, GapOut, Came, Went, latest}
 use Rattle.gateway.specs.Reports.{Setup, exchanges_of}

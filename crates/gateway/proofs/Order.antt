@@ -35,7 +35,8 @@ use Rattle.gateway.specs.Course.{IsCause, Runs}
 use Rattle.gateway.specs.Conversation.{KeepsRulesSoFar, KeepsRulesThroughout}
 use Rattle.gateway.specs.Traffic.{HasCause, replaces, GoesOut, ActsRightly}
 use Rattle.gateway.specs.Order.{step_actions, is_request, is_close, is_late, MayFollow, KeepsOrder}
-use Rattle.gateway.proofs.Working.{settled_gap, settled_placed, put_placed}
+use Rattle.gateway.proofs.Alike.{settled_due}
+use Rattle.gateway.proofs.Working.{gap_settled, settled_placed, put_placed}
 
 -- One request
 
@@ -59,7 +60,7 @@ closed_due p Grammar is_open at c = refl
 closed_due p SendNumber is_open at c = refl
 closed_due p ReceiveNumber is_open at c = refl
 closed_due p Stopped is_open at c = refl
-closed_due p Timeout is_open at c = refl
+closed_due p Timeout is_open at c = settled_due at c.works
 closed_due p OwnAnswers is_open at c = refl
 closed_due p Replaced is_open at c = refl
 
@@ -112,7 +113,7 @@ closed_gap p Grammar is_open at c h = h
 closed_gap p SendNumber is_open at c h = h
 closed_gap p ReceiveNumber is_open at c h = h
 closed_gap p Stopped is_open at c h = h
-closed_gap p Timeout is_open at c h = settled_gap at c.works.serial ∙ h
+closed_gap p Timeout is_open at c h = gap_settled at c.works ∙ h
 closed_gap p OwnAnswers is_open at c h = h
 closed_gap p Replaced is_open at c h = h
 
@@ -135,7 +136,7 @@ late_logged p [] c r h = cc
 late_logged p (Came now event ∷ log) c r h = cc
 late_logged p (Went now (LineOut octets) ∷ log) c r h =
     ap (λ (d : Course). d.works.serial.gap) r.2.is
-    ∙ settled_gap (latest log) r.0.works.serial ∙ r.2.logged
+    ∙ gap_settled (latest log) r.0.works ∙ r.2.logged
 late_logged p (Went now (GapOut station session) ∷ log) c r h =
     ap (λ (d : Course). d.works.serial.gap) r.2.is
 late_logged p (Went now (TcpOut octets) ∷ log) c r h =

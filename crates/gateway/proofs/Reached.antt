@@ -1,6 +1,6 @@
 -- Commands of a course are what calls of `command` made them, one after another; so they keep its
 -- rules.
-use Rattle.std.proofs.Common.{◌≡◌, ◌++◌, refl, sym, subst}
+use Rattle.std.proofs.Common.{◌≡◌, ◌++◌, sym, subst}
 use Rattle.command.specs.History.{own_kept, own_sent}
 use Rattle.command.specs.Calls.{Run}
 use Rattle.command.specs.Laws.{IsRun}

@@ -20,6 +20,7 @@ use Rattle.gateway.specs.State.{State, wall_now, with_octets, framed}
 use Rattle.gateway.specs.Course.{Course, here_of, came_frames, with_frame, HasAnswered}
 use Rattle.gateway.specs.Phases.{Phase, Taking, Judged, Idle, IsPast, IsLeftIn, after_frame}
 use Rattle.gateway.specs.Agrees.{IsAt, Agrees, IsClear, IsUndue, pending}
+use Rattle.gateway.proofs.Alike.{received_serial}
 use Rattle.gateway.proofs.Working.{received_placed}
 use Rattle.gateway.proofs.Plain.{received_plain}
 use Rattle.gateway.proofs.Talking.{talk_received, confirmed_by}
@@ -35,7 +36,8 @@ received_stands : (p : Setup) (s : State) (log : Log) (f : Apdu) (c : Course) (k
     → IsAt p log (after_frame kept) (framed f s) (with_frame p f s.moment wall c)
 received_stands p s log f c true wall same place h = record {
   does = ap (serial.judged f s.moment (wall_now s)) h.does
-      ∙ ap (λ x. serial.judged f s.moment x c.works.serial) same;
+      ∙ ap (λ x. serial.judged f s.moment x c.works.serial) same
+      ∙ sym (received_serial f s.moment wall c.works);
   asks = h.asks;
   phase_is = h.phase_is;
   placed =
@@ -47,7 +49,8 @@ received_stands p s log f c true wall same place h = record {
 }
 received_stands p s log f c false wall same place h = record {
   does = ap (serial.judged f s.moment (wall_now s)) h.does
-      ∙ ap (λ x. serial.judged f s.moment x c.works.serial) same;
+      ∙ ap (λ x. serial.judged f s.moment x c.works.serial) same
+      ∙ sym (received_serial f s.moment wall c.works);
   asks = h.asks;
   phase_is = h.phase_is.1;
   placed = tt;

@@ -36,6 +36,7 @@ use Rattle.link.specs.LineLaws.{LineLaws}
 use Rattle.gateway.specs.Traffic.{IsFaithful}
 use Rattle.gateway.specs.State.{State, with_serial, after_request as after_next}
 use Rattle.gateway.specs.Agrees.{Talks, Agrees, ArePlain, Tracks, Leaves, Carries}
+use Rattle.gateway.proofs.Alike.{asked_serial}
 use Rattle.gateway.proofs.Working.{gap_in, settled_placed, put_placed}
 use Rattle.gateway.proofs.Lending.{are_user_data}
 use Rattle.gateway.proofs.Closing.{stands_now}
@@ -176,7 +177,8 @@ module _ (laws : LineLaws) (p : Setup) (s : State) (log : Log) (a : Agrees p s l
         course = d;
         talk = talk;
         stands = record {
-          does = same_asked (Some x);
+          does = same_asked (Some x)
+              ∙ sym (asked_serial at (room_in p log a.course) x ready);
           asks = (
             λ due. cc,
             λ none. subst (λ (z : Serial). IsOut z.line.outstanding) (same_asked (Some x))

@@ -15,13 +15,12 @@ use Rattle.session.specs.declared.kinds.Close.{Close}
 use Rattle.session.specs.declared.kinds.Close.TheVariants.{Grammar, SendNumber, ReceiveNumber}
 use Rattle.session.specs.declared.kinds.Close.TheVariants.{Stopped, Timeout, OwnAnswers, Replaced}
 use Rattle.command.specs.declared.waiting.Waiting.{Waiting}
-use Rattle.command.specs.State as tasks
 use Rattle.command.specs.State.{has_answer_place, first_answer, oldest_for, is_used, line_of}
-use Rattle.command.specs.State.{refusal_of}
 use Rattle.command.specs.Judging.{judged}
 use Rattle.command.specs.Mirrors as mirrors
-use Rattle.command.specs.History.{History, Judged, Refused, GivenUp, Mirrored, Offered}
-use Rattle.command.specs.Calls.{after_answer, after_sending}
+use Rattle.command.specs.History.{History, GivenUp}
+use Rattle.command.specs.Calls.{Run, Judge, Busy, Mirror, Own, after_call, after_answer}
+use Rattle.command.specs.Calls.{after_sending}
 use Rattle.gateway.specs.declared.counts.Tally.{Tally}
 use Rattle.gateway.specs.Objects.{has_objects}
 use Rattle.gateway.specs.Counting.{one_more, one_lost, one_skipped, is_answer_type, counted_by}
@@ -30,11 +29,11 @@ use Rattle.gateway.specs.Log.{Went, LineOut, TcpOut, Closed, GapOut, latest}
 use Rattle.gateway.specs.Connections.{present}
 use Rattle.gateway.specs.Reports.{Setup}
 use Rattle.gateway.specs.Tags.{AreTagged}
-use Rattle.gateway.specs.Serial.{listed, refusals, is_first_command, unless_silent}
-use Rattle.gateway.specs.Works.{Works, tasks_of, logged_kept, is_command_by, is_command_report}
+use Rattle.gateway.specs.Serial.{listed, refusals, is_first_command}
+use Rattle.gateway.specs.Works.{Works, tasks_of, kept_own, is_command_by, is_command_report}
 use Rattle.gateway.specs.Works.{IsPassedOn, mirrored_works, LearnsReport, LearnsOf, received_works}
-use Rattle.gateway.specs.Works.{sent_works, answered_works, logged_silent, settled_works}
-use Rattle.gateway.specs.Works.{unasked_works, done_works, logged_put, asked_works, restarted_works}
+use Rattle.gateway.specs.Works.{sent_works, answered_works, unless_silent_works, settled_works}
+use Rattle.gateway.specs.Works.{unasked_works, done_works, put_first, asked_works, restarted_works}
 use Rattle.gateway.specs.Course.{Course, with_frames, closed_course, IsLeft, room_in, Runs}
 use Rattle.gateway.specs.Line.{done_in}
 use Rattle.gateway.specs.Tallies.{given_up_in, unpassed_in}
@@ -52,60 +51,56 @@ one_saturated n m e = ap one_more e ∙ omega arith
 
 -- Own answers
 
-lost_kept : (xs : List (List ℕ)) (s : tasks.State) (h : History) → given_up_in (logged_kept xs s h)
-    ≡ given_up_in h
-lost_kept [] s h = refl
-lost_kept (x ∷ xs) s h =
-    by_room (has_answer_place s) (lost_kept xs (tasks.offered x s) (Offered x (has_answer_place s)
-    ∷ h))
+lost_kept : (xs : List (List ℕ)) (r : Run) → given_up_in (kept_own xs r).history
+    ≡ given_up_in r.history
+lost_kept [] r = refl
+lost_kept (x ∷ xs) r = by_room (has_answer_place r.state) (lost_kept xs next)
   where
-    by_room : (b : Bool)
-        → given_up_in (logged_kept xs (tasks.offered x s) (Offered x (has_answer_place s) ∷ h))
-        ≡ given_up_in h →
-        given_up_in (if b then logged_kept xs (tasks.offered x s) (Offered x (has_answer_place s)
-        ∷ h)
-        else Offered x
-        (has_answer_place s) ∷ h) ≡ given_up_in h
+    next : Run
+    next = after_call (Own x) r
+
+    by_room : (b : Bool) → given_up_in (kept_own xs next).history ≡ given_up_in r.history
+        → given_up_in (if b then kept_own xs next else next).history ≡ given_up_in r.history
     by_room true e = e
     by_room false e = refl
 
 -- one that is handed over stands behind these
-handed : (x : List ℕ) (xs : List (List ℕ)) (s : tasks.State) (h : History) (b : Bool)
-    → unpassed_in b (logged_kept (x ∷ xs) s h) ≡ unpassed_in true h
-handed x [] s h b = by_room (has_answer_place s)
+handed : (x : List ℕ) (xs : List (List ℕ)) (r : Run) (b : Bool)
+    → unpassed_in b (kept_own (x ∷ xs) r).history ≡ unpassed_in true r.history
+handed x [] r b = by_room (has_answer_place r.state)
   where
-    by_room : (c : Bool) → unpassed_in b (if c then Offered x (has_answer_place s)
-        ∷ h else Offered x (has_answer_place s) ∷ h)
-        ≡ unpassed_in true h
+    next : Run
+    next = after_call (Own x) r
+
+    by_room : (c : Bool) → unpassed_in b (if c then next else next).history
+        ≡ unpassed_in true r.history
     by_room true = refl
     by_room false = refl
-handed x (y ∷ ys) s h b = by_room (has_answer_place s)
-    (handed y ys (tasks.offered x s) (Offered x (has_answer_place s) ∷ h) b)
+handed x (y ∷ ys) r b = by_room (has_answer_place r.state) (handed y ys next b)
   where
+    next : Run
+    next = after_call (Own x) r
+
     by_room : (c : Bool)
-        → unpassed_in b (logged_kept (y ∷ ys) (tasks.offered x s) (Offered x (has_answer_place s)
-        ∷ h))
-        ≡ unpassed_in true h →
-        unpassed_in b (if c then logged_kept (y ∷ ys) (tasks.offered x s)
-        (Offered x (has_answer_place s)
-        ∷ h) else Offered x
-        (has_answer_place s) ∷ h) ≡ unpassed_in true h
+        → unpassed_in b (kept_own (y ∷ ys) next).history ≡ unpassed_in true r.history
+        → unpassed_in b (if c then kept_own (y ∷ ys) next else next).history
+        ≡ unpassed_in true r.history
     by_room true e = e
     by_room false e = refl
 
-unpassed_kept : (xs : List (List ℕ)) (s : tasks.State) (h : History) → unpassed_in true h
-    ≡ unpassed_in false h
-    → unpassed_in false (logged_kept xs s h) ≡ unpassed_in false h
-unpassed_kept [] s h e = refl
-unpassed_kept (x ∷ xs) s h e = handed x xs s h false ∙ e
+unpassed_kept : (xs : List (List ℕ)) (r : Run) → unpassed_in true r.history
+    ≡ unpassed_in false r.history
+    → unpassed_in false (kept_own xs r).history ≡ unpassed_in false r.history
+unpassed_kept [] r e = refl
+unpassed_kept (x ∷ xs) r e = handed x xs r false ∙ e
 
-kept : (xs : List (List ℕ)) (s : tasks.State) (h : History) (t : Tally) → unpassed_in true h
-    ≡ unpassed_in false h
-    → AreCounted h t → AreCounted (logged_kept xs s h) t
-kept xs s h t e c = (
-  c.0 ∙ ap u64_saturate (sym (lost_kept xs s h)),
+kept : (xs : List (List ℕ)) (r : Run) (t : Tally) → unpassed_in true r.history
+    ≡ unpassed_in false r.history
+    → AreCounted r.history t → AreCounted (kept_own xs r).history t
+kept xs r t e c = (
+  c.0 ∙ ap u64_saturate (sym (lost_kept xs r)),
   c.1
-      ∙ ap u64_saturate (sym (unpassed_kept xs s h e)),
+      ∙ ap u64_saturate (sym (unpassed_kept xs r e)),
 )
 
 -- What came of an exchange
@@ -118,11 +113,10 @@ given_up false k h t c = c
 passed : (v : AsduValue) (at : ℕ) (x : List ℕ) (xs : List (List ℕ)) (w : Works) → IsCounted w
     → IsCounted (mirrored_works at true v (x ∷ xs) w)
 passed v at x xs w c =
-    let s : tasks.State = mirrors.mirrored v at w.serial.commands in
-    let h : History = Mirrored at v ∷ w.history in (
-      c.0 ∙ ap u64_saturate (sym (lost_kept (x ∷ xs) s h)),
+    let r : Run = after_call (Mirror v at) (tasks_of w) in (
+      c.0 ∙ ap u64_saturate (sym (lost_kept (x ∷ xs) r)),
       c.1
-          ∙ ap u64_saturate (sym (handed x xs s h false)),
+          ∙ ap u64_saturate (sym (handed x xs r false)),
     )
 
 -- an answer to a command has an object, so it has a piece, with a tag or without
@@ -183,10 +177,8 @@ learnt p at transferring (outcome.Report station asdu) w z learns c =
     reported p at transferring (is_command_report p.sizes asdu.items) asdu.items w z refl learns c
 learnt p at transferring (outcome.Accepted station) w z learns c = subst IsCounted (sym learns) c
 learnt p at transferring (outcome.Busy station) w z learns c =
-    let h : History = Refused station (refusal_of (line_of station w.serial.commands))
-    ∷ w.history in
     subst IsCounted (sym learns) (kept (refusals station w.serial)
-    (tasks.given_up station w.serial.commands) h w.serial.counts refl c)
+    (after_call (Busy station) (tasks_of w)) w.serial.counts refl c)
 learnt p at transferring (outcome.Down station) w z learns c =
     subst IsCounted (sym learns) (given_up (is_used (line_of station w.serial.commands)) station
     w.history
@@ -202,9 +194,8 @@ learnt p at transferring (outcome.Empty station) w z learns c = subst IsCounted 
 arrived : (f : Apdu) (now : ℕ) (wall : Option ℕ) (w : Works) → IsCounted w
     → IsCounted (received_works f now wall w)
 arrived (I ns nr asdu) now wall w c =
-    let judgement = judged asdu.items now wall w.serial.commands in
-    let h : History = Judged now wall asdu.items judgement.0 ∷ w.history in
-    kept (listed judgement.0) judgement.1 h w.serial.counts refl c
+    kept (listed (judged asdu.items now wall w.serial.commands).0)
+    (after_call (Judge asdu.items now wall) (tasks_of w)) w.serial.counts refl c
 arrived (S nr) now wall w c = c
 arrived (U u) now wall w c = c
 
@@ -236,7 +227,7 @@ sent (U u) w c = c
 settled : (at : ℕ) (w : Works) → IsCounted w → IsCounted (settled_works at w)
 settled at w c = by_silent w.serial.silent
   where
-    by_silent : (o : Option ℕ) → AreCounted (logged_silent o w) (unless_silent o w.serial).counts
+    by_silent : (o : Option ℕ) → IsCounted (unless_silent_works o w)
     by_silent None = c
     by_silent (Some k) = given_up (is_used (line_of k w.serial.commands)) k w.history
         w.serial.counts c
@@ -248,7 +239,8 @@ done at room w c = by_due w.is_due
     by_due true = settled at w c
     by_due false = c
 
-put : (b : Bool) (k : ℕ) (w : Works) → IsCounted w → AreCounted (logged_put b k w) w.serial.counts
+put : (b : Bool) (k : ℕ) (w : Works) → IsCounted w
+    → AreCounted (put_first b k (tasks_of w)).history w.serial.counts
 put false k w c = c
 put true k w c = by_oldest (oldest_for k w.serial.commands)
   where

@@ -1,7 +1,7 @@
 -- The works of the course, as the log goes on: what is kept of own answers, what a frame and the
 -- timers leave.
 use Rattle.std.proofs.Common.{◌≡◌, ℕ, ◌&&◌, Bool, true, false, List, [], ◌∷◌, ◌++◌, Option, Some}
-use Rattle.std.proofs.Common.{None, refl, ap, sym, ◌∙◌, subst}
+use Rattle.std.proofs.Common.{None, refl, ap, sym, ◌∙◌}
 use Rattle.std.specs.Prelude.{if◌then◌else◌}
 use Rattle.std.proofs.lemmas.Bool.{and_parts}
 use Rattle.apci.specs.declared.apdu.Apdu.{Apdu}
@@ -10,57 +10,50 @@ use Rattle.command.specs.declared.waiting.Waiting.{Waiting}
 use Rattle.command.specs.State as tasks
 use Rattle.command.specs.State.{has_answer_place, first_answer, oldest_for}
 use Rattle.command.specs.Judging.{judged}
-use Rattle.command.specs.History.{Offered, History}
-use Rattle.command.specs.Calls.{Judge, after_answer, after_sending}
+use Rattle.command.specs.History.{Offered}
+use Rattle.command.specs.Calls.{Judge, Own, Run, after_call, after_answer, after_sending}
 use Rattle.gateway.specs.Serial as serial
 use Rattle.gateway.specs.Serial.{Serial, kept_until, all_kept, listed, has_place, unless_silent}
 use Rattle.gateway.specs.Serial.{settled, answered, without_gap, next_request}
-use Rattle.gateway.specs.Works.{Works, tasks_of, logged, logged_kept, has_lacked_place}
+use Rattle.gateway.specs.Works.{Works, tasks_of, kept_own, has_lacked_place}
 use Rattle.gateway.specs.Works.{received_works}
-use Rattle.gateway.specs.Works.{answered_works, logged_silent, settled_works}
-use Rattle.gateway.specs.Works.{unasked_works, done_works, logged_put}
+use Rattle.gateway.specs.Works.{answered_works, unless_silent_works, settled_works}
+use Rattle.gateway.specs.Works.{unasked_works, done_works, put_first}
 use Rattle.gateway.specs.Phases.{Phase, Fresh, Taking, Judged, Idle, Crowded, Timed, Asked}
 use Rattle.gateway.specs.Phases.{works_in, IsAsked}
 use Rattle.gateway.specs.Agrees.{ArePlain}
+use Rattle.gateway.proofs.Alike.{answered_serial, settled_serial}
 
 -- Own answers are kept
 
 -- where one finds no place, that shows
-pub kept_overfull : (xs : List (List ℕ)) (s : tasks.State) (h : History) → all_kept xs s ≡ false
-    → has_lacked_place (logged_kept xs s h) ≡ true
-kept_overfull [] s h none = cc
-kept_overfull (x ∷ xs) s h none = by_room (has_answer_place s) refl
-    (kept_overfull xs (tasks.offered x s) (Offered x (has_answer_place s) ∷ h))
+pub kept_overfull : (xs : List (List ℕ)) (r : Run) → all_kept xs r.state ≡ false
+    → has_lacked_place (kept_own xs r).history ≡ true
+kept_overfull [] r none = cc
+kept_overfull (x ∷ xs) r none = by_room (has_answer_place r.state) refl (kept_overfull xs next)
   where
-    at_room : Bool → Type 0
-    at_room b =
-        has_lacked_place (if b
-        then logged_kept xs (tasks.offered x s) (Offered x (has_answer_place s)
-        ∷ h) else Offered x
-        (has_answer_place s) ∷ h) ≡ true
+    next : Run
+    next = after_call (Own x) r
 
-    by_room : (b : Bool) → has_answer_place s ≡ b → (all_kept xs (tasks.offered x s) ≡ false
-        → has_lacked_place (logged_kept xs (tasks.offered x s) (Offered x (has_answer_place s) ∷ h))
-        ≡ true)
-        → at_room (has_answer_place s)
-    by_room true e others =
-        subst at_room (sym e) (others (sym (ap (λ b. b && all_kept xs (tasks.offered x s)) e)
-        ∙ none))
-    by_room false e others = subst at_room (sym e) (ap (λ b. has_lacked_place (Offered x b ∷ h)) e)
+    at_room : Bool → Type 0
+    at_room b = has_lacked_place (if b then kept_own xs next else next).history ≡ true
+
+    by_room : (b : Bool) → has_answer_place r.state ≡ b → (all_kept xs next.state ≡ false
+        → has_lacked_place (kept_own xs next).history ≡ true)
+        → at_room b
+    by_room true e others = others (sym (ap (λ b. b && all_kept xs next.state) e) ∙ none)
+    by_room false e others = ap (λ b. has_lacked_place (Offered x b ∷ r.history)) e
 
 -- and where each finds one
-pub kept_placed : (xs : List (List ℕ)) (s : tasks.State) (h : History) → all_kept xs s ≡ true
-    → has_lacked_place (logged_kept xs s h) ≡ has_lacked_place h
-kept_placed [] s h all = refl
-kept_placed (x ∷ xs) s h all =
-    let both = and_parts (has_answer_place s) (all_kept xs (tasks.offered x s)) all in
-    ap
-    (λ b. has_lacked_place (if b
-    then logged_kept xs (tasks.offered x s) (Offered x (has_answer_place s)
-    ∷ h) else Offered x
-    (has_answer_place s) ∷ h)) both.0
-    ∙ kept_placed xs (tasks.offered x s) (Offered x (has_answer_place s) ∷ h) both.1
-    ∙ ap (λ b. has_lacked_place (Offered x b ∷ h)) both.0
+pub kept_placed : (xs : List (List ℕ)) (r : Run) → all_kept xs r.state ≡ true
+    → has_lacked_place (kept_own xs r).history ≡ has_lacked_place r.history
+kept_placed [] r all = refl
+kept_placed (x ∷ xs) r all =
+    let next : Run = after_call (Own x) r in
+    let both = and_parts (has_answer_place r.state) (all_kept xs next.state) all in
+    ap (λ b. has_lacked_place (if b then kept_own xs next else next).history) both.0
+    ∙ kept_placed xs next both.1
+    ∙ ap (λ b. has_lacked_place (Offered x b ∷ r.history)) both.0
 
 pub more_plain : (xs ys : List (List ℕ)) → ArePlain xs → ArePlain ys → ArePlain (xs ++ ys)
 more_plain [] ys h k = k
@@ -88,7 +81,7 @@ pub received_overfull : (f : Apdu) (now : ℕ) (wall : Option ℕ) (w : Works)
     → has_lacked_place (received_works f now wall w).history ≡ true
 received_overfull (I ns nr asdu) now wall w h =
     kept_overfull (listed (judged asdu.items now wall w.serial.commands).0)
-    (judged asdu.items now wall w.serial.commands).1 (logged (Judge asdu.items now wall) w) h
+    (after_call (Judge asdu.items now wall) (tasks_of w)) h
 received_overfull (S nr) now wall w h = cc
 received_overfull (U u) now wall w h = cc
 
@@ -97,7 +90,7 @@ pub received_placed : (f : Apdu) (now : ℕ) (wall : Option ℕ) (w : Works)
     → has_lacked_place (received_works f now wall w).history ≡ has_lacked_place w.history
 received_placed (I ns nr asdu) now wall w h =
     kept_placed (listed (judged asdu.items now wall w.serial.commands).0)
-    (judged asdu.items now wall w.serial.commands).1 (logged (Judge asdu.items now wall) w) h
+    (after_call (Judge asdu.items now wall) (tasks_of w)) h
 received_placed (S nr) now wall w h = refl
 received_placed (U u) now wall w h = refl
 
@@ -107,7 +100,8 @@ pub settled_placed : (at : ℕ) (w : Works) → has_lacked_place (settled_works 
     ≡ has_lacked_place w.history
 settled_placed at w = by_silent w.serial.silent
   where
-    by_silent : (o : Option ℕ) → has_lacked_place (logged_silent o w) ≡ has_lacked_place w.history
+    by_silent : (o : Option ℕ) → has_lacked_place (unless_silent_works o w).history
+        ≡ has_lacked_place w.history
     by_silent None = refl
     by_silent (Some i) = refl
 
@@ -140,23 +134,28 @@ module _ (w : Works) (x : List ℕ) (first : first_answer w.serial.commands.answ
   own_placed = ap (λ (o : Option (List ℕ)). has_lacked_place (after_answer o (tasks_of w)).history)
       first
 
+  own_settled : (at : ℕ) → (settled_works at (answered_works w)).serial
+      ≡ answered (settled_works at w).serial
+  own_settled at = settled_serial at (answered_works w) ∙ ap (settled at) (answered_serial w)
+      ∙ settled_own at w.serial ∙ ap answered (sym (settled_serial at w))
+
   pub own_serial : (phase : Phase) (at : ℕ) (room : Bool)
       → (works_in phase at room (answered_works w)).serial
       ≡ answered (works_in phase at room w).serial
-  own_serial Fresh at room = refl
-  own_serial Taking at room = refl
-  own_serial Idle at room = refl
-  own_serial Judged at room = refl
-  own_serial Crowded at room = refl
-  own_serial Timed at room = settled_own at w.serial
+  own_serial Fresh at room = answered_serial w
+  own_serial Taking at room = answered_serial w
+  own_serial Idle at room = answered_serial w
+  own_serial Judged at room = answered_serial w
+  own_serial Crowded at room = answered_serial w
+  own_serial Timed at room = own_settled at
   own_serial Asked at room = by_due w.is_due
     where
       by_due : (b : Bool)
           → (if b then unasked_works at room (settled_works at (answered_works w))
           else answered_works w).serial
           ≡ answered (if b then unasked_works at room (settled_works at w) else w).serial
-      by_due true = ap (serial.asked at room None) (settled_own at w.serial)
-      by_due false = refl
+      by_due true = ap (serial.asked at room None) (own_settled at)
+      by_due false = answered_serial w
 
   pub asked_own : (phase : Phase) (at : ℕ) (room : Bool) → IsAsked phase at room w
       → IsAsked phase at room (answered_works w)
@@ -167,10 +166,19 @@ module _ (w : Works) (x : List ℕ) (first : first_answer w.serial.commands.answ
   asked_own Crowded at room h = h
   asked_own Timed at room h = h
   asked_own Asked at room h = (
-    λ due. ap (next_request room) (settled_own at w.serial) ∙ h.0 due,
+    λ due. ap (next_request room) (own_settled at) ∙ h.0 due,
     h.1,
     h.2,
   )
+
+settled_answers : (at : ℕ) (w : Works) → (settled_works at w).serial.commands.answers
+    ≡ w.serial.commands.answers
+settled_answers at w = by_silent w.serial.silent
+  where
+    by_silent : (o : Option ℕ) → (unless_silent_works o w).serial.commands.answers
+        ≡ w.serial.commands.answers
+    by_silent None = refl
+    by_silent (Some i) = refl
 
 -- commands in a phase have the answers of the log's
 pub answers_in : (phase : Phase) (at : ℕ) (room : Bool) (w : Works)
@@ -180,23 +188,13 @@ answers_in Taking at room w = refl
 answers_in Idle at room w = refl
 answers_in Judged at room w = refl
 answers_in Crowded at room w = refl
-answers_in Timed at room w = by_silent w.serial.silent
-  where
-    by_silent : (o : Option ℕ) → (unless_silent o w.serial).commands.answers
-        ≡ w.serial.commands.answers
-    by_silent None = refl
-    by_silent (Some i) = refl
+answers_in Timed at room w = settled_answers at w
 answers_in Asked at room w = by_due w.is_due
   where
-    by_silent : (o : Option ℕ) → (unless_silent o w.serial).commands.answers
-        ≡ w.serial.commands.answers
-    by_silent None = refl
-    by_silent (Some i) = refl
-
     by_due : (b : Bool) → (if b then unasked_works at room (settled_works at w)
         else w).serial.commands.answers
         ≡ w.serial.commands.answers
-    by_due true = by_silent w.serial.silent
+    by_due true = settled_answers at w
     by_due false = refl
 
 -- and the log's gap
@@ -208,6 +206,9 @@ settled_gap at s = by_silent s.silent
     by_silent None = refl
     by_silent (Some i) = refl
 
+pub gap_settled : (at : ℕ) (w : Works) → (settled_works at w).serial.gap ≡ w.serial.gap
+gap_settled at w = ap (λ (s : Serial). s.gap) (settled_serial at w) ∙ settled_gap at w.serial
+
 pub gap_in : (phase : Phase) (at : ℕ) (room : Bool) (w : Works)
     → (works_in phase at room w).serial.gap ≡ w.serial.gap
 gap_in Fresh at room w = refl
@@ -215,17 +216,18 @@ gap_in Taking at room w = refl
 gap_in Idle at room w = refl
 gap_in Judged at room w = refl
 gap_in Crowded at room w = refl
-gap_in Timed at room w = settled_gap at w.serial
+gap_in Timed at room w = gap_settled at w
 gap_in Asked at room w = by_due w.is_due
   where
     by_due : (b : Bool) → (if b then unasked_works at room (settled_works at w) else w).serial.gap
         ≡ w.serial.gap
-    by_due true = settled_gap at w.serial
+    by_due true = gap_settled at w
     by_due false = refl
 
 -- A request goes out
 
-pub put_placed : (b : Bool) (i : ℕ) (w : Works) → has_lacked_place (logged_put b i w)
+pub put_placed : (b : Bool) (i : ℕ) (w : Works)
+    → has_lacked_place (put_first b i (tasks_of w)).history
     ≡ has_lacked_place w.history
 put_placed true i w = by_oldest (oldest_for i w.serial.commands)
   where

@@ -70,11 +70,16 @@ listed (Some x) = x ∷ []
 abbrev pub accepted : (station : ℕ) → Serial → Serial
 accepted station s = record s { commands = tasks.accepted station s.commands }
 
+-- a command that stands on a station's line counts as lost
+abbrev pub loss_counted : (station : ℕ) → Serial → Tally
+loss_counted station s =
+    if is_used (line_of station s.commands) then one_lost s.counts else s.counts
+
 -- what stood on a station's line is given up
 abbrev pub given_up : (station : ℕ) → Serial → Serial
 given_up station s = record s {
   commands = tasks.given_up station s.commands;
-  counts = if is_used (line_of station s.commands) then one_lost s.counts else s.counts;
+  counts = loss_counted station s;
 }
 
 -- the answer to what stands on a station's line where the station is busy

@@ -1,6 +1,7 @@
 -- What the gateway keeps beside the connection: the line's side, and what became of commands. Each
--- entry of the log changes it (IEC 60870-5-101, 7.2.3). What happens to the line's side is said in
--- `Serial`; here it is logged in the history of commands.
+-- entry of the log changes it (IEC 60870-5-101, 7.2.3). What becomes of commands are calls of
+-- `command`. Each changes its state and its history alike. Contracts say by `Serial` what these
+-- calls change of the line's side.
 use Rattle.std.specs.Prelude.{◌≡◌, ℕ, zero, suc, Bool, true, false, if◌then◌else◌, List, []}
 use Rattle.std.specs.Prelude.{◌∷◌, length}
 use Rattle.std.specs.Prelude.{Option, Some, None}
@@ -12,24 +13,25 @@ use Rattle.asdu.specs.InformationObjects.{InformationObject, objects_of}
 use Rattle.asdu.specs.Translation.{parts, IsPiece, IsLargest, AllButLast}
 use Rattle.apci.specs.declared.apdu.Apdu.{Apdu}
 use Rattle.apci.specs.declared.apdu.Apdu.TheVariants.{I}
+use Rattle.link.specs.Carried as line
 use Rattle.link.specs.Carried.{awaits_command}
 use Rattle.link.specs.Exchanges.{Sending}
 use Rattle.link.specs.declared.outcome.Outcome.{Outcome}
 use Rattle.link.specs.declared.outcome.Outcome.TheVariants as outcome
-use Rattle.command.specs.State as tasks
 use Rattle.command.specs.State.{has_answer_place}
 use Rattle.command.specs.Judging.{judged}
 use Rattle.command.specs.Mirrors as mirrors
 use Rattle.command.specs.History.{Offered, Ended, History}
-use Rattle.command.specs.Calls.{Call, Judge, PutOnLine, Accept, Busy, Lose, Mirror, SendOwn, Cut}
-use Rattle.command.specs.Calls.{Run, after_call}
+use Rattle.command.specs.Calls.{Call, Judge, PutOnLine, Accept, Busy, Lose, Mirror, Own, SendOwn}
+use Rattle.command.specs.Calls.{Cut, Due, Run, after_call}
 use Rattle.gateway.specs.Objects.{has_objects}
-use Rattle.gateway.specs.Counting.{is_answer_type}
+use Rattle.gateway.specs.declared.counts.Tally.{Tally}
+use Rattle.gateway.specs.Counting.{is_answer_type, one_mirrored}
 use Rattle.gateway.specs.Reports.{Setup}
 use Rattle.gateway.specs.Tags.{AreTagged}
 use Rattle.gateway.specs.Serial as serial
-use Rattle.gateway.specs.Serial.{Serial, first_serial, refusals, is_first_command, listed}
-use Rattle.gateway.specs.Carried.{link_given_up}
+use Rattle.gateway.specs.Serial.{Serial, first_serial, loss_counted, refusals, is_first_command}
+use Rattle.gateway.specs.Serial.{listed}
 
 pub record Works : Type 0 where
   pub serial : Serial
@@ -45,19 +47,29 @@ first_works p = record { serial = first_serial p; history = []; is_due = false }
 abbrev pub tasks_of : Works → Run
 tasks_of w = record { state = w.serial.commands; history = w.history }
 
--- what is logged of commands once this is done with them, too
-abbrev pub logged : Call → Works → History
-logged call w = (after_call call (tasks_of w)).history
+-- commands stand so
+abbrev pub with_tasks : Run → Works → Works
+with_tasks r w =
+    record w { serial = record w.serial { commands = r.state }; history = r.history }
+
+-- a call of `command` changes its state and its history
+abbrev pub called : Call → Works → Works
+called call w = with_tasks (after_call call (tasks_of w)) w
+
+-- this much is counted
+abbrev pub with_counts : Tally → Works → Works
+with_counts t w = record w { serial = record w.serial { counts = t } }
 
 -- Own answers
 
 -- answers are kept, one after another, up to the first that finds no place
-abbrev pub logged_kept : List (List ℕ) → tasks.State → History → History
-logged_kept [] s h = h
-logged_kept (x ∷ xs) s h =
-    if has_answer_place s then logged_kept xs (tasks.offered x s) (Offered x (has_answer_place s)
-    ∷ h)
-    else Offered x (has_answer_place s) ∷ h
+abbrev pub kept_own : List (List ℕ) → Run → Run
+kept_own [] r = r
+kept_own (x ∷ xs) r =
+    if has_answer_place r.state then kept_own xs (after_call (Own x) r) else after_call (Own x) r
+
+abbrev pub kept_works : List (List ℕ) → Works → Works
+kept_works xs w = with_tasks (kept_own xs (tasks_of w)) w
 
 -- an own answer of the open connection found no place
 abbrev pub has_lacked_place : History → Bool
@@ -86,20 +98,13 @@ pub record IsPassedOn (sizes : Sizes) (v : AsduValue) (report : List ℕ)
   pub full : AllButLast (λ piece. IsLargest v piece) pieces
   pub number : length pieces ≡ parts sizes report
 
--- a station's answer to a command
-abbrev pub logged_mirror : (at : ℕ) → (is_transferring : Bool) → AsduValue →
-    (pieces : List (List ℕ)) → Works → History
-logged_mirror at true v pieces w =
-    logged_kept pieces (mirrors.mirrored v at w.serial.commands) (logged (Mirror v at) w)
-logged_mirror at false v pieces w = logged (Mirror v at) w
-
+-- A station's answer to a command: where data transfer runs, these pieces are kept as own answers.
+-- Else it is counted.
 abbrev pub mirrored_works : (at : ℕ) → (is_transferring : Bool) → AsduValue →
     (pieces : List (List ℕ)) → Works → Works
-mirrored_works at is_transferring v pieces w =
-    record w {
-      serial = serial.mirrored at is_transferring v pieces w.serial;
-      history = logged_mirror at is_transferring v pieces w;
-    }
+mirrored_works at true v pieces w = kept_works pieces (called (Mirror v at) w)
+mirrored_works at false v pieces w =
+    with_counts (one_mirrored w.serial.counts) (called (Mirror v at) w)
 
 abbrev pub LearnsReport : Setup → (at : ℕ) → (is_transferring is_of_command : Bool) → List ℕ →
     (before after : Works) → Type 0
@@ -111,21 +116,17 @@ LearnsReport p at is_transferring true report w z =
 LearnsReport p at is_transferring false report w z = z
     ≡ record w { serial = serial.reported p.sizes report w.serial }
 
+-- a station accepted its command
 abbrev pub accepted_works : (station : ℕ) → Works → Works
-accepted_works station w =
-    record w { serial = serial.accepted station w.serial; history = logged (Accept station) w }
+accepted_works station w = called (Accept station) w
 
+-- the command on a station's line is given up, and counts as lost
 abbrev pub given_up_works : (station : ℕ) → Works → Works
-given_up_works station w =
-    record w { serial = serial.given_up station w.serial; history = logged (Lose station) w }
+given_up_works station w = with_counts (loss_counted station w.serial) (called (Lose station) w)
 
 -- a busy station's command is answered
 abbrev pub refused_works : (station : ℕ) → Works → Works
-refused_works station w = record w {
-  serial = serial.refused station w.serial;
-  history = logged_kept (refusals station w.serial) (tasks.given_up station w.serial.commands)
-      (logged (Busy station) w);
-}
+refused_works station w = kept_works (refusals station w.serial) (called (Busy station) w)
 
 abbrev pub LearnsOf : Setup → (at : ℕ) → (is_transferring : Bool) → Outcome →
     (before after : Works) → Type 0
@@ -140,26 +141,19 @@ LearnsOf p at is_transferring other w z = z ≡ w
 
 -- A frame that came, and one that goes out
 
--- an ASDU of the connection is judged, and its answer, if it has one, is kept
-abbrev pub logged_judged : List ℕ → (now : ℕ) → (wall : Option ℕ) → Works → History
-logged_judged asdu now wall w =
-    let judgement = judged asdu now wall w.serial.commands in
-    logged_kept (listed judgement.0) judgement.1 (logged (Judge asdu now wall) w)
-
-abbrev pub logged_frame : Apdu → (now : ℕ) → (wall : Option ℕ) → Works → History
-logged_frame (I ns nr asdu) now wall w = logged_judged asdu.items now wall w
-logged_frame frame now wall w = w.history
+-- the ASDU of a frame is judged, and its answer, if it has one, is kept
+abbrev pub judged_tasks : Apdu → (now : ℕ) → (wall : Option ℕ) → Run → Run
+judged_tasks (I ns nr asdu) now wall r =
+    kept_own (listed (judged asdu.items now wall r.state).0)
+    (after_call (Judge asdu.items now wall) r)
+judged_tasks frame now wall r = r
 
 abbrev pub received_works : Apdu → (now : ℕ) → (wall : Option ℕ) → Works → Works
-received_works frame now wall w =
-    record w {
-      serial = serial.judged frame now wall w.serial;
-      history = logged_frame frame now wall w;
-    }
+received_works frame now wall w = with_tasks (judged_tasks frame now wall (tasks_of w)) w
 
 -- an own answer has gone out
 abbrev pub answered_works : Works → Works
-answered_works w = record w { serial = serial.answered w.serial; history = logged SendOwn w }
+answered_works w = called SendOwn w
 
 abbrev pub sent_works : Apdu → Works → Works
 sent_works (I ns nr asdu) w = if has_objects asdu.items then w else answered_works w
@@ -167,15 +161,18 @@ sent_works frame w = w
 
 -- The end of a connection
 
+-- what was never put on the line is gone
 abbrev pub cut_works : Works → Works
-cut_works w = record w { serial = serial.cut w.serial; history = logged Cut w }
+cut_works w = called Cut w
 
 -- A restart
 
 -- the link to a station is given up, and the command that stood on its line is lost
 abbrev pub link_given_up_works : (station : ℕ) → Works → Works
 link_given_up_works station w =
-    record w { serial = link_given_up station w.serial; history = logged (Lose station) w }
+    given_up_works station (record w {
+      serial = record w.serial { line = line.given_up station w.serial.line };
+    })
 
 -- a station whose latest service is a command without an answer is given up
 abbrev pub command_given_up_works : (station : ℕ) → Works → Works
@@ -202,34 +199,36 @@ octets_works octets w = record w { serial = serial.arrived octets w.serial }
 abbrev pub begun_works : (at : ℕ) → Works → Works
 begun_works at w = record w { serial = serial.timed at w.serial; is_due = true }
 
--- the command that the line's silence ended is logged as lost
-abbrev pub logged_silent : Option ℕ → Works → History
-logged_silent None w = w.history
-logged_silent (Some station) w = logged (Lose station) w
+-- the command of the station that is silent, if one is, is given up
+abbrev pub unless_silent_works : Option ℕ → Works → Works
+unless_silent_works None w = w
+unless_silent_works (Some station) w = given_up_works station w
 
+-- the timers: a silent station's command is given up, and selections end
 abbrev pub settled_works : (at : ℕ) → Works → Works
 settled_works at w =
-    record w { serial = serial.settled at w.serial; history = logged_silent w.serial.silent w }
+    let z : Works = called (Due at) (unless_silent_works w.serial.silent w) in
+    record z { serial = record z.serial { silent = None } }
 
 -- the gap is reported
 abbrev pub gapless_works : Works → Works
 gapless_works w = record w { serial = serial.without_gap w.serial }
 
-abbrev pub logged_put : (is_first : Bool) → (station : ℕ) → Works → History
-logged_put true station w = logged (PutOnLine station) w
-logged_put false station w = w.history
-
--- a request goes out
-abbrev pub asked_works : (at : ℕ) → (room : Bool) → Sending → Works → Works
-asked_works at room x w = record w {
-  serial = serial.asked at room (Some x) w.serial;
-  history = logged_put (is_first_command w.serial.line x) x.station w;
-  is_due = false;
-}
-
--- the step is done without a request
+-- the line was asked, and the step is done without a request
 abbrev pub unasked_works : (at : ℕ) → (room : Bool) → Works → Works
 unasked_works at room w = record w { serial = serial.asked at room None w.serial; is_due = false }
 
+-- a command that goes out for the first time waits no more
+abbrev pub put_first : (is_first : Bool) → (station : ℕ) → Run → Run
+put_first true station r = after_call (PutOnLine station) r
+put_first false station r = r
+
+-- the line was asked, and a request goes out
+abbrev pub asked_works : (at : ℕ) → (room : Bool) → Sending → Works → Works
+asked_works at room x w =
+    with_tasks (put_first (is_first_command w.serial.line x) x.station (tasks_of w))
+    (unasked_works at room w)
+
+-- the step is done, if it wasn't
 abbrev pub done_works : (at : ℕ) → (room : Bool) → Works → Works
 done_works at room w = if w.is_due then unasked_works at room (settled_works at w) else w
