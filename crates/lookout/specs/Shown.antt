@@ -128,10 +128,10 @@ stands_since gone_since None = gone_since
 stands_since gone_since (Some c) = c.since
 
 -- the control centre: who is connected, from this address, or that nobody is
-pub record IsCentre (opening : Option OpenConnection) (peer : List ℕ) (gone_since taken : ℕ)
+pub record IsCentre (opening : Option OpenConnection) (address : List ℕ) (gone_since taken : ℕ)
     (centre : CentreView)
     : Type 0 where
-  pub peer : option_map (λ p. p.now) centre.peer ≡ option_map (λ _. peer) opening
+  pub peer : option_map (λ p. p.now) centre.peer ≡ option_map (λ _. address) opening
   pub started : centre.is_started ≡ is_started_on opening
   pub since : centre.since_ms ≡ stands_since gone_since opening
   pub unacknowledged : centre.unacknowledged ≡ taken
