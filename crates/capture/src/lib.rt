@@ -16,8 +16,8 @@
 //! ([`captures_carry_the_octets`]); the packets of each line stand at the time of the wall clock
 //! ([`packets_stand_at_their_times`]); each end numbers its segments on, from SYN to FIN or RST,
 //! and acknowledges what the other has sent ([`segments_run_on`]); a file is its header, the blocks
-//! of what the lines log, and nothing else ([`lines_are_captured`]). Comments and octets have worked
-//! examples ([`comments_by_example`], [`octets_by_example`]).
+//! of what the lines log, and nothing else ([`lines_are_captured`]). Comments and octets have
+//! worked examples ([`comments_by_example`], [`octets_by_example`]).
 //!
 //! [`capture_text`] writes the capture of a whole record, which is read block by block, and which
 //! lines of it were cut short it knows as `audit` does. Proved: what it writes is the file of the

@@ -67,7 +67,8 @@ pub fn rungs_by_example()
         × (close_text OwnAnswers ≡ codes "closes: no place for an answer")
         × (close_text Replaced ≡ codes "closes: a new connection") }
     ensures gaps { gap_text 0 2 ≡ codes "gap: station 1, session 2" }
-    ensures clock { wall_line false 7 1000 ≡ codes "7 gateway  the wall clock shows 1000" ++ 10 ∷ [] }
+    ensures clock { wall_line false 7 1000
+        ≡ codes "7 gateway  the wall clock shows 1000" ++ 10 ∷ [] }
     ensures connections { (style : Style) (before after : Remembered) (lines : List ℕ) →
         style.is_coloured ≡ false →
         (IsEntryLogged style before (Came 40 Opened) after lines →
