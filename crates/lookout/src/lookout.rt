@@ -1,7 +1,7 @@
 //! Who looks at a run.
 ghost use Rattle.std.specs.Prelude.{◌≡◌, false, IfOk, None};
 ghost use Rattle.lookout.specs.Looking as spec;
-ghost use Rattle.lookout.specs.Looking.{IsFreshLookout, IsSnapshotOf, is_over};
+ghost use Rattle.lookout.specs.Looking.{IsFreshLookout, is_over};
 
 use crate::known::{Known, known_of};
 use crate::setting::{ChosenSetting, chosen_of, settings_of};
@@ -9,7 +9,7 @@ use crate::shown::{centre_of, keeping_after, line_of, rows_of};
 use gateway::{Config, Gateway};
 use live::Notice;
 use runlog::{LogNames, Watch, taken_places};
-use status::{Hour, Keeping, Queue, Setting, Snapshot, StationView, StreamSource, Visitors};
+use status::{Hour, Keeping, Queue, Snapshot, StreamSource, Visitors};
 use std::alloc::{AllocError, Global};
 
 /// How long after a turn of the visitors the next one follows, in ms of the run.
@@ -183,7 +183,7 @@ impl ShownRun {
 
     /// Notes the address of the connection's other end.
     fn name_peer(&mut self, watch: &Watch)
-        ensures same { self.new ≡ record self.old { peer = self.new.peer } }
+        ensures { self.new ≡ record self.old { peer = self.new.peer } }
     {
         self.peer.clear();
         let named = match watch.peer() {
@@ -208,19 +208,12 @@ impl ShownRun {
     }
 }
 
-/// What is shown, with these rows and settings.
-fn snapshot_of<'a>(
-    shown: &'a ShownRun,
-    watch: &Watch,
-    rows: &'a [StationView<'a>],
-    settings: &'a [Setting<'a>],
-) -> Snapshot<'a>
-    ensures run { IsSnapshotOf shown.entry.now watch.now result }
-    ensures stations { result.stations.now ≡ rows.entry.now }
-    ensures settings { result.settings.now ≡ settings.entry.now }
-{
+/// Gives the visitors a turn at what is shown.
+fn turn<D: StreamSource + Drop>(visitors: &mut Visitors<D>, shown: &ShownRun, watch: &Watch) {
+    let rows = rows_of(shown.known.as_slice(), watch);
+    let settings = settings_of(shown.chosen.as_slice());
     let now = watch.moment();
-    Snapshot {
+    let snapshot = Snapshot {
         version: shown.version,
         now_ms: now,
         started_ms: shown.began.unwrap_or(now),
@@ -234,17 +227,8 @@ fn snapshot_of<'a>(
             hour: shown.hour.numbers(),
         },
         keeping: shown.keeping,
-        stations: rows,
-        settings,
-    }
-}
-
-/// Gives the visitors a turn at what is shown.
-// What a visitor is answered then, the contract of `Seat` says (crates/status); no clause says that
-// it is of this snapshot (checks/status.py compares the pages with what stations did).
-fn turn<D: StreamSource + Drop>(visitors: &mut Visitors<D>, shown: &ShownRun, watch: &Watch) {
-    let rows = rows_of(shown.known.as_slice(), watch);
-    let settings = settings_of(shown.chosen.as_slice());
-    let snapshot = snapshot_of(shown, watch, rows.as_slice(), settings.as_slice());
-    visitors.turn(snapshot.now_ms, &snapshot);
+        stations: rows.as_slice(),
+        settings: settings.as_slice(),
+    };
+    visitors.turn(now, &snapshot);
 }

@@ -46,9 +46,7 @@ fn station_of<'a>(known: &'a Known, watch: &StationWatch, traffic: &Traffic) -> 
 }
 
 /// The rows of the stations, in the order of the settings.
-pub(crate) fn rows_of<'a>(known: &'a [Known], watch: &Watch) -> Rows<'a>
-    ensures { spec.AreRows 32 known.entry.now watch.now.stations watch.now.traffic result.items }
-{
+pub(crate) fn rows_of<'a>(known: &'a [Known], watch: &Watch) -> Rows<'a> {
     let mut rows = ArrayVec::new();
     let mut stations = watch.stations();
     let mut traffics = watch.traffic();
@@ -96,10 +94,7 @@ pub(crate) fn centre_of<'a>(
     peer: &'a str,
     gone_since: u64,
     unacknowledged: u64,
-) -> CentreView<'a>
-    ensures { spec.IsCentre watch.now.connection.opening peer.entry.now gone_since unacknowledged
-        result }
-{
+) -> CentreView<'a> {
     match watch.opening() {
         Some(opening) => CentreView {
             peer: Some(peer),
