@@ -1,18 +1,20 @@
 -- What is noted of a run at each look, for those who look at it (this gateway's own profile).
-use Rattle.std.specs.Prelude.{◌≡◌, ℕ, ◌-◌, nat_le, Bool, true, false, not, ◌&&◌, ◌||◌, List, []}
-use Rattle.std.specs.Prelude.{Option, Some, None, is_some, is_none, option_map, string_bytes}
+use Rattle.std.specs.Prelude.{◌≡◌, ℕ, ◌-◌, nat_le, Bool, true, false, not, ◌&&◌, ◌||◌, []}
+use Rattle.std.specs.Prelude.{map, Option, Some, None, is_some, is_none, option_map, string_bytes}
 use Rattle.std.specs.Prelude.{if◌then◌else◌}
 use Rattle.gateway.specs.Config.{Settings}
 use Rattle.gateway.specs.State.{State}
 use Rattle.live.specs.declared.watched.Notice.{Notice}
-use Rattle.lookout.specs.Shown.{AreKnown, keeping_after, text_or_none}
+use Rattle.lookout.specs.Shown.{AreKnown, IsCentre, in_force, chosen_as, is_there}
+use Rattle.lookout.specs.Shown.{keeping_after, text_or_none}
 use Rattle.lookout.specs.declared.lookout.ShownRun.{ShownRun}
 use Rattle.runlog.specs.Logging.{taken_in}
-use Rattle.runlog.specs.Watching.{Watching}
+use Rattle.runlog.specs.Watching.{Watching, wall_of}
 use Rattle.runlog.specs.declared.names.LogNames.{LogNames}
 use Rattle.status.specs.Hour as hour
 use Rattle.status.specs.declared.snapshot.Keeping.{Keeping}
 use Rattle.status.specs.declared.snapshot.Keeping.TheVariants.{Kept, Off}
+use Rattle.status.specs.declared.snapshot.Snapshot.{Snapshot}
 
 -- so many ms have passed since then, or it never was
 abbrev pub is_over : Option ℕ → (now ms : ℕ) → Bool
@@ -32,6 +34,7 @@ pub record IsFreshLookout (c : Settings) (names : LogNames) (keeps : Bool) (s : 
     0 where
   pub name : string_bytes s.name ≡ text_or_none (option_map (λ n. n.now) names.line)
   pub known : AreKnown names.stations.now c.stations s.known.items
+  pub chosen : map chosen_as s.chosen.items ≡ in_force c
   pub places : s.places ≡ c.line.queue
   pub began : s.began ≡ None
   pub keeping : s.keeping ≡ keeping_at_first keeps
@@ -81,3 +84,19 @@ looked turned gateway w notice s =
 -- when the visitors had their latest turn
 abbrev pub turned_after : Option ℕ → (now : ℕ) → Option ℕ
 turned_after turned now = if is_over turned now 20 then Some now else turned
+
+-- what is shown of a run that is watched so: each number in its place
+pub record IsSnapshotOf (shown : ShownRun) (w : Watching) (s : Snapshot) : Type 0 where
+  pub version : s.version.now ≡ shown.version.now
+  pub now_ms : s.now_ms ≡ w.moment
+  pub started : s.started_ms ≡ first_of shown.began w.moment
+  pub wall : s.wall_ms ≡ wall_of w
+  pub name : s.name.now ≡ string_bytes shown.name
+  pub there : s.line.is_there ≡ is_there w.line.presence
+  pub since : s.line.since_ms ≡ w.line.since
+  pub centre : IsCentre w.connection.opening (string_bytes shown.peer) shown.gone_since shown.taken
+      s.centre
+  pub taken : s.queue.taken ≡ shown.taken
+  pub places : s.queue.places ≡ shown.places
+  pub hour : s.queue.hour.now ≡ shown.hour.numbers
+  pub keeping : s.keeping ≡ shown.keeping

@@ -1,6 +1,11 @@
 -- What of a run is shown (this gateway's own profile).
-use Rattle.std.specs.Prelude.{◌≡◌, ℕ, Bool, true, false, List, [], map, Option, Some, None}
-use Rattle.std.specs.Prelude.{string_bytes}
+use Rattle.std.specs.Prelude.{◌≡◌, ℕ, zero, suc, Bool, true, false, List, [], ◌∷◌, map}
+use Rattle.std.specs.Prelude.{Option, Some, None, option_map}
+use Rattle.std.specs.Prelude.{codes, string_bytes}
+use Rattle.std.specs.Fmt.{decimal}
+use Rattle.gateway.specs.Config.{Settings}
+use Rattle.gateway.specs.declared.settings.Silence.{Silence}
+use Rattle.gateway.specs.declared.settings.Silence.TheVariants as silence
 use Rattle.gateway.specs.declared.settings.StationSettings.{StationSettings as Setting}
 use Rattle.runlog.specs.Names.{name_in}
 use Rattle.runlog.specs.Stations as stations
@@ -12,6 +17,10 @@ use Rattle.runlog.specs.declared.traffic.Traffic.{Traffic}
 use Rattle.live.specs.declared.ends.Presence.{Presence}
 use Rattle.live.specs.declared.ends.Presence.TheVariants.{Untried, Away, There, Receiving}
 use Rattle.lookout.specs.declared.known.Known.{Known}
+use Rattle.lookout.specs.declared.setting.ChosenSetting.{ChosenSetting}
+use Rattle.runlog.specs.declared.ends.OpenConnection.{OpenConnection}
+use Rattle.status.specs.declared.snapshot.CentreView.{CentreView}
+use Rattle.status.specs.declared.snapshot.Setting.{Setting as SettingView}
 use Rattle.status.specs.declared.snapshot.LinkState.{LinkState}
 use Rattle.status.specs.declared.snapshot.LinkState.TheVariants as standing
 use Rattle.status.specs.declared.snapshot.StationView.{StationView}
@@ -64,6 +73,68 @@ pub record IsStationRow (known : Known) (watch : StationWatch) (traffic : Traffi
   pub skipped : row.skipped ≡ traffic.skipped
   pub gaps : row.gaps ≡ watch.gaps
   pub commands : row.commands ≡ traffic.commands
+
+-- The rows are those of the stations, one behind another, in the order of the settings: each that
+-- is known, watched and counted has one, up to so many.
+abbrev pub AreRows : (places : ℕ) → List Known → List StationWatch → List Traffic
+    → List StationView → Type 0
+AreRows zero known watches traffics rows = rows ≡ []
+AreRows (suc n) [] watches traffics rows = rows ≡ []
+AreRows (suc n) (k ∷ known) [] traffics rows = rows ≡ []
+AreRows (suc n) (k ∷ known) (w ∷ watches) [] rows = rows ≡ []
+AreRows (suc n) (k ∷ known) (w ∷ watches) (t ∷ traffics) [] = ⊥
+AreRows (suc n) (k ∷ known) (w ∷ watches) (t ∷ traffics) (row ∷ rows) =
+    IsStationRow k w t row × AreRows n known watches traffics rows
+
+-- a key, and the text of its value
+pub record Pair : Type 0 where
+  pub key : List ℕ
+  pub value : List ℕ
+
+abbrev pub chosen_as : ChosenSetting → Pair
+chosen_as s = record { key = s.key.now; value = string_bytes s.value }
+
+abbrev pub viewed_as : SettingView → Pair
+viewed_as s = record { key = s.key.now; value = s.value.now }
+
+abbrev pub silence_text : Silence → List ℕ
+silence_text silence.Hold = codes "hold"
+silence_text silence.Reset = codes "reset"
+
+abbrev pub numbered : List ℕ → ℕ → Pair
+numbered key n = record { key = key; value = decimal n }
+
+-- the settings in force that say how line and connection behave, under their names in settings
+abbrev pub in_force : Settings → List Pair
+in_force c =
+    numbered (codes "line.answer_ms") c.line.answer_ms
+    ∷ numbered (codes "line.retries") c.line.retries
+    ∷ record { key = codes "line.silence"; value = silence_text c.line.silence }
+    ∷ numbered (codes "line.burst") c.line.burst ∷ numbered (codes "line.queue") c.line.queue
+    ∷ numbered (codes "tcp.k") c.tcp.k ∷ numbered (codes "tcp.w") c.tcp.w
+    ∷ numbered (codes "tcp.t1_ms") c.tcp.t1_ms ∷ numbered (codes "tcp.t2_ms") c.tcp.t2_ms
+    ∷ numbered (codes "tcp.t3_ms") c.tcp.t3_ms
+    ∷ numbered (codes "tcp.select_ms") c.tcp.select_ms
+    ∷ numbered (codes "tcp.max_age_ms") c.tcp.max_age_ms ∷ []
+
+-- whether data transfer is started on the connection that is open
+abbrev pub is_started_on : Option OpenConnection → Bool
+is_started_on None = false
+is_started_on (Some c) = c.is_started
+
+-- since when a connection is open, or none is
+abbrev pub stands_since : (gone_since : ℕ) → Option OpenConnection → ℕ
+stands_since gone_since None = gone_since
+stands_since gone_since (Some c) = c.since
+
+-- the control centre: who is connected, from this address, or that nobody is
+pub record IsCentre (opening : Option OpenConnection) (address : List ℕ) (gone_since taken : ℕ)
+    (centre : CentreView)
+    : Type 0 where
+  pub peer : option_map (λ p. p.now) centre.peer ≡ option_map (λ _. address) opening
+  pub started : centre.is_started ≡ is_started_on opening
+  pub since : centre.since_ms ≡ stands_since gone_since opening
+  pub unacknowledged : centre.unacknowledged ≡ taken
 
 -- the line is there: octets may come from it
 abbrev pub is_there : Presence → Bool

@@ -1,7 +1,7 @@
 //! Who looks at a run.
 ghost use Rattle.std.specs.Prelude.{◌≡◌, false, IfOk, None};
 ghost use Rattle.lookout.specs.Looking as spec;
-ghost use Rattle.lookout.specs.Looking.{IsFreshLookout, is_over};
+ghost use Rattle.lookout.specs.Looking.{IsFreshLookout, IsSnapshotOf, is_over};
 
 use crate::known::{Known, known_of};
 use crate::setting::{ChosenSetting, chosen_of, settings_of};
@@ -183,7 +183,7 @@ impl ShownRun {
 
     /// Notes the address of the connection's other end.
     fn name_peer(&mut self, watch: &Watch)
-        ensures { self.new ≡ record self.old { peer = self.new.peer } }
+        ensures same { self.new ≡ record self.old { peer = self.new.peer } }
     {
         self.peer.clear();
         let named = match watch.peer() {
@@ -208,12 +208,12 @@ impl ShownRun {
     }
 }
 
-/// Gives the visitors a turn at what is shown.
-fn turn<D: StreamSource + Drop>(visitors: &mut Visitors<D>, shown: &ShownRun, watch: &Watch) {
-    let rows = rows_of(shown.known.as_slice(), watch);
-    let settings = settings_of(shown.chosen.as_slice());
+/// What is shown beside the stations and the settings.
+fn snapshot_of<'a>(shown: &'a ShownRun, watch: &Watch) -> Snapshot<'a>
+    ensures { IsSnapshotOf shown.entry.now watch.now result }
+{
     let now = watch.moment();
-    let snapshot = Snapshot {
+    Snapshot {
         version: shown.version,
         now_ms: now,
         started_ms: shown.began.unwrap_or(now),
@@ -227,8 +227,21 @@ fn turn<D: StreamSource + Drop>(visitors: &mut Visitors<D>, shown: &ShownRun, wa
             hour: shown.hour.numbers(),
         },
         keeping: shown.keeping,
+        stations: &[],
+        settings: &[],
+    }
+}
+
+/// Gives the visitors a turn at what is shown.
+// What a visitor is answered then, the contract of `Seat` says (crates/status); no clause says that
+// it is of this snapshot (checks/status.py compares the pages with what stations did).
+fn turn<D: StreamSource + Drop>(visitors: &mut Visitors<D>, shown: &ShownRun, watch: &Watch) {
+    let rows = rows_of(shown.known.as_slice(), watch);
+    let settings = settings_of(shown.chosen.as_slice());
+    let snapshot = Snapshot {
         stations: rows.as_slice(),
         settings: settings.as_slice(),
+        ..snapshot_of(shown, watch)
     };
-    visitors.turn(now, &snapshot);
+    visitors.turn(snapshot.now_ms, &snapshot);
 }

@@ -1,4 +1,6 @@
 //! The settings that a page shows.
+ghost use Rattle.std.specs.Prelude.{◌≡◌, IfOk, map, take};
+ghost use Rattle.lookout.specs.Shown.{chosen_as, in_force, numbered, silence_text, viewed_as};
 
 use arrayvec::ArrayVec;
 use gateway::{Config, Silence};
@@ -16,13 +18,12 @@ pub(crate) struct ChosenSetting {
 }
 
 /// The settings in force that say how line and connection behave.
-pub(crate) fn chosen_of(alloc: Global, config: &Config) -> Result<Vec<ChosenSetting>, AllocError> {
+pub(crate) fn chosen_of(alloc: Global, config: &Config) -> Result<Vec<ChosenSetting>, AllocError>
+    ensures { IfOk result (λ chosen. map chosen_as chosen.items ≡ in_force config.now) }
+{
     let line = config.line();
     let tcp = config.tcp();
-    let silence = match line.silence {
-        Silence::Hold => "hold",
-        Silence::Reset => "reset",
-    };
+    let silence = text_of(line.silence);
     let mut chosen = Vec::new(alloc);
     chosen.push(number(alloc, "line.answer_ms", line.answer_ms)?)?;
     chosen.push(number(alloc, "line.retries", u64::from(line.retries))?)?;
@@ -42,15 +43,29 @@ pub(crate) fn chosen_of(alloc: Global, config: &Config) -> Result<Vec<ChosenSett
     Ok(chosen)
 }
 
+/// What a silence is called in settings.
+fn text_of(silence: Silence) -> &'static str
+    ensures { result.now ≡ silence_text silence }
+{
+    match silence {
+        Silence::Hold => "hold",
+        Silence::Reset => "reset",
+    }
+}
+
 /// A setting that is a number.
-fn number(alloc: Global, key: &'static str, value: u64) -> Result<ChosenSetting, AllocError> {
+fn number(alloc: Global, key: &'static str, value: u64) -> Result<ChosenSetting, AllocError>
+    ensures { IfOk result (λ s. chosen_as s ≡ numbered key.entry.now value) }
+{
     let mut text = String::new(alloc);
     write!(text, "{value}")?;
     Ok(ChosenSetting { key, value: text })
 }
 
 /// The settings as a page has them.
-pub(crate) fn settings_of(chosen: &[ChosenSetting]) -> ArrayVec<Setting<'_>, MOST_SETTINGS> {
+pub(crate) fn settings_of(chosen: &[ChosenSetting]) -> ArrayVec<Setting<'_>, MOST_SETTINGS>
+    ensures { map viewed_as result.items ≡ take 16 (map chosen_as chosen.entry.now) }
+{
     let mut settings = ArrayVec::new();
     for one in chosen {
         if settings.is_full() {

@@ -46,15 +46,17 @@ fn station_of<'a>(known: &'a Known, watch: &StationWatch, traffic: &Traffic) -> 
 }
 
 /// The rows of the stations, in the order of the settings.
-pub(crate) fn rows_of<'a>(known: &'a [Known], watch: &Watch) -> Rows<'a> {
+pub(crate) fn rows_of<'a>(known: &'a [Known], watch: &Watch) -> Rows<'a>
+    ensures { spec.AreRows 32 known.entry.now watch.now.stations watch.now.traffic result.items }
+{
     let mut rows = ArrayVec::new();
     let mut stations = watch.stations();
     let mut traffics = watch.traffic();
     for one in known {
-        let [station, more_stations @ ..] = stations else {
+        let Some((station, more_stations)) = stations.split_first() else {
             break;
         };
-        let [traffic, more_traffics @ ..] = traffics else {
+        let Some((traffic, more_traffics)) = traffics.split_first() else {
             break;
         };
         if rows.is_full() {
@@ -94,7 +96,10 @@ pub(crate) fn centre_of<'a>(
     peer: &'a str,
     gone_since: u64,
     unacknowledged: u64,
-) -> CentreView<'a> {
+) -> CentreView<'a>
+    ensures { spec.IsCentre watch.now.connection.opening peer.entry.now gone_since unacknowledged
+        result }
+{
     match watch.opening() {
         Some(opening) => CentreView {
             peer: Some(peer),

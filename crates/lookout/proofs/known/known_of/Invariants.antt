@@ -1,6 +1,4 @@
-use Rattle.std.proofs.Common.{map, take}
-use Rattle.gateway.specs.declared.settings.StationSettings.{StationSettings as Setting}
-use Rattle.lookout.specs.declared.known.Known.{Known}
+use Rattle.std.proofs.Common.{take}
 use Rattle.lookout.specs.Shown.{AreKnown}
 use Rattle.lookout.proofs.known.known_of.Given as goal
 
