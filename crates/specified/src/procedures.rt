@@ -1,5 +1,5 @@
 //! Link procedures: the crate `link` (IEC 60870-5-2).
-ghost use Rattle.std.specs.Prelude.{◌≡◌, ◌<◌, length};
+ghost use Rattle.std.specs.Prelude.{◌≡◌, ◌<◌, ◌==◌, length, Some, None, if◌then◌else◌};
 ghost use Rattle.ft12.specs.declared.frame.LinkSize.TheVariants.{One};
 
 use ft12::{Frame, LinkSize};
@@ -30,13 +30,19 @@ const COMMAND: [u8; 15] = [
 
 /// A user of the line who has one command, for the first station.
 #[derive(Drop)]
-struct Operator;
+struct Operator {
+    command: [u8; 7],
+}
 
 impl LinkUser for Operator {
-    ghost waiting = { λ user. λ station. if station == 0 then Some EXECUTE else None };
+    ghost waiting = { λ user. λ station. if station == 0 then Some user.command else None };
 
     fn command(&self, station: usize) -> Option<&[u8]> {
-        if station == 0 { Some(&EXECUTE) } else { None }
+        if station == 0 {
+            Some(&self.command)
+        } else {
+            None
+        }
     }
 }
 
@@ -58,14 +64,24 @@ fn a_primary_station(rt: HostRuntime) -> Result<(), NoMemory> {
 fn starts_the_second(rt: &impl Abort, master: &mut Master) {
     assert!(rt; sends(master.next(0, true, &NoCommands), &STATUS));
     assert!(rt; matches!(master.due(200), Outcome::None));
-    assert!(rt; sends(master.next(200, true, &NoCommands), &[0x10, 0x49, 0x02, 0x4B, 0x16]));
+    assert!(rt;
+        sends(
+            master.next(200, true, &NoCommands),
+            &[0x10, 0x49, 0x02, 0x4B, 0x16]
+        )
+    );
     assert!(rt;
         matches!(
             master.octets(&[0x10, 0x0B, 0x02, 0x0D, 0x16], &mut None),
             Outcome::None
         )
     );
-    assert!(rt; sends(master.next(201, true, &NoCommands), &[0x10, 0x40, 0x02, 0x42, 0x16]));
+    assert!(rt;
+        sends(
+            master.next(201, true, &NoCommands),
+            &[0x10, 0x40, 0x02, 0x42, 0x16]
+        )
+    );
     assert!(rt; matches!(master.octets(&[0xE5], &mut None), Outcome::Started(1)));
     assert!(rt; sends(master.next(202, true, &NoCommands), &STATUS));
 }
@@ -83,7 +99,8 @@ fn sends_a_command(rt: &impl Abort, master: &mut Master)
     assert!(rt; matches!(master.due(219), Outcome::None));
     assert!(rt; matches!(master.octets(&[0xE5], &mut None), Outcome::Empty(0)));
     // The command that waits for the station goes out.
-    assert!(rt; sends(master.next(40, true, &Operator), &COMMAND));
+    let operator = Operator { command: EXECUTE };
+    assert!(rt; sends(master.next(40, true, &operator), &COMMAND));
     // An exchange that had octets and no answer is spoilt.
     assert!(rt; matches!(master.octets(&[0x00], &mut None), Outcome::None));
     assert!(rt; matches!(master.due(240), Outcome::None));
