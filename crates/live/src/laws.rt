@@ -110,13 +110,15 @@ pub fn a_cut_shuts_the_connection()
         (new.connection ≡ None) × (new.held ≡ []) × (new.is_cut_due ≡ false) }
 {}
 
-/// Why a connection was cut. A cut that wasn't due has a stream that was gone. A cut comes to be due
-/// by a write that failed, and then that is its reason. No other event and no other action changes
-/// the reason: so a cut that is due has the one for which it came to be due.
+/// Why a connection was cut. A cut that wasn't due has a stream that was gone. A cut comes to be
+/// due by a write that failed, and then that is its reason. No other event and no other action
+/// changes the reason: so a cut that is due has the one for which it came to be due.
 pub fn a_cut_has_its_reason()
-    ensures gone { (old new : LiveEnds) (event : Next) (buf : List ℕ) → LogsTurn old event buf new →
+    ensures gone { (old new : LiveEnds) (event : Next) (buf : List ℕ) →
+        LogsTurn old event buf new →
         is_cut event ≡ true → old.is_cut_due ≡ false → new.why_cut ≡ Gone }
-    ensures due { (old new : LiveEnds) (event : Next) (buf : List ℕ) → LogsTurn old event buf new →
+    ensures due { (old new : LiveEnds) (event : Next) (buf : List ℕ) →
+        LogsTurn old event buf new →
         is_cut event ≡ true → old.is_cut_due ≡ true → new.why_cut ≡ old.why_cut }
     ensures others { (old new : LiveEnds) (event : Next) (buf : List ℕ) →
         LogsTurn old event buf new → is_cut event ≡ false → new.why_cut ≡ old.why_cut }

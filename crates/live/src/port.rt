@@ -108,8 +108,8 @@ impl<S: OctetStream, L: Listener + Drop, C: RunClock + Drop> Live<S, L, C> {
         allow_list: AllowList,
         config: &Config,
     ) -> Live<S, L, C>
-        ensures { result ≡ begun_with allow_list (S.history line) (S.presence line) (L.attempts listener)
-            (C.moments clock) (C.walls clock) config.now.line.answer_ms }
+        ensures { result ≡ begun_with allow_list (S.history line) (S.presence line)
+            (L.attempts listener) (C.moments clock) (C.walls clock) config.now.line.answer_ms }
     {
         // Of the settings it needs how long an answer is awaited (docs/DECISIONS.md, "What
         // `Live::new` takes").
@@ -124,8 +124,8 @@ impl<S: OctetStream, L: Listener + Drop, C: RunClock + Drop> Live<S, L, C> {
         allow_list: AllowList,
         answer_ms: u64,
     ) -> Live<S, L, C>
-        ensures { result ≡ begun_with allow_list (S.history line) (S.presence line) (L.attempts listener)
-            (C.moments clock) (C.walls clock) answer_ms }
+        ensures { result ≡ begun_with allow_list (S.history line) (S.presence line)
+            (L.attempts listener) (C.moments clock) (C.walls clock) answer_ms }
     {
         Live {
             allow_list,
