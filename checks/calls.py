@@ -93,7 +93,7 @@ def calls_of(crate):
         for found in FUNCTION.finditer(text):
             indent, is_public, call, rest = found.groups()
             owner, is_trait = owner_at(text, found.start()) if indent else (None, False)
-            if owner is None and is_public and call in inner and rest.strip() != "()":
+            if owner is None and is_public and call in inner and not re.fullmatch(r"(?:<[^>]*>)?\(\)", rest.strip()):
                 calls[inner[call]] = plain(inner[call] + rest, text)
             elif owner in inner and (is_public or is_trait):
                 calls[f"{inner[owner]}::{call}"] = plain(f"{inner[owner]}::{call}{rest}", text)

@@ -6,3 +6,12 @@ pub mod Sending
 pub mod CaptureLemmas
 pub mod WholeLemmas
 pub mod Timing
+pub mod BlockShapes
+pub mod DatagramShapes
+pub mod SerialShapes
+pub mod Streaming
+pub mod Marking
+pub mod Fitting
+pub mod ReadBack
+pub mod ReadAlike
+pub mod Saying

@@ -1,6 +1,7 @@
 pub mod Octets
 pub mod Blocks
 pub mod Segments
+pub mod Formats
 pub mod Connections
 pub mod Wires
 pub mod Clocks
@@ -8,4 +9,7 @@ pub mod Recorded
 pub mod Entries
 pub mod Examples
 pub mod Captures
+pub mod Streams
+pub mod Readers
+pub mod Remarks
 pub mod Texts

@@ -1,8 +1,11 @@
 //! What holds of every capture.
-ghost use Rattle.std.specs.Prelude.{◌≡◌, ◌++◌, [], Bool, List, ℕ, map};
+ghost use Rattle.std.specs.Prelude.{◌≡◌, ◌++◌, [], Bool, List, ℕ, map, Some, option_map};
 ghost use Rattle.std.specs.List.{filter_map, flat_map};
 ghost use Rattle.ft12.specs.declared.frame.LinkSize.{LinkSize};
-ghost use Rattle.gateway.specs.Log.{LogEntry};
+ghost use Rattle.gateway.specs.Log.{LogEntry, Input, Output, Came, Went};
+ghost use Rattle.traces.specs.Printed.{entry_in};
+ghost use Rattle.traces.specs.Progress.{came};
+ghost use Rattle.traces.specs.Trace.{logged};
 ghost use Rattle.capture.specs.Blocks.{file_header};
 ghost use Rattle.capture.specs.Captures.{begun, blocks_of, capture_of, line_octets, packets_in};
 ghost use Rattle.capture.specs.Captures.{segments_in, serial_in, serial_joined, tcp_octets};
@@ -50,4 +53,14 @@ pub fn segments_run_on()
 pub fn lines_are_captured()
     ensures { (size : LinkSize) (lines : List (List ℕ)) → capture_of size lines
         ≡ file_header ++ flat_map blocks_of (whole_capture size (filter_map entry_logged lines)) }
+{}
+
+/// A line is captured as that action which the reading of records takes it for
+/// (`printed_lines_read_back` of `traces`), or as that event which a trace would log by it.
+pub fn lines_are_read_as_recorded()
+    ensures actions { (line : List ℕ) (now : ℕ) (action : Output) →
+        entry_logged line ≡ Some (Went now action) → entry_in line ≡ Some (Went now action) }
+    ensures events { (line : List ℕ) (now : ℕ) (event : Input) →
+        entry_logged line ≡ Some (Came now event) →
+        option_map came (logged line) ≡ Some (Came now event) }
 {}

@@ -46,10 +46,11 @@ use Rattle.delivery.proofs.Line.{received_logged, asked_logged, timed_logged}
 use Rattle.delivery.proofs.Works.{all_logged, IsAllLogged, logged_alike, silent_logged, IsLearnt}
 use Rattle.delivery.proofs.Works.{learnt_of}
 use Rattle.delivery.proofs.Works.{IsQuiet, received_quiet, received_line, sent_quiet, sent_line}
-use Rattle.delivery.proofs.Works.{settled_quiet, settled_line, waiting_data, put_logged}
+use Rattle.delivery.proofs.Works.{settled_quiet, settled_line, put_logged}
 use Rattle.delivery.proofs.Works.{put_mirrors}
 use Rattle.delivery.proofs.Works.{put_fits}
 use Rattle.gateway.proofs.Called.{taken_fit}
+use Rattle.gateway.proofs.Lending.{waiting_data}
 use Rattle.delivery.proofs.Restarts.{IsGiven, all_given}
 
 -- the works are what these exchanges make them
@@ -291,14 +292,25 @@ module _ (laws : LinkLaws) (stay : AnswersStay) (p : Setup) where
       record { station = i; request = s.request } in made))
       (set.found s.station fits.station)
 
-  asked_joins : (at : ℕ) (room : Bool) (s : Sending) (e : Exchanges) (w : Works)
-      → next_request room w.serial ≡ Some s →
-      ((fcb : Bool) (asdu : List ℕ) → s.request ≡ Counted fcb (Command asdu)
+  -- a command that goes out for the first time is the one that waits
+  command_waits : (room : Bool) (s : Sending) (w : Works) → next_request room w.serial ≡ Some s
+      → (fcb : Bool) (asdu : List ℕ) → s.request ≡ Counted fcb (Command asdu)
       → is_first_command w.serial.line s ≡ true
-      → octets_waiting s.station w.serial.commands ≡ Some asdu) →
-      w.serial.silent ≡ None → Joins p e w
+      → octets_waiting s.station w.serial.commands ≡ Some asdu
+  command_waits room s w is fcb asdu request first =
+      laws.begun w.serial.line room (waiting_in w.serial.commands) s fcb asdu is request
+      (not-true (is_held (station_at w.serial.line.stations s.station).link)
+      (and_parts (is_command s.request)
+      (not (is_held (station_at w.serial.line.stations s.station).link)) first).1)
+    where
+      not-true : (b : Bool) → not b ≡ true → b ≡ false
+      not-true true h = cc
+      not-true false h = refl
+
+  asked_joins : (at : ℕ) (room : Bool) (s : Sending) (e : Exchanges) (w : Works)
+      → next_request room w.serial ≡ Some s → w.serial.silent ≡ None → Joins p e w
       → Joins p (begun_by at (Some s) e) (asked_works at room s w)
-  asked_joins at room s e w is waits none j = record {
+  asked_joins at room s e w is none j = record {
     matches =
         subst (λ (o : Option Sending). Matches p.link p.addresses
         (asked w.serial.line at room (waiting_in w.serial.commands)) (begun_by at o e)) is
@@ -313,7 +325,8 @@ module _ (laws : LinkLaws) (stay : AnswersStay) (p : Setup) where
         (fits_line room e w j) is
         (put_logged (is_first_command w.serial.line s) s.station s.request w k
         (λ first. (and_parts (is_command s.request)
-        (not (is_held (station_at w.serial.line.stations s.station).link)) first).0) waits)
+        (not (is_held (station_at w.serial.line.stations s.station).link)) first).0)
+        (command_waits room s w is))
         (subst (λ (o : Option ℕ). IsLogged p.link (address_at p.addresses k)
         (exchanges_at (front_of p.link.size) k e) k
         (unless_silent_works o w).history) none (j.logged k)));
@@ -348,7 +361,7 @@ module _ (laws : LinkLaws) (stay : AnswersStay) (p : Setup) where
       (asked_works (latest log) (room_in p log before) sends.request
       (settled_works (latest log) before.works)) =
       asked_joins (latest log) (room_in p log before) sends.request (exchanges_of p log)
-      (settled_works (latest log) before.works) sends.next sends.waits refl ready in
+      (settled_works (latest log) before.works) sends.next refl ready in
       subst (λ (c : Course). Joins p (exchanges_of p (Went now (LineOut octets) ∷ log)) c.works)
       (sym sends.is)
       (subst

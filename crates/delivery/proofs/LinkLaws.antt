@@ -11,6 +11,8 @@ use Rattle.ft12.specs.declared.frame.LinkSize.{LinkSize}
 use Rattle.ft12.specs.Fronts.{front_of}
 use Rattle.ft12.specs.Spelling.{spelling}
 use Rattle.link.specs.declared.service.Asked.{Asked}
+use Rattle.link.specs.declared.service.Asked.TheVariants.{Counted}
+use Rattle.link.specs.declared.service.Service.TheVariants.{Command}
 use Rattle.link.specs.declared.settings.LinkSettings.{LinkSettings}
 use Rattle.link.specs.declared.procedure.Link.TheVariants.{Down}
 use Rattle.link.specs.Answers.{answer_of}
@@ -18,7 +20,7 @@ use Rattle.link.specs.Exchanges.{Exchange, OpenExchange, Exchanges, Sending, IsO
 use Rattle.link.specs.Exchanges.{no_exchanges, answer_to, begun_by, received_octets}
 use Rattle.link.specs.Exchanges.{received_current, timed, timed_current, view, views, whole_of}
 use Rattle.link.specs.Exchanges.{with_station, reports_of_exchanges, given_up_at}
-use Rattle.link.specs.Procedure.{link_after, after_silence}
+use Rattle.link.specs.Procedure.{link_after, after_silence, is_held}
 use Rattle.link.specs.Runs.{AreUserData, FitsLine, silence_outcome}
 use Rattle.link.specs.Requests.{request_frame, request_in, FitsAddress, FitsAsked}
 use Rattle.link.specs.Carried.{awaits_command, awaits_command_in, given_up, commands_given_up}
@@ -28,7 +30,7 @@ use Rattle.link.specs.declared.outcome.Outcome.{Outcome}
 use Rattle.link.specs.declared.outcome.Outcome.TheVariants as outcome
 use Rattle.link.specs.Primary.{Primary, start, asked, sending, received, received_outcome}
 use Rattle.link.specs.Primary.{outcome_of, started, with_gap, timed_out, due_outcome}
-use Rattle.link.specs.Turns.{CommandsWaiting}
+use Rattle.link.specs.Turns.{CommandsWaiting, station_at}
 use Rattle.link.specs.Matching.{Matches, IsReceived, IsOver, report_in, IsFittingSending}
 use Rattle.command.specs.History.{History}
 use Rattle.delivery.proofs.History.{line_logged}
@@ -116,6 +118,9 @@ pub record LinkLaws : Type 0 where
       → reports_of_exchanges (front_of size) address
       (commands_given_up settings (front_of size) addresses e)
       ≡ reports_of_exchanges (front_of size) address e
+  pub begun : (q : Primary) (may_poll : Bool) (waiting : CommandsWaiting) (s : Sending) (fcb : Bool)
+      (asdu : List ℕ) → sending q may_poll waiting ≡ Some s → s.request ≡ Counted fcb (Command asdu)
+      → is_held (station_at q.stations s.station).link ≡ false → waiting s.station ≡ Some asdu
   pub itself : (front : List ℕ → Front) (k : ℕ) (e : Exchanges)
       → line_exchanges front k (given_up_at k e) ≡ latest_given_up (line_exchanges front k e)
   pub others : (front : List ℕ → Front) (k j : ℕ) (e : Exchanges) → j ≢ k

@@ -16,13 +16,10 @@ use Rattle.arrayvec.specs.ArrayVec.{ArrayVec}
 use Rattle.link.specs.declared.outcome.Outcome.{Outcome}
 use Rattle.link.specs.declared.outcome.Outcome.TheVariants as outcome
 use Rattle.std.specs.Io.Iter.{u64_saturate}
-use Rattle.link.specs.Requests.{IsUserData}
-use Rattle.link.specs.Runs.{AreUserData}
-use Rattle.ft12.specs.declared.frame.LinkSize.{LinkSize}
 use Rattle.link.specs.Primary.{is_command}
 use Rattle.link.specs.Matching.{report_in}
 use Rattle.command.specs.declared.waiting.Waiting.{Waiting}
-use Rattle.command.specs.State.{State, octets_waiting, oldest, oldest_for}
+use Rattle.command.specs.State.{State, octets_waiting, oldest_for}
 use Rattle.command.specs.State.{is_used, line_of}
 use Rattle.command.specs.Judging.{judged}
 use Rattle.command.specs.History.{History, Sent}
@@ -30,7 +27,7 @@ use Rattle.command.specs.Calls.{Judge, PutOnLine, Accept, Busy, Lose, Mirror, Se
 use Rattle.command.specs.Calls.{after_call, after_sending}
 use Rattle.gateway.specs.Objects.{has_objects}
 use Rattle.gateway.specs.Reports.{Setup}
-use Rattle.gateway.specs.Serial.{refusals, reported, with_gap, listed, silent_by, waiting_in}
+use Rattle.gateway.specs.Serial.{refusals, reported, with_gap, listed, silent_by}
 use Rattle.gateway.specs.Works.{Works, tasks_of, called, LearnsOf, LearnsReport, is_command_report}
 use Rattle.gateway.specs.Works.{mirrored_works, accepted_works, refused_works, given_up_works}
 use Rattle.gateway.specs.Works.{received_works, answered_works, sent_works, unless_silent_works}
@@ -38,7 +35,7 @@ use Rattle.gateway.specs.Works.{settled_works, put_first}
 use Rattle.delivery.specs.Commands.{Lost, judged_in}
 use Rattle.delivery.specs.Joined.{mirrored_in, command_reports, skipped_among, AreValues}
 use Rattle.delivery.proofs.Skipping.{skip_one, skip_none, lost_skips}
-use Rattle.gateway.proofs.Waiting.{AnswersStay, AllFitLine, oldest_fits}
+use Rattle.gateway.proofs.Waiting.{AnswersStay}
 use Rattle.delivery.proofs.History.{LineLogged, line_logged, line_ignores, mirrors_ignore}
 use Rattle.delivery.proofs.History.{judged_ignore, keeping, sending_own, judging, WaitsFit}
 use Rattle.delivery.proofs.History.{one_fits, kept_fit}
@@ -462,18 +459,6 @@ settled_judged at w = go w.serial.silent
     go : (o : Option ℕ) → judged_in (unless_silent_works o w).history ≡ judged_in w.history
     go None = refl
     go (Some station) = refl
-
--- What waits fits the line
-
-pub waiting_data : (size : LinkSize) (s : State) → AllFitLine size s.waiting
-    → AreUserData size (waiting_in s)
-waiting_data size s fits station asdu e = go (oldest station s.waiting) refl e
-  where
-    go : (o : Option Waiting) → oldest station s.waiting ≡ o
-        → option_map (λ (w : Waiting). w.octets) o ≡ Some asdu → IsUserData size asdu
-    go None is h = cc
-    go (Some w) is h = let same : w.octets ≡ asdu = cc in
-        subst (IsUserData size) same (oldest_fits size station s.waiting w fits is)
 
 -- A command goes out
 

@@ -1,7 +1,6 @@
 -- What the control centre sent, as the log shows when it came (IEC 60870-5-104, 5), and how old a
 -- command with a time tag was then (IEC 60870-5-104, 8: types 58 to 62; how old one may be is this
 -- gateway's own profile).
-use Rattle.std.specs.Io.Iter.{u64_saturate}
 use Rattle.std.specs.Prelude.{◌≡◌, ℕ, ◌+◌, ◌-◌, ◌≤◌, Bool, List, [], ◌∷◌, ◌++◌, map}
 use Rattle.std.specs.Prelude.{length, get_or, if◌then◌else◌}
 use Rattle.elements.specs.TimeTag.{verdict_of}
@@ -9,10 +8,11 @@ use Rattle.elements.specs.declared.tag.Verdict.TheVariants.{Good}
 use Rattle.apci.specs.declared.apdu.Apdu.{Apdu}
 use Rattle.apci.specs.declared.apdu.Apdu.TheVariants.{I}
 use Rattle.command.specs.Standard.{tag_of}
-use Rattle.gateway.specs.Log.{Log, Came, Went, Opened, TcpIn, CutOff, WallIs, Closed, latest}
+use Rattle.gateway.specs.Log.{Log, Came, Went, Opened, TcpIn, CutOff, Closed, latest}
 use Rattle.gateway.specs.Streams.{spelled}
 use Rattle.gateway.specs.Frames.{Connection}
 use Rattle.gateway.specs.Connections.{present, ends}
+pub use Rattle.gateway.specs.Walls.{HasNoWall, ShowsAt}
 
 -- When octets came
 
@@ -74,23 +74,6 @@ abbrev pub arrivals : Log → List Connection → List Arrival
 arrivals log connections = arrivals_by connections (present_logs log ∷ past_logs log)
 
 -- The wall clock
-
-abbrev pub HasNoWall : Log → Type 0
-HasNoWall [] = Unit {0}
-HasNoWall (Came now (WallIs number) ∷ log) = ⊥
-HasNoWall (entry ∷ log) = HasNoWall log
-
--- An event of the log gave the wall clock, and by the latest such event it shows this at that
--- moment: the number that the event gave and the milliseconds since, in 64 bits.
-pub record ShowsAt (log : Log) (at clock : ℕ) : Type 0 where
-  pub since : Log
-  pub now : ℕ
-  pub number : ℕ
-  pub before : Log
-  pub logged : log ≡ since ++ Came now (WallIs number) ∷ before
-  pub latest_logged : HasNoWall since
-  pub shows : clock
-      ≡ u64_saturate (number + (at - latest (Came now (WallIs number) ∷ before)))
 
 -- The seven octets at the end are a good time tag; a wall moment stands before in the log; and at
 -- the log's moment the two are at most so many milliseconds apart.

@@ -19,9 +19,10 @@ use apci::one_front;
 use command::{selections_are_selects_that_stand, settings_stay, waiting_commands_stay};
 use gateway::courses_keep_commands;
 use link::{
-    commands_are_accepted, giving_up_is_logged, master_matches_the_log, outcomes_are_answers,
-    outcomes_bear_the_reports, requests_are_read_back, requests_wait_their_turn,
-    sessions_are_known, the_latest_exchange_is_marked,
+    commands_are_accepted, commands_are_those_that_wait, giving_up_is_logged,
+    master_matches_the_log, outcomes_are_answers, outcomes_bear_the_reports,
+    requests_are_read_back, requests_wait_their_turn, sessions_are_known,
+    the_latest_exchange_is_marked,
 };
 
 /// The stations of a gateway's settings have link addresses that fit the line, and each is found by
@@ -47,6 +48,7 @@ pub fn the_course_is_the_logs()
     outcomes_are_answers();
     requests_wait_their_turn();
     requests_are_read_back();
+    commands_are_those_that_wait();
     giving_up_is_logged();
     the_latest_exchange_is_marked();
     waiting_commands_stay();

@@ -34,7 +34,9 @@ accounted_at p s log a = record {
   left = sym (ap (λ n. drop n (taken_objects p log)) (sym all.front)
       ∙ ap (drop (length all.gone)) all.joined
       ∙ drop-append_seam all.gone (flat_map objects (kept s.centre.queue)));
-  counts = ap (λ (z : Serial). z.counts) (at_rest_works p s log a);
+  skipped = ap (λ (z : Serial). z.counts.skipped) (at_rest_works p s log a);
+  mirrors = ap (λ (z : Serial). z.counts.mirrors) (at_rest_works p s log a);
+  lost = ap (λ (z : Serial). z.counts.lost) (at_rest_works p s log a);
   spoilt = a.line.spoilt;
 }
   where

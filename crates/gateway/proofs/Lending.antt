@@ -1,10 +1,11 @@
 -- What waits when a request is asked for fits the line.
-use Rattle.std.proofs.Common.{◌≡◌, ℕ, List, Option, Some, None, refl, sym, subst}
+use Rattle.std.proofs.Common.{◌≡◌, ℕ, Option, Some, None, refl, sym, subst}
 use Rattle.std.specs.Prelude.{option_map}
+use Rattle.ft12.specs.declared.frame.LinkSize.{LinkSize}
 use Rattle.link.specs.Requests.{IsUserData}
 use Rattle.link.specs.Runs.{AreUserData}
 use Rattle.command.specs.declared.waiting.Waiting.{Waiting}
-use Rattle.command.specs.State.{oldest}
+use Rattle.command.specs.State.{State, oldest}
 use Rattle.gateway.specs.Log.{Log}
 use Rattle.gateway.specs.Reports.{Setup}
 use Rattle.gateway.specs.Serial.{waiting_in}
@@ -29,21 +30,19 @@ settled_waiting at w = by_silent w.serial.silent
     by_silent None = refl
     by_silent (Some i) = refl
 
+pub waiting_data : (size : LinkSize) (s : State) → AllFitLine size s.waiting
+    → AreUserData size (waiting_in s)
+waiting_data size s fit station asdu e = by_oldest (oldest station s.waiting) refl e
+  where
+    by_oldest : (o : Option Waiting) → oldest station s.waiting ≡ o
+        → option_map (λ (w : Waiting). w.octets) o ≡ Some asdu → IsUserData size asdu
+    by_oldest None is e = cc
+    by_oldest (Some w) is e =
+        let same : w.octets ≡ asdu = cc in
+        subst (IsUserData size) same (oldest_fits size station s.waiting w fit is)
+
 pub are_user_data : AnswersStay → (p : Setup) (log : Log) (c : Course) → Runs p log c → (at : ℕ)
     → AreUserData p.link.size (waiting_in (settled_works at c.works).serial.commands)
 are_user_data stay p log c r at =
-    λ station asdu e. by_oldest station asdu (oldest station ws) refl e
-  where
-    ws : List Waiting
-    ws = (settled_works at c.works).serial.commands.waiting
-
-    fit : AllFitLine p.link.size ws
-    fit = subst (AllFitLine p.link.size) (sym (settled_waiting at c.works))
-        (waits_fit stay p log c r)
-
-    by_oldest : (station : ℕ) (asdu : List ℕ) (o : Option Waiting) → oldest station ws ≡ o
-        → option_map (λ (w : Waiting). w.octets) o ≡ Some asdu → IsUserData p.link.size asdu
-    by_oldest station asdu None is e = cc
-    by_oldest station asdu (Some w) is e =
-        let same : w.octets ≡ asdu = cc in
-        subst (IsUserData p.link.size) same (oldest_fits p.link.size station ws w fit is)
+    waiting_data p.link.size (settled_works at c.works).serial.commands
+    (subst (AllFitLine p.link.size) (sym (settled_waiting at c.works)) (waits_fit stay p log c r))

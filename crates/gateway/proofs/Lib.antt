@@ -67,5 +67,9 @@ pub mod OneCalling
 pub mod LineTurns
 pub mod GoingOut
 pub mod WholePieces
+pub mod Ending
+pub mod Saying
+pub mod Handing
+pub mod Clock
 pub mod OneAction
 pub mod Decided

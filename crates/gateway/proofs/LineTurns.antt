@@ -12,7 +12,7 @@ use Rattle.link.specs.Visits.{AreInVisits, most_of_visit, whole_visit}
 use Rattle.link.specs.Waits.{AlwaysWants, stations_asked, waited}
 use Rattle.link.specs.Precedence.{CommandsGoFirst}
 use Rattle.link.specs.Bursts.{BurstsGoOn, Other}
-use Rattle.link.specs.AtOnce.{RepeatsComeAtOnce, PollsFollowCommands, TurnsGoOn}
+use Rattle.link.specs.AtOnce.{RepeatsComeAtOnce, TurnsGoOn}
 use Rattle.link.specs.OneVisit.{TurnsAreVisits}
 use Rattle.link.specs.Timing.{AnswersHaveTheirTime}
 use Rattle.link.specs.declared.procedure.Link.TheVariants.{Down}
@@ -21,11 +21,9 @@ use Rattle.gateway.specs.Config.{Settings, AreStations}
 use Rattle.gateway.specs.Setups.{setup_of}
 use Rattle.gateway.specs.Log.{Log}
 use Rattle.gateway.specs.Reports.{Setup}
-use Rattle.gateway.specs.State.{State}
-use Rattle.gateway.specs.Phases.{resting}
-use Rattle.gateway.specs.Agrees.{Agrees}
+use Rattle.gateway.specs.Traffic.{IsFaithful}
 use Rattle.gateway.specs.Turning.{new_line, KeepsTurns}
-use Rattle.gateway.proofs.Starting.{first_fits}
+use Rattle.gateway.proofs.Starting.{first_found, first_fits}
 use Rattle.gateway.proofs.AskingCalls.{Laws}
 use Rattle.gateway.proofs.Calling.{Made, makes}
 
@@ -55,8 +53,6 @@ pub record TurnLaws : Type 0 where
       → BurstsGoOn (start settings addresses) Other calls
   pub repeats : (settings : LinkSettings) (addresses : List ℕ) (calls : List Call)
       → RepeatsComeAtOnce (start settings addresses) None calls
-  pub polls : (settings : LinkSettings) (addresses : List ℕ) (calls : List Call)
-      → PollsFollowCommands (start settings addresses) None calls
   pub held : (settings : LinkSettings) (addresses : List ℕ) (calls : List Call)
       → TurnsGoOn (start settings addresses) None calls
   pub each : (settings : LinkSettings) (addresses : List ℕ) (calls : List Call)
@@ -74,18 +70,18 @@ split p [] later may = (tt, may)
 split p (call ∷ first) later may =
     let rest = split (called p call) first later may.1 in ((may.0, rest.0), rest.1)
 
-pub turns : TurnLaws → Laws → (c : Settings) (s : State) (log : Log)
-    → AreStations c.line.link c.line.sizes.ca c.stations → 1 ≤ c.line.burst
-    → Agrees (setup_of c) s log [] (resting log) → KeepsTurns (setup_of c) log
-turns t laws c s log rules burst a =
+pub turns : TurnLaws → Laws → (c : Settings) (log : Log)
+    → AreStations c.line.link c.line.sizes.ca c.stations
+    → IsFaithful (setup_of c) log → KeepsTurns (setup_of c) log
+turns t laws c log rules f =
     let p : Setup = setup_of c in
     let some : 0 < length p.addresses =
     omega (arith, rules.some, length-map c.stations (λ (s : StationSettings). s.address)) in
     let fit : All (FitsAddress p.link.size) p.addresses =
     first_fits c.line.link c.line.sizes.ca c.stations rules.each in
-    let more : 0 < p.link.burst = omega (arith, burst) in
-    let m : Made laws p log a.course = makes laws p a.found
-    (laws.line.start p.link p.addresses some fit) log a.course a.talk.course_runs a.before.acts in
+    let more : 0 < p.link.burst = omega (arith, c.line.burst_in_range) in
+    let m : Made laws p log f.course = makes laws p (first_found c.stations rules.distinct)
+    (laws.line.start p.link p.addresses some fit) log f.course f.course_runs f.acts in
     record {
       visits =
           subst (λ (e : Exchanges). AreInVisits p.link p.addresses
@@ -101,7 +97,6 @@ turns t laws c s log rules burst a =
       commands = λ station. t.first (new_line p) station m.calls;
       bursts = t.bursts p.link p.addresses m.calls;
       repeats = t.repeats p.link p.addresses m.calls;
-      polls = t.polls p.link p.addresses m.calls;
       held = t.held p.link p.addresses m.calls;
       each = t.each p.link p.addresses m.calls some fit more m.leads.may;
       times = t.times p.link p.addresses m.calls;

@@ -1,21 +1,16 @@
 -- A request is asked for: the lemmas in the form that answers cite.
-use Rattle.std.proofs.Common.{◌≡◌, ℕ, ◌≤◌, Bool, true, false, not, List, [], ◌∷◌, ◌++◌, refl}
+use Rattle.std.proofs.Common.{◌≡◌, ℕ, ◌≤◌, Bool, true, false, List, [], ◌∷◌, ◌++◌, refl}
 use Rattle.std.proofs.Common.{ap, sym, ◌∙◌, subst, arith, Option, Some, None}
 use Rattle.std.specs.Prelude.{IfSome, is_some, if◌then◌else◌, option_map}
 use Rattle.std.proofs.lemmas.List.{append-nil}
-use Rattle.std.proofs.lemmas.Bool.{and_parts}
-use Rattle.link.specs.declared.service.Service.TheVariants.{Command}
-use Rattle.link.specs.declared.service.Asked.TheVariants.{Counted}
-use Rattle.link.specs.Procedure.{is_held}
 use Rattle.link.specs.declared.turn.Chosen.{Chosen}
-use Rattle.link.specs.Turns.{CommandsWaiting, station_at}
+use Rattle.link.specs.Turns.{CommandsWaiting}
 use Rattle.link.specs.Runs.{AreUserData, FitsLine}
 use Rattle.link.specs.Exchanges.{Sending, begun_by}
 use Rattle.link.specs.Primary.{Primary, Outstanding, asked, asked_from, after_choice, choice}
-use Rattle.link.specs.Primary.{sending_from, sending_by, request_of, is_command}
+use Rattle.link.specs.Primary.{sending_from, sending_by, request_of}
 use Rattle.link.specs.declared.request.Request.{Request}
 use Rattle.link.specs.Matching.{Matches}
-use Rattle.command.specs.State.{octets_waiting}
 use Rattle.events.specs.Queue.{free_places}
 use Rattle.session.specs.Ends.{IsInTime}
 use Rattle.session.specs.History.{has_timed_out}
@@ -100,22 +95,6 @@ module _ (laws : LineLaws) (p : Setup) (s : State) (log : Log) (a : Agrees p s l
       (are_user_data a.talk.command_laws.mirrored_waits p log a.course a.talk.course_runs at))
       a.line
 
-  command_waits : (x : Sending) → next_request may s.serial ≡ Some x
-      → (fcb : Bool) (asdu : List ℕ)
-      → x.request ≡ Counted fcb (Command asdu) → is_first_command ready.serial.line x ≡ true
-      → octets_waiting x.station ready.serial.commands ≡ Some asdu
-  command_waits x next fcb asdu request first =
-      let new : is_first_command q x ≡ true =
-      ap (λ (z : Serial). is_first_command z.line x) a.stands.does ∙ first in
-      let fresh : is_held (station_at q.stations x.station).link ≡ false =
-      not-true _ (and_parts (is_command x.request) _ new).1 in
-      ap (λ (z : Serial). octets_waiting x.station z.commands) (sym a.stands.does)
-      ∙ laws.begun q may waiting x fcb asdu next request fresh
-    where
-      not-true : (b : Bool) → not b ≡ true → b ≡ false
-      not-true true h = cc
-      not-true false h = refl
-
   is_out : (x : Sending) → next_request may s.serial ≡ Some x
       → IsOut (asked q s.moment may waiting).outstanding
   is_out x next = by_outstanding q.outstanding next
@@ -159,7 +138,6 @@ module _ (laws : LineLaws) (p : Setup) (s : State) (log : Log) (a : Agrees p s l
           request = x;
           next = same_next (Some x) next;
           spelled_so = refl;
-          waits = command_waits x next;
           is = refl;
         },
       ) in

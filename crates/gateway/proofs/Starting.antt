@@ -45,7 +45,7 @@ addresses_differ : (s : StationSettings) (stations : List StationSettings)
 addresses_differ s [] h = tt
 addresses_differ s (t ∷ stations) h = (h.0.0, addresses_differ s stations h.1)
 
-first_found : (stations : List StationSettings) → AreDistinct stations
+pub first_found : (stations : List StationSettings) → AreDistinct stations
     → AreFound (map (λ (s : StationSettings). s.address) stations)
 first_found [] h i less = absurd (omega (arith, less))
 first_found (s ∷ stations) h zero less =

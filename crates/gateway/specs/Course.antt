@@ -10,8 +10,6 @@ use Rattle.apci.specs.declared.apdu.Apdu.{Apdu}
 use Rattle.apci.specs.declared.apdu.Apdu.TheVariants.{I}
 use Rattle.apci.specs.Spelling.{spelling, Fits}
 use Rattle.apci.specs.Reading.{IsMore}
-use Rattle.link.specs.declared.service.Service.TheVariants.{Command}
-use Rattle.link.specs.declared.service.Asked.TheVariants.{Counted}
 use Rattle.link.specs.Exchanges.{Sending}
 use Rattle.link.specs.Requests.{request_frame}
 use Rattle.session.specs.declared.kinds.Close.{Close}
@@ -22,7 +20,7 @@ use Rattle.session.specs.History as talk
 use Rattle.session.specs.History.{History, is_started, still_unacknowledged, confirmation_of}
 use Rattle.session.specs.History.{frame_due, has_timed_out}
 use Rattle.session.specs.Rules.{KeepsRules}
-use Rattle.command.specs.State.{octets_waiting, first_answer}
+use Rattle.command.specs.State.{first_answer}
 use Rattle.gateway.specs.Objects.{objects, has_objects}
 use Rattle.gateway.specs.Log.{Log, Input, LineIn, Opened, TcpIn, CutOff, Ticked, WallIs, Restarted}
 use Rattle.gateway.specs.Log.{Came, Went, LineOut, TcpOut, Closed, GapOut, latest}
@@ -33,7 +31,7 @@ use Rattle.gateway.specs.Frames.{monitor_objects_sent, acknowledged_reports, rep
 use Rattle.gateway.specs.Connections.{Channel, present, received_before, is_replaced, IsConnection}
 use Rattle.gateway.specs.Reports.{Setup, address_at, reports_in, parts_of_all, taken_objects}
 use Rattle.gateway.specs.Reports.{taken_pieces}
-use Rattle.gateway.specs.Serial.{is_first_command, answer_outcome, next_request}
+use Rattle.gateway.specs.Serial.{answer_outcome, next_request}
 use Rattle.gateway.specs.Works.{Works, first_works, has_lacked_place, LearnsOf, received_works}
 use Rattle.gateway.specs.Works.{sent_works, cut_works, octets_works, begun_works, settled_works}
 use Rattle.gateway.specs.Works.{gapless_works, asked_works, done_works, restarted_works}
@@ -342,8 +340,7 @@ pub record ReportsGap (p : Setup) (log : Log) (station session : ℕ)
   pub is : after ≡ with_works (gapless_works before.works) before
 
 -- The octets are the request that is next, where the queue has the room that the log shows, once
--- the gap is reported, all that came is taken and answered, and no answer is late; and a command
--- that goes out for the first time is the oldest that waits for its station.
+-- the gap is reported, all that came is taken and answered, and no answer is late.
 pub record SendsNext (p : Setup) (log : Log) (octets : List ℕ)
     (before after : Course) : Type 0 where
   pub all : HasTakenAll (present log) before.talk
@@ -359,10 +356,6 @@ pub record SendsNext (p : Setup) (log : Log) (octets : List ℕ)
       ≡ Some request
   pub spelled_so : octets ≡ line.spelling p.link.size
       (request_frame (address_at p.addresses request.station) request.request)
-  pub waits : (fcb : Bool) (asdu : List ℕ) → request.request ≡ Counted fcb (Command asdu) →
-      is_first_command (settled_works (latest log) before.works).serial.line request ≡ true →
-      octets_waiting request.station (settled_works (latest log) before.works).serial.commands
-      ≡ Some asdu
   pub is : after
       ≡ with_works (asked_works (latest log) (room_in p log before) request
       (settled_works (latest log) before.works)) before

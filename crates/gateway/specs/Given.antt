@@ -1,9 +1,10 @@
 -- What is due to the control centre is given: by what became of commands, an answer of the
 -- gateway's own is handed over as soon as it is due, and a station's answer by all pieces that
 -- carry it (IEC 60870-5-101, 7.2.3; that a full list of answers ends the connection is profile).
-use Rattle.std.specs.Prelude.{◌≡◌, ◌⊎◌, ℕ, Bool, true, false, ◌&&◌, List, [], ◌∷◌, Option, Some}
+use Rattle.std.specs.Prelude.{◌≡◌, ◌⊎◌, ℕ, true, false, List, [], ◌∷◌, ◌++◌, Option, Some}
 use Rattle.std.specs.Prelude.{None, option_map}
-use Rattle.asdu.specs.Asdu.{AsduValue}
+use Rattle.asdu.specs.declared.sizes.Sizes.{Sizes}
+use Rattle.asdu.specs.Asdu.{AsduValue, IsAsdu}
 use Rattle.elements.specs.declared.tag.Cp56.{Cp56}
 use Rattle.link.specs.declared.outcome.Outcome.{Outcome}
 use Rattle.link.specs.declared.outcome.Outcome.TheVariants as outcome
@@ -19,23 +20,47 @@ due_in (Judged now wall asdu answer ∷ h) = answer
 due_in (Refused k answer ∷ h) = answer
 due_in h = None
 
--- the latest of these is a station's answer, or a piece of it that was kept
-abbrev pub is_passing_on : History → Bool
-is_passing_on (Mirrored now v ∷ h) = true
-is_passing_on (Offered octets kept ∷ h) = kept && is_passing_on h
-is_passing_on h = false
+-- one more piece of a station's answer was kept
+abbrev pub with_piece : List ℕ → Option (AsduValue × List (List ℕ)) →
+    Option (AsduValue × List (List ℕ))
+with_piece octets None = None
+with_piece octets (Some passed) = Some (passed.0, passed.1 ++ octets ∷ [])
 
--- what is handed over next is what is due; where nothing is, it is a piece of a station's answer
-abbrev pub IsOwed : Option (List ℕ) → History → List ℕ → Type 0
-IsOwed (Some answer) h octets = octets ≡ answer
-IsOwed None h octets = is_passing_on h ≡ true
+-- a station's answer, where nothing else came since, and the pieces of it that were kept
+abbrev pub passed_on : History → Option (AsduValue × List (List ℕ))
+passed_on (Mirrored now v ∷ h) = Some (v, [])
+passed_on (Offered octets true ∷ h) = with_piece octets (passed_on h)
+passed_on h = None
+
+-- The octets are the next of the pieces that carry a station's answer, behind these.
+pub record IsPieceOf (sizes : Sizes) (v : AsduValue) (done : List (List ℕ))
+    (octets : List ℕ) : Type 0 where
+  pub report : List ℕ
+  pub plain : List (List ℕ)
+  pub passed : IsPassedOn sizes v report plain
+  pub tag : Option Cp56
+  pub pieces : List (List ℕ)
+  pub tagged : AreTagged tag plain pieces
+  pub rest : List (List ℕ)
+  pub are : pieces ≡ done ++ octets ∷ rest
+
+abbrev pub IsNextPiece : Sizes → Option (AsduValue × List (List ℕ)) → List ℕ → Type 0
+IsNextPiece sizes None octets = ⊥
+IsNextPiece sizes (Some passed) octets = IsPieceOf sizes passed.0 passed.1 octets
+
+-- what is handed over next is what is due; where nothing is, it is the next piece of a station's
+-- answer
+abbrev pub IsOwed : Sizes → Option (List ℕ) → History → List ℕ → Type 0
+IsOwed sizes (Some answer) h octets = octets ≡ answer
+IsOwed sizes None h octets = IsNextPiece sizes (passed_on h) octets
 
 -- Each answer that is due is handed over before anything else becomes of commands, once; and
--- nothing else is handed over but pieces of stations' answers.
-abbrev pub GivesWhatIsDue : History → Type 0
-GivesWhatIsDue [] = Unit {0}
-GivesWhatIsDue (Offered octets kept ∷ h) = IsOwed (due_in h) h octets × GivesWhatIsDue h
-GivesWhatIsDue (_ ∷ h) = (due_in h ≡ None) × GivesWhatIsDue h
+-- nothing else is handed over but the pieces of stations' answers, each once and in their order.
+abbrev pub GivesWhatIsDue : Sizes → History → Type 0
+GivesWhatIsDue sizes [] = Unit {0}
+GivesWhatIsDue sizes (Offered octets kept ∷ h) =
+    IsOwed sizes (due_in h) h octets × GivesWhatIsDue sizes h
+GivesWhatIsDue sizes (_ ∷ h) = (due_in h ≡ None) × GivesWhatIsDue sizes h
 
 -- The pieces are handed over one after another, behind what became of commands before: all of them,
 -- or up to the first that finds no place.
@@ -62,3 +87,10 @@ abbrev pub GivesAnswer : Setup → (at : ℕ) → Outcome → (before after : Hi
 GivesAnswer p at (outcome.Report station asdu) before after =
     is_command_report p.sizes asdu.items ≡ true → IsGivenOn p at asdu.items before after
 GivesAnswer p at other before after = Unit {0}
+
+-- where data transfer is stopped, a station's answer to a command isn't passed on
+abbrev pub KeepsAnswerBack : Setup → (at : ℕ) → Outcome → (before after : History) → Type 0
+KeepsAnswerBack p at (outcome.Report station asdu) before after =
+    is_command_report p.sizes asdu.items ≡ true →
+    (value : AsduValue) × IsAsdu p.sizes value asdu.items × (after ≡ Mirrored at value ∷ before)
+KeepsAnswerBack p at other before after = Unit {0}

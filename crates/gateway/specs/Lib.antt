@@ -45,3 +45,4 @@ pub mod Calling
 pub mod Turning
 pub mod Restarts
 pub mod GoingOut
+pub mod Ends

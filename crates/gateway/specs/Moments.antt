@@ -1,7 +1,9 @@
 -- The moments of a log (profile).
-use Rattle.std.specs.Prelude.{◌≡◌, ℕ, ◌≤◌, ◌⊎◌, min, [], ◌∷◌}
+use Rattle.std.specs.Prelude.{◌≡◌, ℕ, ◌≤◌, ◌⊎◌, min, [], ◌∷◌, ◌++◌}
 use Rattle.std.specs.List.{AllByRecursion}
-use Rattle.gateway.specs.Log.{Log, LogEntry, Came, Went}
+use Rattle.session.specs.History as talk
+use Rattle.session.specs.History.{Happened, History}
+use Rattle.gateway.specs.Log.{Log, LogEntry, Came, Went, latest}
 
 -- An event bears the moment that its port gave, and one past the greatest counts as that; an action
 -- bears the moment of its step.
@@ -27,3 +29,19 @@ abbrev pub BearGreatest : Log → Type 0
 BearGreatest [] = Unit {0}
 BearGreatest (Went now action ∷ log) = IsGreatest log now × BearGreatest log
 BearGreatest (Came now event ∷ log) = BearGreatest log
+
+-- the moment that an entry of a connection's history bears
+abbrev pub said_at : Happened → ℕ
+said_at (talk.Opened now) = now
+said_at (talk.Came frame now) = now
+said_at (talk.Refused now) = now
+said_at (talk.Sent ns nr kind now) = now
+said_at (talk.Went frame now) = now
+
+-- What was said on a connection is what each entry of the log added, or nothing; and what it added
+-- bears the moment of its step.
+abbrev pub IsSaidInSteps : Log → History → Type 0
+IsSaidInSteps [] h = h ≡ []
+IsSaidInSteps (entry ∷ log) h =
+    (new : History) × (older : History) × (h ≡ new ++ older)
+    × AllByRecursion (λ said. said_at said ≡ latest (entry ∷ log)) new × IsSaidInSteps log older

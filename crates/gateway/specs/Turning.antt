@@ -9,7 +9,7 @@ use Rattle.link.specs.Visits.{AreInVisits, most_of_visit, whole_visit}
 use Rattle.link.specs.Waits.{AlwaysWants, stations_asked, waited}
 use Rattle.link.specs.Precedence.{CommandsGoFirst}
 use Rattle.link.specs.Bursts.{BurstsGoOn, Other}
-use Rattle.link.specs.AtOnce.{RepeatsComeAtOnce, PollsFollowCommands, TurnsGoOn}
+use Rattle.link.specs.AtOnce.{RepeatsComeAtOnce, TurnsGoOn}
 use Rattle.link.specs.OneVisit.{TurnsAreVisits}
 use Rattle.link.specs.Timing.{AnswersHaveTheirTime}
 use Rattle.link.specs.declared.procedure.Link.TheVariants.{Down}
@@ -32,10 +32,10 @@ StarvesNone p first later = (station : ℕ) → station < length p.addresses →
 
 -- The exchanges of the log's line are visits, one after another, each of one station and as long as
 -- a visit is. They are the exchanges of the calls that the log shows. In these calls no station
--- starves, from any of them on; a command that waits goes before any new poll of its station; polls
--- of class 1 go on while ACD is set, up to `burst`; a service without an answer is sent again
--- before any other request; and a poll follows a command, and a held service. Each turn is one
--- visit, and each request is awaited for `answer_ms`.
+-- starves, from any of them on; a command that waits goes before any new poll of its station; a
+-- poll follows a new command, and polls of class 1 go on while ACD is set, up to `burst`; a service
+-- without an answer is sent again before any other request; and the turn goes on behind a held
+-- service. Each turn is one visit, and each request is awaited for `answer_ms`.
 pub record KeepsTurns (p : Setup) (log : Log) : Type 0 where
   pub visits : AreInVisits p.link p.addresses
       (views (front_of p.link.size) (all_of (exchanges_of p log)))
@@ -46,7 +46,6 @@ pub record KeepsTurns (p : Setup) (log : Log) : Type 0 where
   pub commands : (station : ℕ) → CommandsGoFirst (new_line p) station (suc p.link.burst) calls
   pub bursts : BurstsGoOn (new_line p) Other calls
   pub repeats : RepeatsComeAtOnce (new_line p) None calls
-  pub polls : PollsFollowCommands (new_line p) None calls
   pub held : TurnsGoOn (new_line p) None calls
   pub each : TurnsAreVisits (new_line p)
       (record { station = 0; left = whole_visit p.link Down }) calls

@@ -6,9 +6,10 @@ pub(crate) mod ordering;
 pub(crate) mod passing_on;
 pub(crate) mod restarts;
 pub(crate) mod turning;
+pub(crate) mod walls;
 
-ghost use Rattle.std.specs.Prelude.{◌≡◌, ◌↔◌, ℕ, List, ◌∷◌, IsTrue, Option, Some, None, true};
-ghost use Rattle.std.specs.Prelude.{false, map};
+ghost use Rattle.std.specs.Prelude.{◌≡◌, ◌↔◌, ℕ, List, [], ◌∷◌, IsTrue, Option, Some, None, true};
+ghost use Rattle.std.specs.Prelude.{false, map, take};
 ghost use Rattle.session.specs.declared.kinds.Close.{Close};
 ghost use Rattle.command.specs.declared.station.StationInfo.{StationInfo};
 ghost use Rattle.gateway.specs.declared.settings.Silence.TheVariants.{Hold};
@@ -16,11 +17,14 @@ ghost use Rattle.gateway.specs.declared.settings.StationSettings.{StationSetting
 ghost use Rattle.gateway.specs.Config.{Settings};
 ghost use Rattle.gateway.specs.Setups.{setup_of};
 ghost use Rattle.gateway.specs.Frames.{Connection};
-ghost use Rattle.gateway.specs.Log.{Log, Came, LineIn, latest};
+ghost use Rattle.gateway.specs.Log.{Log, Came, LineIn, Opened, TcpIn, CutOff, Ticked, WallIs};
+ghost use Rattle.gateway.specs.Log.{latest};
+ghost use Rattle.gateway.specs.Ports.{logged_by};
+ghost use Rattle.gateway.specs.declared.ports.Next.TheVariants as answers;
 ghost use Rattle.gateway.specs.Reports.{Setup};
 ghost use Rattle.gateway.specs.Connections.{Channel, present, ends, IsConnection};
 ghost use Rattle.gateway.specs.Course.{Course, HasTakenAll, IsLeft, Runs, came_frames};
-ghost use Rattle.gateway.specs.Given.{due_in, GivesWhatIsDue, GivesAnswer};
+ghost use Rattle.gateway.specs.Given.{due_in, GivesWhatIsDue, GivesAnswer, KeepsAnswerBack};
 ghost use Rattle.gateway.specs.Serial.{answer_outcome};
 ghost use Rattle.gateway.specs.Frames.{transfers};
 ghost use Rattle.gateway.specs.Conversation.{KeepsCommands};
@@ -29,7 +33,7 @@ ghost use Rattle.std.specs.Io.Iter.{u64_saturate};
 ghost use Rattle.gateway.specs.Line.{done_in};
 ghost use Rattle.gateway.specs.Tallies.{given_up_in, unpassed_in};
 ghost use Rattle.gateway.specs.Works.{tasks_of};
-ghost use Rattle.gateway.specs.State.{State, IsBetweenSteps};
+ghost use Rattle.gateway.specs.State.{State, IsBetweenSteps, counts_of};
 ghost use Rattle.gateway.specs.Agrees.{Follows};
 ghost use Rattle.gateway.specs.Restored.{HasSettings};
 ghost use Rattle.gateway.specs.Traffic.{HasCause};
@@ -100,14 +104,33 @@ pub fn courses_keep_commands()
 
 /// What is counted of commands (`IsAccounted` speaks of the same numbers) is what became of them in
 /// the course: `lost` are those that stood on a line and were given up, `mirrors` the answers of
-/// stations to commands that weren't passed on. Both stay at the greatest number of 64 bits.
+/// stations to commands that weren't passed on. Both stay at the greatest number of 64 bits. What
+/// `Gateway::counts` tells under each name is the number of that name.
 pub fn counts_match_commands()
+    ensures told { (s : State) → ((counts_of s).skipped ≡ s.serial.counts.skipped)
+        × ((counts_of s).mirrors ≡ s.serial.counts.mirrors)
+        × ((counts_of s).lost ≡ s.serial.counts.lost)
+        × ((counts_of s).spoilt ≡ s.serial.line.spoilt) }
     ensures lost { (p : Setup) (log : Log) (c : Course) → Runs p log c →
         (done_in p log c).serial.counts.lost
         ≡ u64_saturate (given_up_in (done_in p log c).history) }
     ensures mirrors { (p : Setup) (log : Log) (c : Course) → Runs p log c →
         (done_in p log c).serial.counts.mirrors
         ≡ u64_saturate (unpassed_in false (done_in p log c).history) }
+{}
+
+/// What a port answers stands in the log as the event that its name says, at the moment that the
+/// port gave; the octets are the front of the buffer. Neither the end of a port nor a failure of
+/// its device stands there.
+pub fn answers_are_logged_as_given()
+    ensures { (now len number : ℕ) (buf : List ℕ) →
+        (logged_by (answers.Line now len) buf ≡ Came now (LineIn (take len buf)) ∷ [])
+        × (logged_by (answers.Open now) buf ≡ Came now Opened ∷ [])
+        × (logged_by (answers.Bytes now len) buf ≡ Came now (TcpIn (take len buf)) ∷ [])
+        × (logged_by (answers.Cut now) buf ≡ Came now CutOff ∷ [])
+        × (logged_by (answers.Tick now) buf ≡ Came now Ticked ∷ [])
+        × (logged_by (answers.Wall now number) buf ≡ Came now (WallIs number) ∷ [])
+        × (logged_by answers.Done buf ≡ []) × (logged_by answers.Fault buf ≡ []) }
 {}
 
 /// Between two steps nothing of the step before is left to be reported or to be taken.
@@ -154,15 +177,20 @@ pub fn settings_reach_the_promises()
 /// busy station had, is followed in what became of commands by its answer, handed over once, and
 /// nothing is left due when an event comes. While data transfer runs a station's answer to a
 /// command is handed over by all pieces that carry it, with the tag of the newest command that it
-/// may answer, up to one that finds no place (which closes the connection).
+/// may answer, up to one that finds no place (which closes the connection). While it is stopped
+/// nothing of such an answer is handed over. Nothing else ever is: no answer and no piece stands
+/// twice.
 pub fn what_is_due_is_given()
     ensures answers { (p : Setup) (log : Log) (c : Course) → Runs p log c →
-        GivesWhatIsDue c.works.history × (due_in c.works.history ≡ None) }
+        GivesWhatIsDue p.sizes c.works.history × (due_in c.works.history ≡ None) }
     ensures stations { (p : Setup) (log : Log) (at : ℕ) (octets : List ℕ) (c : Course) →
         Runs p (Came at (LineIn octets) ∷ log) c →
         (before : Course) × (left : Course) × Runs p log before × IsLeft p log before left
         × (transfers (came_frames left.talk) ≡ true →
         GivesAnswer p (latest (Came at (LineIn octets) ∷ log))
+        (answer_outcome octets left.works.serial) left.works.history c.works.history)
+        × (transfers (came_frames left.talk) ≡ false →
+        KeepsAnswerBack p (latest (Came at (LineIn octets) ∷ log))
         (answer_outcome octets left.works.serial) left.works.history c.works.history) }
 {
     commands_keep_the_rules();

@@ -62,15 +62,19 @@ pub use laws::going_on::{
     stations_go_on_by_their_addresses, what_is_kept_goes_on,
 };
 pub use laws::going_out::{
-    data_wait_for_confirmations, frames_bear_whole_pieces, reports_wait_for_own_answers,
+    commands_last_as_long_as_their_connection, data_wait_for_confirmations,
+    frames_bear_whole_pieces, own_answers_go_out, reports_wait_for_own_answers,
+    what_goes_out_is_handed_to_tcp,
 };
 pub use laws::ordering::{moments_never_fall, steps_keep_their_order};
 pub use laws::passing_on::answers_have_the_types_of_commands;
 pub use laws::restarts::restarts_give_up_commands;
 pub use laws::turning::{logs_keep_turns, one_list_of_calls};
+pub use laws::walls::the_wall_clock_is_known;
 pub use laws::{
-    counts_match_commands, courses_keep_commands, one_cause, one_course, one_reading,
-    settings_are_kept, settings_reach_the_promises, steps_leave_nothing_open, what_is_due_is_given,
+    answers_are_logged_as_given, counts_match_commands, courses_keep_commands, one_cause,
+    one_course, one_reading, settings_are_kept, settings_reach_the_promises,
+    steps_leave_nothing_open, what_is_due_is_given,
 };
 pub use ports::{Action, Event, Next, Port};
 pub use runs::{End, drive, drive_on};

@@ -1,6 +1,11 @@
 //! A recorder over a port in memory.
-use gateway::{Action, Next, Port};
-use record::{Pen, RecordSheet, Recorder};
+ghost use Rattle.std.specs.Prelude.{◌≡◌, ◌<◌, ◌++◌, ℕ, false, List, Some};
+ghost use Rattle.gateway.specs.Ports.{logged_by};
+ghost use Rattle.record.specs.Recording.{text_of};
+ghost use Rattle.traces.specs.Printed.{lines_of_log};
+
+use gateway::{Action, History, Next, Port};
+use record::{Pen, RecordSheet, Recorder, a_record_is_the_text_of_what_passed};
 use session::Close;
 use std::alloc::Global;
 use std::process::Abort;
@@ -81,6 +86,73 @@ impl Port for Ticks {
     fn failures(&self) -> u64 {
         0
     }
+}
+
+/// A sheet that takes so many texts, and then none. It says what it took and what passed unwritten.
+#[derive(Drop)]
+struct NotedSheet {
+    takes: u32,
+    taken: History,
+    missed: History,
+}
+
+impl RecordSheet for NotedSheet {
+    ghost use Rattle.std.specs.Prelude.{Some};
+    ghost use Rattle.gateway_tests.specs.Sheets.{text_in};
+
+    ghost taken = { λ sheet. Some (text_in sheet.taken.entries) };
+
+    ghost missed = { λ sheet. Some sheet.missed.entries };
+
+    fn take(&mut self, text: &[u8]) -> bool {
+        if self.takes == 0 {
+            return false;
+        }
+        self.takes -= 1;
+        self.taken = self.taken.went(&0, &Action::Line(text));
+        true
+    }
+
+    fn end(&mut self) {}
+
+    fn miss_event(&mut self, next: Next, buf: &[u8; 1024]) {
+        self.missed = self.missed.came(&next, buf);
+    }
+
+    fn miss_action(&mut self, now: u64, action: &Action<'_>) {
+        self.missed = self.missed.went(&now, action);
+    }
+}
+
+/// The next event of a recorder. Until the record is over the sheet has the text of all that passed
+/// before, and behind it the event's line.
+fn noted<P: Port + Drop, W: RecordSheet + Drop>(
+    port: &mut Recorder<P, W>,
+    buf: &mut [u8; 1024],
+) -> Next
+    requires ready { P.failed port.old.port < u64.MAX }
+    requires says { (text : List ℕ) × (text_of port.old.pen ≡ Some text) }
+    ensures { port.new.pen.is_over ≡ false → (text : List ℕ) × (text_of port.old.pen ≡ Some text)
+        × (port.new.pen.taken ≡ Some (text ++ lines_of_log (logged_by result buf.new))) }
+{
+    a_record_is_the_text_of_what_passed();
+    port.next(buf)
+}
+
+#[test]
+fn a_sheet_that_says_what_it_took_has_the_text(rt: HostRuntime) -> Result<(), Fail> {
+    let sheet = NotedSheet {
+        takes: 1,
+        taken: History::new(),
+        missed: History::new(),
+    };
+    let mut port = Recorder::new(Ticks(0), Pen::new(rt.alloc(), sheet, Vec::new(rt.alloc())));
+    assert!(rt; matches!(noted(&mut port, &mut [0; 1024]), Next::Tick(1)));
+    assert!(rt; !port.is_over());
+    // The sheet takes no more, and the record is over.
+    assert!(rt; matches!(port.next(&mut [0; 1024]), Next::Tick(2)));
+    assert!(rt; port.is_over());
+    Ok(())
 }
 
 /// What a sheet of two texts has after so many calls of a recorder: a tick, two actions, ticks.

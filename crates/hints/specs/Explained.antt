@@ -1,7 +1,8 @@
 -- What is said of a fault of settings or of a site's file (texts of this gateway's own profile).
 use Rattle.std.specs.Prelude.{◌≡◌, ◌≤◌, ◌<◌, ◌==◌, ◌||◌, ◌⊎◌, ℕ, Bool, IsTrue, codes, List, [], ◌∷◌}
 use Rattle.std.specs.Prelude.{◌++◌, length, take}
-use Rattle.std.specs.Prelude.{slice_range, fold, Option, Some, None, string_bytes}
+use Rattle.std.specs.Prelude.{slice_range, fold, Option, Some, None, string_bytes, ℤ, IsSome}
+use Rattle.std.specs.Prelude.{option_and_then}
 use Rattle.std.specs.Borrow.{Bor}
 use Rattle.std.specs.Fmt.{decimal}
 use Rattle.std.specs.List.{after_first, before_first}
@@ -10,11 +11,13 @@ use Rattle.settings.specs.declared.fault.ConfigFault.{ConfigFault}
 use Rattle.settings.specs.declared.fault.ConfigFault.TheVariants.{NotToml, Key, Unknown, NoMemory}
 use Rattle.settings.specs.Settings.{IsDocument, IsNoDocument}
 use Rattle.settings.specs.Wanted.{wanted_values}
-use Rattle.sitefile.specs.Names.{wrong_station}
+use Rattle.settings.specs.Settings as settings
+use Rattle.sitefile.specs.Names as sites
 use Rattle.sitefile.specs.Wanted.{site_values}
 use Rattle.sitefile.specs.declared.fault.SiteFault.{SiteFault}
 use Rattle.sitefile.specs.declared.fault.SiteFault.TheVariants as site
-use Rattle.toml.specs.Data.{Members}
+use Rattle.toml.specs.Data.{Data, Items, no_items, Members, as_array, as_integer, get, get_item}
+use Rattle.toml.specs.Data.{get_member}
 use Rattle.toml_places.specs.Changes.{IsGapFound, IsValueFound}
 use Rattle.toml_places.specs.Lines.{first_place, next_place}
 use Rattle.toml_places.specs.declared.changes.Spot.{Spot}
@@ -95,22 +98,54 @@ IsKeyOf path (Some table) key = (table.now ≡ before_first (λ b. b == 46) path
 abbrev pub IsSpotOf : List ℕ → Spot → Type 0
 IsSpotOf path spot = IsKeyOf path spot.table spot.key.now
 
--- the keys that each station of a site's file has to have
-abbrev pub names_station : (path : List ℕ) → Bool
-names_station path =
+-- the keys that a station of a file may have
+abbrev pub names_station : File → (path : List ℕ) → Bool
+names_station Settings path =
+    bytes_eq path (codes "station.address") || bytes_eq path (codes "station.ca")
+    || bytes_eq path (codes "station.select")
+names_station Site path =
     bytes_eq path (codes "station.link") || bytes_eq path (codes "station.name")
 
--- Which station is meant: where a key of a site's file is wrong that each of its stations has to
--- have, the first station that is wrong.
-abbrev pub IsItemOf : File → (path : List ℕ) → Members → Option ℕ → Type 0
-IsItemOf Settings path root item = Unit {0}
-IsItemOf Site path root item = IsTrue (names_station path) → item ≡ wrong_station root
+-- the first station of a file that is wrong
+abbrev pub wrong_in : File → Members → Option ℕ
+wrong_in Settings root = settings.wrong_station root
+wrong_in Site root = sites.wrong_station root
 
--- the same key of a station before this one, whose number it has, which may be none
-abbrev pub IsTwin : Spot → List ℕ → Option Span → Type 0
-IsTwin spot text None = Unit {0}
-IsTwin spot text (Some s) =
-    (item other : ℕ) × (spot.item ≡ Some item) × (other < item)
+-- Which station is meant, where a key of a station is wrong: the first station that is wrong.
+abbrev pub IsItemOf : File → (path : List ℕ) → Members → Option ℕ → Type 0
+IsItemOf file path root item = IsTrue (names_station file path) → item ≡ wrong_in file root
+
+-- the stations of a file
+abbrev pub items_or_none : Option Items → Items
+items_or_none None = no_items
+items_or_none (Some items) = items
+
+abbrev pub stations_in : Members → Items
+stations_in root = items_or_none (option_and_then as_array (get_member (codes "station") root))
+
+-- the number that a station has under a key
+abbrev pub number_of : Data → (key : List ℕ) → Option ℤ
+number_of station key = option_and_then as_integer (get key station)
+
+-- both have the same number under it
+pub record AreSame (one other : Data) (key : List ℕ) : Type 0 where
+  pub some : IsSome (number_of one key)
+  pub same : number_of one key ≡ number_of other key
+
+-- the other station stands before this one, and has its number under the key
+pub record IsTaken (items : Items) (item other : ℕ) (key : List ℕ) : Type 0 where
+  pub before : other < item
+  pub one : Data
+  pub is : get_item item items ≡ Some one
+  pub twin : Data
+  pub stands : get_item other items ≡ Some twin
+  pub are : AreSame one twin key
+
+-- the same key of such a station, which may be none
+abbrev pub IsTwin : Members → Spot → List ℕ → Option Span → Type 0
+IsTwin root spot text None = Unit {0}
+IsTwin root spot text (Some s) =
+    (item other : ℕ) × (spot.item ≡ Some item) × IsTaken (stations_in root) item other spot.key.now
     × IsValueFound (record spot { item = Some other }) text (Some s)
 
 -- the lines of a fault of this key
@@ -123,7 +158,7 @@ pub record AreKeyLines (file : File) (text path lines : List ℕ) : Type 0 where
   pub found : KeyPlace
   pub place : IsPlace spot text found
   pub twin : Option Span
-  pub taken : IsTwin spot text twin
+  pub taken : IsTwin root spot text twin
   pub are : lines ≡ (found_line text found ++ wanted_line file path) ++ twin_line text twin
 
 -- there are none exactly where the octets are no document

@@ -9,7 +9,7 @@ ghost use Rattle.toml_places.specs.Changes.{IsWithin};
 use crate::file::File;
 use crate::finding::find;
 use crate::lines::{found_line, place_words, twin_line, wanted_line};
-use crate::stations::{station_with, twin_station, wrong_in_settings};
+use crate::stations::{station_with, twin_station};
 use settings::ConfigFault;
 use sitefile::SiteFault;
 use std::alloc::{AllocError, Global};
@@ -97,7 +97,12 @@ fn item_of(alloc: Global, file: File, root: &Table, path: &str) -> Result<Option
     ensures { IfOk result (IsItemOf file path.now (table_view root.now)) }
 {
     match file {
-        File::Settings => Ok(wrong_in_settings(root, path)),
+        File::Settings => match path {
+            "station.address" | "station.ca" | "station.select" => {
+                settings::wrong_station(alloc, root)
+            }
+            _ => Ok(station_with(root, path)),
+        },
         File::Site => match path {
             "station.link" | "station.name" => sitefile::wrong_station(alloc, root),
             _ => Ok(station_with(root, path)),
@@ -146,7 +151,7 @@ fn twin_of(
     root: &Table,
     spot: &Spot<'_>,
 ) -> Result<Option<Span>, AllocError>
-    ensures twin { IfOk result (IsTwin spot.now text.now) }
+    ensures twin { IfOk result (IsTwin (table_view root.now) spot.now text.now) }
     ensures within { IfOk result (IsWithin text.now) }
 {
     let Some(item) = spot.item else {

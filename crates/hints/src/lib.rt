@@ -4,9 +4,9 @@
 //!
 //! [`explain`] gives these lines for the fault that `settings` found, and [`explain_site`] for that
 //! of `sitefile`. Proved: where a place is given, the value of that key stands there, or the key
-//! belongs there (`toml_places`); the words are those of `specs/Explained.antt`; of a site's
-//! stations the first that is wrong is meant; the other station that has its number is one before
-//! it. Which station of settings is meant is tested, and which one before it has its number.
+//! belongs there (`toml_places`); the words are those of `specs/Explained.antt`; of the stations of
+//! either file the first that is wrong is meant; the other station that has its number is one
+//! before it, and has that number. Which station is meant that has an unknown key is tested.
 #![tactic(auto)]
 
 mod explaining;

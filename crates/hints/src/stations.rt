@@ -1,23 +1,13 @@
 //! Which station a fault means.
-ghost use Rattle.std.specs.Prelude.{◌<◌, length, IfSome};
+ghost use Rattle.std.specs.Prelude.{◌≡◌, ◌<◌, length, IfSome, IsTrue};
+ghost use Rattle.toml.specs.View.{items_view, table_view, view};
+ghost use Rattle.hints.specs.Explained.{AreSame, IsTaken, number_of, stations_in};
 
+use settings::given;
 use toml::{Table, Value};
 
 /// What stands before the key of a station in its dotted path.
 const STATION: &str = "station.";
-
-/// The first station of settings whose value of the key with this path is wrong, or that has this
-/// key, if no station may have it; counted from 0.
-pub(crate) fn wrong_in_settings(root: &Table, path: &str) -> Option<usize> {
-    let key = path.strip_prefix(STATION)?;
-    let stations = stations(root);
-    for item in 0..stations.len() {
-        if is_wrong(root, stations, item, key) {
-            return Some(item);
-        }
-    }
-    None
-}
 
 /// The first station that has the key with this path, counted from 0.
 pub(crate) fn station_with(root: &Table, path: &str) -> Option<usize> {
@@ -29,7 +19,8 @@ pub(crate) fn station_with(root: &Table, path: &str) -> Option<usize> {
 
 /// The first station before this one with the same number under this key.
 pub(crate) fn twin_station(root: &Table, item: usize, key: &str) -> Option<usize>
-    ensures { IfSome result (λ other. other < item) }
+    ensures { IfSome result (λ other.
+        IsTaken (stations_in (table_view root.now)) item other key.now) }
 {
     let stations = stations(root);
     if item < stations.len() {
@@ -39,49 +30,21 @@ pub(crate) fn twin_station(root: &Table, item: usize, key: &str) -> Option<usize
     }
 }
 
-fn stations(root: &Table) -> &[Value] {
-    match root.get("station") {
-        Some(Value::Array(stations)) => stations.as_slice(),
-        _ => &[],
-    }
-}
-
-fn is_wrong(root: &Table, stations: &[Value], item: usize, key: &str) -> bool
-    requires { item < length stations.now }
+fn stations(root: &Table) -> &[Value]
+    ensures { items_view result.now ≡ stations_in (table_view root.now) }
 {
-    let value = stations[item].get(key);
-    match key {
-        "address" => is_wrong_number(stations, item, key, most(root, "link")),
-        "ca" => is_wrong_number(stations, item, key, most(root, "ca")),
-        "select" => match value {
-            Some(value) => !value.is_bool(),
-            None => false,
-        },
-        _ => value.is_some(),
+    let Some(value) = given(Some(root), "station") else {
+        return &[];
+    };
+    match value.as_array() {
+        Some(stations) => stations.as_slice(),
+        None => &[],
     }
 }
 
-/// The greatest number of a size of the line.
-fn most(root: &Table, size: &str) -> i64 {
-    match root.get("line") {
-        Some(line) => match number(line, size) {
-            Some(2) => 65534,
-            _ => 254,
-        },
-        None => 254,
-    }
-}
-
-fn is_wrong_number(stations: &[Value], item: usize, key: &str, most: i64) -> bool
-    requires { item < length stations.now }
+fn number(table: &Value, key: &str) -> Option<i64>
+    ensures { result ≡ number_of (view table.now) key.now }
 {
-    match number(&stations[item], key) {
-        Some(number) => !(1..=most).contains(&number) || twin(stations, item, key).is_some(),
-        None => true,
-    }
-}
-
-fn number(table: &Value, key: &str) -> Option<i64> {
     match table.get(key) {
         Some(value) => value.as_integer(),
         None => None,
@@ -89,15 +52,25 @@ fn number(table: &Value, key: &str) -> Option<i64> {
 }
 
 /// The first station before this one with the same number under this key.
+#[tactic(auto, using(crate::proofs::TwinLemmas::is_taken))]
 fn twin(stations: &[Value], item: usize, key: &str) -> Option<usize>
     requires { item < length stations.now }
-    ensures { IfSome result (λ other. other < item) }
+    ensures { IfSome result (λ other. IsTaken (items_view stations.now) item other key.now) }
 {
-    let own = number(&stations[item], key)?;
     for other in 0..item {
-        if number(&stations[other], key) == Some(own) {
+        if are_same(&stations[item], &stations[other], key) {
             return Some(other);
         }
     }
     None
+}
+
+/// Whether both stations have the same number under this key.
+fn are_same(one: &Value, other: &Value, key: &str) -> bool
+    ensures { IsTrue result → AreSame (view one.now) (view other.now) key.now }
+{
+    match (number(one, key), number(other, key)) {
+        (Some(own), Some(number)) => own == number,
+        _ => false,
+    }
 }

@@ -3,6 +3,7 @@
 use Rattle.std.specs.Prelude.{◌≡◌, ℕ, Bool, true, false, codes, List, [], ◌∷◌, ◌++◌, drop, Option}
 use Rattle.ft12.specs.declared.assembling.Received.{Received}
 use Rattle.ft12.specs.declared.assembling.Received.TheVariants.{Frame, More, Never, Deaf}
+use Rattle.gateway.specs.Log.{LogEntry, Came, Went, LineIn, LineOut}
 use Rattle.ladder.specs.Described.{AreFramesReceived, Listens, Remembered}
 use Rattle.ladder.specs.Rungs.{head, received_words}
 use Rattle.ladder.specs.declared.rungs.Style.{Style}
@@ -40,3 +41,15 @@ pub record IsFirstLine (style : Style) (now : ℕ) (before : Remembered) (octets
       ≡ (head style.is_coloured now FromOutstation remark
       ++ (received_words style.sizes n arrived ++ 10 ∷ [])) ++ rest
   pub others : AreFramesReceived style now between (drop n octets) after rest
+
+-- something goes to the line or comes from it
+abbrev pub IsOfTheLine : LogEntry → Type 0
+IsOfTheLine (Came now (LineIn octets)) = Unit {0}
+IsOfTheLine (Went now (LineOut octets)) = Unit {0}
+IsOfTheLine entry = ⊥
+
+-- what is remembered of the line is the same
+pub record IsSameLine (before after : Remembered) : Type 0 where
+  pub line : after.line ≡ before.line
+  pub request : after.request ≡ before.request
+  pub awaited : after.is_awaited ≡ before.is_awaited

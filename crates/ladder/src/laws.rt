@@ -1,13 +1,15 @@
 //! What holds of every ladder: columns, words and remarks, as docs/TEXTS.md has them.
-ghost use Rattle.std.specs.Prelude.{◌≡◌, ◌++◌, ◌∷◌, [], ℕ, List, codes, true, false};
-ghost use Rattle.gateway.specs.Log.{Came, Went, CutOff, LineOut, Opened, TcpOut, Closed, GapOut};
+ghost use Rattle.std.specs.Prelude.{◌≡◌, ◌+◌, ◌++◌, ◌∷◌, [], ℕ, List, codes, true, false, Some};
+ghost use Rattle.std.specs.Fmt.{decimal};
+ghost use Rattle.gateway.specs.Log.{LogEntry, Came, Went, CutOff, LineOut, Opened, TcpOut, Closed};
+ghost use Rattle.gateway.specs.Log.{GapOut};
 ghost use Rattle.session.specs.declared.kinds.Close.{Close};
 ghost use Rattle.session.specs.declared.kinds.Close.TheVariants.{Grammar, SendNumber};
 ghost use Rattle.session.specs.declared.kinds.Close.TheVariants.{ReceiveNumber, Stopped, Timeout};
 ghost use Rattle.session.specs.declared.kinds.Close.TheVariants.{OwnAnswers, Replaced};
 ghost use Rattle.ladder.specs.Described.{centre_line, wall_line, AreFramesReceived, IsEntryLogged};
 ghost use Rattle.ladder.specs.Described.{IsRemembered, Remembered};
-ghost use Rattle.ladder.specs.Remarks.{IsFirstLine};
+ghost use Rattle.ladder.specs.Remarks.{IsFirstLine, IsOfTheLine, IsSameLine};
 ghost use Rattle.ladder.specs.Rungs.{close_text, gap_text, head, way_of};
 ghost use Rattle.ladder.specs.declared.rungs.Style.{Style};
 ghost use Rattle.ladder.specs.declared.rungs.Way.TheVariants.{FromOutstation, ToOutstation};
@@ -17,6 +19,8 @@ ghost use Rattle.ladder.specs.declared.rungs.Way.TheVariants.{FromCentre, ToCent
 /// is the latest one from then on, awaits an answer, and begins anew what comes of the line. Of a
 /// piece of the line each frame has its line, late where one came since the latest request. A frame
 /// that comes where none is awaited leaves none awaited, and no piece changes the latest request.
+/// What isn't of the line changes nothing of it. A connection that is opened, closed or cut begins
+/// anew what comes of it.
 pub fn remarks_are_as_written()
     ensures repeats { (before after : Remembered) (octets remark : List ℕ) →
         IsRemembered before (LineOut octets) after remark →
@@ -30,23 +34,28 @@ pub fn remarks_are_as_written()
         AreFramesReceived style now before octets after lines →
         (after.request ≡ before.request)
         × (before.is_awaited ≡ false → after.is_awaited ≡ false) }
-    ensures others { (style : Style) (now : ℕ) (before after : Remembered) (lines : List ℕ) →
-        (IsEntryLogged style before (Came now Opened) after lines →
-        (after.request ≡ before.request) × (after.is_awaited ≡ before.is_awaited))
-        × (IsEntryLogged style before (Came now CutOff) after lines →
-        (after.request ≡ before.request) × (after.is_awaited ≡ before.is_awaited)) }
+    ensures others { (style : Style) (now : ℕ) (before after : Remembered) (entry : LogEntry)
+        (lines : List ℕ) → (IsOfTheLine entry → ⊥) →
+        IsEntryLogged style before entry after lines → IsSameLine before after }
+    ensures anew { (style : Style) (now : ℕ) (before after : Remembered) (cause : Close)
+        (lines : List ℕ) →
+        (IsEntryLogged style before (Came now Opened) after lines → after.centre ≡ Some [])
+        × (IsEntryLogged style before (Came now CutOff) after lines → after.centre ≡ Some [])
+        × (IsEntryLogged style before (Went now (Closed cause)) after lines →
+        after.centre ≡ Some []) }
 {}
 
 /// The words of a ladder's lines by worked examples: the moment and the way of each, with the
 /// colours of a terminal or without, a remark behind the way; and what is said of closes, gaps,
 /// connections and the wall clock.
 pub fn rungs_by_example()
-    ensures ways { (head false 10 FromOutstation [] ≡ codes "10 outstation > gateway  ")
-        × (head false 20 ToOutstation (codes ", repeat")
-        ≡ codes "20 gateway > outstation, repeat  ")
-        × (head false 0 FromCentre [] ≡ codes "0 control centre > gateway  ")
-        × (head false 5 ToCentre [] ≡ codes "5 gateway > control centre  ")
-        × (head false 5 Inside [] ≡ codes "5 gateway  ") }
+    ensures ways { (now : ℕ) →
+        (head false now FromOutstation [] ≡ decimal now ++ codes " outstation > gateway  ")
+        × (head false now ToOutstation (codes ", repeat")
+        ≡ decimal now ++ codes " gateway > outstation, repeat  ")
+        × (head false now FromCentre [] ≡ decimal now ++ codes " control centre > gateway  ")
+        × (head false now ToCentre [] ≡ decimal now ++ codes " gateway > control centre  ")
+        × (head false now Inside [] ≡ decimal now ++ codes " gateway  ") }
     ensures colours { (head true 10 FromOutstation (codes ", late")
         ≡ codes "10 " ++ 27 ∷ codes "[36moutstation > gateway, late" ++ 27 ∷ codes "[0m  ")
         × (head true 1 ToOutstation []
@@ -66,13 +75,18 @@ pub fn rungs_by_example()
         × (close_text Timeout ≡ codes "closes: no acknowledgement for t1")
         × (close_text OwnAnswers ≡ codes "closes: no place for an answer")
         × (close_text Replaced ≡ codes "closes: a new connection") }
-    ensures gaps { gap_text 0 2 ≡ codes "gap: station 1, session 2" }
-    ensures clock { wall_line false 7 1000
-        ≡ codes "7 gateway  the wall clock shows 1000" ++ 10 ∷ [] }
-    ensures connections { (style : Style) (before after : Remembered) (lines : List ℕ) →
+    ensures gaps { (station session : ℕ) → gap_text station session
+        ≡ (codes "gap: station " ++ decimal (station + 1))
+        ++ (codes ", session " ++ decimal session) }
+    ensures clock { (now wall : ℕ) → wall_line false now wall
+        ≡ (decimal now ++ codes " gateway  ")
+        ++ (codes "the wall clock shows " ++ (decimal wall ++ 10 ∷ [])) }
+    ensures connections { (style : Style) (now : ℕ) (before after : Remembered) (lines : List ℕ) →
         style.is_coloured ≡ false →
-        (IsEntryLogged style before (Came 40 Opened) after lines →
-        lines ≡ codes "40 control centre > gateway  connects" ++ 10 ∷ [])
-        × (IsEntryLogged style before (Came 40 CutOff) after lines →
-        lines ≡ codes "40 control centre > gateway  the connection is cut" ++ 10 ∷ []) }
+        (IsEntryLogged style before (Came now Opened) after lines →
+        lines ≡ (decimal now ++ codes " control centre > gateway  ")
+        ++ (codes "connects" ++ 10 ∷ []))
+        × (IsEntryLogged style before (Came now CutOff) after lines →
+        lines ≡ (decimal now ++ codes " control centre > gateway  ")
+        ++ (codes "the connection is cut" ++ 10 ∷ [])) }
 {}

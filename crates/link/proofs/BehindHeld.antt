@@ -7,14 +7,14 @@ use Rattle.std.proofs.lemmas.Bool.{eqb-true, eqb-false}
 use Rattle.std.proofs.lemmas.List.{get_or-set_other}
 use Rattle.ft12.specs.declared.frame.Front.{Front}
 use Rattle.ft12.specs.Fronts.{front_of}
-use Rattle.link.specs.Answers.{Frame, Service, Asked, Status, Reset, Counted, Answer, Ready}
-use Rattle.link.specs.Answers.{Confirmed, Busy, Report, NoData, Unable}
+use Rattle.link.specs.Answers.{Frame, Service, Command, Asked, Status, Reset, Counted, Answer}
+use Rattle.link.specs.Answers.{Ready, Confirmed, Busy, Report, NoData, Unable}
 use Rattle.link.specs.Exchanges.{Sending, whole_of}
 use Rattle.link.specs.Procedure.{LinkSettings, Link, Down, Available, Next, Held, is_held}
 use Rattle.link.specs.Procedure.{is_service, has_repeats, after_answer}
 use Rattle.link.specs.Turns.{StationState, no_station, Phase, Starting, Commanding, Polling}
 use Rattle.link.specs.Turns.{Class1Polling, Over, Wanted, Chosen, station_at, is_poll, wants}
-use Rattle.link.specs.Turns.{wanted_by}
+use Rattle.link.specs.Turns.{polls_from, wanted_command, commands_from, wanted_by}
 use Rattle.link.specs.Primary.{Outstanding, Primary, start, choice, after_choice, asked_from}
 use Rattle.link.specs.Primary.{asked, sending_by, sending_from, phase_after, answer_at, answered}
 use Rattle.link.specs.Primary.{station_answered, said_by, open_octets, took, with_octets}
@@ -23,15 +23,13 @@ use Rattle.link.specs.Primary.{unanswered, is_late, due_from, timed_out}
 use Rattle.link.specs.Carried.{station_given_up, given_up}
 use Rattle.link.specs.Runs.{Call, Octets, Due, GivesUp, called}
 use Rattle.link.specs.Runs as runs
-use Rattle.link.specs.Bursts.{is_answered}
-use Rattle.link.specs.AtOnce.{is_spent, began_by, began_out, began_after, TurnGoesOn, TurnIsNext}
-use Rattle.link.specs.AtOnce.{TurnsGoOn}
+use Rattle.link.specs.Bursts.{is_answered, poll_by, IsSent}
+use Rattle.link.specs.AtOnce.{is_spent, began_by, began_out, began_after, first_service}
+use Rattle.link.specs.AtOnce.{TurnIsNext, TurnsGoOn}
 use Rattle.link.proofs.Leaving.{set_none}
 use Rattle.link.proofs.Preceding.{IsChosen, here, there, is_chosen}
-use Rattle.link.proofs.Bursting.{not_both, silent_down}
-use Rattle.link.proofs.Following.{IsBeforePolls, none_out}
-use Rattle.link.proofs.Repeating.{held_is}
-use Rattle.link.proofs.BehindCommands.{goes_on}
+use Rattle.link.proofs.Bursting.{not_both, silent_down, held_is, turn_sends, first_poll}
+use Rattle.link.proofs.Following.{none_out}
 use Rattle.link.specs.Turns.{CommandsWaiting}
 
 -- A service is sent again at once only where repeats are left, and nothing is outstanding.
@@ -358,6 +356,29 @@ call_matches p began (GivesUp station) matches = give_up_matches p station began
 
 -- ---- what goes out behind it
 
+-- what a turn has first
+commands_wanted : (burst : ℕ) (fcb : Bool) (s : StationState) (command : Option (List ℕ))
+    → (following : Phase) × (commands_from burst true fcb s command
+    ≡ wants (Counted fcb (first_service command s)) following)
+commands_wanted burst fcb s None = first_poll burst fcb s
+commands_wanted burst fcb s (Some asdu) = go s.dfc
+  where
+    go : (b : Bool) → (following : Phase)
+        × ((if b then polls_from burst true fcb s Polling else wanted_command fcb asdu)
+        ≡ wants (Counted fcb (if b then poll_by s.acd else Command asdu)) following)
+    go true = first_poll burst fcb s
+    go false = (Polling, refl)
+
+first_wanted : (burst : ℕ) (again : Bool) (s : StationState) (command : Option (List ℕ))
+    (link : Link) → is_answered link ≡ true
+    → (fcb : Bool) × (following : Phase) × (wanted_by burst true again s command link Commanding
+    ≡ wants (Counted fcb (first_service command s)) following)
+first_wanted burst again s command (Next fcb) up =
+    let first = commands_wanted burst fcb s command in (fcb, first.0, first.1)
+first_wanted burst again s command Down up = let no : ⊥ = cc in absurd no
+first_wanted burst again s command Available up = let no : ⊥ = cc in absurd no
+first_wanted burst again s command (Held fcb service missed) up = let no : ⊥ = cc in absurd no
+
 goes_behind : (p : Primary) (began : Option ℕ) (call : Call) → Matches p began
     → TurnIsNext p began call
 goes_behind p (Some station) (runs.Next now true waiting)
@@ -367,8 +388,17 @@ goes_behind p (Some station) (runs.Next now true waiting) (has, (turn, ended fre
     λ out is.
     let up : is_answered (station_at p.stations p.turn).link ≡ true =
     subst (λ (i : ℕ). is_answered (station_at p.stations i).link ≡ true) (sym turn) is in
-    subst (λ (i : ℕ). TurnGoesOn p waiting i (station_at p.stations i)) turn
-    (goes_on p waiting out up (subst (λ (f : Phase). IsBeforePolls f) (sym (phase up)) tt))
+    let first = first_wanted p.settings.burst p.again (station_at p.stations p.turn)
+    (waiting p.turn) (station_at p.stations p.turn).link up in
+    subst (λ (i : ℕ). IsSent p waiting i (first_service (waiting i) (station_at p.stations i))) turn (
+      first.0,
+      turn_sends p true waiting
+          (Counted first.0 (first_service (waiting p.turn) (station_at p.stations p.turn))) first.1
+          out
+          (ap (λ (f : Phase). wanted_by p.settings.burst true p.again
+          (station_at p.stations p.turn) (waiting p.turn) (station_at p.stations p.turn).link f)
+          (phase up) ∙ first.2),
+    )
 goes_behind p (Some station) (runs.Next now false waiting) matches = tt
 goes_behind p (Some station) (Octets octets) matches = tt
 goes_behind p (Some station) (Due now) matches = tt

@@ -1,5 +1,6 @@
 pub mod Assembling
 pub mod Timed
+pub mod Hearing
 pub mod OneVisits
 pub mod Lost
 pub mod Beginning
@@ -54,7 +55,6 @@ pub mod Tabled
 pub mod Bursting
 pub mod Following
 pub mod Repeating
-pub mod BehindCommands
 pub mod GivenUp
 pub mod GoingOn
 pub mod SessionsOn

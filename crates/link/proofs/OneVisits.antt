@@ -8,14 +8,15 @@ use Rattle.std.proofs.lemmas.List.{get_or-set_same, get_or-set_other}
 use Rattle.ft12.specs.declared.frame.Front.{Front}
 use Rattle.ft12.specs.declared.frame.Front.TheVariants.{Whole, More, Never}
 use Rattle.ft12.specs.Fronts.{front_of}
-use Rattle.link.specs.Answers.{Frame, Answer}
+use Rattle.link.specs.Answers.{Frame, Command, Counted, Answer}
+use Rattle.link.specs.Bursts.{is_answered}
 use Rattle.link.specs.Exchanges.{Exchanges, Sending, no_exchanges, whole_of}
 use Rattle.link.specs.Procedure.{LinkSettings, Link, Down, Available, Next, Held, is_held}
 use Rattle.link.specs.Procedure.{has_repeats}
 use Rattle.link.specs.Requests.{FitsAddress}
 use Rattle.link.specs.Turns.{StationState, no_station, station_at, Phase, Starting, Commanding}
 use Rattle.link.specs.Turns.{Polling, Class1Polling, Over, Wanted, wanted_by, Chosen}
-use Rattle.link.specs.Turns.{chosen_or, first_after}
+use Rattle.link.specs.Turns.{polls_from, wanted_command, commands_from, chosen_or, first_after}
 use Rattle.link.specs.Primary.{Outstanding, Primary, start, station_down, after_choice, asked_from}
 use Rattle.link.specs.Primary.{sending_by, sending_from, phase_after, station_asked}
 use Rattle.link.specs.Primary.{station_answered, station_unanswered, unanswered, answer_at, awaits}
@@ -51,6 +52,28 @@ pub record IsAt (p : Primary) (v : Present) : Type 0 where
   pub begun : IsBegun p
 
 -- ---- `next`
+
+same_want : (v w : Wanted) → Some v ≡ Some w → v ≡ w
+same_want v w e = cc
+
+-- A turn begins with the command that waits.
+command_first : (burst : ℕ) (may_poll : Bool) (s : StationState) (command : Option (List ℕ))
+    (asdu : List ℕ) (link : Link) (w : Wanted) → command ≡ Some asdu → is_answered link ≡ true
+    → s.dfc ≡ false → wanted_by burst may_poll false s command link Starting ≡ Some w
+    → (fcb : Bool) × (w.request ≡ Counted fcb (Command asdu))
+command_first burst may_poll s command asdu (Next fcb) w waits up clear is = (
+  fcb,
+  sym (ap (λ (x : Wanted). x.request)
+      (same_want (record { request = Counted fcb (Command asdu); following = Polling }) w
+      (sym (ap (λ (b : Bool). if b then polls_from burst may_poll fcb s Polling
+      else wanted_command fcb asdu) clear)
+      ∙ sym (ap (commands_from burst may_poll fcb s) waits) ∙ is))),
+)
+command_first burst may_poll s command asdu Down w waits up clear is = let no : ⊥ = cc in absurd no
+command_first burst may_poll s command asdu Available w waits up clear is =
+    let no : ⊥ = cc in absurd no
+command_first burst may_poll s command asdu (Held fcb service missed) w waits up clear is =
+    let no : ⊥ = cc in absurd no
 
 -- a held service that goes out in a turn has a repeat left
 repeats_left : (settings : LinkSettings) (may_poll again : Bool) (s : StationState)
@@ -173,7 +196,16 @@ module _ (front : List ℕ → Front) (addresses : List ℕ) (p : Primary) (e : 
       (begin_follows p.settings may_poll (station_at p.stations c.station) (waiting c.station)
       (station_at p.stations c.station).link some (fresh c.station)) in (
         record { station = c.station; left = g.later },
-        (refl, inr (begun, g.follow)),
+        (
+          refl,
+          inr (
+            begun,
+            λ asdu waits up clear. command_first p.settings.burst may_poll
+                (station_at p.stations c.station) (waiting c.station) asdu
+                (station_at p.stations c.station).link c.wanted waits up clear f.first,
+            g.follow,
+          ),
+        ),
         record {
           turn = refl;
           fits = (

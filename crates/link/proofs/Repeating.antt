@@ -3,8 +3,8 @@ use Rattle.std.specs.Prelude.{◌==◌}
 use Rattle.std.proofs.Common.{◌≡◌, ℕ, suc, ◌<◌, ◌≤◌, nat_lt, Bool, true, false, List, [], ◌∷◌, ◌++◌}
 use Rattle.std.proofs.Common.{length, slice_set, Option, Some, None, refl, sym, ap, subst, ◌∙◌}
 use Rattle.std.proofs.Common.{◌⊎◌, inl, inr, if◌then◌else◌}
-use Rattle.std.proofs.lemmas.Bool.{cases_lt, eqb-true, eqb-false}
-use Rattle.std.proofs.lemmas.List.{get_or-set_same, get_or-set_other, get_or_past, set_past}
+use Rattle.std.proofs.lemmas.Bool.{eqb-true, eqb-false}
+use Rattle.std.proofs.lemmas.List.{get_or-set_other}
 use Rattle.ft12.specs.declared.frame.Front.{Front}
 use Rattle.ft12.specs.Fronts.{front_of}
 use Rattle.link.specs.Answers.{Frame, Asked, Status, Reset, Counted, Answer, Ready, Confirmed, Busy}
@@ -27,19 +27,12 @@ use Rattle.link.specs.Runs as runs
 use Rattle.link.specs.Bursts.{is_answered}
 use Rattle.link.specs.AtOnce.{latest_after, RepeatIsNext, RepeatsComeAtOnce}
 use Rattle.link.proofs.Leaving.{set_none}
-use Rattle.link.proofs.Bursting.{not_both, silent_down}
+use Rattle.link.proofs.Bursting.{not_both, silent_down, no_repeats, held_is, turn_sends}
 use Rattle.link.proofs.Following.{Follows, begun, State, waits, ended, Matches, none_out}
 use Rattle.link.proofs.Following.{asked_matches}
 use Rattle.link.specs.Turns.{CommandsWaiting}
 
 -- ---- an answer
-
-no_repeats : (settings : LinkSettings) (link : Link) → is_held link ≡ false
-    → has_repeats settings link ≡ false
-no_repeats settings (Held fcb service missed) e = let no : ⊥ = cc in absurd no
-no_repeats settings Down e = refl
-no_repeats settings Available e = refl
-no_repeats settings (Next fcb) e = refl
 
 answered_not_held : (request : Asked) (answer : Answer) (link : Link)
     → (is_service request ≡ false → is_held link ≡ false)
@@ -192,18 +185,6 @@ silence_holds settings (Counted fcb service) link held =
     go true false e = let no : ⊥ = cc in absurd no
     go false hold e = refl
 
--- A link that is held is of a station that is there.
-pub held_is : (ss : List StationState) (k : ℕ) (s : StationState)
-    → is_held (station_at (slice_set ss k s) k).link ≡ true
-    → (station_at (slice_set ss k s) k).link ≡ s.link
-held_is ss k s held = go (cases_lt k (length ss))
-  where
-    go : (k < length ss) ⊎ (length ss ≤ k) → (station_at (slice_set ss k s) k).link ≡ s.link
-    go (inl within) = ap (λ (t : StationState). t.link) (get_or-set_same ss k s no_station within)
-    go (inr past) = absurd (not_both (is_held (station_at (slice_set ss k s) k).link) held
-        (ap (λ (l : List StationState). is_held (station_at l k).link) (set_past ss k s past)
-        ∙ ap (λ (t : StationState). is_held t.link) (get_or_past ss k no_station past)))
-
 missed_matches : (p : Primary) (latest : Option Sending) (o : Outstanding) → p.outstanding ≡ Some o
     → Matches p latest → Matches (unanswered p o) latest
 missed_matches p None o e matches = absurd (none_out p.outstanding o matches.0 e)
@@ -334,19 +315,6 @@ again_wanted burst may_poll s command (Held fcb service missed) Over held follow
 again_wanted burst may_poll s command Down phase held follows = let no : ⊥ = cc in absurd no
 again_wanted burst may_poll s command Available phase held follows = let no : ⊥ = cc in absurd no
 again_wanted burst may_poll s command (Next fcb) phase held follows = let no : ⊥ = cc in absurd no
-
--- What the present turn has next goes out.
-pub turn_sends : (p : Primary) (may_poll : Bool) (waiting : CommandsWaiting) (request : Asked)
-    (following : Phase)
-    → p.outstanding ≡ None
-    → wanted p.settings.burst may_poll p.again (station_at p.stations p.turn) (waiting p.turn)
-    p.phase
-    ≡ wants request following
-    → sending p may_poll waiting ≡ Some (record { station = p.turn; request = request })
-turn_sends p may_poll waiting request following out is =
-    ap (λ (o : Option Outstanding). sending_from p o may_poll waiting) out
-    ∙ ap (λ (w : Option Wanted). sending_by (chosen_or w p.turn
-    (first_after p.settings.burst may_poll p.stations waiting (length p.stations) p.turn))) is
 
 repeats : (p : Primary) (latest : Option Sending) (call : Call) → Matches p latest
     → RepeatIsNext p latest call

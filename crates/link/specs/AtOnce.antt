@@ -1,13 +1,13 @@
 -- What goes out at once, before any other request (this gateway's own profile; the services, their
 -- repeats and ACD are those of IEC 60870-5-2's unbalanced transmission procedures).
-use Rattle.std.specs.Prelude.{◌≡◌, ◌⊎◌, ◌&&◌, not, ℕ, Bool, true, List, [], ◌∷◌, Option, Some, None}
+use Rattle.std.specs.Prelude.{◌≡◌, ◌&&◌, not, ℕ, Bool, true, List, [], ◌∷◌, Option, Some, None}
 use Rattle.std.specs.Prelude.{if◌then◌else◌}
-use Rattle.link.specs.Answers.{Service, Class1, Class2, Command, Counted}
-use Rattle.link.specs.Bursts.{is_answered}
+use Rattle.link.specs.Answers.{Service, Command}
+use Rattle.link.specs.Bursts.{is_answered, poll_by, IsSent}
 use Rattle.link.specs.Exchanges.{Sending}
 use Rattle.link.specs.Procedure.{is_held, has_repeats}
 use Rattle.link.specs.Turns.{StationState, CommandsWaiting, station_at}
-use Rattle.link.specs.Primary.{Outstanding, Primary, sending, is_command}
+use Rattle.link.specs.Primary.{Outstanding, Primary, sending}
 use Rattle.link.specs.Runs.{Call, Next, called}
 
 -- Nothing goes out while a request is outstanding.
@@ -38,37 +38,11 @@ RepeatsComeAtOnce p latest (call ∷ calls) =
     RepeatIsNext p latest call
     × RepeatsComeAtOnce (called p call) (latest_after p call latest) calls
 
--- the poll that ACD asks for: of class 1 where it is set, or else of class 2
-abbrev pub poll_by : (acd : Bool) → Service
-poll_by acd = if acd then Class1 else Class2
-
--- The poll that ACD asks for goes out to the station, or the command that waits for it.
-abbrev pub TurnGoesOn : Primary → CommandsWaiting → (station : ℕ) → StationState → Type 0
-TurnGoesOn p waiting station s =
-    (fcb : Bool) × ((sending p true waiting ≡ Some (record {
-      station = station;
-      request = Counted fcb (poll_by s.acd);
-    })) ⊎ ((asdu : List ℕ) × (waiting station ≡ Some asdu)
-    × (sending p true waiting ≡ Some (record {
-      station = station;
-      request = Counted fcb (Command asdu);
-    }))))
-
--- Where the latest request is a command that was answered, and the link is up, the next request
--- goes to the same station, if there is leave.
-abbrev pub PollIsNext : Primary → Option Sending → Call → Type 0
-PollIsNext p (Some latest) (Next now true waiting) =
-    p.outstanding ≡ None → is_command latest.request ≡ true →
-    is_answered (station_at p.stations latest.station).link ≡ true →
-    TurnGoesOn p waiting latest.station (station_at p.stations latest.station)
-PollIsNext p latest call = Unit {0}
-
--- at each of these calls
-abbrev pub PollsFollowCommands : Primary → Option Sending → List Call → Type 0
-PollsFollowCommands p latest [] = Unit {0}
-PollsFollowCommands p latest (call ∷ calls) =
-    PollIsNext p latest call
-    × PollsFollowCommands (called p call) (latest_after p call latest) calls
+-- what a turn has first, and behind a held service: the command that waits, if DFC is clear, or
+-- else the poll that ACD asks for
+abbrev pub first_service : Option (List ℕ) → StationState → Service
+first_service None s = poll_by s.acd
+first_service (Some asdu) s = if s.dfc then poll_by s.acd else Command asdu
 
 -- The station holds a service that has no repeat left: where it goes out, a turn begins with it.
 abbrev pub is_spent : Primary → (station : ℕ) → Bool
@@ -93,11 +67,11 @@ began_after p (Next now may_poll waiting) began =
 began_after p call began = began
 
 -- Where the latest request is a held service with which a turn began, and it was answered, and the
--- link is up, the next request goes to the same station, if there is leave.
+-- link is up, the next request is what the turn has first, if there is leave.
 abbrev pub TurnIsNext : Primary → Option ℕ → Call → Type 0
 TurnIsNext p (Some station) (Next now true waiting) =
     p.outstanding ≡ None → is_answered (station_at p.stations station).link ≡ true →
-    TurnGoesOn p waiting station (station_at p.stations station)
+    IsSent p waiting station (first_service (waiting station) (station_at p.stations station))
 TurnIsNext p began call = Unit {0}
 
 -- at each of these calls

@@ -1,6 +1,8 @@
 -- A turn is one visit (this gateway's own profile, over the procedures of IEC 60870-5-2): when a
 -- visit has had what it may have, or nothing went out, the other stations come first.
-use Rattle.std.specs.Prelude.{◌≡◌, ◌⊎◌, ℕ, Bool, true, List, [], ◌∷◌, Option, Some, None}
+use Rattle.std.specs.Prelude.{◌≡◌, ◌⊎◌, ℕ, Bool, true, false, List, [], ◌∷◌, Option, Some, None}
+use Rattle.link.specs.Answers.{Command, Counted}
+use Rattle.link.specs.Bursts.{is_answered}
 use Rattle.link.specs.Exchanges.{Sending}
 use Rattle.link.specs.Procedure.{is_held, has_repeats}
 use Rattle.link.specs.Turns.{CommandsWaiting, station_at}
@@ -25,12 +27,22 @@ GoesOn p v s later =
     has_repeats p.settings (station_at p.stations s.station).link ≡ true)
     × MayFollow p.settings (station_at p.stations s.station).link v.left s.request later
 
+-- It is the command that waits for the station, where the latest service is answered and DFC was
+-- clear in that answer.
+abbrev pub IsCommandFirst : Primary → CommandsWaiting → Sending → Type 0
+IsCommandFirst p waiting s =
+    (asdu : List ℕ) → waiting s.station ≡ Some asdu →
+    is_answered (station_at p.stations s.station).link ≡ true →
+    (station_at p.stations s.station).dfc ≡ false →
+    (fcb : Bool) × (s.request ≡ Counted fcb (Command asdu))
+
 -- It begins another visit: that of the first station, round from the one behind this visit's
--- station, that has a request.
+-- station, that has a request. A command that waits is first.
 abbrev pub Begins : Primary → (may_poll : Bool) → CommandsWaiting → Present → Sending →
     (later : Left) → Type 0
 Begins p may_poll waiting v s later =
     BeginsTurn (record p { turn = v.station }) may_poll waiting s
+    × IsCommandFirst p waiting s
     × MayFollow p.settings (station_at p.stations s.station).link
     (whole_visit p.settings (station_at p.stations s.station).link) s.request later
 

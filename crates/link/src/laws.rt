@@ -6,6 +6,7 @@ pub(crate) mod carrying;
 pub(crate) mod commands;
 pub(crate) mod flags;
 pub(crate) mod gaps;
+pub(crate) mod hearing;
 pub(crate) mod leave;
 pub(crate) mod life;
 pub(crate) mod precedence;

@@ -15,12 +15,13 @@
 //!   ([`frame_count_bits_are_kept`], [`master_matches_the_log`]), no request goes out while one is
 //!   outstanding ([`requests_wait_their_turn`]), turns go round the stations ([`turns_go_round`]),
 //!   a turn ends ([`turns_end`]), it is one visit ([`a_turn_is_one_visit`]) and no station starves
-//!   ([`no_station_starves`]), an answer has its time ([`answers_have_their_time`]), an unanswered
+//!   ([`no_station_starves`]), an answer is heard ([`answers_are_heard`]) and has its time
+//!   ([`answers_have_their_time`]), an unanswered
 //!   service is sent again at once ([`repeats_come_at_once`]) and as often as is set
 //!   ([`repeats_are_as_many_as_set`]), a command that waits goes out before any new poll
-//!   ([`commands_go_before_polls`]) and polls follow it in its turn ([`polls_follow_commands`]), as
-//!   they follow a held service ([`turns_go_on_behind_held_services`]), polls and commands go by
-//!   ACD and DFC ([`flags_are_heeded`], [`class_1_polls_go_on`]), a command that is sent for the
+//!   ([`commands_go_before_polls`]) and polls follow it in its turn ([`polls_go_on`]), as they
+//!   follow a held service ([`turns_go_on_behind_held_services`]), polls and commands go by
+//!   ACD and DFC ([`flags_are_heeded`]), a command that is sent for the
 //!   first time is the one that waits ([`commands_are_those_that_wait`]), and goes out where no
 //!   other is under way ([`one_command_at_a_time`]), what the caller learns is what the exchanges
 //!   show ([`outcomes_are_answers`], [`outcomes_bear_the_reports`]), and those that closed with
@@ -82,10 +83,9 @@ pub use examples::{
 };
 pub use laws::asking::{answers_have_their_time, next_changes_nothing};
 pub use laws::at_once::{
-    polls_follow_commands, repeats_are_as_many_as_set, repeats_come_at_once,
-    turns_go_on_behind_held_services,
+    repeats_are_as_many_as_set, repeats_come_at_once, turns_go_on_behind_held_services,
 };
-pub use laws::bursts::class_1_polls_go_on;
+pub use laws::bursts::polls_go_on;
 pub use laws::carrying::{
     frame_count_bits_go_on, giving_up_is_for_one_station, giving_up_is_logged, sessions_go_on,
     the_latest_exchange_is_marked,
@@ -93,6 +93,7 @@ pub use laws::carrying::{
 pub use laws::commands::{commands_are_those_that_wait, one_command_at_a_time};
 pub use laws::flags::flags_are_heeded;
 pub use laws::gaps::{gaps_are_ended_sessions, gaps_are_lost_polls, gaps_are_reported};
+pub use laws::hearing::answers_are_heard;
 pub use laws::leave::{polls_wait_for_leave, rests_mean};
 pub use laws::life::{
     answers_show_what_waits, station_is_an_outstation, station_serves_each_request,

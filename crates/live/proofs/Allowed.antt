@@ -1,8 +1,9 @@
 -- Only allowed addresses connect.
 use Rattle.std.proofs.Common.{◌≡◌, ℕ, true, false, Bool, List, [], ◌∷◌, Option, Some, None, IfSome}
-use Rattle.std.proofs.Common.{option_map, refl, sym, ap, subst, inl, inr}
+use Rattle.std.proofs.Common.{option_map, refl, sym, ap, subst, inl, inr, ◌∙◌}
 use Rattle.std.specs.declared.net.ip_addr.IpAddr.{IpAddr}
-use Rattle.gateway.specs.Log.{Log}
+use Rattle.gateway.specs.Log.{Log, Output, LineOut, TcpOut, Closed, GapOut}
+use Rattle.session.specs.declared.kinds.Close.TheVariants as close
 use Rattle.gateway.specs.declared.ports.Next.{Next}
 use Rattle.gateway.specs.declared.ports.Next.TheVariants as next
 use Rattle.live.specs.Timing.{is_behind, moment_at}
@@ -11,8 +12,9 @@ use Rattle.live.specs.Ends.{LooksOn}
 use Rattle.live.specs.Ends.{Turns, LogsTurn, as_logged, looking, event_at, taken_by, clock_read_at}
 use Rattle.live.specs.Ends.{turn_by, sources_by, held_by, round, look, unless_found, next_round}
 use Rattle.live.specs.Ends.{looked_at, after, nothing_more, accepted, of_peer, of_open, of_line}
-use Rattle.live.specs.Ends.{read_from, peer_read}
-use Rattle.live.specs.Law.{IsOfAllowedPeer, IsSameOrNone, peer_of, KeepsOut}
+use Rattle.live.specs.Ends.{read_from, peer_read, written_open, LogsPut}
+use Rattle.live.specs.Cuts.{shuts_nothing}
+use Rattle.live.specs.Law.{IsOfAllowedPeer, peer_of, KeepsOut}
 use Rattle.live.proofs.Apart.{allow_list_of}
 use Rattle.live.proofs.Rounds.{allow_list_aside, quiet_kept}
 use Rattle.live.specs.declared.found.SourceEvent.{SourceEvent}
@@ -23,21 +25,25 @@ use Rattle.live.specs.declared.source.EventSource.TheVariants.{Listener, Connect
 use Rattle.live.specs.declared.ends.Got.{Got}
 use Rattle.live.specs.declared.ends.Got.TheVariants.{Octets, Quiet, Gone}
 
+-- the connection of this address is open still, or none still is
+abbrev pub IsSame : (before : Option IpAddr) → Option Peer → Type 0
+IsSame before connection = option_map (λ (p : Peer). p.address) connection ≡ before
+
 -- what was found, and the connection after it
 IsKeptOut : AllowList → Option IpAddr → Option SourceEvent → Option Peer → Type 0
-IsKeptOut allow_list before None connection = IsSameOrNone before connection
+IsKeptOut allow_list before None connection = IsSame before connection
 IsKeptOut allow_list before (Some found.Open) connection = IsOfAllowedPeer allow_list connection
-IsKeptOut allow_list before (Some (found.Bytes len)) connection = IsSameOrNone before connection
-IsKeptOut allow_list before (Some found.Cut) connection = IsSameOrNone before connection
-IsKeptOut allow_list before (Some (found.Line len)) connection = IsSameOrNone before connection
-IsKeptOut allow_list before (Some found.Fault) connection = IsSameOrNone before connection
+IsKeptOut allow_list before (Some (found.Bytes len)) connection = IsSame before connection
+IsKeptOut allow_list before (Some found.Cut) connection = connection ≡ None
+IsKeptOut allow_list before (Some (found.Line len)) connection = IsSame before connection
+IsKeptOut allow_list before (Some found.Fault) connection = IsSame before connection
 
 Out : AllowList → Option IpAddr → Option SourceEvent × LiveEnds → Type 0
 Out allow_list before p = IsKeptOut allow_list before p.0 p.1.connection
 
 -- what goes on from ends that kept them out does so
 KeepsOn : AllowList → Option IpAddr → (LiveEnds → Option SourceEvent × LiveEnds) → Type 0
-KeepsOn allow_list before others = (e : LiveEnds) → IsSameOrNone before e.connection
+KeepsOn allow_list before others = (e : LiveEnds) → IsSame before e.connection
     → Out allow_list before (others e)
 
 nothing_out : (g : AllowList) (b : Option IpAddr) → KeepsOn g b nothing_more
@@ -47,7 +53,7 @@ nothing_out g b e h = h
 at_listener : (g : AllowList) (b : Option IpAddr) (v : Option Peer) (e : LiveEnds)
     (others : LiveEnds
     → Option SourceEvent × LiveEnds)
-    → KeepsOn g b others → IfSome v (IsAllowedPeer g) → IsSameOrNone b e.connection →
+    → KeepsOn g b others → IfSome v (IsAllowedPeer g) → IsSame b e.connection →
     Out g b (unless_found (of_peer v) (next_round Listener (of_peer v) (accepted v e)) others)
 unfolding KeepsOn Out IsKeptOut
 at_listener g b None e others on allowed h = on (accepted None e) h
@@ -55,20 +61,20 @@ at_listener g b (Some peer) e others on allowed h = allowed.allows
 
 at_connection : (g : AllowList) (b : Option IpAddr) (c : Option Peer) (got : Got) (buf : List ℕ)
     (e : LiveEnds) (others : LiveEnds
-    → Option SourceEvent × LiveEnds) → KeepsOn g b others → IsSameOrNone b c →
+    → Option SourceEvent × LiveEnds) → KeepsOn g b others → IsSame b c →
     Out g b (unless_found (of_open c got) (next_round Connection (of_open c got)
     (peer_read c got buf e)) others)
 unfolding KeepsOn Out IsKeptOut
-at_connection g b None got buf e others on h = on (record e { connection = None }) tt
+at_connection g b None got buf e others on h = on (record e { connection = None }) h
 at_connection g b (Some peer) (Octets len) buf e others on h = h
 at_connection g b (Some peer) Quiet buf e others on h =
     on (record e { connection = read_from (Some peer) Quiet buf }) h
-at_connection g b (Some peer) Gone buf e others on h = tt
+at_connection g b (Some peer) Gone buf e others on h = refl
 
 at_line : (g : AllowList) (b : Option IpAddr) (got : Got) (e : LiveEnds) (others : LiveEnds
     → Option SourceEvent
     × LiveEnds)
-    → KeepsOn g b others → IsSameOrNone b e.connection →
+    → KeepsOn g b others → IsSame b e.connection →
     Out g b (unless_found (of_line got) (next_round Line (of_line got) e) others)
 unfolding KeepsOn Out IsKeptOut
 at_line g b (Octets len) e others on h = h
@@ -91,7 +97,7 @@ look_out g b Line t a buf others allowed on e h = at_line g b a.line (looked_at 
 
 round_out : (g : AllowList) (b : Option IpAddr) (t : ℕ) (a : Answers) (buf : List ℕ) (e : LiveEnds)
     → IfSome a.peer (IsAllowedPeer g)
-    → IsSameOrNone b e.connection → Out g b (round t a buf e)
+    → IsSame b e.connection → Out g b (round t a buf e)
 unfolding KeepsOn
 round_out g b t a buf e allowed h =
     let third = look_out g b (after (after e.first)) t a buf nothing_more allowed
@@ -104,7 +110,7 @@ round_out g b t a buf e allowed h =
 
 held_out : (g : AllowList) (b : Option IpAddr) (h : List ℕ) (t : ℕ) (a : Answers) (buf : List ℕ)
     (e : LiveEnds)
-    → IfSome a.peer (IsAllowedPeer g) → IsSameOrNone b e.connection → Out g b (held_by h t a buf e)
+    → IfSome a.peer (IsAllowedPeer g) → IsSame b e.connection → Out g b (held_by h t a buf e)
 unfolding Out IsKeptOut
 held_out g b [] t a buf e allowed h = round_out g b t a buf e allowed h
 held_out g b (octet ∷ octets) t a buf e allowed h = h
@@ -112,7 +118,7 @@ held_out g b (octet ∷ octets) t a buf e allowed h = h
 sources_out : (g : AllowList) (b : Option IpAddr) (is_late : Bool) (t : ℕ) (a : Answers)
     (buf : List ℕ)
     (e : LiveEnds)
-    → IfSome a.peer (IsAllowedPeer g) → IsSameOrNone b e.connection
+    → IfSome a.peer (IsAllowedPeer g) → IsSame b e.connection
     → Out g b (sources_by is_late t a buf e)
 unfolding KeepsOn
 sources_out g b true t a buf e allowed h = look_out g b Line t a buf nothing_more allowed
@@ -121,10 +127,10 @@ sources_out g b false t a buf e allowed h = held_out g b e.held t a buf e allowe
 
 turn_out : (g : AllowList) (b : Option IpAddr) (is_due : Bool) (t : ℕ) (a : Answers) (buf : List ℕ)
     (e : LiveEnds)
-    → IfSome a.peer (IsAllowedPeer g) → IsSameOrNone b e.connection
+    → IfSome a.peer (IsAllowedPeer g) → IsSame b e.connection
     → Out g b (turn_by is_due t a buf e)
 unfolding Out IsKeptOut
-turn_out g b true t a buf e allowed h = tt
+turn_out g b true t a buf e allowed h = refl
 turn_out g b false t a buf e allowed h = sources_out g b (is_behind e.timing t) t a buf e allowed h
 
 taken_out : (g : AllowList) (b : Option IpAddr) (is_late : Bool) (buf : List ℕ)
@@ -151,14 +157,10 @@ given_out old new now (Some found.Cut) h = h
 given_out old new now (Some (found.Line len)) h = h
 given_out old new now (Some found.Fault) h = h
 
-as_it_was : (c : Option Peer) → IsSameOrNone (option_map (λ (p : Peer). p.address) c) c
-as_it_was None = tt
-as_it_was (Some peer) = refl
-
--- rounds that found nothing leave the connection that was, or none
+-- rounds that found nothing leave the connection
 quiet_out : (b : Option IpAddr) (start : LiveEnds) (first count begun : ℕ) (e : LiveEnds)
     → QuietRounds start first count begun e
-    → IsSameOrNone b start.connection → IsSameOrNone b e.connection
+    → IsSame b start.connection → IsSame b e.connection
 unfolding Out IsKeptOut
 quiet_out b start first _ _ _ NoRound h = h
 quiet_out b start first _ _ _ (OneRound count begun now before found buf q t undue) h =
@@ -171,7 +173,7 @@ quiet_out b start first _ _ _ (OneRound count begun now before found buf q t und
 looks_out : (b : Option IpAddr) (first : ℕ) (old : LiveEnds) (now : ℕ) (f : Option SourceEvent)
     (buf : List ℕ)
     (new : LiveEnds)
-    → LooksOn first old now f buf new → IsSameOrNone b old.connection
+    → LooksOn first old now f buf new → IsSame b old.connection
     → IsKeptOut old.allow_list b f new.connection
 unfolding Out
 looks_out b first old now f buf new l h =
@@ -193,15 +195,13 @@ kept_out_by : (old new : LiveEnds) (event : Next) (buf : List ℕ) → Turns old
 unfolding Out
 kept_out_by old new event buf (inl t) =
     let P : Next → Type 0 = λ e. KeepsOut old e new in
-    let Q : Option Peer → Type 0 = λ c. IsSameOrNone (peer_of old) c in
-    let same : new.connection ≡ old.connection = ap (λ (e : LiveEnds). e.connection) t.given.ends in
-    subst P (sym t.given.given) (subst Q (sym same) (as_it_was old.connection))
+    subst P (sym t.given.given) (ap peer_of t.given.ends)
 kept_out_by old new event buf (inr t) =
     let Q : Option SourceEvent × LiveEnds → Type 0 = λ p. Out old.allow_list (peer_of old) p in
     let P : Next → Type 0 = λ e. KeepsOut old e new in
     let found = looks_out (peer_of old) t.first (looking (clock_read_at t.first old)) t.now t.f buf
     t.found t.looks
-    (as_it_was old.connection) in
+    refl in
     let taken = taken_out old.allow_list (peer_of old) (is_behind t.found.timing t.now) buf t.f
     t.found
     found in
@@ -226,3 +226,26 @@ pub kept_out : (old new : LiveEnds) (event : Next) (buf : List ℕ) → LogsTurn
     → KeepsOut old event new
 kept_out old new event buf l =
     logged_out old.log old new event (kept_out_by old (as_logged old.log new) event buf l.turns)
+
+-- an action that shuts nothing leaves it
+written_out : (d : Bool) (octets : List ℕ) (taken : Bool) (c : Option Peer) (e : LiveEnds)
+    → e.connection ≡ c → peer_of (written_open d octets taken c e) ≡ peer_of e
+written_out true octets taken c e is = refl
+written_out false octets taken None e is = refl
+written_out false octets taken (Some peer) e is =
+    sym (ap (option_map (λ (p : Peer). p.address)) is)
+
+pub put_out : (old new : LiveEnds) (moment : ℕ) (action : Output) → LogsPut old moment action new
+    → shuts_nothing action ≡ true → peer_of new ≡ peer_of old
+put_out old new moment (LineOut octets) l stays = ap peer_of l.puts.done
+put_out old new moment (TcpOut octets) l stays =
+    ap peer_of l.puts.done
+    ∙ written_out old.is_cut_due octets l.puts.taken old.connection old refl
+put_out old new moment (Closed close.Replaced) l stays = ap peer_of l.puts.done
+put_out old new moment (Closed close.Grammar) l stays = absurd (cc)
+put_out old new moment (Closed close.SendNumber) l stays = absurd (cc)
+put_out old new moment (Closed close.ReceiveNumber) l stays = absurd (cc)
+put_out old new moment (Closed close.Stopped) l stays = absurd (cc)
+put_out old new moment (Closed close.Timeout) l stays = absurd (cc)
+put_out old new moment (Closed close.OwnAnswers) l stays = absurd (cc)
+put_out old new moment (GapOut station session) l stays = ap peer_of l.puts.done

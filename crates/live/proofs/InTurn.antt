@@ -1,17 +1,22 @@
 -- No source hides another: they are looked at in turn.
-use Rattle.std.proofs.Common.{◌≡◌, ℕ, ◌<◌, ◌≤◌, true, false, Bool, List, [], ◌∷◌, length, Option}
-use Rattle.std.proofs.Common.{Some, None, refl, sym, ap, subst, arith, ◌∙◌, ◌⊎◌, inl, inr}
+use Rattle.std.proofs.Common.{◌≡◌, ◌≢◌, ℕ, ◌<◌, ◌≤◌, true, false, Bool, List, [], ◌∷◌, length}
+use Rattle.std.proofs.Common.{Option, Some, None, refl, sym, ap, subst, arith, ◌∙◌, ◌⊎◌, inl, inr}
 use Rattle.gateway.specs.declared.ports.Next.{Next}
 use Rattle.gateway.specs.declared.ports.Next.TheVariants as next
 use Rattle.gateway.specs.Log.{Log, Output}
-use Rattle.live.specs.Timing.{is_behind, line_looked_at, moment_at}
-use Rattle.live.specs.OctetStreams.{Happening, StreamHistory, WasQuiet, noted, Attempts, attempted}
+use Rattle.live.specs.Timing.{is_behind, moment_at}
+use Rattle.live.specs.Walls.{is_wall}
+use Rattle.live.specs.Law.{AtRounds}
+use Rattle.live.specs.OctetStreams.{Happening, StreamHistory, WasGone, WasQuiet, looked, noted}
+use Rattle.live.specs.OctetStreams.{Attempts, attempted}
 use Rattle.live.specs.Ends.{LiveEnds, Peer, Answers, Turns, LogsTurn, LogsPut, as_logged, IsTurn}
 use Rattle.live.specs.Ends.{QuietRounds, NoRound, OneRound, TurnsToEnds, event_at, taken_by}
 use Rattle.live.specs.Ends.{looking, clock_read_at, turn_by, sources_by, held_by, round, look}
 use Rattle.live.specs.Ends.{nothing_more, after}
-use Rattle.live.specs.InTurn.{IsMore, IsMoreAt, IsLookedAt, LooksBefore, BeginsBehind, IsFarBehind}
-use Rattle.live.proofs.Rounds.{quiet_reads}
+use Rattle.live.specs.InTurn.{IsMore, IsMoreAt, IsLookedAt, LooksBefore, LooksUpToLine}
+use Rattle.live.specs.InTurn.{BeginsBehind}
+use Rattle.live.specs.InTurn.{GivesOctets, HoldsOctets, begins_behind}
+use Rattle.live.proofs.Ticks.{BeginsOf, at_rounds, wall_of}
 use Rattle.live.specs.declared.found.SourceEvent.{SourceEvent}
 use Rattle.live.specs.declared.found.SourceEvent.TheVariants as found
 use Rattle.live.specs.declared.source.EventSource.{EventSource}
@@ -35,21 +40,23 @@ attempted_more None here = tt
 attempted_more (Some before) here = more_one before here
 
 -- what a round that began at `s` found, where the next begins, and what was looked at
-Looked : EventSource → Option SourceEvent → (old new : LiveEnds) → Type 0
-Looked s None old new =
-    (new.first ≡ s) × IsLookedAt Listener old new × IsLookedAt Connection old new
-    × IsLookedAt Line old new
+Looked : ℕ → EventSource → Option SourceEvent → (old new : LiveEnds) → Type 0
+Looked t s None old new =
+    (new.first ≡ s) × IsLookedAt t Listener old new × IsLookedAt t Connection old new
+    × IsLookedAt t Line old new
     × (new.is_cut_due ≡ old.is_cut_due) × (new.held ≡ old.held)
-Looked s (Some found.Open) old new = (new.first ≡ Connection) × LooksBefore (next.Open 0) s old new
-Looked s (Some (found.Bytes len)) old new = (new.first ≡ Line)
-    × LooksBefore (next.Bytes 0 len) s old new
-Looked s (Some found.Cut) old new = (new.first ≡ Line) × LooksBefore (next.Cut 0) s old new
-Looked s (Some (found.Line len)) old new = (new.first ≡ Listener)
-    × LooksBefore (next.Line 0 len) s old new
-Looked s (Some found.Fault) old new = (new.first ≡ Listener) × LooksBefore next.Fault s old new
+Looked t s (Some found.Open) old new =
+    (new.first ≡ Connection) × LooksBefore t (next.Open 0) s old new
+Looked t s (Some (found.Bytes len)) old new = (new.first ≡ Line)
+    × LooksBefore t (next.Bytes 0 len) s old new
+Looked t s (Some found.Cut) old new = (new.first ≡ Line) × LooksBefore t (next.Cut 0) s old new
+Looked t s (Some (found.Line len)) old new = (new.first ≡ Listener)
+    × LooksBefore t (next.Line 0 len) s old new
+Looked t s (Some found.Fault) old new =
+    (new.first ≡ Listener) × LooksBefore t next.Fault s old new
 
-InRound : EventSource → LiveEnds → Option SourceEvent × LiveEnds → Type 0
-InRound s old p = Looked s p.0 old p.1
+InRound : ℕ → EventSource → LiveEnds → Option SourceEvent × LiveEnds → Type 0
+InRound t s old p = Looked t s p.0 old p.1
 
 abbrev round_from : EventSource → ℕ → Answers → (buf : List ℕ) → LiveEnds → Option SourceEvent
     × LiveEnds
@@ -61,69 +68,85 @@ round_from s t a buf e =
 abbrev ends_with : LiveEnds → EventSource → Option Peer → LiveEnds
 ends_with e s k = record e { first = s; connection = k }
 
+line_more : (e : LiveEnds) (x : Happening) (t : ℕ) → IsMore e.line (noted e.line x) × (t ≡ t)
+line_more e x t = (noted_more e.line x, refl)
+
 by_answers : (s : EventSource) (v k : Option Peer) (c l : Got) (m : Option Presence) (t : ℕ)
     (buf : List ℕ) (e : LiveEnds)
-    → InRound s (ends_with e s k)
+    → InRound t s (ends_with e s k)
     (round_from s t (record { peer = v; connection = c; line = l; presence = m }) buf
     (ends_with e s k))
 unfolding InRound Looked
 by_answers Listener (Some p) k c l m t buf e = (refl, tt)
 by_answers Listener None None c (Octets len) m t buf e =
-    (refl, (attempted_more e.listener false, tt))
+    (refl, (attempted_more e.listener false, tt, line_more e (looked (Octets len) buf) t))
 by_answers Listener None None c Quiet m t buf e =
-    (refl, attempted_more e.listener false, tt, noted_more e.line WasQuiet, refl, refl)
-by_answers Listener None None c Gone m t buf e = (refl, (attempted_more e.listener false, tt))
+    (refl, attempted_more e.listener false, tt, line_more e WasQuiet t, refl, refl)
+by_answers Listener None None c Gone m t buf e =
+    (refl, (attempted_more e.listener false, tt, line_more e WasGone t))
 by_answers Listener None (Some p) (Octets n) l m t buf e = (refl, attempted_more e.listener false)
 by_answers Listener None (Some p) Gone l m t buf e = (refl, attempted_more e.listener false)
-by_answers Listener None (Some p) Quiet (Octets len) m t buf e =
-    (refl, (attempted_more e.listener false, noted_more p.stream WasQuiet))
+by_answers Listener None (Some p) Quiet (Octets len) m t buf e = (
+  refl,
+  (
+    attempted_more e.listener false,
+    noted_more p.stream WasQuiet,
+    line_more e (looked (Octets len) buf) t,
+  ),
+)
 by_answers Listener None (Some p) Quiet Quiet m t buf e = (
   refl,
   attempted_more e.listener false,
   noted_more p.stream WasQuiet,
-  noted_more e.line WasQuiet,
+  line_more e WasQuiet t,
   refl,
   refl,
 )
-by_answers Listener None (Some p) Quiet Gone m t buf e =
-    (refl, (attempted_more e.listener false, noted_more p.stream WasQuiet))
-by_answers Connection v None c (Octets len) m t buf e = (refl, tt)
-by_answers Connection v None c Gone m t buf e = (refl, tt)
-by_answers Connection (Some q) None c Quiet m t buf e = (refl, noted_more e.line WasQuiet)
+by_answers Listener None (Some p) Quiet Gone m t buf e = (
+  refl,
+  (attempted_more e.listener false, noted_more p.stream WasQuiet, line_more e WasGone t),
+)
+by_answers Connection v None c (Octets len) m t buf e =
+    (refl, (tt, line_more e (looked (Octets len) buf) t))
+by_answers Connection v None c Gone m t buf e = (refl, (tt, line_more e WasGone t))
+by_answers Connection (Some q) None c Quiet m t buf e = (refl, line_more e WasQuiet t)
 by_answers Connection None None c Quiet m t buf e =
-    (refl, attempted_more e.listener false, tt, noted_more e.line WasQuiet, refl, refl)
+    (refl, attempted_more e.listener false, tt, line_more e WasQuiet t, refl, refl)
 by_answers Connection v (Some p) (Octets n) l m t buf e = (refl, tt)
 by_answers Connection v (Some p) Gone l m t buf e = (refl, tt)
-by_answers Connection v (Some p) Quiet (Octets len) m t buf e = (refl, noted_more p.stream WasQuiet)
-by_answers Connection v (Some p) Quiet Gone m t buf e = (refl, noted_more p.stream WasQuiet)
-by_answers Connection (Some q) (Some p) Quiet Quiet m t buf e = (refl, noted_more e.line WasQuiet)
+by_answers Connection v (Some p) Quiet (Octets len) m t buf e =
+    (refl, (noted_more p.stream WasQuiet, line_more e (looked (Octets len) buf) t))
+by_answers Connection v (Some p) Quiet Gone m t buf e =
+    (refl, (noted_more p.stream WasQuiet, line_more e WasGone t))
+by_answers Connection (Some q) (Some p) Quiet Quiet m t buf e = (refl, line_more e WasQuiet t)
 by_answers Connection None (Some p) Quiet Quiet m t buf e = (
   refl,
   attempted_more e.listener false,
   noted_more p.stream WasQuiet,
-  noted_more e.line WasQuiet,
+  line_more e WasQuiet t,
   refl,
   refl,
 )
-by_answers Line v k c (Octets len) m t buf e = (refl, tt)
-by_answers Line v k c Gone m t buf e = (refl, tt)
-by_answers Line (Some q) k c Quiet m t buf e = (refl, noted_more e.line WasQuiet)
+by_answers Line v k c (Octets len) m t buf e = (refl, line_more e (looked (Octets len) buf) t)
+by_answers Line v k c Gone m t buf e = (refl, line_more e WasGone t)
+by_answers Line (Some q) k c Quiet m t buf e = (refl, line_more e WasQuiet t)
 by_answers Line None None c Quiet m t buf e =
-    (refl, attempted_more e.listener false, tt, noted_more e.line WasQuiet, refl, refl)
+    (refl, attempted_more e.listener false, tt, line_more e WasQuiet t, refl, refl)
 by_answers Line None (Some p) (Octets n) Quiet m t buf e =
-    (refl, (noted_more e.line WasQuiet, attempted_more e.listener false))
+    (refl, (line_more e WasQuiet t, attempted_more e.listener false))
 by_answers Line None (Some p) Gone Quiet m t buf e =
-    (refl, (noted_more e.line WasQuiet, attempted_more e.listener false))
+    (refl, (line_more e WasQuiet t, attempted_more e.listener false))
 by_answers Line None (Some p) Quiet Quiet m t buf e = (
   refl,
   attempted_more e.listener false,
   noted_more p.stream WasQuiet,
-  noted_more e.line WasQuiet,
+  line_more e WasQuiet t,
   refl,
   refl,
 )
 
-in_round : (t : ℕ) (a : Answers) (buf : List ℕ) (e : LiveEnds) → InRound e.first e (round t a buf e)
+in_round : (t : ℕ) (a : Answers) (buf : List ℕ) (e : LiveEnds)
+    → InRound t e.first e (round t a buf e)
 in_round t a buf e = by_answers e.first a.peer e.connection a.connection a.line a.presence t
     buf e
 
@@ -136,15 +159,15 @@ Begins (Some found.Cut) first = first ≡ Line
 Begins (Some (found.Line len)) first = first ≡ Listener
 Begins (Some found.Fault) first = first ≡ Listener
 
-begins_in : (s : EventSource) (f : Option SourceEvent) (old new : LiveEnds) → Looked s f old new
-    → Begins f new.first
+begins_in : (t : ℕ) (s : EventSource) (f : Option SourceEvent) (old new : LiveEnds)
+    → Looked t s f old new → Begins f new.first
 unfolding Looked Begins
-begins_in s None old new l = tt
-begins_in s (Some found.Open) old new l = l.0
-begins_in s (Some (found.Bytes len)) old new l = l.0
-begins_in s (Some found.Cut) old new l = l.0
-begins_in s (Some (found.Line len)) old new l = l.0
-begins_in s (Some found.Fault) old new l = l.0
+begins_in t s None old new l = tt
+begins_in t s (Some found.Open) old new l = l.0
+begins_in t s (Some (found.Bytes len)) old new l = l.0
+begins_in t s (Some found.Cut) old new l = l.0
+begins_in t s (Some (found.Line len)) old new l = l.0
+begins_in t s (Some found.Fault) old new l = l.0
 
 line_begins : (t : ℕ) (a : Answers) (l : Got) (buf : List ℕ) (e : LiveEnds)
     → (let p = look Line t (record a { line = l }) buf e nothing_more in Begins p.0 p.1.first)
@@ -157,7 +180,7 @@ held_begins : (held : List ℕ) (t : ℕ) (a : Answers) (buf : List ℕ) (e : Li
     → (let p = held_by held t a buf e in Begins p.0 p.1.first)
 unfolding Begins InRound
 held_begins [] t a buf e =
-    let p = round t a buf e in begins_in e.first p.0 e p.1 (in_round t a buf e)
+    let p = round t a buf e in begins_in t e.first p.0 e p.1 (in_round t a buf e)
 held_begins (octet ∷ octets) t a buf e = refl
 
 sources_begin : (b : Bool) (t : ℕ) (a : Answers) (buf : List ℕ) (e : LiveEnds)
@@ -298,18 +321,18 @@ StaysIf : Option SourceEvent → (old new : LiveEnds) → Type 0
 StaysIf None old new = Stays old new
 StaysIf (Some f) old new = Unit {0}
 
-stays_round : (f : Option SourceEvent) (old new : LiveEnds) → Looked old.first f old new
+stays_round : (t : ℕ) (f : Option SourceEvent) (old new : LiveEnds) → Looked t old.first f old new
     → StaysIf f old new
 unfolding Looked StaysIf
-stays_round None old new l = record {
+stays_round t None old new l = record {
   listener = least_of old.listener new.listener l.1;
   connection = least_of_at old.connection new.connection l.2;
-  line = least_of old.line new.line l.3;
+  line = least_of old.line new.line l.3.0;
   first = l.0;
   due = l.4;
   held = l.5;
 }
-stays_round (Some f) old new l = tt
+stays_round t (Some f) old new l = tt
 
 line_stays : (t : ℕ) (a : Answers) (l : Got) (buf : List ℕ) (e : LiveEnds)
     → (let p = look Line t (record a { line = l }) buf e nothing_more in StaysIf p.0 e p.1)
@@ -329,7 +352,7 @@ held_stays : (held : List ℕ) (t : ℕ) (a : Answers) (buf : List ℕ) (e : Liv
     → (let p = held_by held t a buf e in StaysIf p.0 e p.1)
 unfolding StaysIf InRound
 held_stays [] t a buf e =
-    let p = round t a buf e in stays_round p.0 e p.1 (in_round t a buf e)
+    let p = round t a buf e in stays_round t p.0 e p.1 (in_round t a buf e)
 held_stays (octet ∷ octets) t a buf e = tt
 
 sources_stay : (b : Bool) (t : ℕ) (a : Answers) (buf : List ℕ) (e : LiveEnds)
@@ -381,175 +404,298 @@ quiet_stays start first _ _ _ (OneRound count begun now before found buf q t und
       held = m.held ∙ s.held;
     }
 
--- and when they looked at the line
-quiet_read : (start : LiveEnds) (first count begun : ℕ) (e : LiveEnds)
-    → QuietRounds start first count begun e
-    → (looked : ℕ) × (e.timing ≡ line_looked_at looked start.timing)
-quiet_read start first _ _ _ NoRound = (start.timing.looked, refl)
-quiet_read start first _ _ _ (OneRound count begun now before found buf q t undue) =
-    let h = quiet_read start first count begun before q in
-    (begun, quiet_reads begun before found buf t ∙ ap (line_looked_at begun) h.1)
-
 -- the last round
+level_turn : (begun : ℕ) (e n : LiveEnds) (f : Option SourceEvent) (buf : List ℕ)
+    (t : IsTurn begun e f buf n) → e.is_cut_due ≡ false → is_behind e.timing begun ≡ false
+    → (f, n) ≡ held_by e.held begun t.answers buf e
+level_turn begun e n f buf t due level =
+    t.turned ∙ (ap (λ b. turn_by b begun t.answers buf e) due
+    ∙ ap (λ b. sources_by b begun t.answers buf e) level)
+
 in_turn : (begun : ℕ) (e n : LiveEnds) (f : Option SourceEvent) (buf : List ℕ)
     → IsTurn begun e f buf n
-    → e.is_cut_due ≡ false → is_behind e.timing begun ≡ false → e.held ≡ [] → Looked e.first f e n
+    → e.is_cut_due ≡ false → is_behind e.timing begun ≡ false → e.held ≡ []
+    → Looked begun e.first f e n
 unfolding InRound
 in_turn begun e n f buf t due level none =
-    let Q : Option SourceEvent × LiveEnds → Type 0 = λ p. InRound e.first e p in
+    let Q : Option SourceEvent × LiveEnds → Type 0 = λ p. InRound begun e.first e p in
     let plain : (f, n) ≡ round begun t.answers buf e =
-    t.turned ∙ (ap (λ b. turn_by b begun t.answers buf e) due
-    ∙ (ap (λ b. sources_by b begun t.answers buf e) level
-    ∙ ap (λ h. held_by h begun t.answers buf e) none)) in
+    level_turn begun e n f buf t due level ∙ ap (λ h. held_by h begun t.answers buf e) none in
     subst Q (sym plain) (in_round begun t.answers buf e)
 
-compose : (n : ℕ) (s : EventSource) (f : Option SourceEvent) (old mid new : LiveEnds)
+line_least : (t : ℕ) (old mid new : LiveEnds) → Stays old mid → IsLookedAt t Line mid new
+    → IsLookedAt t Line old new
+line_least t old mid new k l = (least_more old.line mid.line new.line k.line l.0, l.1)
+
+up_to_line : (t : ℕ) (s : EventSource) (old mid new : LiveEnds) → Stays old mid
+    → LooksUpToLine t s mid new → LooksUpToLine t s old new
+up_to_line t Listener old mid new k l = (
+  least_more old.listener mid.listener new.listener k.listener l.0,
+  least_more_at old.connection mid.connection new.connection k.connection l.1,
+  line_least t old mid new k l.2,
+)
+up_to_line t Connection old mid new k l = (
+  least_more_at old.connection mid.connection new.connection k.connection l.0,
+  line_least t old mid new k l.1,
+)
+up_to_line t Line old mid new k l = line_least t old mid new k l
+
+compose : (n t : ℕ) (s : EventSource) (f : Option SourceEvent) (old mid new : LiveEnds)
     → Stays old mid
-    → Looked s f mid new
-    → LooksBefore (event_at n f) s old new
+    → Looked t s f mid new
+    → LooksBefore t (event_at n f) s old new
 unfolding Looked
-compose n s None old mid new k l = tt
-compose n Listener (Some found.Open) old mid new k l = tt
-compose n Connection (Some found.Open) old mid new k l =
-    least_more old.line mid.line new.line k.line l.1
-compose n Line (Some found.Open) old mid new k l = least_more old.line mid.line new.line k.line l.1
-compose n Listener (Some (found.Bytes len)) old mid new k l =
+compose n t s None old mid new k l = (
+  least_more old.listener mid.listener new.listener k.listener l.1,
+  least_more_at old.connection mid.connection new.connection k.connection l.2,
+  line_least t old mid new k l.3,
+)
+compose n t Listener (Some found.Open) old mid new k l = tt
+compose n t Connection (Some found.Open) old mid new k l = line_least t old mid new k l.1
+compose n t Line (Some found.Open) old mid new k l = line_least t old mid new k l.1
+compose n t Listener (Some (found.Bytes len)) old mid new k l =
     least_more old.listener mid.listener new.listener k.listener l.1
-compose n Connection (Some (found.Bytes len)) old mid new k l = tt
-compose n Line (Some (found.Bytes len)) old mid new k l = (
-  least_more old.line mid.line new.line k.line l.1.0,
-  least_more old.listener mid.listener new.listener
-      k.listener l.1.1,
+compose n t Connection (Some (found.Bytes len)) old mid new k l = tt
+compose n t Line (Some (found.Bytes len)) old mid new k l = (
+  line_least t old mid new k l.1.0,
+  least_more old.listener mid.listener new.listener k.listener l.1.1,
 )
-compose n Listener (Some found.Cut) old mid new k l =
+compose n t Listener (Some found.Cut) old mid new k l =
     least_more old.listener mid.listener new.listener k.listener l.1
-compose n Connection (Some found.Cut) old mid new k l = tt
-compose n Line (Some found.Cut) old mid new k l = (
-  least_more old.line mid.line new.line k.line l.1.0,
-  least_more old.listener mid.listener new.listener
-      k.listener l.1.1,
+compose n t Connection (Some found.Cut) old mid new k l = tt
+compose n t Line (Some found.Cut) old mid new k l = (
+  line_least t old mid new k l.1.0,
+  least_more old.listener mid.listener new.listener k.listener l.1.1,
 )
-compose n Listener (Some (found.Line len)) old mid new k l = (
-  least_more old.listener mid.listener new.listener k.listener l.1.0,
-  least_more_at old.connection mid.connection new.connection k.connection l.1.1,
-)
-compose n Connection (Some (found.Line len)) old mid new k l =
-    least_more_at old.connection mid.connection new.connection k.connection l.1
-compose n Line (Some (found.Line len)) old mid new k l = tt
-compose n Listener (Some found.Fault) old mid new k l = (
-  least_more old.listener mid.listener new.listener k.listener l.1.0,
-  least_more_at old.connection mid.connection new.connection k.connection l.1.1,
-)
-compose n Connection (Some found.Fault) old mid new k l =
-    least_more_at old.connection mid.connection new.connection k.connection l.1
-compose n Line (Some found.Fault) old mid new k l = tt
+compose n t s (Some (found.Line len)) old mid new k l = up_to_line t s old mid new k l.1
+compose n t s (Some found.Fault) old mid new k l = up_to_line t s old mid new k l.1
 
--- the clock is no matter
-same_before : (n : ℕ) (s : EventSource) (f : Option SourceEvent) (old e : LiveEnds) (now first : ℕ)
-    → LooksBefore (event_at n f) s (looking (clock_read_at first old)) e
-    → LooksBefore (event_at n f) s old (clock_read_at now e)
-same_before n s None old e now first h = tt
-same_before n Listener (Some found.Open) old e now first h = h
-same_before n Connection (Some found.Open) old e now first h = h
-same_before n Line (Some found.Open) old e now first h = h
-same_before n Listener (Some (found.Bytes len)) old e now first h = h
-same_before n Connection (Some (found.Bytes len)) old e now first h = h
-same_before n Line (Some (found.Bytes len)) old e now first h = h
-same_before n Listener (Some found.Cut) old e now first h = h
-same_before n Connection (Some found.Cut) old e now first h = h
-same_before n Line (Some found.Cut) old e now first h = h
-same_before n Listener (Some (found.Line len)) old e now first h = h
-same_before n Connection (Some (found.Line len)) old e now first h = h
-same_before n Line (Some (found.Line len)) old e now first h = h
-same_before n Listener (Some found.Fault) old e now first h = h
-same_before n Connection (Some found.Fault) old e now first h = h
-same_before n Line (Some found.Fault) old e now first h = h
+-- what the clock gave is no matter
+read_up : (t first now : ℕ) (s : EventSource) (old e : LiveEnds)
+    → LooksUpToLine t s (looking (clock_read_at first old)) e
+    → LooksUpToLine t s old (clock_read_at now e)
+read_up t first now Listener old e h = h
+read_up t first now Connection old e h = h
+read_up t first now Line old e h = h
 
-taken_before : (b : Bool) (n : ℕ) (s : EventSource) (buf : List ℕ) (f : Option SourceEvent)
-    (old e : LiveEnds)
-    → LooksBefore (event_at n f) s old e
-    → LooksBefore (event_at n (taken_by b buf f e).0) s old (taken_by b buf f e).1
-taken_before false n s buf f old e h = h
-taken_before true n s buf None old e h = h
-taken_before true n s buf (Some found.Open) old e h = h
-taken_before true n s buf (Some (found.Bytes len)) old e h = tt
-taken_before true n s buf (Some found.Cut) old e h = h
-taken_before true n s buf (Some (found.Line len)) old e h = h
-taken_before true n s buf (Some found.Fault) old e h = h
+same_before : (n t first now : ℕ) (s : EventSource) (f : Option SourceEvent) (old e : LiveEnds)
+    → LooksBefore t (event_at n f) s (looking (clock_read_at first old)) e
+    → LooksBefore t (event_at n f) s old (clock_read_at now e)
+same_before n t first now s None old e h = h
+same_before n t first now Listener (Some found.Open) old e h = h
+same_before n t first now Connection (Some found.Open) old e h = h
+same_before n t first now Line (Some found.Open) old e h = h
+same_before n t first now Listener (Some (found.Bytes len)) old e h = h
+same_before n t first now Connection (Some (found.Bytes len)) old e h = h
+same_before n t first now Line (Some (found.Bytes len)) old e h = h
+same_before n t first now Listener (Some found.Cut) old e h = h
+same_before n t first now Connection (Some found.Cut) old e h = h
+same_before n t first now Line (Some found.Cut) old e h = h
+same_before n t first now s (Some (found.Line len)) old e h = read_up t first now s old e h
+same_before n t first now s (Some found.Fault) old e h = read_up t first now s old e h
 
-last_by : (old : LiveEnds) (event : Next) (buf : List ℕ) (new : LiveEnds)
-    (t : TurnsToEnds old event buf new) (b : Bool)
-    → old.is_cut_due ≡ false → old.held ≡ [] → is_behind t.looks.before.timing t.looks.begun ≡ b
-    → LooksBefore event old.first old new ⊎ IsFarBehind old.timing
-last_by old event buf new t true due none is =
-    let l = t.looks in
-    let h = quiet_read (looking (clock_read_at t.first old)) t.first l.count l.begun l.before
-    l.quiet in
-    inr (record {
-      begun = l.begun;
-      looked = h.0;
-      behind = ap (λ (k : Timing). is_behind k l.begun) (sym h.1) ∙ is;
-    })
-last_by old event buf new t false due none is =
+-- nor is the log
+logged_up : (t : ℕ) (s : EventSource) (log : Log) (old new : LiveEnds)
+    → LooksUpToLine t s old (as_logged log new) → LooksUpToLine t s old new
+logged_up t Listener log old new h = h
+logged_up t Connection log old new h = h
+logged_up t Line log old new h = h
+
+logged_before : (event : Next) (t : ℕ) (s : EventSource) (log : Log) (old new : LiveEnds)
+    → LooksBefore t event s old (as_logged log new)
+    → LooksBefore t event s old new
+logged_before (next.Open now) t Listener log old new h = h
+logged_before (next.Open now) t Connection log old new h = h
+logged_before (next.Open now) t Line log old new h = h
+logged_before (next.Bytes now len) t Listener log old new h = h
+logged_before (next.Bytes now len) t Connection log old new h = h
+logged_before (next.Bytes now len) t Line log old new h = h
+logged_before (next.Cut now) t Listener log old new h = h
+logged_before (next.Cut now) t Connection log old new h = h
+logged_before (next.Cut now) t Line log old new h = h
+logged_before (next.Line now len) t s log old new h = logged_up t s log old new h
+logged_before next.Fault t s log old new h = logged_up t s log old new h
+logged_before (next.Tick now) t s log old new h = h
+logged_before (next.Wall now number) t s log old new h = tt
+logged_before next.Done t s log old new h = tt
+
+either_before : (event : Next) (t : ℕ) (s : EventSource) (log : Log) (old new : LiveEnds) (now : ℕ)
+    → LooksBefore t event s old (as_logged log new) ⊎ HoldsOctets event new.timing now
+    → LooksBefore t event s old new ⊎ HoldsOctets event new.timing now
+either_before event t s log old new now (inl h) = inl (logged_before event t s log old new h)
+either_before event t s log old new now (inr h) = inr h
+
+-- octets that come too late are held
+taken_before : (b : Bool) (n t now : ℕ) (s : EventSource) (buf : List ℕ) (f : Option SourceEvent)
+    (old e : LiveEnds) → is_behind e.timing now ≡ b
+    → LooksBefore t (event_at n f) s old e
+    → (let p = taken_by b buf f e in
+    LooksBefore t (event_at n p.0) s old p.1 ⊎ HoldsOctets (event_at n p.0) p.1.timing now)
+taken_before false n t now s buf f old e is h = inl h
+taken_before true n t now s buf None old e is h = inl h
+taken_before true n t now s buf (Some found.Open) old e is h = inl h
+taken_before true n t now s buf (Some (found.Bytes len)) old e is h = inr is
+taken_before true n t now s buf (Some found.Cut) old e is h = inl h
+taken_before true n t now s buf (Some (found.Line len)) old e is h = inl h
+taken_before true n t now s buf (Some found.Fault) old e is h = inl h
+
+round_at : (old new : LiveEnds) (event : Next) (buf : List ℕ) (t : TurnsToEnds old event buf new)
+    → old.is_cut_due ≡ false → old.held ≡ [] → is_behind t.looks.before.timing t.looks.begun ≡ false
+    → LooksBefore t.looks.begun event old.first old new ⊎ HoldsOctets event new.timing t.now
+round_at old new event buf t due none level =
     let l = t.looks in
     let start = looking (clock_read_at t.first old) in
     let n = moment_at new.timing t.now in
     let k = quiet_stays start t.first l.count l.begun l.before l.quiet in
-    let S : EventSource → Type 0 = λ s. Looked s t.f l.before l.found in
-    let looked_so =
-    subst S k.first (in_turn l.begun l.before l.found t.f buf l.turn (k.due ∙ due) is (k.held
-    ∙ none)) in
-    let last : LooksBefore (event_at n t.f) old.first start l.found =
-    compose n old.first t.f start l.before l.found k looked_so in
-    let P : Next → Type 0 = λ e. LooksBefore e old.first old new in
-    let R : LiveEnds → Type 0 = λ e. LooksBefore (event_at n t.f) old.first old e in
-    let Q : Option SourceEvent × LiveEnds → Type 0 = λ p. LooksBefore (event_at n p.0) old.first old
-    p.1 in
-    inl (subst P (sym t.given.given) (subst Q (sym t.given.ends)
-    (taken_before (is_behind t.found.timing t.now) n old.first buf t.f old t.found
-    (subst R (sym l.done) (same_before n old.first t.f old l.found t.now t.first last)))))
+    let S : EventSource → Type 0 = λ s. Looked l.begun s t.f l.before l.found in
+    let looked_so = subst S k.first (in_turn l.begun l.before l.found t.f buf l.turn (k.due ∙ due)
+    level (k.held ∙ none)) in
+    let R : LiveEnds → Type 0 = λ e. LooksBefore l.begun (event_at n t.f) old.first old e in
+    let here : LooksBefore l.begun (event_at n t.f) old.first old t.found =
+    subst R (sym l.done) (same_before n l.begun t.first t.now old.first t.f old l.found
+    (compose n l.begun old.first t.f start l.before l.found k looked_so)) in
+    let P : Next → Type 0 =
+    λ e. LooksBefore l.begun e old.first old new ⊎ HoldsOctets e new.timing t.now in
+    let Q : Option SourceEvent × LiveEnds → Type 0 =
+    λ p. LooksBefore l.begun (event_at n p.0) old.first old p.1
+    ⊎ HoldsOctets (event_at n p.0) p.1.timing t.now in
+    subst P (sym t.given.given) (subst Q (sym t.given.ends)
+    (taken_before (is_behind t.found.timing t.now) n l.begun t.now old.first buf t.f old t.found
+    refl here))
 
-before_by : (old new : LiveEnds) (event : Next) (buf : List ℕ) → Turns old event buf new
-    → old.is_cut_due ≡ false
-    → old.held ≡ [] → LooksBefore event old.first old new ⊎ IsFarBehind old.timing
-before_by old new event buf (inl t) due none =
-    let P : Next → Type 0 = λ e. LooksBefore e old.first old new in
-    inl (subst P (sym t.given.given) tt)
-before_by old new event buf (inr t) due none =
-    last_by old event buf new t (is_behind t.looks.before.timing t.looks.begun) due none refl
-
--- the log is no matter
-logged_before : (event : Next) (s : EventSource) (log : Log) (old new : LiveEnds)
-    → LooksBefore event s old (as_logged log new)
-    → LooksBefore event s old new
-logged_before (next.Open now) Listener log old new h = h
-logged_before (next.Open now) Connection log old new h = h
-logged_before (next.Open now) Line log old new h = h
-logged_before (next.Bytes now len) Listener log old new h = h
-logged_before (next.Bytes now len) Connection log old new h = h
-logged_before (next.Bytes now len) Line log old new h = h
-logged_before (next.Cut now) Listener log old new h = h
-logged_before (next.Cut now) Connection log old new h = h
-logged_before (next.Cut now) Line log old new h = h
-logged_before (next.Line now len) Listener log old new h = h
-logged_before (next.Line now len) Connection log old new h = h
-logged_before (next.Line now len) Line log old new h = h
-logged_before next.Fault Listener log old new h = h
-logged_before next.Fault Connection log old new h = h
-logged_before next.Fault Line log old new h = h
-logged_before (next.Tick now) s log old new h = tt
-logged_before (next.Wall now number) s log old new h = tt
-logged_before next.Done s log old new h = tt
-
-either_before : (event : Next) (log : Log) (old new : LiveEnds)
-    → LooksBefore event old.first old (as_logged log new) ⊎ IsFarBehind old.timing
-    → LooksBefore event old.first old new ⊎ IsFarBehind old.timing
-either_before event log old new (inl h) = inl (logged_before event old.first log old new h)
-either_before event log old new (inr h) = inr h
+round_by : (old new : LiveEnds) (event : Next) (buf : List ℕ) (log : Log)
+    → Turns old event buf (as_logged log new) → old.is_cut_due ≡ false → old.held ≡ []
+    → is_wall event ≡ false → AtRounds old.clock new.clock (λ begun quiet now.
+    begins_behind old.timing begun quiet ≡ false →
+    LooksBefore begun event old.first old new ⊎ HoldsOctets event new.timing now)
+round_by old new event buf log (inl t) due none dark =
+    let wrong : true ≡ false = wall_of old event (as_logged log new) t dark in absurd (cc)
+round_by old new event buf log (inr t) due none dark =
+    at_rounds old event buf (as_logged log new) t (λ begun quiet now.
+    begins_behind old.timing begun quiet ≡ false →
+    LooksBefore begun event old.first old new ⊎ HoldsOctets event new.timing now)
+    (λ before b level. either_before event t.looks.begun old.first log old new t.now
+    (round_at old (as_logged log new) event buf t due none
+    (ap (λ (k : Timing). is_behind k t.looks.begun) b.reads ∙ level)))
 
 pub in_turns : (old new : LiveEnds) (event : Next) (buf : List ℕ) → LogsTurn old event buf new
-    → old.is_cut_due ≡ false
-    → old.held ≡ [] → LooksBefore event old.first old new ⊎ IsFarBehind old.timing
-in_turns old new event buf l due none =
-    either_before event old.log old new (before_by old (as_logged old.log new) event buf l.turns due
-    none)
+    → old.is_cut_due ≡ false → old.held ≡ []
+    → is_wall event ≡ false → AtRounds old.clock new.clock (λ begun quiet now.
+    begins_behind old.timing begun quiet ≡ false →
+    LooksBefore begun event old.first old new ⊎ HoldsOctets event new.timing now)
+in_turns old new event buf l due none dark =
+    round_by old new event buf old.log l.turns due none dark
+
+-- octets that are held come before any look
+held_found : (held : List ℕ) (t : ℕ) (a : Answers) (buf : List ℕ) (e : LiveEnds) → held ≢ []
+    → (held_by held t a buf e).0 ≡ Some (found.Bytes (length held))
+held_found [] t a buf e some = absurd (some refl)
+held_found (octet ∷ octets) t a buf e some = refl
+
+taken_octets : (b : Bool) (n now : ℕ) (buf : List ℕ) (len : ℕ) (e : LiveEnds)
+    → is_behind e.timing now ≡ b
+    → (let p = taken_by b buf (Some (found.Bytes len)) e in
+    GivesOctets (event_at n p.0) len ⊎ HoldsOctets (event_at n p.0) p.1.timing now)
+taken_octets false n now buf len e is = inl refl
+taken_octets true n now buf len e is = inr is
+
+held_at : (old new : LiveEnds) (event : Next) (buf : List ℕ) (t : TurnsToEnds old event buf new)
+    → old.is_cut_due ≡ false → old.held ≢ [] → is_behind t.looks.before.timing t.looks.begun ≡ false
+    → GivesOctets event (length old.held) ⊎ HoldsOctets event new.timing t.now
+held_at old new event buf t due some level =
+    let l = t.looks in
+    let n = moment_at new.timing t.now in
+    let count = length old.held in
+    let k = quiet_stays (looking (clock_read_at t.first old)) t.first l.count l.begun l.before
+    l.quiet in
+    let octets : t.f ≡ Some (found.Bytes count) =
+    ap (λ (p : Option SourceEvent × LiveEnds). p.0)
+    (level_turn l.begun l.before l.found t.f buf l.turn (k.due ∙ due) level)
+    ∙ (held_found l.before.held l.begun l.turn.answers buf l.before (λ is. some (sym k.held ∙ is))
+    ∙ ap (λ (h : List ℕ). Some (found.Bytes (length h))) k.held) in
+    let late = is_behind t.found.timing t.now in
+    let ends = t.given.ends ∙ ap (λ f. taken_by late buf f t.found) octets in
+    let P : Next → Type 0 = λ e. GivesOctets e count ⊎ HoldsOctets e new.timing t.now in
+    let Q : Option SourceEvent × LiveEnds → Type 0 =
+    λ p. GivesOctets (event_at n p.0) count ⊎ HoldsOctets (event_at n p.0) p.1.timing t.now in
+    subst P (sym t.given.given) (subst Q (sym ends)
+    (taken_octets late n t.now buf count t.found refl))
+
+held_turns : (old new : LiveEnds) (event : Next) (buf : List ℕ) → Turns old event buf new
+    → old.is_cut_due ≡ false → old.held ≢ [] → is_wall event ≡ false
+    → AtRounds old.clock new.clock (λ begun quiet now.
+    begins_behind old.timing begun quiet ≡ false →
+    GivesOctets event (length old.held) ⊎ HoldsOctets event new.timing now)
+held_turns old new event buf (inl t) due some dark =
+    let wrong : true ≡ false = wall_of old event new t dark in absurd (cc)
+held_turns old new event buf (inr t) due some dark =
+    at_rounds old event buf new t (λ begun quiet now.
+    begins_behind old.timing begun quiet ≡ false →
+    GivesOctets event (length old.held) ⊎ HoldsOctets event new.timing now)
+    (λ before b level. held_at old new event buf t due some
+    (ap (λ (k : Timing). is_behind k t.looks.begun) b.reads ∙ level))
+
+pub held_in_turn : (old new : LiveEnds) (event : Next) (buf : List ℕ) → LogsTurn old event buf new
+    → old.is_cut_due ≡ false → old.held ≢ [] → is_wall event ≡ false
+    → AtRounds old.clock new.clock (λ begun quiet now.
+    begins_behind old.timing begun quiet ≡ false →
+    GivesOctets event (length old.held) ⊎ HoldsOctets event new.timing now)
+held_in_turn old new event buf l due some dark =
+    held_turns old (as_logged old.log new) event buf l.turns due some dark
+
+-- where a moment is too far behind the line alone is looked at
+line_alone : (t : ℕ) (a : Answers) (l : Got) (buf : List ℕ) (e : LiveEnds)
+    → (let p = look Line t (record a { line = l }) buf e nothing_more in IsLookedAt t Line e p.1)
+line_alone t a (Octets len) buf e = line_more e (looked (Octets len) buf) t
+line_alone t a Quiet buf e = line_more e WasQuiet t
+line_alone t a Gone buf e = line_more e WasGone t
+
+taken_line : (b : Bool) (t : ℕ) (buf : List ℕ) (f : Option SourceEvent) (old e : LiveEnds)
+    → IsLookedAt t Line old e → IsLookedAt t Line old (taken_by b buf f e).1
+taken_line false t buf f old e h = h
+taken_line true t buf None old e h = h
+taken_line true t buf (Some found.Open) old e h = h
+taken_line true t buf (Some (found.Bytes len)) old e h = h
+taken_line true t buf (Some found.Cut) old e h = h
+taken_line true t buf (Some (found.Line len)) old e h = h
+taken_line true t buf (Some found.Fault) old e h = h
+
+line_at : (old new : LiveEnds) (event : Next) (buf : List ℕ) (t : TurnsToEnds old event buf new)
+    → old.is_cut_due ≡ false → is_behind t.looks.before.timing t.looks.begun ≡ true
+    → IsLookedAt t.looks.begun Line old new
+line_at old new event buf t due behind =
+    let l = t.looks in
+    let start = looking (clock_read_at t.first old) in
+    let k = quiet_stays start t.first l.count l.begun l.before l.quiet in
+    let a = l.turn.answers in
+    let turned : (t.f, l.found) ≡ look Line l.begun a buf l.before nothing_more =
+    l.turn.turned ∙ (ap (λ b. turn_by b l.begun a buf l.before) (k.due ∙ due)
+    ∙ ap (λ b. sources_by b l.begun a buf l.before) behind) in
+    let Q : Option SourceEvent × LiveEnds → Type 0 = λ p. IsLookedAt l.begun Line l.before p.1 in
+    let last : IsLookedAt l.begun Line l.before l.found =
+    subst Q (sym turned) (line_alone l.begun a a.line buf l.before) in
+    let here : IsLookedAt l.begun Line old l.found =
+    line_least l.begun start l.before l.found k last in
+    let R : LiveEnds → Type 0 = λ e. IsLookedAt l.begun Line old e in
+    let T : Option SourceEvent × LiveEnds → Type 0 = λ p. IsLookedAt l.begun Line old p.1 in
+    subst T (sym t.given.ends) (taken_line (is_behind t.found.timing t.now) l.begun buf t.f old
+    t.found (subst R (sym l.done) here))
+
+line_by : (old new : LiveEnds) (event : Next) (buf : List ℕ) → Turns old event buf new
+    → old.is_cut_due ≡ false → is_wall event ≡ false → AtRounds old.clock new.clock
+    (λ begun quiet now. begins_behind old.timing begun quiet ≡ true →
+    IsLookedAt begun Line old new)
+line_by old new event buf (inl t) due dark =
+    let wrong : true ≡ false = wall_of old event new t dark in absurd (cc)
+line_by old new event buf (inr t) due dark =
+    at_rounds old event buf new t (λ begun quiet now.
+    begins_behind old.timing begun quiet ≡ true → IsLookedAt begun Line old new)
+    (λ before b behind. line_at old new event buf t due
+    (ap (λ (k : Timing). is_behind k t.looks.begun) b.reads ∙ behind))
+
+pub line_in_turn : (old new : LiveEnds) (event : Next) (buf : List ℕ) → LogsTurn old event buf new
+    → old.is_cut_due ≡ false → is_wall event ≡ false → AtRounds old.clock new.clock
+    (λ begun quiet now. begins_behind old.timing begun quiet ≡ true →
+    IsLookedAt begun Line old new)
+line_in_turn old new event buf l due dark =
+    line_by old (as_logged old.log new) event buf l.turns due dark

@@ -1,12 +1,14 @@
 pub mod Apart
 pub mod Beside
 pub mod Rounds
+pub mod LineReads
 pub mod Turns
 pub mod Puts
 pub mod Closes
 pub mod Writes
 pub mod Drops
 pub mod Lines
+pub mod Came
 pub mod Tries
 pub mod Law
 pub mod Allowed
@@ -20,4 +22,6 @@ pub mod Fixed
 pub mod Passed
 pub mod Noting
 pub mod Late
+pub mod Failures
 pub mod Reasons
+pub mod Cuts

@@ -34,11 +34,11 @@ pub reads_out : (old mid new : Calls) (first xs ys : List ℕ) (count a k n : �
     → ReadsFrame old first (take a (put_mid a k xs ys)) new
 reads_out old mid new first xs ys count a k n ends reads is not receives none within =
     let P : List ℕ → Type 0 = λ came. ReadsFrame old first came new in
-    let Q : ℕ → Type 0 = λ m. ReceivesOnce mid (take n ys) m new in
+    let Q : ℕ → Type 0 = λ m. ReceivesOnce mid (take m ys) m new in
     let same : a ≤ a = omega arith in
     subst P (sym (take-put_mid_below a k xs ys a same within)) (record {
       count = count;
       mid = mid;
       reads = reads;
-      out = NoneCame (take n ys) (sym is ∙ not) (subst Q none receives);
+      out = NoneCame (sym is ∙ not) (subst Q none receives);
     })

@@ -9,6 +9,7 @@ use Rattle.live.specs.Ends.{turn_by, sources_by, held_by, round, look, unless_fo
 use Rattle.live.specs.Ends.{looked_at, after, nothing_more, accepted, of_peer, of_open, of_line}
 use Rattle.live.specs.Ends.{read_from, peer_read}
 use Rattle.live.specs.Law.{is_cut}
+use Rattle.live.specs.Walls.{is_wall}
 use Rattle.live.specs.declared.found.SourceEvent.{SourceEvent}
 use Rattle.live.specs.declared.found.SourceEvent.TheVariants as found
 use Rattle.live.specs.declared.source.EventSource.{EventSource}
@@ -207,15 +208,23 @@ pub record HasReason (d : Bool) (w : CutCause) (event : Next) (e : LiveEnds) : T
   pub due : is_cut event ≡ true → d ≡ true → e.why_cut ≡ w
   pub others : is_cut event ≡ false → e.why_cut ≡ w
   pub shut : is_cut event ≡ true → IsShut e
+  pub next : d ≡ true → is_wall event ≡ false → is_cut event ≡ true
 
 no_cut : (d : Bool) (w : CutCause) (event : Next) (e : LiveEnds) → is_cut event ≡ false
-    → e.why_cut ≡ w → HasReason d w event e
-no_cut d w event e none same = record {
+    → e.why_cut ≡ w → (d ≡ true → is_wall event ≡ false → ⊥) → HasReason d w event e
+no_cut d w event e none same undue = record {
   gone = λ cut free. let wrong : false ≡ true = sym none ∙ cut in absurd (cc);
   due = λ cut due. same;
   others = λ other. same;
   shut = λ cut. let wrong : false ≡ true = sym none ∙ cut in absurd (cc);
+  next = λ due dark. absurd (undue due dark);
 }
+
+-- no cut was due
+free_one : (w : CutCause) (event : Next) (e : LiveEnds) → is_cut event ≡ false
+    → e.why_cut ≡ w → HasReason false w event e
+free_one w event e none same =
+    no_cut false w event e none same (λ due dark. let wrong : false ≡ true = due in absurd (cc))
 
 given_reasoned : (d : Bool) (w : CutCause) (now : ℕ) (f : Option SourceEvent) (e : LiveEnds)
     → IsReasoned d w f e → HasReason d w (event_at now f) e
@@ -228,20 +237,22 @@ given_reasoned true w now (Some found.Cut) e h = record {
   due = λ cut due. h.0;
   others = λ other. h.0;
   shut = λ cut. h.1;
+  next = λ due dark. refl;
 }
 given_reasoned true w now (Some (found.Line len)) e h = absurd h
 given_reasoned true w now (Some found.Fault) e h = absurd h
-given_reasoned false w now None e h = no_cut false w _ e refl h.1
-given_reasoned false w now (Some found.Open) e h = no_cut false w _ e refl h.1
-given_reasoned false w now (Some (found.Bytes len)) e h = no_cut false w _ e refl h.1
+given_reasoned false w now None e h = free_one w _ e refl h.1
+given_reasoned false w now (Some found.Open) e h = free_one w _ e refl h.1
+given_reasoned false w now (Some (found.Bytes len)) e h = free_one w _ e refl h.1
 given_reasoned false w now (Some found.Cut) e h = record {
   gone = λ cut free. h.0;
   due = λ cut due. let wrong : false ≡ true = due in absurd (cc);
   others = λ other. let wrong : true ≡ false = other in absurd (cc);
   shut = λ cut. h.1;
+  next = λ due dark. refl;
 }
-given_reasoned false w now (Some (found.Line len)) e h = no_cut false w _ e refl h.1
-given_reasoned false w now (Some found.Fault) e h = no_cut false w _ e refl h.1
+given_reasoned false w now (Some (found.Line len)) e h = free_one w _ e refl h.1
+given_reasoned false w now (Some found.Fault) e h = free_one w _ e refl h.1
 
 turns_reasoned : (old new : LiveEnds) (event : Next) (buf : List ℕ) → Turns old event buf new
     → HasReason old.is_cut_due old.why_cut event new
@@ -249,6 +260,7 @@ unfolding Reasoned
 turns_reasoned old new event buf (inl t) =
     no_cut old.is_cut_due old.why_cut event new (ap is_cut t.given.given)
     (ap (λ (e : LiveEnds). e.why_cut) t.given.ends)
+    (λ due dark. let wrong : true ≡ false = sym (ap is_wall t.given.given) ∙ dark in absurd (cc))
 turns_reasoned old new event buf (inr t) =
     let d = old.is_cut_due in
     let Q : Option SourceEvent × LiveEnds → Type 0 = λ p. Reasoned d old.why_cut p in
@@ -266,7 +278,13 @@ pub reasoned : (old new : LiveEnds) (event : Next) (buf : List ℕ) → LogsTurn
     → HasReason old.is_cut_due old.why_cut event new
 reasoned old new event buf l =
     let here = turns_reasoned old (as_logged old.log new) event buf l.turns in
-    record { gone = here.gone; due = here.due; others = here.others; shut = here.shut }
+    record {
+      gone = here.gone;
+      due = here.due;
+      others = here.others;
+      shut = here.shut;
+      next = here.next;
+    }
 
 pub shut_behind : (old new : LiveEnds) (event : Next) (buf : List ℕ) → LogsTurn old event buf new
     → is_cut event ≡ true → IsShut new

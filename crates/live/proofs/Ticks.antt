@@ -7,6 +7,7 @@ use Rattle.std.proofs.lemmas.List.Elements.{All-cons, All-nil}
 use Rattle.gateway.specs.declared.ports.Next.{Next}
 use Rattle.live.specs.Timing.{Moments, read_at, moment_at, is_awaited, is_awaited_by, is_behind}
 use Rattle.live.specs.Timing.{line_looked_at}
+use Rattle.live.specs.InTurn.{looked_before}
 use Rattle.live.specs.Walls.{is_wall, is_wall_due}
 use Rattle.live.specs.Law.{SomeRounds, AtRounds, first_of, IsTickDue, LongSince, TooLate, WallIsDue}
 use Rattle.live.specs.Law.{FarBehind, ManyRounds, IfTick, IsOneOf}
@@ -15,7 +16,8 @@ use Rattle.live.specs.Ends.{QuietRounds}
 use Rattle.live.specs.Ends.{NoRound, OneRound, is_tick_due, IsLast, event_at, taken_by, looking}
 use Rattle.live.specs.Ends.{clock_read_at}
 use Rattle.live.proofs.Apart.{clock_of, clock_apart, walled_of, walled_apart, taken_same}
-use Rattle.live.proofs.Rounds.{turn_kept, quiet_reads}
+use Rattle.live.proofs.Rounds.{turn_kept}
+use Rattle.live.proofs.LineReads.{quiet_reads}
 use Rattle.live.specs.declared.found.SourceEvent.{SourceEvent}
 use Rattle.live.specs.declared.found.SourceEvent.TheVariants as found
 use Rattle.live.specs.declared.timing.Timing.{Timing}
@@ -32,6 +34,7 @@ pub record Begins (start : LiveEnds) (first count begun : ℕ) (e : LiveEnds) (b
   pub many : length quiet ≡ count
   pub asked : e.timing.request ≡ start.timing.request
   pub waits : e.timing.answer_ms ≡ start.timing.answer_ms
+  pub reads : e.timing ≡ line_looked_at (looked_before start.timing.looked quiet) start.timing
   pub looked : (e.timing.looked ≡ start.timing.looked) ⊎ IsOneOf quiet e.timing.looked
   pub in_time : (r : WrittenRequest) → start.timing.request ≡ Some r → is_awaited start.timing
       ≡ true
@@ -72,6 +75,7 @@ begins start first _ _ _ before NoRound given =
       many = refl;
       asked = refl;
       waits = refl;
+      reads = refl;
       looked = inl refl;
       in_time = λ r is was. All-nil (λ m. m - r.written < start.timing.answer_ms);
     }
@@ -92,6 +96,7 @@ begins start first _ _ _ before (OneRound count begun now earlier found buf q t 
       many = grind (arith, b.many);
       asked = ap (λ (k : Timing). k.request) looked ∙ b.asked;
       waits = ap (λ (k : Timing). k.answer_ms) looked ∙ b.waits;
+      reads = looked ∙ ap (line_looked_at begun) b.reads;
       looked = inr (inl (ap (λ (k : Timing). k.looked) looked));
       in_time = λ r is was.
           let still = not_late (nat_le 100 (now - first)) (is_awaited start.timing)

@@ -1,11 +1,17 @@
 -- A stream that is reached again.
-use Rattle.std.proofs.Common.{◌≡◌, ℕ, true, false, Some, None, List, refl, sym, ap, subst, ◌∙◌}
-use Rattle.live.specs.OctetStreams.{StreamHistory, IsNew, Attempts}
+use Rattle.std.proofs.Common.{◌≡◌, ℕ, ◌≤◌, Bool, true, false, Some, None, List, [], ◌∷◌, length}
+use Rattle.std.proofs.Common.{Option, IfSome, refl, sym, ap, subst, arith, ◌∙◌}
+use Rattle.live.specs.Timing.{Moments, read_at}
+use Rattle.live.specs.OctetStreams.{StreamHistory, IsNew, Attempts, looked, noted}
 use Rattle.live.specs.Redial.{Redial, ended, IfReached, dialled_map, is_due, clock_read_at, settled}
-use Rattle.live.specs.Redial.{begun_by, tried_by, looked_by, IsTryAnswered, IsTriedOn, IsRedialled}
+use Rattle.live.specs.Redial.{begun_by, tried_by, looked_by, is_due_by, IsTryAnswered, IsTriedOn}
+use Rattle.live.specs.Redial.{IsRedialled, IsPut, answered, known_by, put_by, quieted}
+use Rattle.live.specs.Ends.{read_open}
+use Rattle.live.specs.Law.{AtClock}
+use Rattle.live.specs.declared.ends.Got.{Got}
 use Rattle.live.specs.declared.redial.Dialled.{Dialled}
 use Rattle.live.specs.declared.redial.Dialled.TheVariants.{Reached, Pending, Failed}
-use Rattle.live.specs.declared.ends.Got.TheVariants.{Quiet}
+use Rattle.live.specs.declared.ends.Got.TheVariants.{Octets, Quiet, Gone}
 
 ended_map : {A : Type 0} (f : A → StreamHistory) (t : Attempts) (d : Dialled A)
     → ended t (dialled_map f d)
@@ -86,3 +92,159 @@ looked_away now buf old mid new away given t =
       looked = ap (λ r. (Quiet, r)) u.done
           ∙ sym (ap (λ w. looked_by w now u.answer Quiet buf old) away);
     }
+
+-- what a look finds, and the stream after it
+abbrev finds : Got → Redial → Got × Redial
+finds got r = (got, r)
+
+-- the first look, where tries and the clock are noted
+ended_once : {A : Type 0} (d : Dialled A) → (tries : List Bool) × (ended (Some []) d ≡ Some tries)
+    × (length tries ≤ 1)
+ended_once (Reached stream) = let one : 1 ≤ 1 = omega arith in (true ∷ [], refl, one)
+ended_once Pending = let one : 0 ≤ 1 = omega arith in ([], refl, one)
+ended_once Failed = let one : 1 ≤ 1 = omega arith in (false ∷ [], refl, one)
+
+settled_clock : (d : Dialled StreamHistory) (r : Redial) → (settled d r).clock ≡ r.clock
+settled_clock (Reached stream) r = refl
+settled_clock Pending r = refl
+settled_clock Failed r = refl
+
+settled_tried : (d : Dialled StreamHistory) (r : Redial) → (settled d r).tried ≡ r.tried
+settled_tried (Reached stream) r = refl
+settled_tried Pending r = refl
+settled_tried Failed r = refl
+
+settled_tries : (d : Dialled StreamHistory) (r : Redial) → (settled d r).tries ≡ r.tries
+settled_tries (Reached stream) r = refl
+settled_tries Pending r = refl
+settled_tries Failed r = refl
+
+pub first_try : (old new : Redial) (got : Got) (buf : List ℕ) → old.tries ≡ Some []
+    → old.clock ≡ Some [] → old.stream ≡ None → old.is_trying ≡ false → old.tried ≡ None
+    → IsRedialled old got buf new
+    → (got ≡ Quiet) × (now : ℕ) × (new.clock ≡ Some (now ∷ [])) × (new.tried ≡ Some now)
+    × (tries : List Bool) × (new.tries ≡ Some tries) × (length tries ≤ 1)
+first_try old new got buf none dark away idle untried l =
+    let now = l.now in
+    let seen = clock_read_at now old in
+    let begun : Redial = record seen { tried = Some now } in
+    let asked : Redial = record begun { tries = ended begun.tries l.answer } in
+    let tried : finds got new ≡ finds Quiet (settled l.answer asked) =
+    l.looked ∙ (ap (λ s. looked_by s now l.answer l.found buf old) away
+    ∙ (ap (λ b. finds Quiet (tried_by b now l.answer seen)) idle
+    ∙ ap (λ b. finds Quiet (begun_by b now l.answer seen))
+    (ap (λ b. is_due_by b old.tried old.wait now) idle
+    ∙ ap (λ t. is_due_by false t old.wait now) untried))) in
+    let done = ap (λ (p : Got × Redial). p.1) tried in
+    let once = ended_once l.answer in (
+      ap (λ (p : Got × Redial). p.0) tried,
+      now,
+      ap (λ (r : Redial). r.clock) done ∙ (settled_clock l.answer asked
+          ∙ ap (λ c. read_at c now) dark),
+      ap (λ (r : Redial). r.tried) done ∙ settled_tried l.answer asked,
+      once.0,
+      ap (λ (r : Redial). r.tries) done ∙ (settled_tries l.answer asked
+          ∙ (ap (λ t. ended t l.answer) none ∙ once.1)),
+      once.2,
+    )
+
+-- a look at a stream that is away, by the try that it makes
+away_by : (old new : Redial) (got : Got) (buf : List ℕ) → (l : IsRedialled old got buf new)
+    → old.stream ≡ None
+    → finds got new ≡ finds Quiet (tried_by old.is_trying l.now l.answer (clock_read_at l.now old))
+away_by old new got buf l away =
+    l.looked ∙ ap (λ s. looked_by s l.now l.answer l.found buf old) away
+
+pub away_quiet : (old new : Redial) (got : Got) (buf : List ℕ) → IsRedialled old got buf new
+    → old.stream ≡ None → got ≡ Quiet
+away_quiet old new got buf l away = ap (λ (p : Got × Redial). p.0) (away_by old new got buf l away)
+
+-- the clock was read
+settled_at : (answer : Dialled StreamHistory) (r : Redial) → (answered answer r).clock ≡ r.clock
+settled_at answer r = settled_clock answer (record r { tries = ended r.tries answer })
+
+begun_clock : (b : Bool) (now : ℕ) (answer : Dialled StreamHistory) (r : Redial)
+    → (begun_by b now answer r).clock ≡ r.clock
+begun_clock false now answer r = refl
+begun_clock true now answer r = settled_at answer (record r { tried = Some now })
+
+tried_clock : (b : Bool) (now : ℕ) (answer : Dialled StreamHistory) (r : Redial)
+    → (tried_by b now answer r).clock ≡ r.clock
+tried_clock true now answer r = settled_at answer r
+tried_clock false now answer r = begun_clock (is_due r now) now answer r
+
+at_clock_read : (c : Moments) (now : ℕ) (Holds : ℕ → Type 0) → Holds now
+    → AtClock (read_at c now) Holds
+at_clock_read None now Holds h = tt
+at_clock_read (Some before) now Holds h = h
+
+away_clock : (old new : Redial) (got : Got) (buf : List ℕ) (l : IsRedialled old got buf new)
+    (Holds : ℕ → Type 0) → old.stream ≡ None → Holds l.now → AtClock new.clock Holds
+away_clock old new got buf l Holds away h =
+    let read = clock_read_at l.now old in
+    let is : new.clock ≡ read_at old.clock l.now =
+    ap (λ (p : Got × Redial). p.1.clock) (away_by old new got buf l away)
+    ∙ tried_clock old.is_trying l.now l.answer read in
+    let P : Moments → Type 0 = λ c. AtClock c Holds in
+    subst P (sym is) (at_clock_read old.clock l.now Holds h)
+
+-- a try begins where one is due
+due_idle : (b : Bool) (tried : Option ℕ) (wait now : ℕ) → is_due_by b tried wait now ≡ true
+    → b ≡ false
+due_idle true tried wait now due = absurd (cc)
+due_idle false tried wait now due = refl
+
+begins_by : (b : Bool) (now : ℕ) (answer : Dialled StreamHistory) (r : Redial) → b ≡ false
+    → is_due r now ≡ true → (tried_by b now answer r).tried ≡ Some now
+begins_by b now answer r idle due =
+    let begun : Redial = record r { tried = Some now } in
+    ap (λ x. (tried_by x now answer r).tried) idle
+    ∙ (ap (λ x. (begun_by x now answer r).tried) due
+    ∙ settled_tried answer (record begun { tries = ended begun.tries answer }))
+
+pub begins_due : (old new : Redial) (got : Got) (buf : List ℕ) → IsRedialled old got buf new
+    → old.stream ≡ None → AtClock new.clock (λ now. is_due old now ≡ true → new.tried ≡ Some now)
+begins_due old new got buf l away =
+    away_clock old new got buf l (λ now. is_due old now ≡ true → new.tried ≡ Some now) away
+    (λ due. ap (λ (p : Got × Redial). p.1.tried) (away_by old new got buf l away)
+    ∙ begins_by old.is_trying l.now l.answer (clock_read_at l.now old)
+    (due_idle old.is_trying old.tried old.wait l.now due) due)
+
+-- and none where none is
+pub waits_undue : (old new : Redial) (got : Got) (buf : List ℕ) → IsRedialled old got buf new
+    → old.stream ≡ None → old.is_trying ≡ false
+    → AtClock new.clock (λ now. is_due old now ≡ false → new ≡ clock_read_at now old)
+waits_undue old new got buf l away idle =
+    away_clock old new got buf l (λ now. is_due old now ≡ false → new ≡ clock_read_at now old) away
+    (λ undue. ap (λ (p : Got × Redial). p.1) (away_by old new got buf l away)
+    ∙ (ap (λ x. tried_by x l.now l.answer (clock_read_at l.now old)) idle
+    ∙ ap (λ x. begun_by x l.now l.answer (clock_read_at l.now old)) undue))
+
+-- a look at one that is there
+there_at : (found : Got) (buf : List ℕ) (h : StreamHistory) (old : Redial)
+    → IfSome (known_by found (record old { stream = read_open h found buf })).stream
+    (λ s. s ≡ noted h (looked (quieted found) buf))
+there_at (Octets len) buf h old = refl
+there_at Quiet buf h old = refl
+there_at Gone buf h old = tt
+
+there_by : (found got : Got) (buf : List ℕ) (h : StreamHistory) (old new : Redial)
+    → finds got new
+    ≡ finds (quieted found) (known_by found (record old { stream = read_open h found buf }))
+    → IfSome new.stream (λ s. s ≡ noted h (looked got buf))
+there_by found got buf h old new is =
+    let Q : Got × Redial → Type 0 = λ p. IfSome p.1.stream (λ s. s ≡ noted h (looked p.0 buf)) in
+    subst Q (sym is) (there_at found buf h old)
+
+pub looks_there : (old new : Redial) (got : Got) (buf : List ℕ) (h : StreamHistory)
+    → IsRedialled old got buf new → old.stream ≡ Some h
+    → IfSome new.stream (λ s. s ≡ noted h (looked got buf))
+looks_there old new got buf h l there =
+    there_by l.found got buf h old new
+    (l.looked ∙ ap (λ s. looked_by s l.now l.answer l.found buf old) there)
+
+-- what is put on one that is away
+pub puts_away : (old new : Redial) (octets : List ℕ) (is_taken : Bool)
+    → IsPut old octets is_taken new → old.stream ≡ None → is_taken ≡ false
+puts_away old new octets is_taken p away =
+    ap (λ (q : Bool × Redial). q.0) (p.put ∙ ap (λ s. put_by s octets p.taken old) away)

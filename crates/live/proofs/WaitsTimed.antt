@@ -6,7 +6,7 @@ use Rattle.gateway.specs.Log.{Output, LineOut, TcpOut, Closed, GapOut}
 use Rattle.gateway.specs.declared.ports.Next.{Next}
 use Rattle.live.specs.OctetStreams.{StreamHistory, Dropped, Wrote, noted}
 use Rattle.live.specs.Timing.{Moments, moment_at, moment_by, is_waited_out, goes_on, eve}
-use Rattle.live.specs.Timing.{line_looked_at, is_behind}
+use Rattle.live.specs.Timing.{asked_at, line_looked_at, is_behind}
 use Rattle.live.specs.Walls.{is_wall}
 use Rattle.live.specs.Law.{AtMoment, AtClock, AtWall, AtRounds, AsksNothing, IsEve, IsOneOf}
 use Rattle.live.specs.Law.{IsWrittenBehind}
@@ -15,7 +15,8 @@ use Rattle.live.specs.Ends.{Turns, LogsTurn, LogsPut, as_logged}
 use Rattle.live.specs.Ends.{event_at, turn_by, sources_by, held_by, round}
 use Rattle.live.specs.Ends.{look, unless_found, next_round, looked_at, found_at, after}
 use Rattle.live.specs.Ends.{nothing_more, accepted}
-use Rattle.live.proofs.Beside.{written_beside, closed_beside}
+use Rattle.live.proofs.Apart.{walled_of}
+use Rattle.live.proofs.Beside.{action_beside, written_beside, closed_beside}
 use Rattle.live.proofs.Law.{at_moment, at_clock, clock_read}
 use Rattle.live.proofs.Ticks.{at_rounds, looked_timing, wall_of as no_wall_of}
 use Rattle.live.proofs.Walls.{of_ends, looked_walled}
@@ -91,6 +92,13 @@ pub kept : (old new : LiveEnds) (event : Next) (buf : List ℕ) → LogsTurn old
     → is_wall event ≡ false → new.walled.given ≡ old.walled.given
 kept old new event buf l dark = kept_by old (as_logged old.log new) event buf l.turns dark
 
+pub put_walled : (old new : LiveEnds) (moment : ℕ) (action : Output)
+    → LogsPut old moment action new → new.walled ≡ old.walled
+put_walled old new moment action l =
+    ap walled_of l.puts.done
+    ∙ action_beside walled_of (λ e. refl) (λ moment octets written taken late e. refl) moment action
+    l.puts.written l.puts.taken l.puts.late old
+
 -- the moment of an event
 eve_by : (h g : Bool) (t : Timing) (r : WrittenRequest) (now : ℕ) → is_waited_out t r ≡ h
     → goes_on t r now ≡ g
@@ -161,12 +169,12 @@ dropped old new moment octets l =
 
 pub timed : (old new : LiveEnds) (moment : ℕ) (octets : List ℕ)
     → LogsPut old moment (LineOut octets) new → AtClock new.clock (λ now.
-    new.timing.request ≡ Some (record { moment = moment; written = now }))
+    new.timing ≡ record old.timing { request = Some (record { moment = moment; written = now }) })
 timed old new moment octets l =
     let clock = ap (λ (e : LiveEnds). e.clock) l.puts.done in
-    let asked = ap (λ (e : LiveEnds). e.timing.request) l.puts.done in
+    let asked = ap (λ (e : LiveEnds). e.timing) l.puts.done in
     let Holds : ℕ → Type 0 =
-    λ now. new.timing.request ≡ Some (record { moment = moment; written = now }) in
+    λ now. new.timing ≡ asked_at moment now old.timing in
     let C : Moments → Type 0 = λ c. AtClock c Holds in
     subst C (sym clock) (at_clock old.clock l.puts.written Holds asked)
 

@@ -59,26 +59,21 @@ abbrev pub IsOfAllowedPeer : AllowList → Option Peer → Type 0
 IsOfAllowedPeer allow_list None = ⊥
 IsOfAllowedPeer allow_list (Some peer) = Allows allow_list peer.address
 
--- the connection of this address is still open, or none is
-abbrev pub IsSameOrNone : (before : Option IpAddr) → Option Peer → Type 0
-IsSameOrNone before None = Unit {0}
-IsSameOrNone before (Some peer) = before ≡ Some peer.address
-
 -- who is at the other end of the connection
 abbrev pub peer_of : LiveEnds → Option IpAddr
 peer_of ends = option_map (λ (p : Peer). p.address) ends.connection
 
--- Where a connection is opened its address is allowed; any other event leaves the one that was, or
--- none.
+-- Where a connection is opened its address is allowed, and where one is cut none is open; any other
+-- event leaves the one that was, or none.
 abbrev pub KeepsOut : LiveEnds → Next → LiveEnds → Type 0
 KeepsOut old (next.Open now) new = IsOfAllowedPeer old.allow_list new.connection
-KeepsOut old (next.Line now len) new = IsSameOrNone (peer_of old) new.connection
-KeepsOut old (next.Bytes now len) new = IsSameOrNone (peer_of old) new.connection
-KeepsOut old (next.Cut now) new = IsSameOrNone (peer_of old) new.connection
-KeepsOut old (next.Tick now) new = IsSameOrNone (peer_of old) new.connection
-KeepsOut old (next.Wall now number) new = IsSameOrNone (peer_of old) new.connection
-KeepsOut old next.Done new = IsSameOrNone (peer_of old) new.connection
-KeepsOut old next.Fault new = IsSameOrNone (peer_of old) new.connection
+KeepsOut old (next.Cut now) new = new.connection ≡ None
+KeepsOut old (next.Line now len) new = peer_of new ≡ peer_of old
+KeepsOut old (next.Bytes now len) new = peer_of new ≡ peer_of old
+KeepsOut old (next.Tick now) new = peer_of new ≡ peer_of old
+KeepsOut old (next.Wall now number) new = peer_of new ≡ peer_of old
+KeepsOut old next.Done new = peer_of new ≡ peer_of old
+KeepsOut old next.Fault new = peer_of new ≡ peer_of old
 
 -- The moments that the clock gave for an event: `begun`, when the last round of looks began,
 -- `quiet`, when each before it did, the newest first, and `now`, behind the last one.

@@ -13,3 +13,4 @@ pub mod Memory
 pub mod Clocks
 pub mod Late
 pub mod Sights
+pub mod Cuts

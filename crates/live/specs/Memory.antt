@@ -1,7 +1,10 @@
 -- What has happened at ends in memory, which note it as entries of a log (profile).
-use Rattle.std.specs.Prelude.{ℕ, List, [], ◌∷◌, Bool, true, false, ◌==◌}
-use Rattle.gateway.specs.Log.{Log, Came, Went, LineIn, LineOut, Opened, CutOff, Ticked, WallIs}
+use Rattle.std.specs.Prelude.{ℕ, List, [], ◌∷◌, Bool, true, false, ◌==◌, Ok, Err}
+use Rattle.gateway.specs.Log.{Log, Came, Went, LineIn, LineOut, TcpOut, Opened, CutOff, Ticked}
+use Rattle.gateway.specs.Log.{WallIs}
 use Rattle.live.specs.OctetStreams.{Happening, Gave, WasQuiet, WasGone, Dropped, Wrote}
+use Rattle.live.specs.Streams.{Received, Sent, SystemCall, Waits}
+use Rattle.std.specs.declared.io.Error.{Error}
 
 -- At a stream: octets came, or a look found nothing, or found it gone; so many that had come were
 -- dropped; or octets were put on it, with the number 1 where it took them.
@@ -32,3 +35,15 @@ abbrev pub shown_in : Log → List ℕ
 shown_in [] = []
 shown_in (Came now (WallIs shown) ∷ log) = shown ∷ shown_in log
 shown_in (entry ∷ log) = shown_in log
+
+-- The calls of a stream of the system: so many octets came, or none with this fault; or so many of
+-- those that were handed to it were taken; or it was set to wait at calls, with the number 1, or
+-- not to.
+abbrev pub calls_in : Error → Log → List SystemCall
+calls_in fault [] = []
+calls_in fault (Went count (LineOut octets) ∷ log) =
+    Received octets (Ok count) ∷ calls_in fault log
+calls_in fault (Went count (TcpOut octets) ∷ log) = Sent octets (Ok count) ∷ calls_in fault log
+calls_in fault (Came now Ticked ∷ log) = Received [] (Err fault) ∷ calls_in fault log
+calls_in fault (Came now (WallIs number) ∷ log) = Waits (number == 1) true ∷ calls_in fault log
+calls_in fault (entry ∷ log) = calls_in fault log

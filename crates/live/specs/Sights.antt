@@ -1,12 +1,12 @@
 -- What is shown of the ends of a live run (this gateway's own profile).
-use Rattle.std.specs.Prelude.{◌≡◌, IfSome, option_map}
+use Rattle.std.specs.Prelude.{◌≡◌, Some, option_map}
 use Rattle.live.specs.Ends.{LiveEnds, Peer}
 use Rattle.live.specs.declared.watched.EndsSight.{EndsSight}
 
--- Whether the line is there, where it says that; whose connection is open, why the latest one that
+-- Whether the line is there, as it says itself; whose connection is open, why the latest one that
 -- was cut was cut, and how many octets of the line were late.
 pub record ShowsEnds (ends : LiveEnds) (sight : EndsSight) : Type 0 where
-  pub line : IfSome ends.presence (λ presence. sight.line ≡ presence)
+  pub line : ends.presence ≡ Some sight.line
   pub peer : sight.peer ≡ option_map (λ (p : Peer). p.address) ends.connection
   pub why : sight.why_cut ≡ ends.why_cut
   pub late : sight.late_octets ≡ ends.late

@@ -81,8 +81,7 @@ pub data ReadsOn (old : Calls) (first : List ℕ) : (count : ℕ) → (came : Li
 -- No more is read: the octets end as a frame does, or a call brought none, or it were 15 calls.
 pub data IsReadOut (count : ℕ) (came : List ℕ) (mid new : Calls) : Type 0 where
   Whole : ends_frame came ≡ true → new ≡ mid → IsReadOut count came mid new
-  NoneCame : (octets : List ℕ) → ends_frame came ≡ false → ReceivesOnce mid octets 0 new
-      → IsReadOut count came mid new
+  NoneCame : ends_frame came ≡ false → ReceivesOnce mid [] 0 new → IsReadOut count came mid new
   Enough : count ≡ 15 → new ≡ mid → IsReadOut count came mid new
 
 -- Behind these first octets a look goes on until no more is read, and these are all that came.
@@ -108,6 +107,26 @@ pub record ReadsLine (old : Calls) (got : Got) (buf : List ℕ) (new : Calls) : 
   pub mid : Calls
   pub once : ReadsOnce old first before mid
   pub onwards : LooksOnwards first before mid got buf new
+
+-- the octets that came from a stream, in their order
+abbrev pub came : List SystemCall → List ℕ
+came [] = []
+came (Received octets answer ∷ before) = came before ++ octets
+came (Waits is_waiting is_set ∷ before) = came before
+came (Sent octets answer ∷ before) = came before
+
+-- since then these octets came from the stream
+abbrev pub Came : Calls → List ℕ → Calls → Type 0
+Came None octets None = Unit {0}
+Came None octets (Some after) = ⊥
+Came (Some before) octets None = ⊥
+Came (Some before) octets (Some after) = came after ≡ came before ++ octets
+
+-- the octets that a look gives
+abbrev pub octets_of : Got → (buf : List ℕ) → List ℕ
+octets_of (Octets len) buf = take len buf
+octets_of Quiet buf = []
+octets_of Gone buf = []
 
 -- one call, and how many of the octets it took
 pub record WritesOnce (old : Calls) (octets : List ℕ) (taken : ℕ) (new : Calls) : Type 0 where

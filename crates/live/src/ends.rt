@@ -68,13 +68,13 @@ pub enum Presence {
     Receiving,
 }
 
-/// A stream that may be away.
+/// A stream that may be away, and says whether it is.
 pub trait Reached: OctetStream {
-    ghost use Rattle.std.specs.Prelude.{◌≡◌, IfSome};
+    ghost use Rattle.std.specs.Prelude.{◌≡◌, Some};
 
     /// Whether it is there.
     fn presence(&self) -> Presence
-        ensures { IfSome (Self.presence self.now) (λ presence. result ≡ presence) };
+        ensures { Self.presence self.now ≡ Some result };
 }
 
 /// Who was accepted.

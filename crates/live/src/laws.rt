@@ -1,32 +1,38 @@
 //! Laws of the port over live ends, in the terms of the clock, the requests and the looks at the
 //! line.
 ghost use Rattle.std.specs.Prelude.{◌⊎◌, ◌≡◌, ◌≢◌, All, IfSome, None, ◌+◌, ◌-◌, ◌<◌, ◌≤◌, ℕ, List};
-ghost use Rattle.std.specs.Prelude.{[], ◌∷◌, Some, true, false, ◌↔◌, Vec};
+ghost use Rattle.std.specs.Prelude.{[], ◌∷◌, length, Some, Bool, true, false, ◌↔◌, Vec};
 ghost use Rattle.std.specs.declared.net.ip_addr.IpAddr.{IpAddr};
 ghost use Rattle.std.specs.declared.alloc.Global.{Global};
 ghost use Rattle.gateway.specs.declared.ports.Next.{Next};
 ghost use Rattle.live.specs.Ends.{LiveEnds, LogsTurn, LogsPut};
 ghost use Rattle.live.specs.Law.{AtMoment, AtBytes, AtClock, AtBegun, IsWaitedOut, KeepsOut};
 ghost use Rattle.live.specs.Law.{AtRounds, first_of, IsTickDue, IfTick, AtWall, IsEve, IsOneOf};
-ghost use Rattle.live.specs.Law.{IsWrittenBehind, AsksNothing, is_cut};
+ghost use Rattle.live.specs.Law.{IsWrittenBehind, AsksNothing, is_cut, peer_of};
+ghost use Rattle.live.specs.Cuts.{CutsFirst, shuts_nothing};
 ghost use Rattle.live.specs.declared.ends.CutCause.TheVariants.{Gone, NotTaken};
 ghost use Rattle.live.specs.AllowLists.{Allows};
 ghost use Rattle.live.specs.declared.allow_list.AllowList.TheVariants.{Anyone, Only};
 ghost use Rattle.gateway.specs.Log.{Closed, LineOut, Output};
-ghost use Rattle.live.specs.InTurn.{BeginsBehind, LooksBefore, IsFarBehind};
+ghost use Rattle.live.specs.InTurn.{BeginsBehind, LooksBefore, IsLookedAt, begins_behind};
+ghost use Rattle.live.specs.InTurn.{GivesOctets, HoldsOctets};
+ghost use Rattle.live.specs.declared.source.EventSource.TheVariants.{Line};
 ghost use Rattle.session.specs.declared.kinds.Close.{Close};
 ghost use Rattle.session.specs.declared.kinds.Close.TheVariants.{Replaced};
 ghost use Rattle.live.specs.Passed.{IsFreshRun, LiveRun, LogsEnds, NotesStill, line_in, line_out};
 ghost use Rattle.live.specs.Passed.{centre_in, centre_out, opened_in, accepted_in, given, handed};
 ghost use Rattle.live.specs.Passed.{taken_of, example_log, example_line};
-ghost use Rattle.live.specs.Late.{dropped_of, CountsLate};
+ghost use Rattle.live.specs.Late.{dropped_of, gone_of, CountsLate};
+ghost use Rattle.live.specs.Streams.{Calls, Came, ReadsLine, ReadsOnce, octets_of};
 ghost use Rattle.live.specs.Walls.{is_wall};
-ghost use Rattle.live.specs.Redial.{Redial, is_due, settled, known_by};
+ghost use Rattle.live.specs.Redial.{Redial, is_due, settled, known_by, clock_read_at, IsPut};
+ghost use Rattle.live.specs.Redial.{IsRedialled};
 ghost use Rattle.live.specs.declared.redial.Dialled.TheVariants.{Reached, Failed};
-ghost use Rattle.live.specs.declared.ends.Got.TheVariants.{Octets};
+ghost use Rattle.live.specs.declared.ends.Got.{Got};
+ghost use Rattle.live.specs.declared.ends.Got.TheVariants.{Octets, Quiet};
 ghost use Rattle.live.specs.declared.ends.Got.TheVariants as ended;
 ghost use Rattle.live.specs.declared.ends.Presence.TheVariants.{There, Away, Receiving};
-ghost use Rattle.live.specs.OctetStreams.{IsNew};
+ghost use Rattle.live.specs.OctetStreams.{IsNew, StreamHistory, WasGone, WasQuiet, looked, noted};
 ghost use Rattle.live.specs.declared.timing.WrittenRequest.{WrittenRequest};
 
 /// Where an event's moment lets an exchange end (`answer_ms` or more after its request's), a look
@@ -85,13 +91,26 @@ pub fn the_round_goes_on_behind_the_last_event()
         LogsPut old moment action new → new.first ≡ old.first }
 {}
 
-/// No source that always has something hides another: for an event each source of the round was
-/// looked at, up to the one where it was found. But where a cut is due, where octets are held, and
-/// where the event's moment is more than 50 ms behind the clock.
+/// No source that always has something hides another. For an event each source of the round was
+/// looked at, up to the one where it was found, and for a tick all three were. Octets that are held
+/// come before any look. Where an event's moment is more than 50 ms behind the clock when a round
+/// begins, the line is looked at. Where it is so behind the round a tick is given, and octets that
+/// came are held.
 pub fn no_source_hides_another()
-    ensures { (old new : LiveEnds) (event : Next) (buf : List ℕ) → LogsTurn old event buf new →
-        old.is_cut_due ≡ false → old.held ≡ [] →
-        LooksBefore event old.first old new ⊎ IsFarBehind old.timing }
+    ensures round { (old new : LiveEnds) (event : Next) (buf : List ℕ) →
+        LogsTurn old event buf new → old.is_cut_due ≡ false → old.held ≡ [] →
+        is_wall event ≡ false → AtRounds old.clock new.clock (λ begun quiet now.
+        begins_behind old.timing begun quiet ≡ false →
+        LooksBefore begun event old.first old new ⊎ HoldsOctets event new.timing now) }
+    ensures held { (old new : LiveEnds) (event : Next) (buf : List ℕ) →
+        LogsTurn old event buf new → old.is_cut_due ≡ false → old.held ≢ [] →
+        is_wall event ≡ false → AtRounds old.clock new.clock (λ begun quiet now.
+        begins_behind old.timing begun quiet ≡ false →
+        GivesOctets event (length old.held) ⊎ HoldsOctets event new.timing now) }
+    ensures line { (old new : LiveEnds) (event : Next) (buf : List ℕ) →
+        LogsTurn old event buf new → old.is_cut_due ≡ false → is_wall event ≡ false →
+        AtRounds old.clock new.clock (λ begun quiet now.
+        begins_behind old.timing begun quiet ≡ true → IsLookedAt begun Line old new) }
 {}
 
 /// Behind a close no connection is open, no octets of it are held and no cut of it is due, but
@@ -108,6 +127,27 @@ pub fn a_cut_shuts_the_connection()
     ensures { (old new : LiveEnds) (event : Next) (buf : List ℕ) → LogsTurn old event buf new →
         is_cut event ≡ true →
         (new.connection ≡ None) × (new.held ≡ []) × (new.is_cut_due ≡ false) }
+{}
+
+/// A cut that is due is the next event but for the wall clock, also where no connection is open.
+/// Until it is given it stays due, whatever is put out, unless the connection is shut. So a write
+/// that failed is always followed by a cut.
+pub fn a_cut_that_is_due_comes_next()
+    ensures next { (old new : LiveEnds) (event : Next) (buf : List ℕ) →
+        LogsTurn old event buf new → old.is_cut_due ≡ true → is_wall event ≡ false →
+        is_cut event ≡ true }
+    ensures wall { (old new : LiveEnds) (event : Next) (buf : List ℕ) →
+        LogsTurn old event buf new → is_wall event ≡ true → new.is_cut_due ≡ old.is_cut_due }
+    ensures put { (old new : LiveEnds) (moment : ℕ) (action : Output) →
+        LogsPut old moment action new → old.is_cut_due ≡ true → shuts_nothing action ≡ true →
+        new.is_cut_due ≡ true }
+{}
+
+/// A run that goes on after a restart begins with the cut of the connection of then. The first
+/// event of its log, but for the wall clock, is a cut, where no connection was shut before.
+pub fn a_run_that_goes_on_begins_with_a_cut()
+    ensures { (start end : LiveEnds) → start.log ≡ [] → start.is_cut_due ≡ true →
+        LiveRun start end → CutsFirst end.log }
 {}
 
 /// Why a connection was cut. A cut that wasn't due has a stream that was gone. A cut comes to be
@@ -157,10 +197,15 @@ pub fn looks_ask_nothing()
 {}
 
 /// Only allowed addresses connect: an event that opens a connection opens one of an address on the
-/// allow list, and who is refused leaves the open connection as it was.
+/// allow list, and who is refused leaves the open connection as it was. A connection stays open
+/// until it is cut, shut, or replaced by another: the gateway learns of each end but of those that
+/// it makes.
 pub fn only_allowed_addresses_connect()
-    ensures { (old new : LiveEnds) (event : Next) (buf : List ℕ) → LogsTurn old event buf new →
-        KeepsOut old event new }
+    ensures events { (old new : LiveEnds) (event : Next) (buf : List ℕ) →
+        LogsTurn old event buf new → KeepsOut old event new }
+    ensures put { (old new : LiveEnds) (moment : ℕ) (action : Output) →
+        LogsPut old moment action new → shuts_nothing action ≡ true →
+        peer_of new ≡ peer_of old }
 {}
 
 /// Two events that follow each other never both give the wall clock: whatever the gateway stalls,
@@ -173,7 +218,7 @@ pub fn the_ends_are_looked_at_between_wall_moments()
 
 /// The wall clock is given as it stood at the moment that the event bears: what it showed, less the
 /// time that has passed since that moment. And when it was given last is the moment that the clock
-/// gave for it: by that moment it is due again.
+/// gave for it: by that moment it is due again, whatever is put out.
 pub fn the_wall_clock_is_that_of_its_moment()
     ensures shown { (old new : LiveEnds) (event : Next) (buf : List ℕ) →
         LogsTurn old event buf new → AtWall event (λ moment number.
@@ -185,6 +230,8 @@ pub fn the_wall_clock_is_that_of_its_moment()
     ensures kept { (old new : LiveEnds) (event : Next) (buf : List ℕ) →
         LogsTurn old event buf new → is_wall event ≡ false →
         new.walled.given ≡ old.walled.given }
+    ensures put { (old new : LiveEnds) (moment : ℕ) (action : Output) →
+        LogsPut old moment action new → new.walled ≡ old.walled }
 {}
 
 /// An event bears the moment that the clock gave last. Only where that would end an exchange whose
@@ -198,13 +245,15 @@ pub fn a_moment_is_held_only_before_the_end_of_an_exchange()
 
 /// Before a request is written what waits at the line is dropped, and nothing happens there between
 /// the two: so what came late is no answer to it. It is timed by the clock behind its write,
-/// however long that took, and by no other action.
+/// however long that took, and by no other action. It is no look at the line.
 pub fn a_request_is_written_and_timed_behind_what_waits()
     ensures dropped { (old new : LiveEnds) (moment : ℕ) (octets : List ℕ) →
         LogsPut old moment (LineOut octets) new → IsWrittenBehind old.line octets new.line }
     ensures timed { (old new : LiveEnds) (moment : ℕ) (octets : List ℕ) →
         LogsPut old moment (LineOut octets) new → AtClock new.clock (λ now.
-        new.timing.request ≡ Some (record { moment = moment; written = now })) }
+        new.timing ≡ record old.timing {
+          request = Some (record { moment = moment; written = now });
+        }) }
     ensures others { (old new : LiveEnds) (moment : ℕ) (action : Output) →
         LogsPut old moment action new → AsksNothing action → new.timing ≡ old.timing }
 {}
@@ -250,10 +299,32 @@ pub fn what_is_noted_is_noted_to_the_end()
 {}
 
 /// The octets that are late are those that the line dropped before requests, in any run in which
-/// none were counted and nothing had happened at the line before, where the line notes that.
+/// none were counted and nothing had happened at the line before, where the line notes that. None
+/// are dropped at any look, and nothing happens at the line at any other action.
 pub fn late_octets_are_those_that_were_dropped()
-    ensures { (start end : LiveEnds) → start.late ≡ 0 → IsNew start.line → LiveRun start end →
-        CountsLate end }
+    ensures run { (start end : LiveEnds) → start.late ≡ 0 → IsNew start.line →
+        LiveRun start end → CountsLate end }
+    ensures looks { (old new : LiveEnds) (event : Next) (buf : List ℕ) →
+        LogsTurn old event buf new → new.late ≡ old.late }
+    ensures others { (old new : LiveEnds) (moment : ℕ) (action : Output) →
+        LogsPut old moment action new → AsksNothing action →
+        (new.late ≡ old.late) × (new.line ≡ old.line) }
+{}
+
+/// The line fails where its stream is gone, and nowhere else. A run that begins without failures
+/// has as many as looks that found the line's stream gone, where the line notes them.
+pub fn the_line_fails_where_its_stream_is_gone()
+    ensures { (start end : LiveEnds) → start.failed ≡ 0 → IsNew start.line →
+        LiveRun start end → IfSome end.line (λ happened. end.failed ≡ gone_of happened) }
+{}
+
+/// A look gives the octets that its calls brought, all of them and in their order, where the stream
+/// notes its calls. So it is at the line, and in one call.
+pub fn a_look_gives_what_its_calls_brought()
+    ensures line { (old new : Calls) (got : Got) (buf : List ℕ) → ReadsLine old got buf new →
+        Came old (octets_of got buf) new }
+    ensures once { (old new : Calls) (got : Got) (buf : List ℕ) → ReadsOnce old got buf new →
+        Came old (octets_of got buf) new }
 {}
 
 /// When a stream that is away is tried, by literal numbers: at once, then a second after the last
@@ -275,6 +346,25 @@ pub fn tries_by_example()
         × ((known_by ended.Gone r).presence ≡ Away) }
 {}
 
+/// A stream that is away is tried when that is due, and not before: the try begins at the look.
+/// Meanwhile it is quiet and takes nothing. One that is there gives what its stream gives, and one
+/// that has gone is kept no longer.
+pub fn a_stream_that_is_away_is_tried_when_due()
+    ensures due { (old new : Redial) (got : Got) (buf : List ℕ) → IsRedialled old got buf new →
+        old.stream ≡ None → AtClock new.clock (λ now. is_due old now ≡ true →
+        new.tried ≡ Some now) }
+    ensures undue { (old new : Redial) (got : Got) (buf : List ℕ) → IsRedialled old got buf new →
+        old.stream ≡ None → old.is_trying ≡ false → AtClock new.clock (λ now.
+        is_due old now ≡ false → new ≡ clock_read_at now old) }
+    ensures quiet { (old new : Redial) (got : Got) (buf : List ℕ) → IsRedialled old got buf new →
+        old.stream ≡ None → got ≡ Quiet }
+    ensures put { (old new : Redial) (octets : List ℕ) (is_taken : Bool) →
+        IsPut old octets is_taken new → old.stream ≡ None → is_taken ≡ false }
+    ensures there { (old new : Redial) (got : Got) (buf : List ℕ) (history : StreamHistory) →
+        IsRedialled old got buf new → old.stream ≡ Some history →
+        IfSome new.stream (λ now. now ≡ noted history (looked got buf)) }
+{}
+
 /// What the words of these laws count, by worked examples: the octets and requests of a log, those
 /// of a line that didn't take its last request, those of a log whose second connection is open, and
 /// how many octets that line dropped.
@@ -288,4 +378,5 @@ pub fn what_passed_by_example()
         × (taken_of example_line ≡ (16 ∷ []) ∷ []) }
     ensures listener { accepted_in (true ∷ false ∷ true ∷ []) ≡ 2 }
     ensures dropped { dropped_of example_line ≡ 5 }
+    ensures gone { gone_of (WasGone ∷ WasQuiet ∷ WasGone ∷ []) ≡ 2 }
 {}

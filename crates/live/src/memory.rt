@@ -129,8 +129,9 @@ impl OctetStream for MemoryStream {
     }
 }
 
-/// What has happened at a listener, with a look at it.
-fn with_attempt(log: &History, is_here: bool) -> History
+/// What has happened at a listener, with a look at it, or the tries of a dialler, with one that
+/// ended.
+pub(crate) fn with_attempt(log: &History, is_here: bool) -> History
     ensures { attempts_in result.entries ≡ is_here ∷ attempts_in log.now.entries }
 {
     if is_here {

@@ -491,7 +491,7 @@ impl<S: OctetStream, L: Listener + Drop, C: RunClock + Drop> Live<S, L, C> {
 impl<S: OctetStream + Reached, L: Listener + Drop, C: RunClock + Drop> Live<S, L, C> {
     /// Whether the line is there.
     pub(crate) fn line_presence(&self) -> Presence
-        ensures { IfSome self.now.presence (λ presence. result ≡ presence) }
+        ensures { self.now.presence ≡ Some result }
     {
         self.line.presence()
     }

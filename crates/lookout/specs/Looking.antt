@@ -1,12 +1,13 @@
 -- What is noted of a run at each look, for those who look at it (this gateway's own profile).
 use Rattle.std.specs.Prelude.{◌≡◌, ℕ, ◌-◌, nat_le, Bool, true, false, not, ◌&&◌, ◌||◌, []}
-use Rattle.std.specs.Prelude.{map, Option, Some, None, is_some, is_none, option_map, string_bytes}
+use Rattle.std.specs.Prelude.{map, take, Option, Some, None, is_some, is_none, option_map}
+use Rattle.std.specs.Prelude.{string_bytes}
 use Rattle.std.specs.Prelude.{if◌then◌else◌}
 use Rattle.gateway.specs.Config.{Settings}
 use Rattle.gateway.specs.State.{State}
 use Rattle.live.specs.declared.watched.Notice.{Notice}
-use Rattle.lookout.specs.Shown.{AreKnown, IsCentre, in_force, chosen_as, is_there}
-use Rattle.lookout.specs.Shown.{keeping_after, text_or_none}
+use Rattle.lookout.specs.Shown.{AreKnown, AreRows, IsCentre, in_force, chosen_as, is_there}
+use Rattle.lookout.specs.Shown.{keeping_after, text_or_none, viewed_as}
 use Rattle.lookout.specs.declared.lookout.ShownRun.{ShownRun}
 use Rattle.runlog.specs.Logging.{taken_in}
 use Rattle.runlog.specs.Watching.{Watching, wall_of}
@@ -85,7 +86,7 @@ looked turned gateway w notice s =
 abbrev pub turned_after : Option ℕ → (now : ℕ) → Option ℕ
 turned_after turned now = if is_over turned now 20 then Some now else turned
 
--- what is shown of a run that is watched so: each number in its place
+-- what is shown of a run that is watched so, beside rows and settings: each number in its place
 pub record IsSnapshotOf (shown : ShownRun) (w : Watching) (s : Snapshot) : Type 0 where
   pub version : s.version.now ≡ shown.version.now
   pub now_ms : s.now_ms ≡ w.moment
@@ -100,3 +101,9 @@ pub record IsSnapshotOf (shown : ShownRun) (w : Watching) (s : Snapshot) : Type 
   pub places : s.queue.places ≡ shown.places
   pub hour : s.queue.hour.now ≡ shown.hour.numbers
   pub keeping : s.keeping ≡ shown.keeping
+
+-- all that is shown: these numbers, a row for each station, and the settings in force
+pub record IsShown (shown : ShownRun) (w : Watching) (s : Snapshot) : Type 0 where
+  pub numbers : IsSnapshotOf shown w s
+  pub rows : AreRows 32 shown.known.items w.stations w.traffic s.stations.now
+  pub settings : map viewed_as s.settings.now ≡ take 16 (map chosen_as shown.chosen.items)

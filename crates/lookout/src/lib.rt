@@ -6,14 +6,18 @@
 //! of a run.
 //!
 //! Proved: a row has the numbers of the watch, the traffic and the settings that it is made of
-//! (`IsStationRow`), and a station the name that the site gives it (`AreKnown`); the line is shown
-//! as the watch has it; a notice says how the state is kept. No clause says in which order the rows
-//! stand, or what is shown of centre and queue: `checks/status.py` judges that.
+//! (`IsStationRow`), and a station the name that the site gives it (`AreKnown`), in the order of
+//! the settings (`AreRows`). What visitors are shown at a look is the run as it is then
+//! ([`Lookout::look`]): a station by what was asked of it ([`stations_are_shown_as_they_stand`]),
+//! the control centre and the state by the looks so far ([`looks_are_noted`]). Of the queue they
+//! are shown what was counted less than a second before ([`visitors_see_the_present`]).
 #![tactic(auto)]
 
 mod known;
+mod laws;
 mod lookout;
 mod setting;
 mod shown;
 
+pub use laws::{looks_are_noted, stations_are_shown_as_they_stand, visitors_see_the_present};
 pub use lookout::Lookout;

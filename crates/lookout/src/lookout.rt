@@ -1,7 +1,9 @@
 //! Who looks at a run.
-ghost use Rattle.std.specs.Prelude.{◌≡◌, false, IfOk, None};
+ghost use Rattle.std.specs.Prelude.{◌≡◌, false, true, map, IfOk, None};
 ghost use Rattle.lookout.specs.Looking as spec;
-ghost use Rattle.lookout.specs.Looking.{IsFreshLookout, IsSnapshotOf, is_over};
+ghost use Rattle.lookout.specs.Looking.{IsFreshLookout, IsShown, IsSnapshotOf, is_over};
+ghost use Rattle.status.specs.Visits.{IsRound, place};
+ghost use Rattle.status.specs.declared.snapshot.Snapshot.{Snapshot};
 
 use crate::known::{Known, known_of};
 use crate::setting::{ChosenSetting, chosen_of, settings_of};
@@ -90,6 +92,13 @@ impl<D: StreamSource + Drop> Lookout<D> {
         ensures turned { self.new.turned ≡ spec.turned_after self.old.turned watch.now.moment }
         ensures waits { is_over self.old.turned watch.now.moment 20 ≡ false →
             self.new.visitors ≡ self.old.visitors }
+        // What visitors are shown is the run as it is at this look.
+        ensures shows { is_over self.old.turned watch.now.moment 20 ≡ true →
+            (s : Snapshot) × IsShown self.new.shown watch.now s
+            × IsRound D.Stream.given D.Stream.taken D.Stream.calls s.now_ms s
+            (D.arrivals self.old.visitors.source) (D.arrivals self.new.visitors.source)
+            (map (λ seat. place seat.client seat.desk) self.old.visitors.seats.items)
+            (map (λ seat. place seat.client seat.desk) self.new.visitors.seats.items) }
     {
         self.shown.note(watch, notice);
         let now = watch.moment();
@@ -232,10 +241,14 @@ fn snapshot_of<'a>(shown: &'a ShownRun, watch: &Watch) -> Snapshot<'a>
     }
 }
 
-/// Gives the visitors a turn at what is shown.
-// What a visitor is answered then, the contract of `Seat` says (crates/status); no clause says that
-// it is of this snapshot (checks/status.py compares the pages with what stations did).
-fn turn<D: StreamSource + Drop>(visitors: &mut Visitors<D>, shown: &ShownRun, watch: &Watch) {
+/// Gives the visitors a turn at what is shown now, and at nothing else.
+fn turn<D: StreamSource + Drop>(visitors: &mut Visitors<D>, shown: &ShownRun, watch: &Watch)
+    ensures { (s : Snapshot) × IsShown shown.now watch.now s
+        × IsRound D.Stream.given D.Stream.taken D.Stream.calls s.now_ms s
+        (D.arrivals visitors.old.source) (D.arrivals visitors.new.source)
+        (map (λ seat. place seat.client seat.desk) visitors.old.seats.items)
+        (map (λ seat. place seat.client seat.desk) visitors.new.seats.items) }
+{
     let rows = rows_of(shown.known.as_slice(), watch);
     let settings = settings_of(shown.chosen.as_slice());
     let snapshot = Snapshot {

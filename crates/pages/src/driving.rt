@@ -1,5 +1,6 @@
 //! Runs that print while they go on, and show on a terminal how far they have come.
-ghost use Rattle.std.specs.Prelude.{◌≡◌, ℕ, List, Option, ◌<◌, ◌≤◌, false, true, IfSome, Some};
+ghost use Rattle.std.specs.Prelude.{◌≡◌, ◌≢◌, ℕ, ◌%◌, List, Option, ◌<◌, ◌≤◌, false, true, IfSome};
+ghost use Rattle.std.specs.Prelude.{Some};
 ghost use Rattle.gateway.specs.Accounts.{IsAccounted};
 ghost use Rattle.gateway.specs.Agrees.{Follows, Rests};
 ghost use Rattle.gateway.specs.Reports.{Setup};
@@ -55,8 +56,9 @@ pub fn drive_printed<P: Paged, W: Write, E: Write>(
     ensures poured { (before : Option (List ℕ)) →
         IsPoured was_whole before (W.contents out.old) (lines_of_actions (P.poured port.old)) →
         IsPoured result.1 before (W.contents out.new) (lines_of_actions (P.poured port.new)) }
-    // If nobody looks on, nothing is shown.
+    // If nobody looks on, nothing is shown, nor in a run of no more than one stride.
     ensures unwatched { is_watched ≡ false → err.new ≡ err.old }
+    ensures short { turns ≤ STRIDE → err.new ≡ err.old }
 {
     // `replay` and `sim` share it (docs/DECISIONS.md, "The driver that prints").
     let is_shown = is_watched && turns > STRIDE;
@@ -105,7 +107,9 @@ fn pour<P: Paged, W: Write>(port: &mut P, is_whole: bool, out: &mut W) -> bool
 fn show_after<E: Write>(is_shown: bool, done: u64, all: u64, err: &mut E)
     requires within { done ≤ all }
     requires some { 0 < all }
-    ensures { is_shown ≡ false → err.new ≡ err.old }
+    ensures unwatched { is_shown ≡ false → err.new ≡ err.old }
+    // Nothing is shown within a stride.
+    ensures between { done % STRIDE ≢ 0 → err.new ≡ err.old }
 {
     if is_shown && done % STRIDE == 0 {
         let _ = show_percent(done, all, err);

@@ -7,7 +7,9 @@
 //!
 //! Proved: what `drive_on` promises of the run; that what was printed is the lines of all actions
 //! of the log, in their order, and nothing else, or, where the output failed, a beginning of them;
-//! and which percent are shown. What a terminal makes of them isn't.
+//! and which percent are shown: they never fall, and there are 100 only at the end
+//! ([`percents_are_whole`]). That they are shown at all isn't proved, nor what a terminal makes of
+//! them.
 #![tactic(auto)]
 
 mod driving;

@@ -54,9 +54,12 @@ pub record LogsEventSeeing (sight : EndsSight) (old : Book) (event : Next) (buf 
   pub taken : Bool
   pub done : new ≡ unless_over old (after (event_noted event buf sight old.watching) taken old)
 
--- an event came, and the ends were seen in some way
-pub record LogsEvent (old : Book) (event : Next) (buf : List ℕ) (new : Book) : Type 0 where
+-- an event came, and the ends were seen as they are shown
+pub record LogsEvent (shows : EndsSight → Type 0) (old : Book) (event : Next) (buf : List ℕ)
+    (new : Book) :
+    Type 0 where
   pub sight : EndsSight
+  pub shown : shows sight
   pub logs : LogsEventSeeing sight old event buf new
 
 -- an action went out

@@ -87,7 +87,9 @@ impl<P: Watched + Drop, S: LogSink + Drop> Port for RunLog<P, S> {
         ensures done { result ≡ Done → P.ended self.new.port ≡ true }
         ensures script { P.script self.new.port ≡ P.script self.old.port }
         ensures cause { P.failed self.new.port ≡ P.failed self.old.port + faults_of result }
-        ensures logs { LogsEvent self.old.logger result buf.new self.new.logger }
+        // What is seen at an event shows the ends behind it.
+        ensures logs { LogsEvent (P.shows self.new.port) self.old.logger result buf.new
+            self.new.logger }
     {
         let next = self.port.next(buf);
         // Behind the call, so that it is what was seen at this event.

@@ -18,7 +18,7 @@ use Rattle.segments.specs.Crash.{IsTextIfOpen}
 use Rattle.segments.specs.Crashes.{AreBoth, AreOlder, HasNoZero, IsThatOf, Survives}
 use Rattle.segments.specs.Crashes.{lines_behind}
 use Rattle.segments.specs.Head.{Fits, IsWholeText, head_for, head_of, whole_text}
-use Rattle.segments.specs.Starts.{BeginsNewer, IsBacked, IsFoundIn, IsHeadIn, IsNewest}
+use Rattle.segments.specs.Starts.{BeginsNewer, FitsIn, IsBacked, IsFoundIn, IsHeadIn, IsNewest}
 use Rattle.segments.specs.Starts.{number_in}
 use Rattle.segments.specs.Written.{text_in}
 use Rattle.segments.specs.declared.head.SegmentHead.{SegmentHead}
@@ -70,7 +70,7 @@ empty : (l : List ℕ) → length l ≡ 0 → l ≡ []
 empty [] is = refl
 empty (x ∷ l) is = absurd (omega arith)
 
-same_first : (file : List ℕ) (a b : SegmentHead) → Fits a → Fits b → Holds file 0 (head_of a)
+pub same_first : (file : List ℕ) (a b : SegmentHead) → Fits a → Fits b → Holds file 0 (head_of a)
     → Holds file 0 (head_of b) → a ≡ b
 same_first file a b fits fits' one other =
     same_line a b fits fits' (same_octets file 0 (head_of a) (head_of b) one other
@@ -364,10 +364,10 @@ backs_other own other number begins front whole within behind order head text fi
     }
 
 pub newer_front : (file : List ℕ) (front : FileFront) (number : ℕ) → IsHeadIn file front
-    → number < number_in front → BeginsNewer number file
-newer_front file fronts.Shut number begins lt = absurd (omega (arith, lt))
-newer_front file (fronts.Head head) number begins lt = (head, begins.begins, lt)
-newer_front file fronts.Other number begins lt = absurd (omega (arith, lt))
+    → FitsIn front → number < number_in front → BeginsNewer number file
+newer_front file fronts.Shut number begins fits lt = absurd (omega (arith, lt))
+newer_front file (fronts.Head head) number begins fits lt = (head, fits, begins.begins, lt)
+newer_front file fronts.Other number begins fits lt = absurd (omega (arith, lt))
 
 -- A segment whose head is synced
 

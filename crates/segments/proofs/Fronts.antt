@@ -13,7 +13,8 @@ use Rattle.std.specs.Option.{is_some}
 use Rattle.std.specs.Prelude.{not, ◌||◌, if◌then◌else◌}
 use Rattle.segments.specs.Starts.{ArePlaced, BeginsSo, FitsIn, HasNoNewer, HasNone, IsAbove}
 use Rattle.segments.specs.Starts.{IsBacked, IsBackedBy, IsFoundIn, IsWholeIn}
-use Rattle.segments.specs.Starts.{IsHeadIn, IsNewest, IsShut, IsSound, is_doubtful, is_other}
+use Rattle.segments.specs.Starts.{IsHeadIn, IsNewest, IsNext, IsShut, IsSound, is_doubtful}
+use Rattle.segments.specs.Starts.{is_other}
 use Rattle.segments.specs.Starts.{is_shut, number_in, other_side}
 use Rattle.segments.specs.declared.head.SegmentHead.{SegmentHead}
 use Rattle.segments.specs.declared.start.FileFront.{FileFront}
@@ -140,6 +141,21 @@ above_front file front number begins le head fits holds =
     let e : number_in front ≡ head.number = ap number_in (begins.heads head fits holds) in
     omega (arith, le, e)
 
+-- The number behind that of a first line, or the first one
+pub next_front : (file other : List ℕ) (front : FileFront) (number : ℕ) → IsHeadIn file front
+    → FitsIn front → number ≡ min (number_in front + 1) 18446744073709551615
+    → IsNext number file other
+next_front file other fronts.Shut number begins fits is = inl (omega (arith, is))
+next_front file other (fronts.Head head) number begins fits is =
+    inr (inl (head, fits, begins.begins, is))
+next_front file other fronts.Other number begins fits is = inl (omega (arith, is))
+
+pub next_other : (number : ℕ) (newest other : List ℕ) → IsNext number newest other
+    → IsNext number other newest
+next_other number newest other (inl first) = inl first
+next_other number newest other (inr (inl behind)) = inr (inr behind)
+next_other number newest other (inr (inr behind)) = inr (inl behind)
+
 -- Two files
 
 pub first_newest : (newer older : List ℕ) (front other : FileFront) → IsHeadIn newer front
@@ -236,15 +252,17 @@ placed_other sides.Db log db a b h = (h.1, h.0)
 pub sure_first : (newer older : List ℕ) (front other : FileFront) (own : SegmentHead)
     → IsHeadIn newer front
     → IsHeadIn older other → number_in other ≤ number_in front → front ≡ fronts.Head own
-    → is_other other ≡ false
+    → is_other other ≡ false → FitsIn front → FitsIn other
     → HasNoNewer newer older
-sure_first newer older front fronts.Shut own begins behind order is sure = inl behind.begins
-sure_first newer older front (fronts.Head head) own begins behind order is sure =
+sure_first newer older front fronts.Shut own begins behind order is sure fits fits' =
+    inl behind.begins
+sure_first newer older front (fronts.Head head) own begins behind order is sure fits fits' =
     let mine : Holds newer 0 (head_of own) =
     subst (λ (f : FileFront). BeginsSo newer f) is begins.begins in
     let number : number_in front ≡ own.number = ap number_in is in
-    inr (own, head, mine, behind.begins, omega (arith, order, number))
-sure_first newer older front fronts.Other own begins behind order is sure = absurd (cc)
+    let own_fits : Fits own = subst FitsIn is fits in
+    inr (own, head, own_fits, fits', mine, behind.begins, omega (arith, order, number))
+sure_first newer older front fronts.Other own begins behind order is sure fits fits' = absurd (cc)
 
 pub sure_second : (newer older : List ℕ) (front behind : FileFront) (is_found : Bool)
     → IsHeadIn newer front

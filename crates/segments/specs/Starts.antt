@@ -92,13 +92,22 @@ abbrev pub IsAbove : ℕ → List ℕ → Type 0
 IsAbove number file = (head : SegmentHead) → Fits head → Holds file 0 (head_of head) →
     u64_saturate (head.number + 1) ≤ number
 
+-- a first line of the segment before the one with this number stands in the file
+abbrev pub IsBehind : ℕ → List ℕ → Type 0
+IsBehind number file =
+    (head : SegmentHead) × Fits head × Holds file 0 (head_of head)
+    × (number ≡ u64_saturate (head.number + 1))
+
+-- the number is the first one, or the next behind a first line that stands in one of the files
+abbrev pub IsNext : ℕ → (newest other : List ℕ) → Type 0
+IsNext number newest other = (number ≡ 1) ⊎ (IsBehind number newest ⊎ IsBehind number other)
+
 -- The other file is shut, or begins with the first line of a segment that isn't newer: so no newer
 -- one than the newest ever stood there.
 abbrev pub HasNoNewer : (newest other : List ℕ) → Type 0
 HasNoNewer newest other = IsShut other
-    ⊎ ((own : SegmentHead) × (head : SegmentHead) × Holds newest 0 (head_of own)
-    × Holds other 0 (head_of head)
-    × (head.number ≤ own.number))
+    ⊎ ((own : SegmentHead) × (head : SegmentHead) × Fits own × Fits head
+    × Holds newest 0 (head_of own) × Holds other 0 (head_of head) × (head.number ≤ own.number))
 
 -- the file has a segment whose number is at least this one
 pub record HasAsNew (number : ℕ) (file : List ℕ) : Type 0 where
@@ -117,7 +126,7 @@ IsBacked newest other = (head : SegmentHead) (text : List ℕ) → Fits head →
 -- the file begins with the first line of a segment that is newer than the one with this number
 abbrev pub BeginsNewer : ℕ → List ℕ → Type 0
 BeginsNewer number file =
-    (head : SegmentHead) × Holds file 0 (head_of head) × (number < head.number)
+    (head : SegmentHead) × Fits head × Holds file 0 (head_of head) × (number < head.number)
 
 -- so does the file of this side back the other one
 abbrev pub IsBackedBy : Side → (log db : List ℕ) → Type 0

@@ -1,11 +1,13 @@
 //! What holds of both files over a crash.
-ghost use Rattle.std.specs.Prelude.{◌≡◌, ◌<◌, ℕ, List, ◌++◌, length, take};
+ghost use Rattle.std.specs.Prelude.{◌≡◌, ◌<◌, ◌≤◌, ℕ, List, [], ◌∷◌, ◌++◌, codes, length, take};
 ghost use Rattle.segments.specs.Crash.{HasNoOther, IsOldIfOpen, IsShut, IsTextIfOpen};
 ghost use Rattle.segments.specs.Crashes.{AreBoth, AreOlder, IsThatOf, Survives};
 ghost use Rattle.segments.specs.Crashes.{lines_behind};
-ghost use Rattle.segments.specs.Head.{Fits, head_for, whole_text};
-ghost use Rattle.segments.specs.Starts.{IsFoundIn, IsNewest};
+ghost use Rattle.segments.specs.Head.{Fits, head_for, head_of, whole_text};
+ghost use Rattle.segments.specs.Starts.{IsBacked, IsFoundIn, IsNewest};
 ghost use Rattle.segments.specs.declared.head.SegmentHead.{SegmentHead};
+ghost use Rattle.sqlite_disk.specs.Disk.{Holds};
+ghost use Rattle.statetext.specs.Sum.{sum_of};
 
 use sqlite_disk::Disk;
 
@@ -54,4 +56,24 @@ pub fn the_other_file_has_older_segments<D: Disk>()
         IsTextIfOpen (D.Disk.may_leave spare) (whole_text number body) →
         D.Disk.may_leave spare c → IsFoundIn c head text →
         IsThatOf c number body c head text }
+{}
+
+/// A file is written over only where the other one has a segment that is as new: its checkpoint has
+/// the length and the sum that its first line says, and its number isn't lower.
+pub fn no_file_is_written_over_but_beside_one_as_new()
+    ensures { (newest other : List ℕ) (head : SegmentHead) (text : List ℕ) → Fits head →
+        IsFoundIn other head text → IsBacked newest other →
+        (own : SegmentHead) × (body : List ℕ) × Fits own × Holds newest 0 (head_of own) ×
+        (0 < length body → Holds newest 87 body) × (length body ≡ own.octets) ×
+        (sum_of body ≡ own.sum) × (head.number ≤ own.number) }
+{}
+
+/// The first line of a segment, by literal numbers: states that older versions wrote are read.
+pub fn first_lines_by_example()
+    ensures first { head_of (record { number = 1; octets = 0; sum = 0 }) ≡ codes
+        "telegate state 1 rules 1 segment 0000000000000001 octets 0000000000000000 sum 00000000"
+        ++ 10 ∷ [] }
+    ensures later { head_of (record { number = 258; octets = 4660; sum = 3735928559 }) ≡ codes
+        "telegate state 1 rules 1 segment 0000000000000102 octets 0000000000001234 sum deadbeef"
+        ++ 10 ∷ [] }
 {}

@@ -28,7 +28,10 @@ mod writer;
 
 pub use fault::SegmentFault;
 pub use head::SegmentHead;
-pub use laws::{a_start_finds_what_was_synced, the_other_file_has_older_segments};
+pub use laws::{
+    a_start_finds_what_was_synced, first_lines_by_example,
+    no_file_is_written_over_but_beside_one_as_new, the_other_file_has_older_segments,
+};
 pub use segment::Segment;
 pub use start::{FoundHead, Side, Start, newest_side};
 pub use writer::{Failed, Writer};

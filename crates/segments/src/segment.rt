@@ -193,9 +193,13 @@ impl<D: Disk> Segment<D> {
         ensures durable { durable_of self.new ≡ durable_of self.old }
         ensures size { size_of self.new ≡ size_of self.old }
         ensures shut { is_open self.old ≡ false → result ≡ Err Device }
-        // Lines that fill the file to its last octet are appended.
+        // Octets are too many exactly where the file has no room for them. Lines that fill it to
+        // its last octet are appended.
         ensures full { result ≡ Err Full →
             size_of self.old < length (text_of self.old) + length octets.now }
+        ensures beyond { is_open self.old ≡ true →
+            size_of self.old < length (text_of self.old) + length octets.now →
+            result ≡ Err Full }
         ensures device { result ≡ Err Device → is_open self.new ≡ false }
     {
         if !self.is_open {

@@ -9,7 +9,7 @@ ghost use Rattle.sqlite_disk.specs.Disk.{Holds};
 ghost use Rattle.segments.specs.Head.{Fits};
 ghost use Rattle.segments.specs.Starts.{ArePlaced, FitsIn, HasNoNewer, HasNone, IsAbove};
 ghost use Rattle.segments.specs.Starts.{IsBacked, IsBackedBy, IsFoundIn, IsWholeIn};
-ghost use Rattle.segments.specs.Starts.{IsHeadIn, IsNewest, IsShut, IsSound, before_zero};
+ghost use Rattle.segments.specs.Starts.{IsHeadIn, IsNewest, IsNext, IsShut, IsSound, before_zero};
 ghost use Rattle.segments.specs.Starts.{is_doubtful, is_other, is_shut, number_in, other_side};
 ghost use Rattle.statetext.specs.Sum.{sum_of};
 
@@ -408,6 +408,9 @@ impl<D: Disk + Drop> Start<D> {
         // or not its segment is whole.
         ensures above { IfOk result (λ s. AreClean s →
             IsAbove s.number (newest_in s) × IsAbove s.number (other_in s)) }
+        // It is the next one behind such a line, or the first: no number is left out.
+        ensures next { IfOk result (λ s. AreClean s →
+            IsNext s.number (newest_in s) (other_in s)) }
         // Where nothing is doubtful, no newer segment than that one ever stood in the other file.
         ensures sure { IfOk result (λ s. AreClean s → is_some s.checkpoint ≡ true →
             s.is_doubtful ≡ false → HasNoNewer (newest_in s) (other_in s)) }
@@ -444,13 +447,16 @@ impl<D: Disk + Drop> Start<D> {
         requires head { IsTrue (D.Disk.is_clean newer) → IsHeadIn (D.Disk.seen newer) front }
         requires other { IsTrue (D.Disk.is_clean older) → IsHeadIn (D.Disk.seen older) other_front }
         requires fits { FitsIn front }
+        requires both { FitsIn other_front }
         requires order { number_in other_front ≤ number_in front }
-        requires above { u64_saturate (number_in front + 1) ≤ number }
+        requires next { number ≡ u64_saturate (number_in front + 1) }
         ensures placed { (log db : List ℕ) →
             ArePlaced side log db (D.Disk.seen newer) (D.Disk.seen older) →
             IfOk result (λ s. ArePlaced s.side log db (newest_in s) (other_in s)) }
         ensures above { IfOk result (λ s. AreClean s →
             IsAbove s.number (newest_in s) × IsAbove s.number (other_in s)) }
+        ensures next { IfOk result (λ s. AreClean s →
+            IsNext s.number (newest_in s) (other_in s)) }
         ensures sure { IfOk result (λ s. AreClean s → is_some s.checkpoint ≡ true →
             s.is_doubtful ≡ false → HasNoNewer (newest_in s) (other_in s)) }
         ensures newest { IfOk result (λ s. AreClean s → IsNewest (newest_in s) (other_in s)) }

@@ -3,5 +3,8 @@ pub mod SettingsLemmas
 pub mod StationLemmas
 pub mod UnknownLemmas
 pub mod Naming
-mod NamedBack
+pub mod NamedBack
 mod Knowing
+pub mod PlaceLemmas
+mod Filing
+mod FilingBack

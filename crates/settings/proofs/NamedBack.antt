@@ -4,11 +4,11 @@ use Rattle.std.proofs.Common.{◌++◌, length, Option, Some, None, Result, Ok, 
 use Rattle.std.proofs.Common.{subst, ◌∙◌, arith, append_assoc}
 use Rattle.std.proofs.lemmas.List.{append-nil}
 use Rattle.std.proofs.lemmas.Slice.Eq.{bytes_eq-Decides}
-use Rattle.std.specs.Prelude.{ℤ, pos, ◌^◌, codes, nat_lt, nat_le, if◌then◌else◌, suc}
+use Rattle.std.specs.Prelude.{pos, ◌^◌, codes, nat_lt, nat_le, if◌then◌else◌}
 use Rattle.std.specs.Prelude.{option_and_then}
 use Rattle.std.specs.List.{list_any}
 use Rattle.std.specs.Str.{bytes_eq}
-use Rattle.toml.specs.Data.{Data, Items, no_items, item, Members, get_member, as_integer, as_bool}
+use Rattle.toml.specs.Data.{Data, Items, no_items, item, Members, get_member, as_integer}
 use Rattle.toml.specs.Data.{as_str, as_array, as_table}
 use Rattle.ft12.specs.declared.frame.LinkSize.{LinkSize}
 use Rattle.ft12.specs.declared.frame.LinkSize.TheVariants as link
@@ -29,19 +29,20 @@ use Rattle.settings.specs.Keys.{Row, row, given_at, number_of, number_or, judged
 use Rattle.settings.specs.Keys.{flag_in, flag_or, flag_of, table_or, section_or, section_of}
 use Rattle.settings.specs.Line.{Line, line_settings, sizes_of, waits_of, silence_of, silence_word}
 use Rattle.settings.specs.Line.{link_size, cause_size, ca_size, ioa_size}
-use Rattle.settings.specs.Live.{live_keys, text_in, text_or, word_of}
-use Rattle.settings.specs.Named.{table_at, IsNumber, IsFlag, IsSilence, IsLineOf, IsTcpOf}
+use Rattle.settings.specs.Live.{live_places, Places, text_in, text_or, word_of, place_in}
+use Rattle.settings.specs.Live.{place_of, text_of, is_line, is_address}
+use Rattle.settings.proofs.Naming.{address_most, as_most, as_many, ca_most, same_value}
+use Rattle.settings.specs.Named.{table_at, value_at, IsNumber, IsFlag, IsSilence, IsLineOf, IsTcpOf}
 use Rattle.settings.specs.Named.{SaysSilence, IsStationOf, AreStationsOf, AreNamed, IsTableIfAny}
 use Rattle.settings.specs.Named.{IsTextIfAny, AreNewAfter, MayBeRead}
-use Rattle.settings.specs.Settings.{Values, gateway_values, known_settings}
-use Rattle.settings.specs.Stations.{distinct_number, address_of, ca_of, station_in, station_of}
+use Rattle.settings.specs.Settings.{Values, gateway_values, known_live, known_settings}
+use Rattle.settings.specs.Stations.{distinct_number, station_in, station_of}
 use Rattle.settings.specs.Stations.{stations_from, stations_in, stations_of, count_of}
 use Rattle.settings.specs.Stations.{greatest_address, greatest_ca}
 use Rattle.settings.specs.Tcp.{Tcp, tcp_settings}
-use Rattle.settings.specs.declared.line.Waits.{Waits}
 
 -- one step, and then the rest
-next_is : {A B : Type 0} (r : Result A Path) (f : A → Result B Path) (x : A) (y : Result B Path)
+pub next_is : {A B : Type 0} (r : Result A Path) (f : A → Result B Path) (x : A) (y : Result B Path)
     → r ≡ Ok x → f x ≡ y → (r >>= f) ≡ y
 next_is r f x y e rest = ap (λ z. z >>= f) e ∙ rest
 
@@ -59,7 +60,8 @@ number_back n few =
     let e : nat_lt n (2 ^ 32) ≡ true = grind (arith, few) in
     ap (λ (b : Bool). if b then Some n else None) e
 
-whole_back : (key path : List ℕ) (low high : ℕ) (default : Option ℕ) (t : Option Members) (n : ℕ)
+pub whole_back : (key path : List ℕ) (low high : ℕ) (default : Option ℕ) (t : Option Members)
+    (n : ℕ)
     → high < 2 ^ 32 → IsNumber key low high default t n
     → whole_of (row key path low high default) t ≡ Ok n
 whole_back key path low high default t n most is = go (given_at key t) refl
@@ -70,20 +72,20 @@ whole_back key path low high default t n most is = go (given_at key t) refl
 
     go : (o : Option Data) → given_at key t ≡ o
         → judged (row key path low high default) (number_or default o) ≡ Ok n
-    go None at = found default (is.missing at)
+    go None at = found default (is.missing (sym (same_value key t) ∙ at))
     go (Some d) at =
-        found (number_of (as_integer d)) (ap number_of (is.given d at)
+        found (number_of (as_integer d)) (ap number_of (is.given d (sym (same_value key t) ∙ at))
         ∙ number_back n (omega (arith, is.not_above, most)))
 
 -- ---- words and flags
 
-flag_back : (key path : List ℕ) (t : Option Members) (b : Bool) → IsFlag key t b
+pub flag_back : (key path : List ℕ) (t : Option Members) (b : Bool) → IsFlag key t b
     → flag_of key path t ≡ Ok b
 flag_back key path t b is = go (given_at key t) refl
   where
     go : (o : Option Data) → given_at key t ≡ o → flag_or path o ≡ Ok b
-    go None at = ap Ok (sym (is.missing at))
-    go (Some d) at = ap (λ x. flag_in path x) (is.given d at)
+    go None at = ap Ok (sym (is.missing (sym (same_value key t) ∙ at)))
+    go (Some d) at = ap (λ x. flag_in path x) (is.given d (sym (same_value key t) ∙ at))
 
 resets_word : (word : List ℕ) → word ≡ codes "reset" → silence_word (Some word) ≡ Ok Reset
 resets_word word e = ap (λ w. silence_word (Some w)) e
@@ -100,9 +102,9 @@ silence_back : (t : Option Members) (s : Silence) → IsSilence t s
 silence_back t s is = go (given_at (codes "silence") t) refl
   where
     go : (o : Option Data) → given_at (codes "silence") t ≡ o → silence_of o ≡ Ok s
-    go None at = ap Ok (sym (is.missing at))
+    go None at = ap Ok (sym (is.missing (sym (same_value (codes "silence") t) ∙ at)))
     go (Some d) at =
-        let w = is.given d at in
+        let w = is.given d (sym (same_value (codes "silence") t) ∙ at) in
         ap silence_word w.1 ∙ word_back w.0 s w.2
 
 -- ---- sizes
@@ -238,12 +240,14 @@ station_back l c before t s is new_address new_ca =
     next_is _ _ s.address _
     (next_is _ _ s.address _
     (whole_back (codes "address") (codes "station.address") 1 (greatest_address l) None (Some t) _
-    (few_addresses l) is.address)
+    (few_addresses l)
+    (as_most (codes "address") _ (greatest_address l) (Some t) s.address (sym (address_most l))
+    is.address))
     (new_back s.address _ (codes "station.address") new_address))
     (next_is _ _ s.ca _
     (next_is _ _ s.ca _
     (whole_back (codes "ca") (codes "station.ca") 1 (greatest_ca c) None (Some t) _ (few_cas c)
-    is.common)
+    (as_most (codes "ca") _ (greatest_ca c) (Some t) s.ca (sym (ca_most c)) is.common))
     (new_back s.ca _ (codes "station.ca") new_ca))
     (next_is _ _ s.select _
     (flag_back (codes "select") (codes "station.select") (Some t) s.select is.select) refl))
@@ -261,13 +265,6 @@ stations_back l c before (item d ds) (s ∷ ss) are new =
     ∙ ap Ok (append_assoc before (s ∷ []) ss))
 stations_back l c before no_items (s ∷ ss) are new = absurd are
 stations_back l c before (item d ds) [] are new = absurd are
-
-as_many : (l : LinkSize) (c : CaSize) (ds : Items) (ss : List StationSettings)
-    → AreStationsOf l c ds ss → count_of ds ≡ length ss
-as_many l c no_items [] are = refl
-as_many l c (item d ds) (s ∷ ss) are = ap suc (as_many l c ds ss are.1)
-as_many l c no_items (s ∷ ss) are = absurd are
-as_many l c (item d ds) [] are = absurd are
 
 list_back : (l : LinkSize) (c : CaSize) (ds : Items) (ss : List StationSettings)
     → AreStationsOf l c ds ss → AreNewAfter [] ss → 1 ≤ length ss → length ss ≤ 32
@@ -289,7 +286,7 @@ array_back l c (Some d) ds ss e read = ap (λ x. stations_in l c x) e ∙ read
 
 -- ---- the whole file
 
-section_back : (name first : List ℕ) (root : Members) → IsTableIfAny name root
+pub section_back : (name first : List ℕ) (root : Members) → IsTableIfAny name root
     → section_of name first root ≡ Ok (table_at name root)
 section_back name first root is = go (get_member name root) refl
   where
@@ -310,7 +307,7 @@ line_there root l is d at = go (as_table d) refl
         let none : table_at (codes "line") root ≡ None =
         ap (λ o. option_and_then as_table o) at ∙ e in
         let no : None ≡ Some (address_len l.link) =
-        is.link.missing (ap (λ t. given_at (codes "link") t) none) in cc
+        is.link.missing (ap (λ t. value_at (codes "link") t) none) in cc
 
 gateway_back : (root : Members) (v : Values) → AreNamed root v → MayBeRead root v
     → gateway_values root ≡ Ok v
@@ -332,7 +329,7 @@ text_back key path t is = go (given_at key t) refl
   where
     go : (o : Option Data) → given_at key t ≡ o → text_or path o ≡ Ok tt
     go None at = refl
-    go (Some d) at = ap (λ x. text_in path x) (is d at).1
+    go (Some d) at = ap (λ x. text_in path x) (is d (sym (same_value key t) ∙ at)).1
 
 pub all_read : (root : Members) (v : Values) → AreNamed root v → MayBeRead root v
     → known_settings root ≡ Ok v
@@ -345,3 +342,32 @@ all_read root v are may =
     (text_back (codes "line") (codes "live.line") (table_at (codes "live") root) may.line_end)
     (text_back (codes "listen") (codes "live.listen") (table_at (codes "live") root)
     may.listen_end)) refl))
+
+place_back : (good : List ℕ → Bool) (key path : List ℕ) (t : Option Members) (text : List ℕ)
+    → option_and_then as_str (value_at key t) ≡ Some text → good text ≡ true
+    → place_of good key path t ≡ Ok text
+place_back good key path t text at is =
+    ap (λ o. place_in good path (text_of o)) (same_value key t)
+    ∙ ap (λ o. place_in good path o) (same_text (value_at key t) ∙ at)
+    ∙ ap (λ (b : Bool). if b then Ok text else Err path) is
+  where
+    same_text : (o : Option Data) → text_of o ≡ option_and_then as_str o
+    same_text None = refl
+    same_text (Some d) = refl
+
+pub live_read : (root : Members) (v : Values) (p : Places) → AreNamed root v → MayBeRead root v
+    → option_and_then as_str (value_at (codes "line") (table_at (codes "live") root))
+    ≡ Some p.line → is_line p.line ≡ true
+    → option_and_then as_str (value_at (codes "listen") (table_at (codes "live") root))
+    ≡ Some p.listen → is_address p.listen ≡ true → known_live root ≡ Ok (v, p)
+live_read root v p are may line is_line_so listen is_listen_so =
+    next_is _ _ v _ (gateway_back root v are may)
+    (next_is _ _ (table_at (codes "live") root) _
+    (section_back (codes "live") (codes "live.line") root may.live)
+    (next_is (live_places (table_at (codes "live") root)) _ p _
+    (next_is _ _ p.line _
+    (place_back is_line (codes "line") (codes "live.line") (table_at (codes "live") root) p.line
+    line is_line_so)
+    (next_is _ _ p.listen _
+    (place_back is_address (codes "listen") (codes "live.listen") (table_at (codes "live") root)
+    p.listen listen is_listen_so) refl)) refl))

@@ -1,19 +1,22 @@
 -- Each setting is the one that stands under its key.
-use Rattle.std.proofs.Common.{◌≡◌, ℕ, ◌-◌, ◌≤◌, ◌<◌, ◌&&◌, Bool, true, false, List, [], ◌∷◌}
-use Rattle.std.proofs.Common.{◌++◌}
+use Rattle.std.proofs.Common.{◌≡◌, ℕ, ◌-◌, ◌≤◌, ◌<◌, ◌&&◌, ◌==◌, Bool, true, false, List, [], ◌∷◌}
+use Rattle.std.proofs.Common.{◌++◌, length}
 use Rattle.std.proofs.Common.{Option, Some, None, Result, Ok, Err, refl, sym, ap, subst, ◌∙◌, arith}
 use Rattle.std.proofs.Common.{append_assoc}
 use Rattle.std.proofs.lemmas.List.{append-nil}
 use Rattle.std.specs.Prelude.{ℤ, pos, negsuc, ◌^◌, codes, nat_lt, nat_le, if◌then◌else◌}
-use Rattle.std.specs.Prelude.{option_and_then, ◌⊎◌}
+use Rattle.std.specs.Prelude.{option_and_then, ◌⊎◌, suc}
+use Rattle.std.specs.List.{list_any}
 use Rattle.std.proofs.Common.{inl, inr}
 use Rattle.std.specs.Str.{bytes_eq}
 use Rattle.std.proofs.lemmas.Bool.{and_parts, leb-true}
 use Rattle.toml.specs.Data.{Data, Items, no_items, item, Members, get_member, as_integer, as_bool}
 use Rattle.toml.specs.Data.{as_str, as_array, as_table}
 use Rattle.ft12.specs.declared.frame.LinkSize.{LinkSize}
+use Rattle.ft12.specs.declared.frame.LinkSize.TheVariants as link
 use Rattle.ft12.specs.Spelling.{address_len}
 use Rattle.asdu.specs.declared.sizes.CaSize.{CaSize}
+use Rattle.asdu.specs.declared.sizes.CaSize.TheVariants as ca
 use Rattle.asdu.specs.declared.sizes.Sizes.{Sizes}
 use Rattle.asdu.specs.Sizes.{cause_len, ca_len, ioa_len}
 use Rattle.gateway.specs.declared.settings.Silence.{Silence}
@@ -24,10 +27,11 @@ use Rattle.settings.specs.Keys.{Row, row, given_at, number_of, number_or, judged
 use Rattle.settings.specs.Keys.{flag_in, flag_or, flag_of, table_or, section_or, section_of}
 use Rattle.settings.specs.Line.{Line, line_settings, sizes_of, waits_of, silence_of, silence_word}
 use Rattle.settings.specs.Line.{link_size, cause_size, ca_size, ioa_size}
-use Rattle.settings.specs.Live.{Places, live_keys, live_places}
-use Rattle.settings.specs.Named.{table_at, IsNumber, IsFlag, IsSilence, IsLineOf, IsTcpOf}
-use Rattle.settings.specs.Named.{SaysSilence}
-use Rattle.settings.specs.Named.{IsStationOf, AreStationsOf, AreNamed}
+use Rattle.settings.specs.Live.{Places, live_keys, live_places, text_in, text_or, word_of, place_in}
+use Rattle.settings.specs.Live.{place_of, text_of, is_line, is_address}
+use Rattle.settings.specs.Named.{table_at, value_at, IsNumber, IsFlag, IsSilence, IsLineOf, IsTcpOf}
+use Rattle.settings.specs.Named.{SaysSilence, greatest_of, IsTableIfAny, IsTextIfAny, AreNewAfter}
+use Rattle.settings.specs.Named.{IsStationOf, AreStationsOf, AreNamed, MayBeRead}
 use Rattle.settings.specs.Settings.{Values, gateway_values, known_settings, known_live}
 use Rattle.settings.specs.Stations.{distinct_number}
 use Rattle.settings.specs.Stations.{station_in, stations_from, stations_in, stations_of}
@@ -51,6 +55,10 @@ pub same_ok : {A : Type 0} (x y : A) → ◌≡◌ {A = Result A Path} (Ok x) (O
 same_ok x y e = cc
 
 -- ---- numbers
+
+pub same_value : (key : List ℕ) (t : Option Members) → given_at key t ≡ value_at key t
+same_value key None = refl
+same_value key (Some t) = refl
 
 judged_is : (r : Row) (o : Option ℕ) (n : ℕ) → judged r o ≡ Ok n
     → (o ≡ Some n) × (r.low ≤ n) × (n ≤ r.high)
@@ -84,8 +92,9 @@ whole_is key path low high default t n e =
     let is = judged_is (row key path low high default) (number_or default (given_at key t)) n e in
     record {
       given = λ d at. number_is (as_integer d) n
-          (sym (ap (λ (o : Option Data). number_or default o) at) ∙ is.0);
-      missing = λ none. sym (ap (λ (o : Option Data). number_or default o) none) ∙ is.0;
+          (sym (ap (λ (o : Option Data). number_or default o) (same_value key t ∙ at)) ∙ is.0);
+      missing = λ none.
+          sym (ap (λ (o : Option Data). number_or default o) (same_value key t ∙ none)) ∙ is.0;
       not_below = is.1;
       not_above = is.2;
     }
@@ -144,8 +153,10 @@ ioa_octets n low high = by (nat_lt 2 n) refl
 pub flag_is : (key path : List ℕ) (t : Option Members) (b : Bool) → flag_of key path t ≡ Ok b
     → IsFlag key t b
 flag_is key path t b e = record {
-  given = λ d at. some (as_bool d) (sym (ap (λ (o : Option Data). flag_or path o) at) ∙ e);
-  missing = λ none. sym (same_ok false b (sym (ap (λ (o : Option Data). flag_or path o) none) ∙ e));
+  given = λ d at. some (as_bool d)
+      (sym (ap (λ (o : Option Data). flag_or path o) (same_value key t ∙ at)) ∙ e);
+  missing = λ none. sym (same_ok false b
+      (sym (ap (λ (o : Option Data). flag_or path o) (same_value key t ∙ none)) ∙ e));
 }
   where
     some : (o : Option Bool) → flag_in path o ≡ Ok b → o ≡ Some b
@@ -174,8 +185,10 @@ silence_is : (t : Option Members) (s : Silence) → silence_of (given_at (codes 
     → IsSilence t s
 unfolding SaysOf
 silence_is t s e = record {
-  given = λ d at. word_in (as_str d) s (sym (ap (λ (o : Option Data). silence_of o) at) ∙ e);
-  missing = λ none. sym (same_ok Hold s (sym (ap (λ (o : Option Data). silence_of o) none) ∙ e));
+  given = λ d at. word_in (as_str d) s
+      (sym (ap (λ (o : Option Data). silence_of o) (same_value (codes "silence") t ∙ at)) ∙ e);
+  missing = λ none. sym (same_ok Hold s
+      (sym (ap (λ (o : Option Data). silence_of o) (same_value (codes "silence") t ∙ none)) ∙ e));
 }
 
 -- ---- tables
@@ -272,8 +285,31 @@ number_kept : (n m : ℕ) (taken : Bool) (path : Path) → distinct_number n tak
 number_kept n m true path e = cc
 number_kept n m false path e = same_ok n m e
 
+number_free : (n m : ℕ) (taken : Bool) (path : Path) → distinct_number n taken path ≡ Ok m
+    → taken ≡ false
+number_free n m true path e = cc
+number_free n m false path e = refl
+
+pub address_most : (l : LinkSize) → greatest_address l ≡ greatest_of (address_len l)
+address_most link.One = refl
+address_most link.Two = refl
+
+pub ca_most : (c : CaSize) → greatest_ca c ≡ greatest_of (ca_len c)
+ca_most ca.One = refl
+ca_most ca.Two = refl
+
+pub as_most : (key : List ℕ) (high most : ℕ) (t : Option Members) (n : ℕ) → high ≡ most
+    → IsNumber key 1 high None t n → IsNumber key 1 most None t n
+as_most key high most t n e h = subst (λ k. IsNumber key 1 k None t n) e h
+
+record StationOf (link : LinkSize) (ca : CaSize) (before : List StationSettings)
+    (t : Option Members) (s : StationSettings) : Type 0 where
+  is : IsStationOf link ca t s
+  new_address : list_any (λ o. o.address == s.address) before ≡ false
+  new_ca : list_any (λ o. o.ca == s.ca) before ≡ false
+
 station_is : (link : LinkSize) (ca : CaSize) (before : List StationSettings) (t : Option Members)
-    (s : StationSettings) → station_in link ca before t ≡ Ok s → IsStationOf link ca t s
+    (s : StationSettings) → station_in link ca before t ≡ Ok s → StationOf link ca before t s
 station_is link ca before None s e = cc
 station_is link ca before (Some t) s e =
     let a = bound _ _ s e in
@@ -281,16 +317,24 @@ station_is link ca before (Some t) s e =
     let f = bound _ _ s c.rest in
     let address = bound _ _ a.value a.first in
     let common = bound _ _ c.value c.first in
-    subst (λ z. IsStationOf link ca (Some t) z) (same_ok _ s f.rest) (record {
-      address = as_size (codes "address") 1 (greatest_address link) None (Some t) _ _
-          (number_kept address.value a.value _ _ address.rest)
-          (whole_is (codes "address") (codes "station.address") 1 (greatest_address link) None
-          (Some t) address.value address.first);
-      common = as_size (codes "ca") 1 (greatest_ca ca) None (Some t) _ _
-          (number_kept common.value c.value _ _ common.rest)
-          (whole_is (codes "ca") (codes "station.ca") 1 (greatest_ca ca) None (Some t) common.value
-          common.first);
-      select = flag_is (codes "select") (codes "station.select") (Some t) f.value f.first;
+    let same_a = number_kept address.value a.value _ _ address.rest in
+    let same_c = number_kept common.value c.value _ _ common.rest in
+    subst (λ z. StationOf link ca before (Some t) z) (same_ok _ s f.rest) (record {
+      is = record {
+        address = as_most (codes "address") (greatest_address link) _ (Some t) _ (address_most link)
+            (as_size (codes "address") 1 (greatest_address link) None (Some t) _ _ same_a
+            (whole_is (codes "address") (codes "station.address") 1 (greatest_address link) None
+            (Some t) address.value address.first));
+        common = as_most (codes "ca") (greatest_ca ca) _ (Some t) _ (ca_most ca)
+            (as_size (codes "ca") 1 (greatest_ca ca) None (Some t) _ _ same_c
+            (whole_is (codes "ca") (codes "station.ca") 1 (greatest_ca ca) None (Some t)
+            common.value common.first));
+        select = flag_is (codes "select") (codes "station.select") (Some t) f.value f.first;
+      };
+      new_address = subst (λ n. list_any (λ o. o.address == n) before ≡ false) same_a
+          (number_free address.value a.value _ _ address.rest);
+      new_ca = subst (λ n. list_any (λ o. o.ca == n) before ≡ false) same_c
+          (number_free common.value c.value _ _ common.rest);
     })
 
 record StationsOf (link : LinkSize) (ca : CaSize) (before : List StationSettings) (ds : Items)
@@ -298,6 +342,7 @@ record StationsOf (link : LinkSize) (ca : CaSize) (before : List StationSettings
   more : List StationSettings
   whole : before ++ more ≡ v
   are : AreStationsOf link ca ds more
+  new : AreNewAfter before more
 
 stations_are : (link : LinkSize) (ca : CaSize) (before : List StationSettings) (ds : Items)
     (v : List StationSettings) → stations_from link ca before ds ≡ Ok v
@@ -306,15 +351,25 @@ stations_are link ca before no_items v e = record {
   more = [];
   whole = append-nil before ∙ same_ok before v e;
   are = tt;
+  new = tt;
 }
 stations_are link ca before (item d ds) v e =
     let s = bound _ _ v e in
     let rest = stations_are link ca (before ++ s.value ∷ []) ds v s.rest in
+    let here = station_is link ca before (as_table d) s.value s.first in
     record {
       more = s.value ∷ rest.more;
       whole = sym (append_assoc before (s.value ∷ []) rest.more) ∙ rest.whole;
-      are = (station_is link ca before (as_table d) s.value s.first, rest.are);
+      are = (here.is, rest.are);
+      new = (here.new_address, here.new_ca, rest.new);
     }
+
+pub as_many : (l : LinkSize) (c : CaSize) (ds : Items) (ss : List StationSettings)
+    → AreStationsOf l c ds ss → count_of ds ≡ length ss
+as_many l c no_items [] are = refl
+as_many l c (item d ds) (s ∷ ss) are = ap suc (as_many l c ds ss are.1)
+as_many l c no_items (s ∷ ss) are = absurd are
+as_many l c (item d ds) [] are = absurd are
 
 -- ---- the whole file
 
@@ -331,11 +386,24 @@ section_is name first root t e = go (get_member name root) refl e
     go None at is = same_ok None t is
     go (Some d) at is = found (as_table d) is
 
+pub table_is : (name first : List ℕ) (root : Members) (t : Option Members)
+    → section_of name first root ≡ Ok t → IsTableIfAny name root
+table_is name first root t e d at = found (as_table d) refl
+    (sym (ap (λ (o : Option Data). section_or first o) at) ∙ e)
+  where
+    found : (o : Option Members) → as_table d ≡ o → table_or first o ≡ Ok t
+        → (m : Members) × (as_table d ≡ Some m)
+    found (Some m) is e = (m, is)
+    found None is e = cc
+
 record ItemsOf (link : LinkSize) (ca : CaSize) (o : Option Data) (v : List StationSettings) : Type
     0 where
   items : Items
   are : option_and_then as_array o ≡ Some items
   stations : AreStationsOf link ca items v
+  some : 1 ≤ length v
+  most : length v ≤ 32
+  new : AreNewAfter [] v
 
 items_are : (link : LinkSize) (ca : CaSize) (o : Option Data) (v : List StationSettings)
     → stations_of link ca o ≡ Ok v → ItemsOf link ca o v
@@ -343,23 +411,39 @@ items_are link ca None v e = cc
 items_are link ca (Some d) v e = go (as_array d) refl e
   where
     read : (ds : Items) → as_array d ≡ Some ds → (b : Bool)
+        → (nat_lt 0 (count_of ds) && nat_le (count_of ds) 32) ≡ b
         → (if b then stations_from link ca [] ds else Err (codes "station")) ≡ Ok v
         → ItemsOf link ca (Some d) v
-    read ds at true is =
+    read ds at true within is =
         let all = stations_are link ca [] ds v is in
+        let are = subst (λ z. AreStationsOf link ca ds z) all.whole all.are in
+        let many = as_many link ca ds v are in
+        let parts = and_parts (nat_lt 0 (count_of ds)) (nat_le (count_of ds) 32) within in
+        let some : 0 < count_of ds = grind (arith, parts.0) in
+        let most : count_of ds ≤ 32 = grind (arith, parts.1) in
         record {
           items = ds;
           are = at;
-          stations = subst (λ z. AreStationsOf link ca ds z) all.whole all.are;
+          stations = are;
+          some = omega (arith, some, many);
+          most = omega (arith, most, many);
+          new = subst (λ z. AreNewAfter [] z) all.whole all.new;
         }
-    read ds at false is = cc
+    read ds at false within is = cc
 
     go : (o : Option Items) → as_array d ≡ o → stations_in link ca o ≡ Ok v
         → ItemsOf link ca (Some d) v
     go None at is = cc
-    go (Some ds) at is = read ds at (nat_lt 0 (count_of ds) && nat_le (count_of ds) 32) is
+    go (Some ds) at is = read ds at (nat_lt 0 (count_of ds) && nat_le (count_of ds) 32) refl is
 
-gateway_named : (root : Members) (v : Values) → gateway_values root ≡ Ok v → AreNamed root v
+record GatewayOf (root : Members) (v : Values) : Type 0 where
+  named : AreNamed root v
+  tcp : IsTableIfAny (codes "tcp") root
+  some : 1 ≤ length v.stations
+  most : length v.stations ≤ 32
+  new : AreNewAfter [] v.stations
+
+gateway_named : (root : Members) (v : Values) → gateway_values root ≡ Ok v → GatewayOf root v
 gateway_named root v e =
     let lt = bound _ _ v e in
     let l = bound _ _ v lt.rest in
@@ -368,36 +452,146 @@ gateway_named root v e =
     let s = bound _ _ v c.rest in
     let list = items_are l.value.link l.value.sizes.ca (get_member (codes "station") root) s.value
     s.first in
-    subst (λ z. AreNamed root z) (same_ok _ v s.rest) (record {
-      line = subst (λ z. IsLineOf z l.value)
-          (sym (section_is (codes "line") (codes "line.link") root lt.value lt.first))
-          (line_is lt.value l.value l.first);
-      tcp = subst (λ z. IsTcpOf z c.value)
-          (sym (section_is (codes "tcp") (codes "tcp.k") root ct.value ct.first))
-          (tcp_is ct.value c.value c.first);
-      items = list.items;
-      are = list.are;
-      stations = list.stations;
+    subst (λ z. GatewayOf root z) (same_ok _ v s.rest) (record {
+      named = record {
+        line = subst (λ z. IsLineOf z l.value)
+            (sym (section_is (codes "line") (codes "line.link") root lt.value lt.first))
+            (line_is lt.value l.value l.first);
+        tcp = subst (λ z. IsTcpOf z c.value)
+            (sym (section_is (codes "tcp") (codes "tcp.k") root ct.value ct.first))
+            (tcp_is ct.value c.value c.first);
+        items = list.items;
+        are = list.are;
+        stations = list.stations;
+      };
+      tcp = table_is (codes "tcp") (codes "tcp.k") root ct.value ct.first;
+      some = list.some;
+      most = list.most;
+      new = list.new;
     })
 
-pub settings_named : (root : Members) (v : Values) → known_settings root ≡ Ok v → AreNamed root v
-settings_named root v e =
+-- ---- the ends of a live run
+
+word_text : (key path : List ℕ) (t : Option Members) (done : Unit {0})
+    → word_of key path t ≡ Ok done → IsTextIfAny key t
+word_text key path t done e d at = found (as_str d) refl
+    (sym (ap (λ (o : Option Data). text_or path o) (same_value key t ∙ at)) ∙ e)
+  where
+    found : (o : Option (List ℕ)) → as_str d ≡ o → text_in path o ≡ Ok done
+        → (word : List ℕ) × (as_str d ≡ Some word)
+    found (Some word) is e = (word, is)
+    found None is e = cc
+
+-- what stands at the key of an end, and that it is as it should be
+pub record EndOf (good : List ℕ → Bool) (key : List ℕ) (t : Option Members) (text : List ℕ)
+    : Type 0 where
+  pub at_key : option_and_then as_str (value_at key t) ≡ Some text
+  pub as_it_should : good text ≡ true
+
+end_is : (good : List ℕ → Bool) (key path : List ℕ) (t : Option Members) (text : List ℕ)
+    → place_of good key path t ≡ Ok text → EndOf good key t text
+end_is good key path t text e = found (text_of (given_at key t)) refl e
+  where
+    same_text : (o : Option Data) → text_of o ≡ option_and_then as_str o
+    same_text None = refl
+    same_text (Some d) = refl
+
+    judged_text : (word : List ℕ) (b : Bool) → good word ≡ b
+        → (if b then Ok word else Err path) ≡ Ok text → (word ≡ text) × (good word ≡ true)
+    judged_text word true is e = (same_ok word text e, is)
+    judged_text word false is e = cc
+
+    found : (o : Option (List ℕ)) → text_of (given_at key t) ≡ o → place_in good path o ≡ Ok text
+        → EndOf good key t text
+    found None is e = cc
+    found (Some word) is e =
+        let j = judged_text word (good word) refl e in
+        record {
+          at_key = ap (λ o. option_and_then as_str o) (sym (same_value key t))
+              ∙ sym (same_text (given_at key t)) ∙ is ∙ ap Some j.0;
+          as_it_should = subst (λ w. good w ≡ true) j.0 j.1;
+        }
+
+end_text : (key : List ℕ) (t : Option Members) (text : List ℕ)
+    → option_and_then as_str (value_at key t) ≡ Some text → IsTextIfAny key t
+end_text key t text e d at =
+    (text, sym (ap (λ (o : Option Data). option_and_then as_str o) at) ∙ e)
+
+-- ---- what is read of a whole file
+
+-- what a file has where it is read, apart from keys that it may not have
+pub record WholeOf (root : Members) (v : Values) : Type 0 where
+  pub named : AreNamed root v
+  pub may : MayBeRead root v
+
+pub settings_whole : (root : Members) (v : Values) → known_settings root ≡ Ok v → WholeOf root v
+settings_whole root v e =
     let g = bound _ _ v e in
     let t = bound (section_of (codes "live") (codes "live.line") root)
     (λ vt. live_keys vt >>= (λ _. Ok g.value)) v g.rest in
     let k = bound (live_keys t.value) (λ _. Ok g.value) v t.rest in
-    subst (λ z. AreNamed root z) (same_ok g.value v k.rest) (gateway_named root g.value g.first)
+    let first = bound (word_of (codes "line") (codes "live.line") t.value)
+    (λ _. word_of (codes "listen") (codes "live.listen") t.value) k.value k.first in
+    let at = section_is (codes "live") (codes "live.line") root t.value t.first in
+    let all = gateway_named root g.value g.first in
+    subst (λ z. WholeOf root z) (same_ok g.value v k.rest) (record {
+      named = all.named;
+      may = record {
+        tcp = all.tcp;
+        live = table_is (codes "live") (codes "live.line") root t.value t.first;
+        line_end = subst (λ z. IsTextIfAny (codes "line") z) (sym at)
+            (word_text (codes "line") (codes "live.line") t.value first.value first.first);
+        listen_end = subst (λ z. IsTextIfAny (codes "listen") z) (sym at)
+            (word_text (codes "listen") (codes "live.listen") t.value k.value first.rest);
+        some = all.some;
+        most = all.most;
+        distinct = all.new;
+      };
+    })
 
-first_of : {A B : Type 0} (x y : A × B) → x ≡ y → x.0 ≡ y.0
-first_of x y e = ap (λ z. z.0) e
+pub record LiveOf (root : Members) (v : Values) (p : Places) : Type 0 where
+  pub whole : WholeOf root v
+  pub line : EndOf is_line (codes "line") (table_at (codes "live") root) p.line
+  pub listen : EndOf is_address (codes "listen") (table_at (codes "live") root) p.listen
 
-pub live_named : (root : Members) (v : Values) (places : Places)
-    → known_live root ≡ Ok (v, places) → AreNamed root v
-live_named root v places e =
-    let g = bound _ _ (v, places) e in
+places_are : (t : Option Members) (p : Places) → live_places t ≡ Ok p
+    → EndOf is_line (codes "line") t p.line × EndOf is_address (codes "listen") t p.listen
+places_are t p e =
+    let l = bound (place_of is_line (codes "line") (codes "live.line") t) _ p e in
+    let n = bound (place_of is_address (codes "listen") (codes "live.listen") t) _ p l.rest in
+    subst (λ (z : Places). EndOf is_line (codes "line") t z.line
+    × EndOf is_address (codes "listen") t z.listen) (same_ok _ p n.rest) (
+      end_is is_line (codes "line") (codes "live.line") t l.value l.first,
+      end_is is_address (codes "listen") (codes "live.listen") t n.value n.first,
+    )
+
+pub live_whole : (root : Members) (both : Values × Places) → known_live root ≡ Ok both
+    → LiveOf root both.0 both.1
+live_whole root both e =
+    let g = bound _ _ both e in
     let t = bound (section_of (codes "live") (codes "live.line") root)
-    (λ vt. live_places vt >>= (λ found. Ok (g.value, found))) (v, places) g.rest in
-    let k = bound (live_places t.value) (λ found. Ok (g.value, found)) (v, places) t.rest in
-    subst (λ z. AreNamed root z)
-    (first_of (g.value, k.value) (v, places) (same_ok (g.value, k.value) (v, places) k.rest))
-    (gateway_named root g.value g.first)
+    (λ vt. live_places vt >>= (λ found. Ok (g.value, found))) both g.rest in
+    let k = bound (live_places t.value) (λ found. Ok (g.value, found)) both t.rest in
+    let at = section_is (codes "live") (codes "live.line") root t.value t.first in
+    let all = gateway_named root g.value g.first in
+    let ends = places_are t.value k.value k.first in
+    let line = subst (λ z. EndOf is_line (codes "line") z k.value.line) (sym at) ends.0 in
+    let listen = subst (λ z. EndOf is_address (codes "listen") z k.value.listen) (sym at) ends.1 in
+    subst (λ z. LiveOf root z.0 z.1) (same_ok (g.value, k.value) both k.rest) (record {
+      whole = record {
+        named = all.named;
+        may = record {
+          tcp = all.tcp;
+          live = table_is (codes "live") (codes "live.line") root t.value t.first;
+          line_end = end_text (codes "line") (table_at (codes "live") root) k.value.line
+              line.at_key;
+          listen_end = end_text (codes "listen") (table_at (codes "live") root) k.value.listen
+              listen.at_key;
+          some = all.some;
+          most = all.most;
+          distinct = all.new;
+        };
+      };
+      line = line;
+      listen = listen;
+    })

@@ -1,11 +1,11 @@
 -- Files without an unknown key (this gateway's own profile; docs/SETTINGS.md has the keys).
 use Rattle.std.specs.Prelude.{◌≡◌, ℕ, codes, true, List, [], ◌∷◌, Option, Some, None}
 use Rattle.std.specs.Prelude.{option_and_then}
-use Rattle.std.specs.List.{list_any, AllByRecursion}
+use Rattle.std.specs.List.{list_any}
 use Rattle.std.specs.Str.{bytes_eq}
-use Rattle.toml.specs.Data.{Items, no_items, item, Members, get_member, as_array, as_table}
+use Rattle.toml.specs.Data.{Items, no_items, item, Members, no_members, member, get_member}
+use Rattle.toml.specs.Data.{as_array, as_table}
 use Rattle.settings.specs.Named.{table_at}
-use Rattle.settings.specs.Unknown.{member_keys}
 
 -- the tables of a file, and the keys of each
 abbrev pub file_keys : List (List ℕ)
@@ -31,10 +31,15 @@ live_keys = codes "line" ∷ codes "listen" ∷ []
 abbrev pub IsAmong : (keys : List (List ℕ)) → (key : List ℕ) → Type 0
 IsAmong keys key = list_any (bytes_eq key) keys ≡ true
 
+-- each key of a table is one of these
+abbrev pub AreAmong : (keys : List (List ℕ)) → Members → Type 0
+AreAmong keys no_members = Unit {0}
+AreAmong keys (member key d table) = IsAmong keys key × AreAmong keys table
+
 -- a table, where it is one, has no other keys than these
 abbrev pub HasOnly : (keys : List (List ℕ)) → Option Members → Type 0
 HasOnly keys None = Unit {0}
-HasOnly keys (Some table) = AllByRecursion (IsAmong keys) (member_keys table)
+HasOnly keys (Some table) = AreAmong keys table
 
 abbrev pub EachHasOnly : (keys : List (List ℕ)) → Items → Type 0
 EachHasOnly keys no_items = Unit {0}

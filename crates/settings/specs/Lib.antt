@@ -9,3 +9,4 @@ pub mod Unknown
 pub mod Wanted
 pub mod Named
 pub mod Known
+pub mod Files

@@ -1,6 +1,7 @@
 -- What a file says of each setting: each has one key, in its own table, and the value that stands
--- there, or its default (this gateway's own profile; docs/SETTINGS.md is the same table).
-use Rattle.std.specs.Prelude.{◌≡◌, ℕ, pos, ◌-◌, ◌≤◌, codes, Bool, true, false, List, []}
+-- there, or its default (this gateway's own profile; docs/SETTINGS.md is the same table). All of it
+-- speaks of the document alone.
+use Rattle.std.specs.Prelude.{◌≡◌, ℕ, pos, ◌-◌, ◌^◌, ◌≤◌, codes, Bool, true, false, List, []}
 use Rattle.std.specs.Prelude.{◌∷◌, ◌++◌, ◌==◌, length}
 use Rattle.std.specs.List.{list_any}
 use Rattle.std.specs.Prelude.{Option, Some, None, option_and_then}
@@ -14,29 +15,31 @@ use Rattle.asdu.specs.Sizes.{cause_len, ca_len, ioa_len}
 use Rattle.gateway.specs.declared.settings.Silence.{Silence}
 use Rattle.gateway.specs.declared.settings.Silence.TheVariants.{Hold, Reset}
 use Rattle.gateway.specs.declared.settings.StationSettings.{StationSettings}
-use Rattle.settings.specs.Keys.{given_at}
 use Rattle.settings.specs.Line.{Line}
 use Rattle.settings.specs.Settings.{Values}
-use Rattle.settings.specs.Stations.{greatest_address, greatest_ca}
 use Rattle.settings.specs.Tcp.{Tcp}
 
 -- the table of this name, where there is one
 abbrev pub table_at : (name : List ℕ) → Members → Option Members
 table_at name root = option_and_then as_table (get_member name root)
 
+-- the value that a table has at the key, where there is a table and it has one
+abbrev pub value_at : (key : List ℕ) → Option Members → Option Data
+value_at key table = option_and_then (λ t. get_member key t) table
+
 -- The number is the one that the table has at the key, or the default where it has none there; and
 -- it is within these bounds.
 pub record IsNumber (key : List ℕ) (low high : ℕ) (default : Option ℕ) (table : Option Members)
     (n : ℕ) : Type 0 where
-  pub given : (d : Data) → given_at key table ≡ Some d → as_integer d ≡ Some (pos n)
-  pub missing : given_at key table ≡ None → default ≡ Some n
+  pub given : (d : Data) → value_at key table ≡ Some d → as_integer d ≡ Some (pos n)
+  pub missing : value_at key table ≡ None → default ≡ Some n
   pub not_below : low ≤ n
   pub not_above : n ≤ high
 
 -- The flag is the one that the table has at the key, or false where it has none there.
 pub record IsFlag (key : List ℕ) (table : Option Members) (b : Bool) : Type 0 where
-  pub given : (d : Data) → given_at key table ≡ Some d → as_bool d ≡ Some b
-  pub missing : given_at key table ≡ None → b ≡ false
+  pub given : (d : Data) → value_at key table ≡ Some d → as_bool d ≡ Some b
+  pub missing : value_at key table ≡ None → b ≡ false
 
 -- the word says that a service is held in silence, or that the link is reset
 abbrev pub SaysSilence : (word : List ℕ) → Silence → Type 0
@@ -45,9 +48,9 @@ SaysSilence word Reset = bytes_eq word (codes "reset") ≡ true
 
 -- It is what the word of the table says; without one a service is held.
 pub record IsSilence (table : Option Members) (s : Silence) : Type 0 where
-  pub given : (d : Data) → given_at (codes "silence") table ≡ Some d →
+  pub given : (d : Data) → value_at (codes "silence") table ≡ Some d →
       (word : List ℕ) × (as_str d ≡ Some word) × SaysSilence word s
-  pub missing : given_at (codes "silence") table ≡ None → s ≡ Hold
+  pub missing : value_at (codes "silence") table ≡ None → s ≡ Hold
 
 -- the settings of the line, each by its key in the table `line`
 pub record IsLineOf (table : Option Members) (l : Line) : Type 0 where
@@ -71,11 +74,16 @@ pub record IsTcpOf (table : Option Members) (t : Tcp) : Type 0 where
   pub select_ms : IsNumber (codes "select_ms") 1 600000 (Some 30000) table t.select_ms
   pub max_age_ms : IsNumber (codes "max_age_ms") 1 3600000 (Some 10000) table t.max_age_ms
 
+-- the greatest address of so many octets: the next number, the greatest of all, is the broadcast
+-- address of a link (IEC 60870-5-2, 3.3) and the global one of ASDUs (IEC 60870-5-101, 7.2.4)
+abbrev pub greatest_of : (octets : ℕ) → ℕ
+greatest_of octets = 256 ^ octets - 2
+
 -- those of a station, in its own table
 pub record IsStationOf (link : LinkSize) (ca : CaSize) (table : Option Members)
     (s : StationSettings) : Type 0 where
-  pub address : IsNumber (codes "address") 1 (greatest_address link) None table s.address
-  pub common : IsNumber (codes "ca") 1 (greatest_ca ca) None table s.ca
+  pub address : IsNumber (codes "address") 1 (greatest_of (address_len link)) None table s.address
+  pub common : IsNumber (codes "ca") 1 (greatest_of (ca_len ca)) None table s.ca
   pub select : IsFlag (codes "select") table s.select
 
 -- the stations are those of these tables, one after another
@@ -103,7 +111,7 @@ IsTableIfAny name root =
 -- the text at a key, if there is a value of it, is one
 abbrev pub IsTextIfAny : (key : List ℕ) → Option Members → Type 0
 IsTextIfAny key table =
-    (d : Data) → given_at key table ≡ Some d → (word : List ℕ) × (as_str d ≡ Some word)
+    (d : Data) → value_at key table ≡ Some d → (word : List ℕ) × (as_str d ≡ Some word)
 
 -- none of the stations has the link address, or the common address, of one before it
 abbrev pub AreNewAfter : (before : List StationSettings) → List StationSettings → Type 0

@@ -1,19 +1,23 @@
 //! A whole file of settings.
-ghost use Rattle.std.specs.Prelude.{ℕ, List, MatchResult, true};
+ghost use Rattle.std.specs.Prelude.{◌≡◌, ℕ, List, MatchResult, IfOk, true};
 ghost use Rattle.toml.specs.View.{table_view};
 ghost use Rattle.settings.specs.Settings.{values_of, gateway_values, known_settings, known_live};
 ghost use Rattle.settings.specs.Settings.{live_values_of, IsKnownOf, IsReadOf, IsDocument};
 ghost use Rattle.settings.specs.Settings.{IsRootFault, IsReadFor, IsReadOfText, IsLiveReadOfText};
+ghost use Rattle.settings.specs.Settings.{line_values, wrong_station};
+ghost use Rattle.settings.specs.Faults.{seen_by};
+ghost use Rattle.settings.specs.Line.{line_of};
 
 use crate::ConfigFault;
+use crate::fault::WrongKey;
 use crate::keys::{given, section};
 use crate::line::read_line;
 use crate::live::{LiveSettings, judge_live, read_live};
-use crate::stations::read_stations;
+use crate::stations::{first_wrong, read_stations};
 use crate::tcp::read_tcp;
 use crate::unknown::refuse_unknown;
-use gateway::Config;
-use std::alloc::Global;
+use gateway::{Config, LineSettings};
+use std::alloc::{AllocError, Global};
 use toml::Table;
 
 /// Reads the settings of a file. The first fault is answered: octets that are no TOML document,
@@ -119,6 +123,29 @@ fn read_known_live(alloc: Global, root: &Table) -> Result<(Config, LiveSettings)
     let config = read_gateway(alloc, root)?;
     let live = read_live(alloc, section(root, "live", "live.line")?)?;
     Ok((config, live))
+}
+
+/// Which station of a file is the first that is wrong, counted from 0, if one is; none, where the
+/// line is wrong.
+pub fn wrong_station(alloc: Global, root: &Table) -> Result<Option<usize>, AllocError>
+    ensures { IfOk result (λ item. item ≡ wrong_station (table_view root.now)) }
+{
+    match line_in(root) {
+        Ok(line) => first_wrong(
+            alloc,
+            given(Some(root), "station"),
+            line.link,
+            line.sizes.ca,
+        ),
+        Err(_) => Ok(None),
+    }
+}
+
+/// The settings of the line.
+fn line_in(root: &Table) -> Result<LineSettings, WrongKey>
+    ensures { seen_by line_of result ≡ line_values (table_view root.now) }
+{
+    read_line(section(root, "line", "line.link")?)
 }
 
 /// Reads each key of the gateway itself, in its order.

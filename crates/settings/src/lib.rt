@@ -20,7 +20,7 @@ mod tcp;
 mod unknown;
 mod wanted;
 
-pub use config::{read_config, read_live_config};
+pub use config::{read_config, read_live_config, wrong_station};
 pub use fault::{ConfigFault, WrongKey};
 pub use keys::{Flag, Whole, given, section};
 pub use live::{LiveSettings, is_address, is_here};

@@ -1,35 +1,46 @@
 //! Each setting has one key.
-ghost use Rattle.std.specs.Prelude.{◌≡◌, Ok, []};
-ghost use Rattle.toml.specs.Data.{Members};
-ghost use Rattle.settings.specs.Known.{AreAllKnown};
+ghost use Rattle.std.specs.Prelude.{◌≡◌, ℕ, List, Bool, true, Ok, Result};
+ghost use Rattle.gateway.specs.Config.{Settings};
+ghost use Rattle.settings.specs.Files.{AreEndsOf, HasNoOtherKeys, HasPlaces, IsFileOf, IsFromFile};
+ghost use Rattle.settings.specs.Files.{IsReadAs, IsReadWith};
 ghost use Rattle.settings.specs.Live.{Places};
-ghost use Rattle.settings.specs.Settings.{Values, known_settings, known_live};
-ghost use Rattle.settings.specs.Named.{AreNamed, MayBeRead};
-ghost use Rattle.settings.specs.Unknown.{unknown_paths};
+ghost use Rattle.settings.specs.Settings.{IsLiveReadOfText, IsReadFor, IsReadOfText, Values};
+ghost use Rattle.settings.specs.declared.fault.ConfigFault.{ConfigFault};
+ghost use Rattle.settings.specs.declared.live.LiveSettings.{LiveSettings};
 
-/// Each setting that is read is the value that stands in the file under its own key, or its own
-/// default where none does, and is within its own bounds: no other key, no other table and no
-/// other station changes it. So it is with a live run's ends, and without.
+/// Each of the gateway's settings that is read from a text is the value that stands there under its
+/// own key, or its own default where none does, and is within its own bounds: no other key, no
+/// other table and no other station changes it. So it is with a live run's ends, and without; and
+/// each end is the text of its own key.
 pub fn settings_are_named()
-    ensures settings { (root : Members) (v : Values) → known_settings root ≡ Ok v →
-        AreNamed root v }
-    ensures live { (root : Members) (v : Values) (places : Places) →
-        known_live root ≡ Ok (v, places) → AreNamed root v }
+    ensures settings { (needs_ends : Bool) (text : List ℕ) (c : Settings) →
+        IsReadFor needs_ends text (Ok c) → IsFromFile text c }
+    ensures live { (text : List ℕ) (c : Settings) (ends : LiveSettings) →
+        IsLiveReadOfText text (Ok (c, ends)) → IsFromFile text c × AreEndsOf text ends }
 {}
 
 /// And the other way round: a file in which each setting stands under its own key, within its own
-/// bounds, or has a default, is read, and gives these settings. So no value within its bounds is
-/// refused, neither the least nor the greatest, and no station whatever its place, its addresses
-/// and how many there are of 1 to 32, as long as no two have one address. (Keys that no table may
-/// have are looked for behind this.)
+/// bounds, or has a default, is read, and gives the gateway these settings. So no value within its
+/// bounds is refused, neither the least nor the greatest, and no station whatever its place, its
+/// addresses and how many there are of 1 to 32, as long as no two have one address.
 pub fn named_settings_are_read()
-    ensures { (root : Members) (v : Values) → AreNamed root v → MayBeRead root v →
-        known_settings root ≡ Ok v }
+    ensures settings { (text : List ℕ) (v : Values) (result : Result Settings ConfigFault) →
+        IsFileOf text v → HasNoOtherKeys text → IsReadOfText text result → IsReadAs v result }
+    ensures needing_ends { (text : List ℕ) (v : Values) (p : Places)
+        (result : Result Settings ConfigFault) → IsFileOf text v → HasNoOtherKeys text →
+        HasPlaces text p → IsReadFor true text result → IsReadAs v result }
+    ensures live { (text : List ℕ) (v : Values) (p : Places)
+        (result : Result (Settings × LiveSettings) ConfigFault) → IsFileOf text v →
+        HasNoOtherKeys text → HasPlaces text p → IsLiveReadOfText text result →
+        IsReadWith v p result }
 {}
 
 /// A file that is read has no other keys than those of docs/SETTINGS.md, each in its own table: a
 /// key that is spelled wrong isn't passed over, so no setting has its default where another value
 /// was meant.
 pub fn other_keys_are_refused()
-    ensures { (root : Members) → unknown_paths root ≡ [] → AreAllKnown root }
+    ensures settings { (needs_ends : Bool) (text : List ℕ) (c : Settings) →
+        IsReadFor needs_ends text (Ok c) → HasNoOtherKeys text }
+    ensures live { (text : List ℕ) (c : Settings) (ends : LiveSettings) →
+        IsLiveReadOfText text (Ok (c, ends)) → HasNoOtherKeys text }
 {}

@@ -9,7 +9,7 @@ ghost use Rattle.gateway.specs.Config.{AreStations};
 ghost use Rattle.gateway.specs.Settings.{IsLinkAddress, IsCommonAddress};
 ghost use Rattle.settings.specs.Stations.{greatest_address, greatest_ca, address_of, ca_of};
 ghost use Rattle.settings.specs.Stations.{distinct_number, station_of, stations_from, stations_of};
-ghost use Rattle.settings.specs.Stations.{IsAsExpected, IsNext};
+ghost use Rattle.settings.specs.Stations.{IsAsExpected, IsNext, wrong_from, wrong_of};
 
 use crate::ConfigFault;
 use crate::fault::WrongKey;
@@ -17,7 +17,7 @@ use crate::keys::{Flag, Whole};
 use asdu::CaSize;
 use ft12::LinkSize;
 use gateway::StationSettings;
-use std::alloc::Global;
+use std::alloc::{AllocError, Global};
 use toml::{Table, Value};
 
 const SELECT: &Flag = &Flag {
@@ -95,6 +95,45 @@ fn read_each(
         stations.push(station)?;
     }
     Ok(stations)
+}
+
+/// Which station is the first that is wrong, counted from 0, if one is.
+pub(crate) fn first_wrong(
+    alloc: Global,
+    value: Option<&Value>,
+    link: LinkSize,
+    ca: CaSize,
+) -> Result<Option<usize>, AllocError>
+    ensures { IfOk result (λ item.
+        item ≡ wrong_of link ca (option_map (λ v. view v.now) value.entry)) }
+{
+    let Some(value) = value else {
+        return Ok(None);
+    };
+    match value.as_array() {
+        Some(tables) => first_of(alloc, tables.as_slice(), link, ca),
+        None => Ok(None),
+    }
+}
+
+/// Which of these is the first that is wrong.
+#[tactic(auto, using(crate::proofs::StationLemmas::wrong_here, crate::proofs::StationLemmas::wrong_end))]
+fn first_of(
+    alloc: Global,
+    tables: &[Value],
+    link: LinkSize,
+    ca: CaSize,
+) -> Result<Option<usize>, AllocError>
+    ensures { IfOk result (λ item. item ≡ wrong_from link ca 0 [] (items_view tables.now)) }
+{
+    let mut stations = Vec::new(alloc);
+    for (item, table) in tables.iter().enumerate() {
+        match read_station(table, link, ca, stations.as_slice()) {
+            Ok(station) => stations.push(station)?,
+            Err(_) => return Ok(Some(item)),
+        }
+    }
+    Ok(None)
 }
 
 fn has_address(stations: &[StationSettings], address: u16) -> bool

@@ -1,13 +1,20 @@
 -- What each call gives, case by case.
-use Rattle.std.proofs.Common.{◌≡◌, ℕ, ◌-◌, ◌≤◌, true, false, List, Option, Some, None, refl}
+use Rattle.std.proofs.Common.{◌≡◌, ℕ, suc, ◌+◌, ◌-◌, ◌≤◌, true, false, List, [], ◌∷◌, ◌++◌, length}
+use Rattle.std.proofs.Common.{Option, Some, None, refl, ap, ◌∙◌, arith}
+use Rattle.std.proofs.lemmas.List.{length-append}
 use Rattle.std.proofs.lemmas.Bool.{le-leb, lt-leb}
-use Rattle.gateway.specs.Log.{LineIn, Opened, TcpIn, CutOff, Ticked, WallIs}
+use Rattle.ft12.specs.declared.frame.Frame.{Frame}
+use Rattle.link.specs.Secondary.{Secondary}
+use Rattle.gateway.specs.Log.{Log, Input, Came, Went, LineIn, Opened, TcpIn, CutOff, Ticked}
+use Rattle.gateway.specs.Log.{WallIs, events_of}
 use Rattle.sim.specs.declared.centre.Centre.{Centre}
 use Rattle.sim.specs.declared.directive.Directive.{Directive}
-use Rattle.sim.specs.Calls.{event_at}
-use Rattle.sim.specs.Centres.{start_apdu, acknowledging_apdu, data_apdu}
+use Rattle.sim.specs.Calls.{event_at, calls_in}
+use Rattle.sim.specs.Centres.{centre_of, start_apdu, acknowledging_apdu, data_apdu}
 use Rattle.sim.specs.Firsts.{StaysOpen, Runs, IsQuiet}
+use Rattle.sim.specs.Lives.{Plan, waiting_in}
 use Rattle.sim.specs.Losses.{ack_of, wall_at, is_cut_at, sent_at}
+use Rattle.sim.specs.Played.{IsPlayed}
 
 pub wall_first : (ds : List Directive) (call number : ℕ) (c : Centre) (waiting : Option (List ℕ))
     → wall_at ds call ≡ Some number → event_at ds call c waiting ≡ WallIs number
@@ -69,3 +76,28 @@ tick_last ds call c h =
       h.unsent,
       lt-leb (ack_of ds) (c.received - c.acknowledged) h.few,
     ) refl
+
+-- ---- calls of a run
+
+-- there are as many as events
+pub calls_are : (log : Log) → calls_in log ≡ length (events_of log)
+calls_are [] = refl
+calls_are (Came now event ∷ log) =
+    let before : calls_in log ≡ length (events_of log) = calls_are log in
+    let one : length (events_of log ++ Came now event ∷ []) ≡ length (events_of log) + 1 =
+    length-append (events_of log) (Came now event ∷ []) in
+    omega arith
+calls_are (Went now action ∷ log) = calls_are log
+
+pub event_is : (plan : Plan) (log : Log) (answers : List (Option Frame))
+    (stations : List Secondary) (now : ℕ) (event : Input)
+    → IsPlayed plan (Came now event ∷ log) answers stations
+    → event
+    ≡ event_at plan.directives (suc (length (events_of log))) (centre_of log)
+    (waiting_in plan log answers)
+event_is plan log answers stations now event played =
+    let before : calls_in log ≡ length (events_of log) = calls_are log in
+    let number : calls_in log + 1 ≡ suc (length (events_of log)) = omega arith in
+    played.follows.0
+    ∙ ap (λ (n : ℕ).
+    event_at plan.directives n (centre_of log) (waiting_in plan log answers)) number

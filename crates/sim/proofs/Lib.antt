@@ -29,3 +29,10 @@ pub mod RunLemmas
 pub mod Bare
 pub mod Poured
 pub mod SimulationLemmas
+pub mod Moments
+pub mod Connected
+pub mod Waiting
+pub mod Reported
+pub mod ClosingTexts
+pub mod WrittenLines
+pub mod WrongLines

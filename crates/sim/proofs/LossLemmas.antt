@@ -35,16 +35,16 @@ use Rattle.sim.specs.Losses.{send_said, sent_at, is_cut_at, spoilt_fate, fate_of
 
 -- ---- a line among others
 
-none_in : (d : Directive) → Contains [] d → ⊥
+pub none_in : (d : Directive) → Contains [] d → ⊥
 none_in d c = omega (arith, c.1)
 
-here : (d : Directive) (ds : List Directive) → Contains (d ∷ ds) d
+pub here : (d : Directive) (ds : List Directive) → Contains (d ∷ ds) d
 here d ds = Contains-append_left (d ∷ []) ds d (Contains-push [] d)
 
-there : (e d : Directive) (ds : List Directive) → Contains ds d → Contains (e ∷ ds) d
+pub there : (e d : Directive) (ds : List Directive) → Contains ds d → Contains (e ∷ ds) d
 there e d ds c = Contains-append_right (e ∷ []) ds d c
 
-either : (e d : Directive) (ds : List Directive) → Contains (e ∷ ds) d → (e ≡ d) ⊎ Contains ds d
+pub either : (e d : Directive) (ds : List Directive) → Contains (e ∷ ds) d → (e ≡ d) ⊎ Contains ds d
 either e d ds c = go (Contains-append_cases (e ∷ []) ds d c)
   where
     alone : Contains [] d ⊎ (e ≡ d) → (e ≡ d) ⊎ Contains ds d

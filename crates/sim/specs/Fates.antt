@@ -1,10 +1,13 @@
 -- What becomes of each request of a run, by the lines of the script that have its number (this
 -- gateway's own profile).
-use Rattle.std.specs.Prelude.{◌≡◌, ◌≢◌, ℕ, ◌%◌, List, length, Contains, Option, Some, None}
+use Rattle.std.specs.Prelude.{◌≡◌, ◌≢◌, ℕ, ◌%◌, Bool, true, false, List, [], ◌∷◌, length, Contains}
+use Rattle.std.specs.Prelude.{Option, Some, None}
+use Rattle.std.specs.List.{AllByRecursion}
 use Rattle.ft12.specs.declared.frame.Frame.{Frame}
 use Rattle.ft12.specs.Spelling.{spelling}
 use Rattle.ft12.specs.Spoiling.{spoilt}
-use Rattle.link.specs.Secondary.{Secondary}
+use Rattle.gateway.specs.Log.{LogEntry, Came, Went, LineIn, LineOut}
+use Rattle.link.specs.Secondary.{Secondary, ReceivesOctets}
 use Rattle.sim.specs.declared.directive.Directive.{Directive}
 use Rattle.sim.specs.declared.directive.Directive.TheVariants.{LoseRequest, LoseAnswer, SpoilAnswer}
 use Rattle.sim.specs.declared.directive.RequestFate.{RequestFate}
@@ -52,3 +55,22 @@ pub record IsByItsLines (plan : Plan) (request : ℕ) (octets : List ℕ) (befor
   pub none : answer ≡ None → waiting ≡ None
   pub comes : (frame : Frame) → answer ≡ Some frame →
       WaitsBy fate (spelling plan.size frame) waiting
+
+-- octets come from the line, or go to it
+abbrev pub is_of_line : LogEntry → Bool
+is_of_line (Came now (LineIn octets)) = true
+is_of_line (Went now (LineOut octets)) = true
+is_of_line entry = false
+
+-- Each station receives the octets, and says this, or nothing.
+abbrev pub ReceiveEach : List ℕ → List Secondary → (said : List (Option Frame)) → List Secondary
+    → Type 0
+ReceiveEach octets [] [] [] = Unit {0}
+ReceiveEach octets (s ∷ ss) (answer ∷ said) (t ∷ ts) =
+    ReceivesOctets s octets answer t × ReceiveEach octets ss said ts
+ReceiveEach octets _ _ _ = ⊥
+
+-- what comes is what one of them says, and nothing only where none says anything
+abbrev pub IsSaid : Option Frame → (said : List (Option Frame)) → Type 0
+IsSaid None said = AllByRecursion (λ answer. answer ≡ None) said
+IsSaid (Some frame) said = Contains said (Some frame)

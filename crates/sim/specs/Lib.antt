@@ -17,3 +17,5 @@ pub mod Simulations
 pub mod Examples
 pub mod Fates
 pub mod Firsts
+pub mod Connected
+pub mod Written

@@ -1,15 +1,22 @@
 //! What holds of every run over a simulated line.
-ghost use Rattle.std.specs.Prelude.{◌≡◌, ◌<◌, ◌≤◌, ◌-◌, ◌^◌, ◌++◌, ◌∷◌, ℕ, suc, true, false, List};
-ghost use Rattle.std.specs.Prelude.{length};
+ghost use Rattle.std.specs.Prelude.{◌≡◌, ◌≢◌, ◌<◌, ◌≤◌, ◌+◌, ◌-◌, ◌^◌, ◌==◌, ◌++◌, ◌∷◌, []};
+ghost use Rattle.std.specs.Prelude.{ℕ, suc, min, true, false, List, length, count_by};
 ghost use Rattle.std.specs.Prelude.{Contains, Option, Some, None, codes};
+ghost use Rattle.std.specs.Fmt.{decimal};
+ghost use Rattle.std.specs.List.{AllByRecursion, flat_map, slice_split};
+ghost use Rattle.apci.specs.Spelling.{spelling};
+ghost use Rattle.apci.specs.declared.apdu.Apdu.{Apdu};
 ghost use Rattle.ft12.specs.declared.frame.Frame.{Frame};
 ghost use Rattle.ft12.specs.declared.frame.LinkSize.{LinkSize};
+ghost use Rattle.link.specs.Exchanges.{OpenExchange};
 ghost use Rattle.link.specs.Secondary.{Secondary};
+ghost use Rattle.session.specs.declared.kinds.Close.{Close};
 ghost use Rattle.gateway.specs.Course.{here_of};
 ghost use Rattle.gateway.specs.Config.{Settings, AreDistinct};
-ghost use Rattle.gateway.specs.Log.{Log, Went, LineIn, Opened, TcpIn, CutOff, Ticked, WallIs};
-ghost use Rattle.gateway.specs.Log.{LineOut};
-ghost use Rattle.gateway.specs.Reports.{Setup};
+ghost use Rattle.gateway.specs.Log.{Log, Input, Came, Went, LineIn, Opened, TcpIn, CutOff, Ticked};
+ghost use Rattle.gateway.specs.Log.{WallIs, LineOut, TcpOut, Closed, events_of, last_moment};
+ghost use Rattle.gateway.specs.Log.{latest};
+ghost use Rattle.gateway.specs.Reports.{Setup, exchanges_of};
 ghost use Rattle.gateway.specs.Setups.{setup_of};
 ghost use Rattle.gateway.specs.Traffic.{IsFaithful};
 ghost use Rattle.delivery.specs.Delivery.{Delivers};
@@ -17,19 +24,24 @@ ghost use Rattle.sim.specs.declared.centre.Centre.{Centre};
 ghost use Rattle.sim.specs.declared.directive.Directive.{Directive};
 ghost use Rattle.sim.specs.declared.directive.Directive.TheVariants.{LoseRequest, LoseAnswer};
 ghost use Rattle.sim.specs.declared.directive.Directive.TheVariants.{SpoilAnswer, Cut, Send};
+ghost use Rattle.sim.specs.declared.directive.Directive.TheVariants.{Report};
+ghost use Rattle.sim.specs.declared.directive.Class.{Class};
 ghost use Rattle.sim.specs.declared.tally.StationTally.{StationTally};
 ghost use Rattle.sim.specs.Tallies.{tallies_of};
 ghost use Rattle.sim.specs.Connections.{counted_in};
 ghost use Rattle.sim.specs.Directives.{number_of, directive_in};
-ghost use Rattle.sim.specs.Calls.{event_at};
-ghost use Rattle.sim.specs.Centres.{start_apdu, acknowledging_apdu, data_apdu};
-ghost use Rattle.sim.specs.Fates.{IsFate, IsByItsLines};
+ghost use Rattle.sim.specs.Calls.{calls_in, event_at};
+ghost use Rattle.sim.specs.Centres.{centre_of, start_apdu, acknowledging_apdu, data_apdu};
+ghost use Rattle.sim.specs.Connected.{goes_on, brings_data, sends_data, starts, is_i_format};
+ghost use Rattle.sim.specs.Connected.{is_start, Knows, IsFrameOf};
+ghost use Rattle.sim.specs.Fates.{IsFate, IsByItsLines, is_of_line, ReceiveEach, IsSaid};
 ghost use Rattle.sim.specs.Firsts.{StaysOpen, Runs, IsQuiet};
-ghost use Rattle.sim.specs.Lives.{Plan, AreLived, plan_of, requests_in, waiting_in};
-ghost use Rattle.sim.specs.Losses.{fate_of, ack_of, wall_at, is_cut_at, sent_at};
+ghost use Rattle.sim.specs.Lives.{Plan, AreLived, ReceivedByAll, plan_of, requests_in, waiting_in};
+ghost use Rattle.sim.specs.Losses.{fate_of, ack_of, wall_at, is_cut_at, sent_at, report_said};
 ghost use Rattle.sim.specs.Played.{IsPlayed};
 ghost use Rattle.sim.specs.Outstations.{HaveServed};
-ghost use Rattle.sim.specs.Texts.{connection_lines};
+ghost use Rattle.sim.specs.Texts.{reports_for, station_line, station_lines, connection_line};
+ghost use Rattle.sim.specs.Texts.{connection_lines, session_line, session_lines, closing_lines};
 ghost use Rattle.sim.specs.Closing.{connections_in, lines_of_connections};
 
 use apci::spellings_cancel;
@@ -117,7 +129,8 @@ pub fn each_request_fares_by_its_lines()
 
 /// Each call gives the wall clock if the script has it there, else the first of seven events that
 /// applies, whatever the script and the call: so a cut comes before what is sent at the same call,
-/// and before any answer.
+/// and before any answer. The calls of a run are its events, counted from 1: each event of a run
+/// is what the call with its number gives.
 pub fn calls_give_the_first_that_applies()
     ensures wall { (ds : List Directive) (call number : ℕ) (c : Centre)
         (waiting : Option (List ℕ)) → wall_at ds call ≡ Some number →
@@ -142,4 +155,130 @@ pub fn calls_give_the_first_that_applies()
         IsQuiet ds call c → event_at ds call c (Some piece) ≡ LineIn piece }
     ensures tick { (ds : List Directive) (call : ℕ) (c : Centre) → IsQuiet ds call c →
         event_at ds call c None ≡ Ticked }
+    ensures each { (plan : Plan) (log : Log) (answers : List (Option Frame))
+        (stations : List Secondary) (now : ℕ) (event : Input) →
+        IsPlayed plan (Came now event ∷ log) answers stations →
+        event ≡ event_at plan.directives (suc (length (events_of log))) (centre_of log)
+        (waiting_in plan log answers) }
+    ensures count { (log : Log) → calls_in log ≡ length (events_of log) }
+{}
+
+/// A run has moments of its own, whatever its script says: each event but a tick comes a
+/// millisecond behind the one before it, and a tick as long behind it as an answer is awaited. So
+/// moments never fall, and none is past the last that counts. A request that is unanswered at a
+/// tick has had all its time.
+pub fn events_have_their_moments()
+    ensures others { (plan : Plan) (log : Log) (answers : List (Option Frame))
+        (stations : List Secondary) (now : ℕ) (event : Input) →
+        IsPlayed plan (Came now event ∷ log) answers stations → event ≢ Ticked →
+        now ≡ min (latest log + 1) last_moment }
+    ensures ticks { (c : Settings) (ds : List Directive) (log : Log)
+        (answers : List (Option Frame)) (stations : List Secondary) (now : ℕ) →
+        IsPlayed (plan_of c ds) (Came now Ticked ∷ log) answers stations →
+        now ≡ min (latest log + c.line.answer_ms) last_moment }
+    ensures order { (plan : Plan) (log : Log) (answers : List (Option Frame))
+        (stations : List Secondary) (now : ℕ) (event : Input) →
+        IsPlayed plan (Came now event ∷ log) answers stations →
+        (latest log ≤ now) × (now ≤ last_moment) }
+    ensures silence { (c : Settings) (ds : List Directive) (log : Log)
+        (answers : List (Option Frame)) (stations : List Secondary) (now : ℕ)
+        (x : OpenExchange) → IsPlayed (plan_of c ds) (Came now Ticked ∷ log) answers stations →
+        IsFaithful (setup_of c) log → now < last_moment →
+        (exchanges_of (setup_of c) log).current ≡ Some x →
+        x.since + c.line.answer_ms ≤ now }
+{}
+
+/// The control centre counts the frames of its connection, from its opening until it is cut or
+/// closed, and nothing of those before (IEC 60870-5-104, 5.1 and 5.3). Each frame that it sends is
+/// STARTDT act, or bears in N(R) how many I frames came, and in N(S) how many it sent before. It
+/// has acknowledged those that had come when it last sent an I or an S frame.
+pub fn the_centre_counts_the_frames_of_its_connection()
+    ensures counts { (news log : Log) (now : ℕ) →
+        AllByRecursion (λ entry. goes_on entry ≡ true) news →
+        Knows news (centre_of (news ++ Came now Opened ∷ log)) }
+    ensures cut { (news log : Log) (now : ℕ) →
+        AllByRecursion (λ entry. goes_on entry ≡ true) news →
+        (centre_of (news ++ Came now CutOff ∷ log)).is_open ≡ false }
+    ensures closed { (news log : Log) (now : ℕ) (cause : Close) →
+        AllByRecursion (λ entry. goes_on entry ≡ true) news →
+        (centre_of (news ++ Went now (Closed cause) ∷ log)).is_open ≡ false }
+    ensures unopened { (news : Log) → AllByRecursion (λ entry. goes_on entry ≡ true) news →
+        (centre_of news).is_open ≡ false }
+    ensures frames { (now : ℕ) (frame : Apdu) →
+        (brings_data (Went now (TcpOut (spelling frame))) ≡ is_i_format frame)
+        × (sends_data (Came now (TcpIn (spelling frame))) ≡ is_i_format frame)
+        × (starts (Came now (TcpIn (spelling frame))) ≡ is_start frame) }
+    ensures numbers { (plan : Plan) (log : Log) (answers : List (Option Frame))
+        (stations : List Secondary) (now : ℕ) (octets : List ℕ) →
+        IsPlayed plan (Came now (TcpIn octets) ∷ log) answers stations →
+        IsFrameOf (centre_of log) octets }
+{}
+
+/// A request that is received is received by each station, and what one of them says is what
+/// comes: nothing comes only where none says anything. The answer waits until it is given or a
+/// next request goes out, whatever else happens, and is given once.
+pub fn answers_wait_until_they_are_given()
+    ensures said { (octets : List ℕ) (before : List Secondary) (answer : Option Frame)
+        (after : List Secondary) → ReceivedByAll octets before answer after →
+        (said : List (Option Frame)) × ReceiveEach octets before said after
+        × IsSaid answer said }
+    ensures waits { (plan : Plan) (news log : Log) (answers : List (Option Frame)) →
+        AllByRecursion (λ entry. is_of_line entry ≡ false) news →
+        waiting_in plan (news ++ log) answers ≡ waiting_in plan log answers }
+    ensures given { (plan : Plan) (log : Log) (answers : List (Option Frame)) (now : ℕ)
+        (octets : List ℕ) → waiting_in plan (Came now (LineIn octets) ∷ log) answers ≡ None }
+{}
+
+/// A line `report` gives its station its octets, in its class, behind those of the lines before
+/// it. No other line gives the station anything of that class.
+pub fn reports_are_those_of_their_lines()
+    ensures own { (station : ℕ) (class : Class) (ds : List Directive) (octets : List ℕ) →
+        flat_map (report_said station class) (ds ++ Report station class octets ∷ [])
+        ≡ flat_map (report_said station class) ds ++ octets ∷ [] }
+    ensures others { (station : ℕ) (class : Class) (ds : List Directive)
+        (directive : Directive) →
+        ((octets : List ℕ) → directive ≢ Report station class octets) →
+        flat_map (report_said station class) (ds ++ directive ∷ [])
+        ≡ flat_map (report_said station class) ds }
+{}
+
+/// The closing lines tell of each station and each connection, whatever its place: its number,
+/// from 1, and its counts. A station has a line of sessions where its link had more than one. Each
+/// line is words and numbers, with one space between two, and a line feed behind the last. First
+/// come those of the stations, then those of the connections, and last those of sessions.
+pub fn closing_lines_tell_of_all()
+    ensures order { (ds : List Directive) (ss : List Secondary) (connections : List ℕ)
+        (tallies : List StationTally) →
+        closing_lines ds ss connections tallies
+        ≡ station_lines ds 0 ss ++ connections ++ session_lines 0 tallies }
+    ensures stations { (ds : List Directive) (ss : List Secondary) (s : Secondary) →
+        station_lines ds 0 (ss ++ s ∷ [])
+        ≡ station_lines ds 0 ss
+        ++ station_line (length ss + 1) (count_by (reports_for (length ss)) ds) s.given
+        (length s.accepted) }
+    ensures connections { (counts : List ℕ) (count : ℕ) →
+        connection_lines 1 (counts ++ count ∷ [])
+        ≡ connection_lines 1 counts ++ connection_line (length counts + 1) count }
+    ensures sessions { (tallies : List StationTally) (t : StationTally) → 1 < t.sessions →
+        session_lines 0 (tallies ++ t ∷ [])
+        ≡ session_lines 0 tallies
+        ++ session_line (length tallies + 1) t.sessions t.gaps t.lost }
+    ensures one_session { (tallies : List StationTally) (t : StationTally) → t.sessions ≤ 1 →
+        session_lines 0 (tallies ++ t ∷ []) ≡ session_lines 0 tallies }
+    ensures station_fields { (station reports given accepted : ℕ) → station < 2 ^ 64 →
+        reports < 2 ^ 64 → given < 2 ^ 64 → accepted < 2 ^ 64 →
+        slice_split (λ b. b == 32) (station_line station reports given accepted)
+        ≡ codes "station" ∷ decimal station ∷ codes "reports" ∷ decimal reports
+        ∷ codes "given" ∷ decimal given ∷ codes "accepted"
+        ∷ (decimal accepted ++ 10 ∷ []) ∷ [] }
+    ensures connection_fields { (connection objects : ℕ) → connection < 2 ^ 64 →
+        objects < 2 ^ 64 →
+        slice_split (λ b. b == 32) (connection_line connection objects)
+        ≡ codes "connection" ∷ decimal connection ∷ codes "objects"
+        ∷ (decimal objects ++ 10 ∷ []) ∷ [] }
+    ensures session_fields { (station sessions gaps lost : ℕ) → station < 2 ^ 64 →
+        sessions < 2 ^ 64 → gaps < 2 ^ 64 → lost < 2 ^ 64 →
+        slice_split (λ b. b == 32) (session_line station sessions gaps lost)
+        ≡ codes "sessions" ∷ decimal station ∷ decimal sessions ∷ codes "gaps" ∷ decimal gaps
+        ∷ codes "lost" ∷ (decimal lost ++ 10 ∷ []) ∷ [] }
 {}

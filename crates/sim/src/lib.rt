@@ -31,6 +31,14 @@
 //! ([`each_line_is_about_its_number`]), and what becomes of a request and of its answer is what the
 //! lines with its number say ([`each_request_fares_by_its_lines`], `specs/Fates.antt`).
 //!
+//! When the events of a run come ([`events_have_their_moments`]), and what the control centre
+//! counts and sends ([`the_centre_counts_the_frames_of_its_connection`]), holds of every run. An
+//! answer waits until it is given ([`answers_wait_until_they_are_given`]), and a station reports
+//! what its lines say ([`reports_are_those_of_their_lines`]). Scripts are read field by field
+//! ([`lines_say_what_they_write`]) and line by line ([`texts_are_read_line_by_line`]). What one
+//! says once holds ([`what_is_said_once_holds`]), and the closing lines tell of each station
+//! ([`closing_lines_tell_of_all`]).
+//!
 //! Worked examples have literal texts and octets: of scripts ([`scripts_by_example`]), of what they
 //! do to requests and answers ([`losses_by_example`]), of what stations receive
 //! ([`receptions_by_example`]), of calls ([`calls_by_example`]) and of closing lines
@@ -55,6 +63,7 @@ mod paged;
 mod reading;
 mod receiving;
 mod script;
+mod script_laws;
 mod sim;
 mod simulating;
 mod tallies;
@@ -69,13 +78,18 @@ pub use examples::{
 };
 pub use fault::SimFault;
 pub use laws::{
-    calls_give_the_first_that_applies, connections_are_counted, each_line_is_about_its_number,
-    each_request_fares_by_its_lines, stations_are_honest,
+    answers_wait_until_they_are_given, calls_give_the_first_that_applies,
+    closing_lines_tell_of_all, connections_are_counted, each_line_is_about_its_number,
+    each_request_fares_by_its_lines, events_have_their_moments, reports_are_those_of_their_lines,
+    stations_are_honest, the_centre_counts_the_frames_of_its_connection,
 };
 pub use line::read_line;
 pub use reading::read_script;
 pub use receiving::{arriving, put_out};
 pub use script::Script;
+pub use script_laws::{
+    lines_say_what_they_write, texts_are_read_line_by_line, what_is_said_once_holds,
+};
 pub use sim::Sim;
 pub use simulating::{simulate, simulate_watched};
 pub use tally::StationTally;

@@ -3,3 +3,6 @@ pub mod NameLemmas
 pub mod SiteLemmas
 pub mod UnknownLemmas
 pub mod Naming
+mod Knowing
+mod TextLemmas
+mod NamingBack

@@ -5,3 +5,4 @@ pub mod Site
 pub mod Unknown
 pub mod Wanted
 pub mod Named
+pub mod Known

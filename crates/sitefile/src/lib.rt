@@ -17,7 +17,7 @@ mod unknown;
 mod wanted;
 
 pub use fault::SiteFault;
-pub use named::sites_are_named;
+pub use named::{named_sites_are_read, other_site_keys_are_refused, sites_are_named};
 pub use names::{Names, StationName, wrong_station};
 pub use site::{Flags, Places, Site, read_site};
 pub use wanted::site_values;

@@ -4,7 +4,7 @@ use Rattle.std.proofs.Common.{None, Result, Ok, Err, IfOk, sym, ap, subst}
 use Rattle.std.specs.Prelude.{◌⊎◌, if◌then◌else◌}
 use Rattle.gateway.specs.Config.{Settings}
 use Rattle.gateway.specs.Log.{Log}
-use Rattle.segments.specs.Starts.{HasNoNewer, IsAbove, IsNewest, IsShut, IsSound}
+use Rattle.segments.specs.Starts.{HasNoNewer, IsAbove, IsNext, IsNewest, IsShut, IsSound}
 use Rattle.sqlite_disk.specs.declared.Disk.{Ghosts}
 use Rattle.state.specs.Beginnings.{AreLinesRead, GoesOnFrom, has_past, is_trusted, moment_at}
 use Rattle.state.specs.Origins.{IsBegun, IsMarkedBy, IsNew, IsNumbered}
@@ -136,12 +136,19 @@ module _ {D : Type 0} {g : Ghosts D} where
       → g.seen new ≡ g.seen old → (IsTrue (g.is_clean new) → IsTrue (g.is_clean old))
       → (IsTrue (g.is_clean old) × IsTrue (g.is_clean other) → IsAbove first (g.seen old)
       × IsAbove first (g.seen other))
+      → (IsTrue (g.is_clean old) × IsTrue (g.is_clean other) → IsNext first (g.seen old)
+      (g.seen other))
       → IsNumbered {D = D} {g = g} number opened
   numbered_from opened newest spare new old other number first both at_newest at_spare same seen
-      clean above =
+      clean above next =
       subst (λ (n : ℕ). IsNumbered {D = D} {g = g} n opened) (sym same)
       (subst (λ (f : Opened D g). IsNumbered {D = D} {g = g} first f) (sym both)
       (subst (λ (d : D). IsNumbered {D = D} {g = g} first (opens.Both d spare)) (sym at_newest)
       (subst (λ (d : D). IsNumbered {D = D} {g = g} first (opens.Both new d)) (sym at_spare)
-      (λ one two. let both_above = above (clean one, two) in
-      (subst (λ (file : List ℕ). IsAbove first file) (sym seen) both_above.0, both_above.1)))))
+      (λ one two.
+      let both_above = above (clean one, two) in (
+        subst (λ (file : List ℕ). IsAbove first file) (sym seen) both_above.0,
+        both_above.1,
+        subst (λ (file : List ℕ). IsNext first file (g.seen other)) (sym seen)
+            (next (clean one, two)),
+      )))))

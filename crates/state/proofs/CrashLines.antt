@@ -24,7 +24,8 @@ use Rattle.traces.specs.Progress.{came}
 use Rattle.traces.specs.Trace.{lines_of}
 use Rattle.traces.proofs.EventLineLemmas.{event_logged}
 use Rattle.state.specs.Beginnings.{AreLinesRead}
-use Rattle.state.specs.Crashed.{AreLeft, HasLog, IsWritable, LogAll}
+use Rattle.state.specs.Crashed.{AreLeft, HasLog, LogAll}
+use Rattle.state.specs.Lines.{IsWritable}
 use Rattle.state.specs.Replays.{AreRead, before_those, events_in_front, whole_lines, whole_parts}
 use Rattle.state.proofs.EventTexts.{parts_read}
 

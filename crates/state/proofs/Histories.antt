@@ -5,11 +5,11 @@ use Rattle.std.specs.Option.{is_some}
 use Rattle.gateway.specs.Log.{Log, LogEntry}
 use Rattle.state.specs.Deeds.{Deed, Deeds, AreRight, IsAllOnDisk, IsSafe, MayBe, Received, Appended}
 use Rattle.state.specs.Deeds.{Synced, Begun, GivenUp, PutOut, IsInTime, appended, loss_of}
-use Rattle.state.specs.Deeds.{moment_of, oldest, on_disk, span, waiting}
-use Rattle.state.specs.Stores.{led_to_head, safe, written}
+use Rattle.state.specs.Deeds.{moment_of, oldest, on_disk, span, waiting, written}
+use Rattle.state.specs.Stores.{led_to_head, safe}
 
 -- a deed might be done when it was
-might_be : (bears : Bool) (later earlier : Deeds) (deed : Deed)
+pub might_be : (bears : Bool) (later earlier : Deeds) (deed : Deed)
     → AreRight bears (later ++ deed ∷ earlier)
     → MayBe bears deed earlier
 might_be bears [] earlier deed right = right.0
@@ -64,7 +64,7 @@ all_appended (Received event ∷ deeds) = all_appended deeds
 all_appended (Appended event ∷ deeds) = ap (λ log. event ∷ log) (all_appended deeds)
 all_appended (Synced ∷ deeds) = all_appended deeds
 all_appended (Begun state ∷ deeds) = refl
-all_appended (GivenUp loss ∷ deeds) = all_appended deeds
+all_appended (GivenUp fault loss ∷ deeds) = all_appended deeds
 all_appended (PutOut action ∷ deeds) = all_appended deeds
 
 pub all_on_disk : (deeds : Deeds) → on_disk deeds ≡ safe deeds ++ led_to_head deeds
@@ -73,7 +73,7 @@ all_on_disk (Received event ∷ deeds) = all_on_disk deeds
 all_on_disk (Appended event ∷ deeds) = all_on_disk deeds
 all_on_disk (Synced ∷ deeds) = all_appended deeds
 all_on_disk (Begun state ∷ deeds) = refl
-all_on_disk (GivenUp loss ∷ deeds) = all_on_disk deeds
+all_on_disk (GivenUp fault loss ∷ deeds) = all_on_disk deeds
 all_on_disk (PutOut action ∷ deeds) = all_on_disk deeds
 
 pub all_written : (deeds : Deeds) → written deeds ≡ waiting deeds ++ safe deeds
@@ -82,5 +82,5 @@ all_written (Received event ∷ deeds) = all_written deeds
 all_written (Appended event ∷ deeds) = ap (λ log. event ∷ log) (all_written deeds)
 all_written (Synced ∷ deeds) = refl
 all_written (Begun state ∷ deeds) = refl
-all_written (GivenUp loss ∷ deeds) = all_written deeds
+all_written (GivenUp fault loss ∷ deeds) = all_written deeds
 all_written (PutOut action ∷ deeds) = all_written deeds

@@ -1,17 +1,28 @@
 -- What keeping an event does to the history.
 use Rattle.std.proofs.Common.{◌≡◌, ◌∙◌, ℕ, ◌+◌, ◌<◌, ◌≤◌, ◌^◌, Bool, true, false, [], ◌∷◌, ◌++◌}
-use Rattle.std.proofs.Common.{map, Some, None, ap, sym, subst, refl, inl, inr, arith, if◌then◌else◌}
+use Rattle.std.proofs.Common.{map, length, List, Some, None, ap, sym, subst, refl, inl, inr, arith}
+use Rattle.std.proofs.Common.{if◌then◌else◌}
 use Rattle.gateway.specs.Log.{Log}
 use Rattle.gateway.specs.Log.{LogEntry}
-use Rattle.gateway.specs.Ports.{faults_of}
+use Rattle.gateway.specs.Ports.{faults_of, logged_by}
+use Rattle.gateway.specs.State.{State}
 use Rattle.gateway.specs.declared.ports.Next.{Next}
 use Rattle.gateway.specs.declared.ports.Next.TheVariants as answers
-use Rattle.state.specs.Deeds.{Deeds, AreRight, IsInTime, MayBe, Received, PutOut, waiting}
+use Rattle.state.specs.Deeds.{Begun, Deeds, GivenUp, AreRight, IsInTime, MayBe, Received, PutOut}
+use Rattle.state.specs.Deeds.{arrived}
+use Rattle.state.specs.Deeds.{grown, is_kept, latest, passed, waiting}
 use Rattle.state.specs.Keeping.{IsOrderly}
-use Rattle.state.specs.Standings.{HasReceived, IsSettled, IsStanding, is_stopped, since_of}
+use Rattle.state.specs.Lines.{IsRefusedBy, is_renewal_due}
+use Rattle.state.specs.Standings.{HasFailed, HasReceived, IsSettled, IsStanding, is_lost}
+use Rattle.state.specs.Standings.{is_stopped}
+use Rattle.state.specs.Standings.{since_of}
+use Rattle.state.specs.Stores.{IsStored, Stored}
 use Rattle.state.specs.declared.standing.Standing.{Standing}
 use Rattle.state.specs.declared.standing.Standing.TheVariants.{Synced, Waiting, Lost}
+use Rattle.state.specs.declared.loss.Loss.{Loss}
 use Rattle.state.specs.declared.loss.Loss.TheVariants.{Marked, Unmarked}
+use Rattle.state.specs.declared.loss.StoreFault.{StoreFault}
+use Rattle.state.specs.declared.loss.StoreFault.TheVariants as faults
 
 -- where an event waits, it is there
 pub some_waits : (deeds : Deeds) (moment : ℕ) → since_of (waiting deeds) ≡ Some moment
@@ -95,3 +106,82 @@ put_orderly true bears s action old new is settled goes h =
       right = (may_put bears s action old settled (sym goes) h.stands, h.right);
     })
 put_orderly false bears s action old new is settled goes h = subst (IsOrderly bears s) (sym is) h
+
+-- The store fails
+
+refused_latest : (fault : StoreFault) (next : Next) (buf : List ℕ) (old earlier : Deeds)
+    (octets : ℕ)
+    → old ≡ map Received (logged_by next buf) ++ earlier
+    → IsRefusedBy fault (logged_by next buf) octets
+    → IsRefusedBy fault (latest (arrived old)) octets
+refused_latest fault next buf old earlier octets is refused =
+    subst (λ (deeds : Deeds). IsRefusedBy fault (latest (arrived deeds)) octets) (sym is)
+    (by next fault refused)
+  where
+    by : (next : Next) (fault : StoreFault) → IsRefusedBy fault (logged_by next buf) octets
+        → IsRefusedBy fault (latest (arrived (map Received (logged_by next buf) ++ earlier))) octets
+    by next faults.Full refused = refused
+    by next faults.Failed refused = tt
+    by (answers.Line now len) faults.Unwritable refused = refused
+    by (answers.Open now) faults.Unwritable refused = refused
+    by (answers.Bytes now len) faults.Unwritable refused = refused
+    by (answers.Cut now) faults.Unwritable refused = refused
+    by (answers.Tick now) faults.Unwritable refused = refused
+    by (answers.Wall now number) faults.Unwritable refused = refused
+    by answers.Done faults.Unwritable refused = absurd (refused tt)
+    by answers.Fault faults.Unwritable refused = absurd (refused tt)
+
+pub failed_orderly : (bears : Bool) (s : Standing) (next : Next) (buf : List ℕ) (loss : Loss)
+    (old new : Deeds)
+    → HasReceived s (logged_by next buf) old → HasFailed (logged_by next buf) loss old new
+    → AreRight bears old → IsOrderly bears (Lost loss) new
+failed_orderly bears s next buf loss old new received failed right =
+    subst (λ (deeds : Deeds). IsOrderly bears (Lost loss) deeds) (sym failed.failed) (record {
+      stands = refl;
+      time = inl refl;
+      right = (
+        refused_latest failed.fault next buf old received.earlier (grown old) received.arrived
+            failed.refused,
+        right,
+      );
+    })
+
+pub failed_passed : (events : Log) (loss : Loss) (old new : Deeds) → HasFailed events loss old new
+    → passed new ≡ passed old
+failed_passed events loss old new failed = ap passed failed.failed
+
+-- while the store hasn't failed a log is kept
+pub stands_kept : (s : Standing) (deeds : Deeds) → IsStanding s deeds → is_lost s ≡ false
+    → is_kept deeds ≡ true
+stands_kept Synced deeds stands there = stands.disk.0
+stands_kept (Waiting moment) deeds stands there = stands.kept
+stands_kept (Lost loss) deeds stands there = absurd (cc)
+
+-- a log that was begun has no events yet
+pub begun_room : (state : State) (old new : Deeds) → new ≡ Begun state ∷ old
+    → is_renewal_due (grown new) ≡ false
+begun_room state old new is = ap (λ (deeds : Deeds). is_renewal_due (grown deeds)) is
+
+-- what a store has grown by
+
+stored_grown : (settings : List ℕ) (deeds : Deeds) (stored : Stored)
+    → IsStored settings deeds stored
+    → is_kept deeds ≡ true → length stored.text ≡ grown deeds
+stored_grown settings deeds stored are kept = ap (λ (s : Stored). length s.text) (are kept)
+
+pub due_by : (settings : List ℕ) (deeds : Deeds) (stored : Stored) (octets : ℕ) (is : Bool)
+    → IsStored settings deeds stored → octets ≡ length stored.text → is ≡ is_renewal_due octets
+    → is_kept deeds ≡ true → is ≡ is_renewal_due (grown deeds)
+due_by settings deeds stored octets is are count due kept =
+    due ∙ ap is_renewal_due (count ∙ stored_grown settings deeds stored are kept)
+
+pub has_failed : (settings : List ℕ) (stored : Stored) (fault : StoreFault) (events : Log)
+    (loss : Loss) (old new : Deeds) → IsStored settings old stored → is_kept old ≡ true
+    → new ≡ GivenUp fault loss ∷ old → IsRefusedBy fault events (length stored.text)
+    → HasFailed events loss old new
+has_failed settings stored fault events loss old new are kept failed refused = record {
+  fault = fault;
+  failed = failed;
+  refused = subst (λ (n : ℕ). IsRefusedBy fault events n)
+      (stored_grown settings old stored are kept) refused;
+}

@@ -23,11 +23,12 @@ use Rattle.traces.specs.Event.{Event}
 use Rattle.traces.specs.Printed.{FitsTrace, IsPrintable, lines_of_log}
 use Rattle.traces.specs.Progress.{came}
 use Rattle.traces.proofs.ReadingBack.{log_above}
-use Rattle.state.specs.Crashed.{FitsLine, HasLog, IsKeptIn, IsWritable}
+use Rattle.state.specs.Crashed.{HasLog, IsKeptIn}
 use Rattle.state.specs.Deeds.{Deeds, Received, Appended, Synced, Begun, GivenUp, PutOut, is_kept}
-use Rattle.state.specs.Deeds.{waiting}
+use Rattle.state.specs.Deeds.{waiting, written}
+use Rattle.state.specs.Lines.{FitsLine, IsWritable}
 use Rattle.state.specs.Logs.{SurvivesAsLogged, leaves_in, stored_in}
-use Rattle.state.specs.Stores.{IsStored, Stored, head, lines_of_head, safe, written}
+use Rattle.state.specs.Stores.{IsStored, Stored, head, lines_of_head, safe}
 use Rattle.state.specs.declared.opened.Current.{Current}
 use Rattle.state.specs.declared.opened.Opened.{Opened}
 use Rattle.state.specs.declared.opened.Opened.TheVariants as opens
@@ -106,7 +107,7 @@ has_head (Received event ∷ deeds) kept = has_head deeds kept
 has_head (Appended event ∷ deeds) kept = has_head deeds kept
 has_head (Synced ∷ deeds) kept = has_head deeds kept
 has_head (Begun state ∷ deeds) kept = (state, refl)
-has_head (GivenUp loss ∷ deeds) kept = absurd (cc)
+has_head (GivenUp fault loss ∷ deeds) kept = absurd (cc)
 has_head (PutOut action ∷ deeds) kept = has_head deeds kept
 
 some_head : (settings : List ℕ) (lines logged : List (List ℕ)) → logged ≡ settings ∷ lines

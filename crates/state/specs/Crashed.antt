@@ -1,37 +1,19 @@
 -- What a crash leaves of a log of events (profile).
-use Rattle.std.specs.Prelude.{◌≡◌, ℕ, ◌≤◌, List, Some, ◌++◌, drop, length, reverse}
+use Rattle.std.specs.Prelude.{◌≡◌, ℕ, List, Some, ◌++◌, drop, length, reverse}
 use Rattle.std.specs.List.{AllByRecursion}
-use Rattle.gateway.specs.Log.{Log, LogEntry, last_moment}
+use Rattle.gateway.specs.Log.{Log}
 use Rattle.gateway.specs.Restored.{state_lines}
 use Rattle.gateway.specs.State.{State}
-use Rattle.gateway.specs.declared.ports.Next.{Next}
-use Rattle.gateway.specs.declared.ports.Next.TheVariants as answers
 use Rattle.segments.specs.Crash.{HasNoOther}
 use Rattle.segments.specs.Crashes.{Survives}
 use Rattle.segments.specs.Head.{whole_text}
 use Rattle.segments.specs.Starts.{before_zero}
-use Rattle.traces.specs.Event.{Event}
-use Rattle.traces.specs.Printed.{FitsTrace, lines_of_log}
-use Rattle.traces.specs.Progress.{came}
+use Rattle.traces.specs.Printed.{lines_of_log}
 use Rattle.state.specs.Beginnings.{AreLinesRead, IsHeadOf}
 use Rattle.state.specs.Deeds.{Deeds, waiting}
+use Rattle.state.specs.Lines.{IsWritable}
 use Rattle.state.specs.Replays.{AreRead, events_in_front, whole_lines}
 use Rattle.state.specs.Stores.{head, safe}
-
--- an event that the line of a trace can hold
-abbrev pub IsWritable : LogEntry → Type 0
-IsWritable event = (logged : Event) × FitsTrace logged × (event ≡ came logged)
-
--- it can hold the event of a port's answer, whose octets fit the buffer
-abbrev pub FitsLine : Next → Type 0
-FitsLine (answers.Line now len) = (now ≤ last_moment) × (1 ≤ len)
-FitsLine (answers.Open now) = now ≤ last_moment
-FitsLine (answers.Bytes now len) = (now ≤ last_moment) × (1 ≤ len)
-FitsLine (answers.Cut now) = now ≤ last_moment
-FitsLine (answers.Tick now) = now ≤ last_moment
-FitsLine (answers.Wall now number) = (now ≤ last_moment) × (number ≤ last_moment)
-FitsLine answers.Done = Unit {0}
-FitsLine answers.Fault = Unit {0}
 
 -- Whatever a crash leaves of a file: the segment with this number and this checkpoint, and behind
 -- it

@@ -2,13 +2,16 @@
 -- an event, its line goes to the log on the disk, the log is synced, an action is handed out
 -- (profile).
 use Rattle.std.specs.Prelude.{◌≡◌, ℕ, ◌-◌, ◌<◌, ◌⊎◌, Bool, true, false, List, [], ◌∷◌, map, Option}
-use Rattle.std.specs.Prelude.{Some, None}
+use Rattle.std.specs.Prelude.{Some, None, length}
 use Rattle.std.specs.Option.{is_some}
 use Rattle.gateway.specs.Log.{Log, LogEntry, Came, Went}
 use Rattle.gateway.specs.Ports.{logged_by, output_of}
 use Rattle.gateway.specs.State.{State}
+use Rattle.traces.specs.Printed.{lines_of_log}
+use Rattle.state.specs.Lines.{IsRefusedBy}
 use Rattle.state.specs.declared.loss.Loss.{Loss}
 use Rattle.state.specs.declared.loss.Loss.TheVariants.{Marked}
+use Rattle.state.specs.declared.loss.StoreFault.{StoreFault}
 use Rattle.state.specs.declared.trail.Done.{Done}
 use Rattle.state.specs.declared.trail.Done.TheVariants as done
 
@@ -21,8 +24,8 @@ pub data Deed : Type 0 where
   Synced : Deed
   -- a new log stands on the disk, with this state at its head
   Begun : (state : State) → Deed
-  -- the store has failed; whether the state on the disk was marked as stale
-  GivenUp : (loss : Loss) → Deed
+  -- the store has failed; why, and whether the state on the disk was marked as stale
+  GivenUp : (fault : StoreFault) → (loss : Loss) → Deed
   -- an action was handed out
   PutOut : (action : LogEntry) → Deed
 
@@ -37,7 +40,7 @@ arrived (Received event ∷ deeds) = event ∷ arrived deeds
 arrived (Appended event ∷ deeds) = arrived deeds
 arrived (Synced ∷ deeds) = arrived deeds
 arrived (Begun state ∷ deeds) = arrived deeds
-arrived (GivenUp loss ∷ deeds) = arrived deeds
+arrived (GivenUp fault loss ∷ deeds) = arrived deeds
 arrived (PutOut action ∷ deeds) = arrived deeds
 
 -- what passed at the port: the events that were received, and the actions that were handed out
@@ -47,7 +50,7 @@ passed (Received event ∷ deeds) = event ∷ passed deeds
 passed (Appended event ∷ deeds) = passed deeds
 passed (Synced ∷ deeds) = passed deeds
 passed (Begun state ∷ deeds) = passed deeds
-passed (GivenUp loss ∷ deeds) = passed deeds
+passed (GivenUp fault loss ∷ deeds) = passed deeds
 passed (PutOut action ∷ deeds) = action ∷ passed deeds
 
 -- the events that the log has, and before them those that led to the state at its head
@@ -57,7 +60,7 @@ appended (Received event ∷ deeds) = appended deeds
 appended (Appended event ∷ deeds) = event ∷ appended deeds
 appended (Synced ∷ deeds) = appended deeds
 appended (Begun state ∷ deeds) = arrived deeds
-appended (GivenUp loss ∷ deeds) = appended deeds
+appended (GivenUp fault loss ∷ deeds) = appended deeds
 appended (PutOut action ∷ deeds) = appended deeds
 
 -- those of them that are on the disk
@@ -67,7 +70,7 @@ on_disk (Received event ∷ deeds) = on_disk deeds
 on_disk (Appended event ∷ deeds) = on_disk deeds
 on_disk (Synced ∷ deeds) = appended deeds
 on_disk (Begun state ∷ deeds) = arrived deeds
-on_disk (GivenUp loss ∷ deeds) = on_disk deeds
+on_disk (GivenUp fault loss ∷ deeds) = on_disk deeds
 on_disk (PutOut action ∷ deeds) = on_disk deeds
 
 -- those of them that aren't
@@ -77,8 +80,22 @@ waiting (Received event ∷ deeds) = waiting deeds
 waiting (Appended event ∷ deeds) = event ∷ waiting deeds
 waiting (Synced ∷ deeds) = []
 waiting (Begun state ∷ deeds) = []
-waiting (GivenUp loss ∷ deeds) = waiting deeds
+waiting (GivenUp fault loss ∷ deeds) = waiting deeds
 waiting (PutOut action ∷ deeds) = waiting deeds
+
+-- the events behind the state at the head of the log
+abbrev pub written : Deeds → Log
+written [] = []
+written (Received event ∷ deeds) = written deeds
+written (Appended event ∷ deeds) = event ∷ written deeds
+written (Synced ∷ deeds) = written deeds
+written (Begun state ∷ deeds) = []
+written (GivenUp fault loss ∷ deeds) = written deeds
+written (PutOut action ∷ deeds) = written deeds
+
+-- how many octets their lines have
+abbrev pub grown : Deeds → ℕ
+grown deeds = length (lines_of_log (written deeds))
 
 -- a log was begun, and the store hasn't failed since
 abbrev pub is_kept : Deeds → Bool
@@ -87,7 +104,7 @@ is_kept (Received event ∷ deeds) = is_kept deeds
 is_kept (Appended event ∷ deeds) = is_kept deeds
 is_kept (Synced ∷ deeds) = is_kept deeds
 is_kept (Begun state ∷ deeds) = true
-is_kept (GivenUp loss ∷ deeds) = false
+is_kept (GivenUp fault loss ∷ deeds) = false
 is_kept (PutOut action ∷ deeds) = is_kept deeds
 
 -- that the store has failed, if no log was begun since
@@ -97,7 +114,7 @@ loss_of (Received event ∷ deeds) = loss_of deeds
 loss_of (Appended event ∷ deeds) = loss_of deeds
 loss_of (Synced ∷ deeds) = loss_of deeds
 loss_of (Begun state ∷ deeds) = None
-loss_of (GivenUp loss ∷ deeds) = Some loss
+loss_of (GivenUp fault loss ∷ deeds) = Some loss
 loss_of (PutOut action ∷ deeds) = loss_of deeds
 
 abbrev pub moment_of : LogEntry → ℕ
@@ -126,10 +143,16 @@ IsSafe deeds = IsAllOnDisk deeds ⊎ (loss_of deeds ≡ Some Marked)
 abbrev pub IsInTime : Deeds → Type 0
 IsInTime deeds = (is_some (loss_of deeds) ≡ true) ⊎ (span (waiting deeds) < 1000)
 
+-- the latest of these events, if there is one
+abbrev pub latest : Log → Log
+latest [] = []
+latest (event ∷ log) = event ∷ []
+
 -- When a deed may be done, behind these. An action is handed out where all received events are on
 -- the disk, or where the store has failed, the state on the disk is marked as stale and that is
 -- borne. No event is received while one has waited for the disk for a second. A log whose store has
--- failed is neither appended to nor synced again, and none is synced for nothing.
+-- failed is neither appended to nor synced again, and none is synced for nothing. A store fails for
+-- want of room only where a new log is due, and for an event only if no line can hold the latest.
 abbrev pub MayBe : (bears : Bool) → Deed → Deeds → Type 0
 MayBe bears (PutOut action) deeds =
     IsAllOnDisk deeds ⊎ ((loss_of deeds ≡ Some Marked) × (bears ≡ true))
@@ -137,7 +160,7 @@ MayBe bears (Received event) deeds = IsInTime deeds
 MayBe bears (Appended event) deeds = is_kept deeds ≡ true
 MayBe bears Synced deeds = (is_kept deeds ≡ true) × (waiting deeds ≡ [] → ⊥)
 MayBe bears (Begun state) deeds = Unit {0}
-MayBe bears (GivenUp loss) deeds = Unit {0}
+MayBe bears (GivenUp fault loss) deeds = IsRefusedBy fault (latest (arrived deeds)) (grown deeds)
 
 -- each deed might be done when it was
 abbrev pub AreRight : (bears : Bool) → Deeds → Type 0
@@ -150,5 +173,5 @@ deeds_of (done.Received next buf) = map Received (logged_by next buf.now)
 deeds_of (done.Appended next buf) = map Appended (logged_by next buf.now)
 deeds_of done.Synced = Synced ∷ []
 deeds_of (done.Begun gateway) = Begun gateway.now ∷ []
-deeds_of (done.GivenUp loss) = GivenUp loss ∷ []
+deeds_of (done.GivenUp fault loss) = GivenUp fault loss ∷ []
 deeds_of (done.PutOut now action) = PutOut (Went now (output_of action.now)) ∷ []

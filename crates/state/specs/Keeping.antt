@@ -5,7 +5,8 @@ use Rattle.gateway.specs.State.{State}
 use Rattle.live.specs.declared.watched.Failure.{Failure}
 use Rattle.live.specs.declared.watched.Failure.TheVariants as failures
 use Rattle.live.specs.declared.watched.Notice.{Notice}
-use Rattle.state.specs.Deeds.{Deeds, AreRight, IsInTime}
+use Rattle.state.specs.Deeds.{Deeds, AreRight, IsInTime, grown}
+use Rattle.state.specs.Lines.{is_renewal_due}
 use Rattle.state.specs.Renewals.{after_notice, after_try, is_try_due, notice_of}
 use Rattle.state.specs.Standings.{IsStanding, Renews, is_lost}
 use Rattle.state.specs.declared.renewal.Patience.{Patience}
@@ -35,13 +36,18 @@ pub record IsKeeping (deeds : Deeds) (standing : Standing) (bears_loss : Bool) (
   pub few : failed < 2 ^ 64
 
 -- what a keeper does between two steps, when the gateway is in this state: where the store has
--- failed a new log is tried if that is due, and none otherwise; where it hasn't, one is begun or
--- nothing is done
+-- failed a new log is tried if that is due, and none otherwise. Where it hasn't, a new one is begun
+-- if the present one has grown, and none otherwise. So behind a look there is room for a line.
 pub record HasLooked {E : Type 0} (deeds : E → Deeds) (old : Keeping E) (state : State)
     (new : Keeping E) : Type 0 where
   pub tries : is_lost old.standing ≡ true → is_try_due old.patience ≡ true →
       Renews (deeds old.ends) state (deeds new.ends)
   pub waits : is_lost old.standing ≡ true → is_try_due old.patience ≡ false → new ≡ old
+  pub renews : is_lost old.standing ≡ false → is_renewal_due (grown (deeds old.ends)) ≡ true →
+      Renews (deeds old.ends) state (deeds new.ends)
+  pub keeps : is_lost old.standing ≡ false → is_renewal_due (grown (deeds old.ends)) ≡ false →
+      new ≡ old
+  pub room : is_lost new.standing ≡ false → is_renewal_due (grown (deeds new.ends)) ≡ false
   pub looks : (new ≡ old) ⊎ Renews (deeds old.ends) state (deeds new.ends)
   pub tried : (new ≡ old) ⊎ (new.patience ≡ after_try (is_lost new.standing) old.patience)
 

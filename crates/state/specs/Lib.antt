@@ -1,3 +1,4 @@
+pub mod Lines
 pub mod Deeds
 pub mod Standings
 pub mod Keeping

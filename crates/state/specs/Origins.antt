@@ -5,7 +5,7 @@ use Rattle.gateway.specs.Config.{Settings}
 use Rattle.gateway.specs.Log.{Log}
 use Rattle.gateway.specs.Setups.{setup_of}
 use Rattle.gateway.specs.State.{first_state}
-use Rattle.segments.specs.Starts.{HasNoNewer, IsAbove, IsNewest, IsShut, IsSound}
+use Rattle.segments.specs.Starts.{HasNoNewer, IsAbove, IsNewest, IsNext, IsShut, IsSound}
 use Rattle.sqlite_disk.specs.declared.Disk.{Ghosts}
 use Rattle.state.specs.Beginnings.{AreLinesRead, GoesOnFrom, has_past, is_trusted, moment_at}
 use Rattle.state.specs.Logs.{NewestIs}
@@ -40,12 +40,15 @@ module _ {D : Type 0} {g : Ghosts D} where
   OnBoth P (opens.Current c) = ⊥
 
   -- The number of the next log is above that of each whose first line stands in one of these files,
-  -- unless it is the greatest of 64 bits.
+  -- unless it is the greatest of 64 bits. No number is left out. Behind files that were put aside
+  -- it
+  -- is 1.
   abbrev pub IsNumbered : ℕ → Opened D g → Type 0
-  IsNumbered number opens.Neither = Unit {0}
+  IsNumbered number opens.Neither = number ≡ 1
   IsNumbered number (opens.Both newest spare) =
       IsTrue (g.is_clean newest) → IsTrue (g.is_clean spare) →
       IsAbove number (g.seen newest) × IsAbove number (g.seen spare)
+      × IsNext number (g.seen newest) (g.seen spare)
   IsNumbered number (opens.Current c) = Unit {0}
 
   -- With these settings, which this text says, a run begins so, where the directory has this mark

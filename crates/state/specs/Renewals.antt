@@ -1,5 +1,5 @@
 -- When a log is begun anew, and when the keeper reports that none is kept (profile).
-use Rattle.std.specs.Prelude.{ℕ, ◌+◌, ◌*◌, ◌-◌, nat_le, nat_lt, Bool, true, false, if◌then◌else◌}
+use Rattle.std.specs.Prelude.{ℕ, ◌-◌, nat_le, Bool, true, false, if◌then◌else◌}
 use Rattle.std.specs.Prelude.{Option}
 use Rattle.std.specs.Prelude.{Some, None, [], ◌∷◌}
 use Rattle.gateway.specs.Log.{Log}
@@ -7,16 +7,6 @@ use Rattle.state.specs.Deeds.{moment_of}
 use Rattle.live.specs.declared.watched.Notice.{Notice}
 use Rattle.live.specs.declared.watched.Notice.TheVariants.{NotKept, KeptAgain}
 use Rattle.state.specs.declared.renewal.Patience.{Patience}
-
--- its events take more than 3.9 million octets
-abbrev pub is_renewal_due : (events : ℕ) → Bool
-is_renewal_due events = nat_lt 3900000 events
-
--- How many octets the line of an event has at most: a moment of 15 digits, a letter, 1,024 octets
--- in
--- hexadecimal digits, two spaces, and its end.
-abbrev pub longest_line : ℕ
-longest_line = 15 + 1 + 2 * 1024 + 2 + 1
 
 -- the moment of the latest event, where this was it before these
 abbrev pub moment_after : Log → ℕ → ℕ

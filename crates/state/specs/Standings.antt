@@ -4,10 +4,13 @@ use Rattle.std.specs.Prelude.{None, ◌⊎◌}
 use Rattle.gateway.specs.Log.{Log}
 use Rattle.gateway.specs.State.{State}
 use Rattle.state.specs.Deeds.{Deeds, Begun, GivenUp, Received, IsAllOnDisk, appended, arrived}
-use Rattle.state.specs.Deeds.{is_kept}
+use Rattle.state.specs.Deeds.{grown, is_kept}
+use Rattle.state.specs.Lines.{IsRefusedBy}
 use Rattle.state.specs.Deeds.{loss_of, moment_of, oldest, waiting}
 use Rattle.state.specs.declared.loss.Loss.{Loss}
 use Rattle.state.specs.declared.loss.Loss.TheVariants.{Marked, Unmarked}
+use Rattle.state.specs.declared.loss.StoreFault.{StoreFault}
+use Rattle.state.specs.declared.loss.StoreFault.TheVariants.{Failed}
 use Rattle.state.specs.declared.standing.Standing.{Standing}
 use Rattle.state.specs.declared.standing.Standing.TheVariants as standings
 
@@ -75,7 +78,13 @@ is_lost standings.Synced = false
 is_lost (standings.Waiting moment) = false
 is_lost (standings.Lost loss) = true
 
+-- The store has failed as it was to append the lines of these events.
+pub record HasFailed (events : Log) (loss : Loss) (old new : Deeds) : Type 0 where
+  pub fault : StoreFault
+  pub failed : new ≡ GivenUp fault loss ∷ old
+  pub refused : IsRefusedBy fault events (grown old)
+
 -- a new log was begun with this state, or the store failed to
 abbrev pub Renews : (old : Deeds) → State → (new : Deeds) → Type 0
 Renews old state new =
-    (new ≡ Begun state ∷ old) ⊎ ((loss : Loss) × (new ≡ GivenUp loss ∷ old))
+    (new ≡ Begun state ∷ old) ⊎ ((loss : Loss) × (new ≡ GivenUp Failed loss ∷ old))

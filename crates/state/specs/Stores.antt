@@ -5,7 +5,7 @@ use Rattle.gateway.specs.Restored.{state_lines}
 use Rattle.gateway.specs.State.{State}
 use Rattle.traces.specs.Printed.{lines_of_log}
 use Rattle.state.specs.Deeds.{Deeds, Received, Appended, Synced, Begun, GivenUp, PutOut, arrived}
-use Rattle.state.specs.Deeds.{is_kept, loss_of}
+use Rattle.state.specs.Deeds.{is_kept, loss_of, written}
 use Rattle.state.specs.declared.loss.Loss.TheVariants.{Marked}
 
 -- the state at the head of the log
@@ -15,7 +15,7 @@ head (Received event ∷ deeds) = head deeds
 head (Appended event ∷ deeds) = head deeds
 head (Synced ∷ deeds) = head deeds
 head (Begun state ∷ deeds) = Some state
-head (GivenUp loss ∷ deeds) = head deeds
+head (GivenUp fault loss ∷ deeds) = head deeds
 head (PutOut action ∷ deeds) = head deeds
 
 -- the events that led to it
@@ -25,27 +25,17 @@ led_to_head (Received event ∷ deeds) = led_to_head deeds
 led_to_head (Appended event ∷ deeds) = led_to_head deeds
 led_to_head (Synced ∷ deeds) = led_to_head deeds
 led_to_head (Begun state ∷ deeds) = arrived deeds
-led_to_head (GivenUp loss ∷ deeds) = led_to_head deeds
+led_to_head (GivenUp fault loss ∷ deeds) = led_to_head deeds
 led_to_head (PutOut action ∷ deeds) = led_to_head deeds
 
--- the events behind it
-abbrev pub written : Deeds → Log
-written [] = []
-written (Received event ∷ deeds) = written deeds
-written (Appended event ∷ deeds) = event ∷ written deeds
-written (Synced ∷ deeds) = written deeds
-written (Begun state ∷ deeds) = []
-written (GivenUp loss ∷ deeds) = written deeds
-written (PutOut action ∷ deeds) = written deeds
-
--- those of them that are on the disk
+-- the events behind it that are on the disk
 abbrev pub safe : Deeds → Log
 safe [] = []
 safe (Received event ∷ deeds) = safe deeds
 safe (Appended event ∷ deeds) = safe deeds
 safe (Synced ∷ deeds) = written deeds
 safe (Begun state ∷ deeds) = []
-safe (GivenUp loss ∷ deeds) = safe deeds
+safe (GivenUp fault loss ∷ deeds) = safe deeds
 safe (PutOut action ∷ deeds) = safe deeds
 
 -- what a store says: the lines at the head of its log, the text behind them, and how much of that

@@ -10,7 +10,7 @@ ghost use Rattle.gateway.specs.Config.{Settings};
 ghost use Rattle.gateway.specs.Log.{Came, Restarted};
 ghost use Rattle.gateway.specs.Reports.{Setup};
 ghost use Rattle.segments.specs.Head.{Fits};
-ghost use Rattle.segments.specs.Starts.{HasNoNewer, IsAbove, IsBacked, IsNewest, IsSound};
+ghost use Rattle.segments.specs.Starts.{HasNoNewer, IsAbove, IsBacked, IsNewest, IsNext, IsSound};
 ghost use Rattle.settings.specs.Settings.{IsReadOfText};
 ghost use Rattle.state.specs.Beginnings.{AreLinesRead, BearsNumber, GoesOnFrom, HasRead};
 ghost use Rattle.state.specs.Beginnings.{IsHeadOf, IsRead, MovedOn, WentOn, given_up, has_past};
@@ -390,7 +390,8 @@ pub fn begin<F: Folder + Drop>(
     // What is put aside is no state to go on with.
     ensures aside { IfOk result (λ b. b.origin.beginning ≡ Beginning.PutAside →
         WasAside F.File.Disk (F.aside b.store.folder) config.now text.now) }
-    // The next log is newer than each that ever stood in a file: so a start finds that one.
+    // The next log is newer than each that ever stood in a file: so a start finds that one. Its
+    // number is the next one.
     ensures numbered { IfOk result (λ b. IsNumbered b.store.number b.store.opened) }
 {
     let mut folder = folder;
@@ -499,6 +500,7 @@ fn carry_on<F: Folder + Drop>(
     start: Start<F::File>,
     is_trusted: bool,
 ) -> Result<Begun<F>, FolderFault>
+    requires locked { F.is_locked folder ≡ true }
     requires trusted { is_trusted ≡ true → F.mark folder ≡ Some false }
     requires found { is_some start.checkpoint ≡ true }
     requires fits { IfSome start.checkpoint (λ c. Fits c.head) }
@@ -508,6 +510,8 @@ fn carry_on<F: Folder + Drop>(
         HasNoNewer (newest_in start) (other_in start) }
     requires above { AreClean start → IsAbove start.number (newest_in start)
         × IsAbove start.number (other_in start) }
+    requires next { AreClean start →
+        IsNext start.number (newest_in start) (other_in start) }
     requires reset { is_trusted ≡ false → (F.mark folder ≡ Some true) ⊎ (AreClean start →
         IsSound (newest_in start) → IsSound (other_in start) → ⊥) }
     ensures begun { IfOk result (λ b. IsBegun config.now settings.items F.lineage
@@ -566,8 +570,7 @@ fn anew<F: Folder + Drop>(
     }
 }
 
-/// Puts aside what can't be read, and begins anew. The mark stands before: where one file is put
-/// aside and the other isn't yet, a start must not trust that one.
+/// Puts aside what can't be read, and begins anew.
 fn put_aside<F: Folder + Drop>(
     alloc: Global,
     config: &Config,
@@ -576,6 +579,7 @@ fn put_aside<F: Folder + Drop>(
     newest: F::File,
     other: F::File,
 ) -> Result<Begun<F>, FolderFault>
+    requires locked { F.is_locked folder ≡ true }
     requires unread { IsTrue (F.File.is_clean newest) → IsTrue (F.File.is_clean other) →
         IsUnread config.now settings.items (F.File.seen newest) (F.File.seen other) }
     ensures aside { IfOk result (λ b.

@@ -1,23 +1,23 @@
 //! The log of a run in two files of a directory.
 ghost use Rattle.std.specs.Io.Iter.{u64_saturate};
-ghost use Rattle.std.specs.Prelude.{◌≡◌, ◌+◌, ◌≤◌, ◌++◌, ◌∷◌, [], List, ℕ, IfOk, IfSome, IsTrue};
+ghost use Rattle.std.specs.Prelude.{◌≡◌, ◌+◌, ◌*◌, ◌++◌, ◌∷◌, [], List, ℕ, IfOk, IfSome, IsTrue};
 ghost use Rattle.std.specs.Prelude.{OnOk};
 ghost use Rattle.std.specs.Prelude.{Some, length, true, false};
 ghost use Rattle.gateway.specs.Restored.{state_lines};
 ghost use Rattle.segments.specs.Head.{IsWholeText, whole_text};
-ghost use Rattle.segments.specs.Segment.{durable_of, file_of, text_of};
+ghost use Rattle.segments.specs.Segment.{durable_of, file_of, size_of, text_of};
 ghost use Rattle.segments.specs.Starts.{IsBacked};
 ghost use Rattle.segments.specs.Writer.{appended_to};
 ghost use Rattle.state.specs.Logs.{IsHeaded};
 ghost use Rattle.statetext.specs.Text.{lines_in};
 
 use crate::folder::Folder;
-use crate::loss::Loss;
+use crate::loss::{Loss, StoreFault};
 use crate::opened::{Current, Opened};
 use crate::store::Store;
 use checkpoint::{Sheet, StateFault};
 use gateway::Gateway;
-use segments::{Segment, Side, Writer, newest_side};
+use segments::{Segment, SegmentFault, Side, Writer, newest_side};
 use sqlite_disk::{Disk, Files};
 use statetext::TextSheet;
 use std::alloc::Global;
@@ -40,6 +40,7 @@ pub struct DiskStore<F: Folder + Drop> {
     /// It is known that no mark stands on the disk.
     is_unmarked: bool,
     ghost unmarked: { IsTrue is_unmarked → F.mark folder ≡ Some false },
+    ghost locked: { F.is_locked folder ≡ true },
 }
 
 impl<F: Folder + Drop> DiskStore<F> {
@@ -49,6 +50,7 @@ impl<F: Folder + Drop> DiskStore<F> {
 
     /// One over a directory whose files aren't open. The next segment has this number.
     pub(crate) fn new(alloc: Global, folder: F, settings: Vec<u8>, number: u64) -> DiskStore<F>
+        requires { F.is_locked folder ≡ true }
         ensures settings { result.settings ≡ settings }
         ensures folder { result.folder ≡ folder }
         ensures opened { result.opened ≡ Opened.Neither }
@@ -124,7 +126,6 @@ impl<F: Folder + Drop> DiskStore<F> {
         ensures mark { result ≡ true → F.mark self.new.folder ≡ Some false }
         ensures bears { result ≡ true → Bears self.old.number self.new.opened }
         ensures number { self.new.number ≡ u64_saturate (self.old.number + 1) }
-        ensures least { self.old.number ≤ self.new.number }
         ensures settings { self.new.settings ≡ self.old.settings }
     {
         let number = self.number;
@@ -170,7 +171,9 @@ impl<F: Folder + Drop> DiskStore<F> {
         if self.is_unmarked {
             return true;
         }
-        self.is_unmarked = self.folder.unmark();
+        if let Opened::Current(current) = &self.opened {
+            self.is_unmarked = self.folder.unmark(&current.segment);
+        }
         self.is_unmarked
     }
 }
@@ -303,6 +306,7 @@ fn write_segment<D: Disk + Drop>(
     ensures number { IfSome result
         (λ s. (body : List ℕ) × (text_of s ≡ whole_text number body)) }
     ensures whole { IfSome result (λ s. IsWholeText number (text_of s)) }
+    ensures room { IfSome result (λ s. size_of s ≡ length (text_of s) + blocks * 4096) }
 {
     let Ok(writer) = Writer::begin(alloc, spare, newest) else {
         return None;
@@ -313,6 +317,17 @@ fn write_segment<D: Disk + Drop>(
     match writer.finish(alloc, number, blocks) {
         Ok(segment) => Some(segment),
         Err(_) => None,
+    }
+}
+
+/// Why a line isn't appended.
+fn refusal(fault: SegmentFault) -> StoreFault
+    ensures full { result ≡ StoreFault.Full → fault ≡ SegmentFault.Full }
+    ensures writable { result ≡ StoreFault.Unwritable → ⊥ }
+{
+    match fault {
+        SegmentFault::Full => StoreFault::Full,
+        SegmentFault::Device | SegmentFault::NoMemory => StoreFault::Failed,
     }
 }
 
@@ -329,10 +344,13 @@ impl<F: Folder + Drop> Store for DiskStore<F> {
 
     ghost bears = { λ s number. Bears number s.opened };
 
-    fn append(&mut self, lines: &[u8]) -> bool {
+    fn append(&mut self, lines: &[u8]) -> Result<(), StoreFault> {
         match &mut self.opened {
-            Opened::Current(current) => current.segment.append(lines).is_ok(),
-            Opened::Neither | Opened::Both(..) => false,
+            Opened::Current(current) => match current.segment.append(lines) {
+                Ok(()) => Ok(()),
+                Err(fault) => Err(refusal(fault)),
+            },
+            Opened::Neither | Opened::Both(..) => Err(StoreFault::Failed),
         }
     }
 

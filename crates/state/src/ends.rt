@@ -1,6 +1,6 @@
 //! What a keeper stands between: a port, and a store for the events that it receives.
 
-use crate::loss::Loss;
+use crate::loss::{Loss, StoreFault};
 use gateway::{Action, Gateway, Next};
 use live::EndsSight;
 
@@ -12,9 +12,9 @@ pub trait Ends {
     ghost use Rattle.live.specs.declared.watched.EndsSight.{EndsSight};
     ghost use Rattle.live.specs.declared.watched.Failure.{Failure};
     ghost use Rattle.state.specs.Deeds.{Appended, Begun, Deed, GivenUp, Received, IsSafe, PutOut};
-    ghost use Rattle.state.specs.Deeds.{Synced, is_kept};
-    ghost use Rattle.state.specs.Renewals.{is_renewal_due};
-    ghost use Rattle.state.specs.Standings.{IsPortLeft};
+    ghost use Rattle.state.specs.Deeds.{Synced, grown, is_kept};
+    ghost use Rattle.state.specs.Lines.{is_renewal_due};
+    ghost use Rattle.state.specs.Standings.{HasFailed, IsPortLeft};
     ghost use Rattle.std.specs.Prelude.{◌≡◌, ℕ, ◌+◌, ◌<◌, Bool, true, List, [], ◌∷◌, ◌++◌, map};
     ghost use Rattle.std.specs.Prelude.{Option, nat_lt, if◌then◌else◌, MatchResult};
     ghost use Rattle.std.specs.Option.{is_some};
@@ -74,13 +74,14 @@ pub trait Ends {
         ensures failed { is_some result.failure ≡ nat_lt 0 (failed self.now) };
 
     /// Appends the line of an event to the log, whose octets are the front of the buffer. An `Err`
-    /// says that the store has failed, and whether the state on the disk is marked as stale.
+    /// says that the store has failed, and whether the state on the disk is marked as stale. It
+    /// doesn't fail for want of room while no new log is due.
     fn append(&mut self, next: Next, buf: &[u8; 1024]) -> Result<(), Loss>
         requires kept { is_kept (deeds self.old) ≡ true }
         requires fits { FitsBuffer next }
         ensures appended { MatchResult result
             (λ _. deeds self.new ≡ map Appended (logged_by next buf.now) ++ deeds self.old)
-            (λ loss. deeds self.new ≡ GivenUp loss ∷ deeds self.old) }
+            (λ loss. HasFailed (logged_by next buf.now) loss (deeds self.old) (deeds self.new)) }
         ensures port { IsPortLeft log failed ended script self.old self.new };
 
     /// Syncs the log. An `Err` as of `append`: what is on the disk isn't known then.
@@ -88,15 +89,13 @@ pub trait Ends {
         requires { is_kept (deeds self.old) ≡ true }
         ensures synced { MatchResult result
             (λ _. deeds self.new ≡ Synced ∷ deeds self.old)
-            (λ loss. deeds self.new ≡ GivenUp loss ∷ deeds self.old) }
+            (λ loss. deeds self.new ≡ GivenUp StoreFault.Failed loss ∷ deeds self.old) }
         ensures port { IsPortLeft log failed ended script self.old self.new };
-
-    /// How many octets the lines behind the head of the log have.
-    ghost grown: { Self → ℕ };
 
     /// A new log is due, as the present one has grown.
     fn is_full(&self) -> bool
-        ensures { result ≡ is_renewal_due (grown self.now) };
+        ensures { is_kept (deeds self.now) ≡ true →
+            result ≡ is_renewal_due (grown (deeds self.now)) };
 
     /// Begins a new log, with the state of the gateway at its head, which is the state that all
     /// events so far have led to. Where `Ok` is answered it stands on the disk. An `Err` as of
@@ -104,6 +103,6 @@ pub trait Ends {
     fn begin(&mut self, gateway: &Gateway) -> Result<(), Loss>
         ensures begun { MatchResult result
             (λ _. deeds self.new ≡ Begun gateway.now ∷ deeds self.old)
-            (λ loss. deeds self.new ≡ GivenUp loss ∷ deeds self.old) }
+            (λ loss. deeds self.new ≡ GivenUp StoreFault.Failed loss ∷ deeds self.old) }
         ensures port { IsPortLeft log failed ended script self.old self.new };
 }

@@ -1,5 +1,6 @@
 //! The directory of a state, as a store needs it.
 
+use segments::Segment;
 use sqlite_disk::{Disk, Files};
 use thiserror::Error;
 
@@ -30,13 +31,17 @@ pub trait Folder {
     ghost use Rattle.gateway.specs.Config.{Settings};
     ghost use Rattle.state.specs.Unread.{IsUnread};
     ghost use Rattle.std.specs.Prelude.{◌≡◌, ℕ, List, [], Option, Some, Bool, true, false, IfOk};
+    ghost use Rattle.std.specs.Prelude.{OnOk};
     ghost use Rattle.std.specs.Prelude.{IsTrue, ◌+◌, ◌*◌, ◌≤◌};
-    ghost use Rattle.state.specs.Renewals.{is_renewal_due, longest_line};
+    ghost use Rattle.state.specs.Lines.{longest_line, most_octets};
 
     type File: Disk + Drop;
 
     /// Whether the mark stands on the disk, where that is known.
     ghost mark: { Self → Option Bool };
+
+    /// This process has the directory locked. Nothing in it is read or changed before.
+    ghost is_locked: { Self → Bool };
 
     /// What led to the state at the head of the newest segment, which no code holds.
     ghost lineage: { List LogEntry } = { [] };
@@ -44,12 +49,11 @@ pub trait Folder {
     /// These two files were put aside.
     ghost aside: { Self → Self.File → Self.File → Type 0 };
 
-    /// How many blocks of 4,096 zeros stand behind a checkpoint, for the lines to come: a new log
-    /// is due before they are full, whatever the last line was. Two logs have 8,000,000 octets of
+    /// How many blocks of 4,096 zeros stand behind a checkpoint, for the lines to come: where no
+    /// new log is due yet, there is room for the longest line. Two logs have 8,000,000 octets of
     /// them at most.
     fn blocks(&self) -> usize
-        ensures room { (events : ℕ) → is_renewal_due events ≡ false →
-            events + longest_line ≤ result * 4096 }
+        ensures room { most_octets + longest_line ≤ result * 4096 }
         ensures most { 2 * (result * 4096) ≤ 8000000 }
     {
         BLOCKS
@@ -59,27 +63,41 @@ pub trait Folder {
     fn open(&mut self) -> Result<Files<Self::File>, FolderFault>
         ensures log { IfOk result (λ files. IsTrue (Self.File.is_usable files.log)) }
         ensures db { IfOk result (λ files. IsTrue (Self.File.is_usable files.db)) }
+        ensures locked { OnOk result (is_locked self.new ≡ true) }
+        ensures stays { is_locked self.old ≡ true → is_locked self.new ≡ true }
         ensures mark { mark self.new ≡ mark self.old };
 
     /// Whether the state there is marked as stale.
     fn is_stale(&mut self) -> Result<bool, FolderFault>
-        ensures { IfOk result (λ is_stale. mark self.new ≡ Some is_stale) };
+        requires { is_locked self.old ≡ true }
+        ensures mark { IfOk result (λ is_stale. mark self.new ≡ Some is_stale) }
+        ensures stays { is_locked self.new ≡ true };
 
     /// Marks the state as stale, on the disk. It takes no space on it. `false`: it couldn't be
     /// done.
     fn mark_stale(&mut self) -> bool
-        ensures { result ≡ true → mark self.new ≡ Some true };
+        requires { is_locked self.old ≡ true }
+        ensures mark { result ≡ true → mark self.new ≡ Some true }
+        ensures stays { is_locked self.new ≡ true };
 
-    /// Takes the mark away, on the disk. `false`: it couldn't be done.
-    fn unmark(&mut self) -> bool
-        ensures { result ≡ true → mark self.new ≡ Some false };
+    /// Takes the mark away, on the disk, where a log stands whole that isn't stale. `false`: it
+    /// couldn't be done.
+    fn unmark(&mut self, _log: &Segment<Self::File>) -> bool
+        requires { is_locked self.old ≡ true }
+        ensures mark { result ≡ true → mark self.new ≡ Some false }
+        ensures stays { is_locked self.new ≡ true };
 
     /// Puts both files aside under other names, so that a run begins anew; they are closed before.
-    /// A state that can be gone on with isn't put aside. `false`: it couldn't be done.
+    /// A state that can be gone on with isn't put aside. The mark stands before that. Where one
+    /// file is put aside and the other isn't yet, a start must not trust that one. `false`: it
+    /// couldn't be done.
     fn put_aside(&mut self, newest: Self::File, other: Self::File) -> bool
+        requires locked { is_locked self.old ≡ true }
+        requires marked { mark self.old ≡ Some true }
         requires unread { (c : Settings) × (text : List ℕ) ×
             (IsTrue (Self.File.is_clean newest) → IsTrue (Self.File.is_clean other) →
             IsUnread c text (Self.File.seen newest) (Self.File.seen other)) }
         ensures aside { result ≡ true → aside self.new newest other }
+        ensures stays { is_locked self.new ≡ true }
         ensures mark { mark self.new ≡ mark self.old };
 }

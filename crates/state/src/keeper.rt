@@ -5,10 +5,11 @@ ghost use Rattle.std.specs.Option.{is_some};
 ghost use Rattle.gateway.specs.Log.{Went, with_news};
 ghost use Rattle.gateway.specs.Ports.{FitsBuffer, faults_of, output_of, logged_by};
 ghost use Rattle.gateway.specs.declared.ports.Next.TheVariants.{Done};
-ghost use Rattle.state.specs.Deeds.{passed};
+ghost use Rattle.state.specs.Deeds.{grown, passed};
 ghost use Rattle.state.specs.Keeping.{IsOrderly, failure_of};
-ghost use Rattle.state.specs.Renewals.{after_notice, after_try, is_renewal_due, is_try_due};
-ghost use Rattle.state.specs.Renewals.{moment_after, notice_of};
+ghost use Rattle.state.specs.Lines.{is_renewal_due};
+ghost use Rattle.state.specs.Renewals.{after_notice, after_try, is_try_due, moment_after};
+ghost use Rattle.state.specs.Renewals.{notice_of};
 ghost use Rattle.state.specs.Standings.{IsPortLeft, Renews, is_lost, is_stopped};
 
 use crate::disk_store::DiskStore;
@@ -93,10 +94,13 @@ impl<E: Ends + Drop> Keeper<E> {
             self.new ≡ self.old }
         // Where it hasn't, a new log is begun where the present one has grown, and none otherwise.
         ensures renews { is_lost self.old.standing ≡ false →
-            is_renewal_due (E.grown self.old.ends) ≡ true →
+            is_renewal_due (grown (E.deeds self.old.ends)) ≡ true →
             Renews (E.deeds self.old.ends) gateway.now (E.deeds self.new.ends) }
         ensures keeps { is_lost self.old.standing ≡ false →
-            is_renewal_due (E.grown self.old.ends) ≡ false → self.new ≡ self.old }
+            is_renewal_due (grown (E.deeds self.old.ends)) ≡ false → self.new ≡ self.old }
+        // So there is room for the next line, unless the store has failed.
+        ensures room { is_lost self.new.standing ≡ false →
+            is_renewal_due (grown (E.deeds self.new.ends)) ≡ false }
         ensures looks { (self.new ≡ self.old)
             ⊎ Renews (E.deeds self.old.ends) gateway.now (E.deeds self.new.ends) }
         ensures tried { (self.new ≡ self.old)
@@ -124,6 +128,8 @@ impl<E: Ends + Drop> Keeper<E> {
         ensures renews { Renews (E.deeds self.old.ends) gateway.now (E.deeds self.new.ends) }
         ensures tried { self.new.patience
             ≡ after_try (is_lost self.new.standing) self.old.patience }
+        ensures room { is_lost self.new.standing ≡ false →
+            is_renewal_due (grown (E.deeds self.new.ends)) ≡ false }
     {
         match self.ends.begin(gateway) {
             Ok(()) => {

@@ -1,29 +1,52 @@
 //! What holds of each history.
-ghost use Rattle.std.specs.Prelude.{◌≡◌, ◌++◌, ◌∷◌, [], ℕ, ◌+◌, ◌<◌, ◌⊎◌, Bool, true, false};
-ghost use Rattle.std.specs.Prelude.{List, Option, Some, None};
+ghost use Rattle.std.specs.Prelude.{◌≡◌, ◌++◌, ◌∷◌, [], ℕ, ◌+◌, ◌<◌, ◌≤◌, ◌⊎◌, Bool, true, false};
+ghost use Rattle.std.specs.Prelude.{List, Option, Ok, Some, None, length, slice_index};
+ghost use Rattle.std.specs.List.{AllByRecursion};
+ghost use Rattle.std.specs.Option.{is_some};
+ghost use Rattle.checkpoint.specs.Octets.{IsOctetLine};
 ghost use Rattle.gateway.specs.Agrees.{Follows, Rests};
 ghost use Rattle.gateway.specs.Config.{Settings};
-ghost use Rattle.gateway.specs.Log.{Log, LogEntry, Came, Went, Ticked, LineOut, GapOut};
-ghost use Rattle.gateway.specs.Restored.{IsSavable};
+ghost use Rattle.gateway.specs.Log.{Log, LogEntry, Came, Went, Ticked, LineIn, LineOut, GapOut};
+ghost use Rattle.gateway.specs.Restored.{HasSettings, IsSavable, state_lines};
 ghost use Rattle.gateway.specs.Setups.{setup_of};
 ghost use Rattle.gateway.specs.State.{State};
 ghost use Rattle.segments.specs.Crashes.{lines_behind};
-ghost use Rattle.state.specs.Beginnings.{AreLinesRead};
+ghost use Rattle.segments.specs.Head.{Fits, head_of};
+ghost use Rattle.segments.specs.Starts.{IsFoundIn, IsShut, IsSound};
+ghost use Rattle.segments.specs.declared.head.SegmentHead.{SegmentHead};
+ghost use Rattle.settings.specs.Settings.{IsReadOfText};
+ghost use Rattle.sqlite_disk.specs.Disk.{Holds};
+ghost use Rattle.statetext.specs.Sum.{sum_of};
+ghost use Rattle.statetext.specs.Text.{lines_in};
+ghost use Rattle.state.specs.Beginnings.{AreLinesRead, has_past};
 ghost use Rattle.state.specs.Crashed.{AreLeft, HasLog, IsKeptIn};
+ghost use Rattle.live.specs.declared.watched.Failure.{Failure};
 ghost use Rattle.live.specs.declared.watched.Notice.TheVariants.{NotKept, KeptAgain};
-ghost use Rattle.state.specs.Deeds.{AreRight, Deeds, IsAllOnDisk, IsSafe, PutOut, Received};
-ghost use Rattle.state.specs.Deeds.{appended, loss_of, moment_of, on_disk, waiting};
+ghost use Rattle.state.specs.Deeds.{AreRight, Deeds, GivenUp, IsAllOnDisk, IsSafe, PutOut};
+ghost use Rattle.state.specs.Deeds.{Received, appended, arrived, loss_of, moment_of, on_disk};
+ghost use Rattle.state.specs.Deeds.{waiting, written};
+ghost use Rattle.state.specs.Directories.{BeginsOver};
+ghost use Rattle.state.specs.Keeping.{failure_of};
+ghost use Rattle.state.specs.Lines.{IsWritable, is_renewal_due};
 ghost use Rattle.state.specs.Origins.{IsBegun};
-ghost use Rattle.state.specs.Renewals.{after_notice, after_try, is_renewal_due, is_try_due};
-ghost use Rattle.state.specs.Renewals.{notice_of};
+ghost use Rattle.state.specs.Renewals.{after_notice, after_try, is_try_due, notice_of};
 ghost use Rattle.state.specs.Replays.{last_gap, whole_lines};
 ghost use Rattle.state.specs.Returns.{HasReturned, IsBegunOver};
-ghost use Rattle.state.specs.Stores.{head, led_to_head, safe, written};
+ghost use Rattle.state.specs.Standings.{is_stopped};
+ghost use Rattle.state.specs.Stores.{head, led_to_head, safe};
+ghost use Rattle.state.specs.Unread.{IsUnread};
 ghost use Rattle.state.specs.declared.beginning.Origin.{Origin};
+ghost use Rattle.state.specs.declared.loss.Loss.{Loss};
+ghost use Rattle.state.specs.declared.loss.Loss.TheVariants.{Marked, Unmarked};
+ghost use Rattle.state.specs.declared.loss.StoreFault.TheVariants.{Full, Unwritable};
 ghost use Rattle.state.specs.declared.opened.Opened.{Opened};
 ghost use Rattle.state.specs.declared.renewal.Patience.{Patience};
+ghost use Rattle.traces.specs.Printed.{line_of_entry, lines_of_log};
+ghost use Rattle.traces.specs.Trace.{logged};
 
+use crate::standing::Standing;
 use crate::start::Beginning;
+use live::Failure;
 use sqlite_disk::Disk;
 
 /// Whatever action was handed out: when it was, all received events were on the disk, or the state
@@ -90,12 +113,46 @@ pub fn renewals_by_example()
         × (after_notice None p ≡ p) }
 {}
 
+/// What becomes of a run whose store has failed, case by case. It goes on where the loss is borne
+/// and the state on the disk is marked as stale, and else it is stopped. Once it was stopped, what
+/// has failed is the state, whatever the port says.
+pub fn losses_by_example()
+    ensures kept { (moment : ℕ) (bears : Bool) → (is_stopped Standing.Synced bears ≡ false)
+        × (is_stopped (Standing.Waiting moment) bears ≡ false) }
+    ensures marked { (is_stopped (Standing.Lost Marked) true ≡ false)
+        × (is_stopped (Standing.Lost Marked) false ≡ true) }
+    ensures unmarked { (bears : Bool) → is_stopped (Standing.Lost Unmarked) bears ≡ true }
+    ensures going { (of_port : Option Failure) → failure_of 0 of_port ≡ of_port }
+    ensures stopped { (stops : ℕ) (of_port : Option Failure) → 0 < stops →
+        failure_of stops of_port ≡ Some Failure.State }
+{}
+
 /// The events that are on the disk are those that led to the state at the head of the log, and
 /// those whose lines behind it are synced.
 pub fn what_is_on_disk_is_in_the_log()
     ensures appended { (deeds : Deeds) → appended deeds ≡ written deeds ++ led_to_head deeds }
     ensures on_disk { (deeds : Deeds) → on_disk deeds ≡ safe deeds ++ led_to_head deeds }
     ensures behind { (deeds : Deeds) → written deeds ≡ waiting deeds ++ safe deeds }
+{}
+
+/// The line of an event has 2,067 octets at most, whatever the event and the settings are: a moment
+/// of 15 digits, a letter, 1,024 octets in hexadecimal digits, two spaces and a line feed. The line
+/// of the longest events has as many.
+pub fn no_line_is_longer_than_2067_octets()
+    ensures short { (event : LogEntry) → IsWritable event → length (line_of_entry event) ≤ 2067 }
+    ensures longest { (octets : List ℕ) → length octets ≡ 1024 →
+        length (line_of_entry (Came 999999999999999 (LineIn octets))) ≡ 2067 }
+{}
+
+/// No store is given up for want of room while its log has 3,900,000 octets of events or fewer, and
+/// none for an event that a line can hold. Else a disk has failed, or memory was refused.
+pub fn a_log_has_room_for_each_line()
+    ensures room { (bears : Bool) (later earlier : Deeds) (loss : Loss) →
+        AreRight bears (later ++ GivenUp Full loss ∷ earlier) →
+        3900000 < length (lines_of_log (written earlier)) }
+    ensures each { (bears : Bool) (later earlier : Deeds) (loss : Loss) (event : LogEntry)
+        (log : Log) → AreRight bears (later ++ GivenUp Unwritable loss ∷ earlier) →
+        arrived earlier ≡ event ∷ log → IsWritable event → ⊥ }
 {}
 
 /// No crash leaves a line that can't be read. The lines of events were appended behind a
@@ -125,4 +182,65 @@ pub fn a_start_goes_on_behind_a_crash<D: Disk + Drop>()
         IsBegunOver D.Disk file c text log o → head deeds ≡ Some state → IsSavable state →
         Follows (setup_of c) state (Some log) → Rests (setup_of c) (Some log) →
         HasReturned c log deeds o }
+{}
+
+/// A state that is damaged is never gone on with as if it was whole. What is gone on with has a
+/// checkpoint of the length and the sum that its first line says. Where the links go on, each whole
+/// line behind that logs an event, no newer segment's first line stands in the other file, and no
+/// mark says that the state is stale.
+pub fn a_damaged_state_never_goes_on_as_whole<D: Disk + Drop>()
+    ensures whole { (c : Settings) (text : List ℕ) (log : Log) (mark : Option Bool)
+        (newest other : D) (o : Origin) → BeginsOver D.Disk c text log mark newest other o →
+        has_past o.beginning ≡ true → (head : SegmentHead) × (body : List ℕ) ×
+        Holds (D.Disk.seen newest) 0 (head_of head) ×
+        (0 < length body → Holds (D.Disk.seen newest) 87 body) ×
+        (length body ≡ head.octets) × (sum_of body ≡ head.sum) }
+    ensures lines { (c : Settings) (text : List ℕ) (log : Log) (mark : Option Bool)
+        (newest other : D) (o : Origin) → BeginsOver D.Disk c text log mark newest other o →
+        o.beginning ≡ Beginning.GoesOn → (head : SegmentHead) (body : List ℕ) → Fits head →
+        IsFoundIn (D.Disk.seen newest) head body →
+        AllByRecursion (λ line. is_some (logged line) ≡ true)
+        (whole_lines (lines_behind body (D.Disk.seen newest))) }
+    ensures newer { (c : Settings) (text : List ℕ) (log : Log) (mark : Option Bool)
+        (newest other : D) (o : Origin) → BeginsOver D.Disk c text log mark newest other o →
+        o.beginning ≡ Beginning.GoesOn → (own head : SegmentHead) → Fits own → Fits head →
+        Holds (D.Disk.seen newest) 0 (head_of own) → Holds (D.Disk.seen other) 0 (head_of head) →
+        head.number ≤ own.number }
+    ensures stale { (c : Settings) (text : List ℕ) (log : Log) (newest other : D) (o : Origin) →
+        BeginsOver D.Disk c text log (Some true) newest other o →
+        o.beginning ≡ Beginning.GoesOn → ⊥ }
+{}
+
+/// What stands in a directory isn't passed over. A run begins anew beside two files only if both
+/// are shut. No link is reset without a reason. Where no mark stands, neither file has what no
+/// crash leaves, and each line of the log is read, a run goes on with its links. It goes on
+/// with the newer of two segments.
+pub fn what_stands_is_not_passed_over<D: Disk + Drop>()
+    ensures anew { (c : Settings) (text : List ℕ) (log : Log) (mark : Option Bool)
+        (newest other : D) (o : Origin) → BeginsOver D.Disk c text log mark newest other o →
+        o.beginning ≡ Beginning.Anew → (file : D) → (file ≡ newest) ⊎ (file ≡ other) →
+        (length (D.Disk.seen file) < 2) ⊎ (slice_index (D.Disk.seen file) 0 ≡ 0) }
+    ensures links { (c : Settings) (text : List ℕ) (log : Log) (newest other : D) (o : Origin) →
+        BeginsOver D.Disk c text log (Some false) newest other o →
+        IsSound (D.Disk.seen newest) → IsSound (D.Disk.seen other) →
+        AreLinesRead (D.Disk.seen newest) → o.beginning ≡ Beginning.LinksReset → ⊥ }
+    ensures newest { (c : Settings) (text : List ℕ) (log : Log) (mark : Option Bool)
+        (newest other : D) (o : Origin) → BeginsOver D.Disk c text log mark newest other o →
+        has_past o.beginning ≡ true → (own head : SegmentHead) (body others : List ℕ) → Fits own →
+        Fits head → IsFoundIn (D.Disk.seen newest) own body →
+        IsFoundIn (D.Disk.seen other) head others → head.number ≤ own.number }
+{}
+
+/// A state that a run has written is never put aside by one with the same settings: a checkpoint
+/// that is whole and says the settings, a file of settings that can be read, and the state of a
+/// gateway with these. And both files are never put aside where they are shut.
+pub fn a_state_that_can_be_read_is_not_put_aside()
+    ensures kept { (c : Settings) (text newest other : List ℕ) (head : SegmentHead)
+        (body : List ℕ) (state : State) → Fits head → IsFoundIn newest head body →
+        lines_in body ≡ text ∷ state_lines state → IsOctetLine text →
+        IsReadOfText text (Ok c) → IsSavable state → HasSettings c state →
+        ((by : Settings) → IsReadOfText text (Ok by) → HasSettings by state) →
+        IsUnread c text newest other → ⊥ }
+    ensures shut { (c : Settings) (text newest other : List ℕ) → IsShut newest → IsShut other →
+        IsUnread c text newest other → ⊥ }
 {}

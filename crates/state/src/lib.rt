@@ -28,13 +28,15 @@ pub use event_text::EventText;
 pub use folder::{Folder, FolderFault};
 pub use keeper::Keeper;
 pub use laws::{
-    a_clock_goes_on_where_the_gateway_stood, a_start_goes_on_behind_a_crash,
-    no_crash_leaves_another_line, no_event_waits_for_a_second,
+    a_clock_goes_on_where_the_gateway_stood, a_damaged_state_never_goes_on_as_whole,
+    a_log_has_room_for_each_line, a_start_goes_on_behind_a_crash,
+    a_state_that_can_be_read_is_not_put_aside, losses_by_example, no_crash_leaves_another_line,
+    no_event_waits_for_a_second, no_line_is_longer_than_2067_octets,
     nothing_goes_out_before_it_is_on_disk, renewals_by_example, reported_gaps_by_example,
-    what_is_on_disk_is_in_the_log,
+    what_is_on_disk_is_in_the_log, what_stands_is_not_passed_over,
 };
 pub use looking::{Seen, Sight, look};
-pub use loss::Loss;
+pub use loss::{Loss, StoreFault};
 pub use pair::Pair;
 pub use renewal::{Patience, is_renewal_due};
 pub use replaying::{EventLines, Lineage, Replayed, ReportedGap, replay};

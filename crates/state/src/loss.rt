@@ -1,5 +1,16 @@
 //! What is known where a store has failed.
 
+/// Why a store has failed.
+#[derive(Clone, Copy, Debug, PartialEq, Eq)]
+pub enum StoreFault {
+    /// No line can hold the event.
+    Unwritable,
+    /// The log has no room for the line.
+    Full,
+    /// The disk failed, or memory was refused.
+    Failed,
+}
+
 /// What is known of the state on the disk, where a store has failed.
 #[derive(Clone, Copy, Debug, PartialEq, Eq)]
 pub enum Loss {

@@ -1,7 +1,8 @@
 //! What of a log's two files is open.
-ghost use Rattle.std.specs.Prelude.{◌≤◌, take};
+ghost use Rattle.std.specs.Prelude.{◌+◌, ◌≤◌, take};
 ghost use Rattle.segments.specs.Head.{IsWholeText};
-ghost use Rattle.segments.specs.Segment.{durable_of, text_of};
+ghost use Rattle.segments.specs.Segment.{durable_of, size_of, text_of};
+ghost use Rattle.state.specs.Lines.{longest_line, most_octets};
 
 use segments::Segment;
 use sqlite_disk::Disk;
@@ -17,6 +18,7 @@ pub(crate) struct Current<D: Disk + Drop> {
     pub(crate) spare: D,
     pub(crate) ghost within: { head ≤ durable_of segment },
     pub(crate) ghost whole: { IsWholeText number (take head (text_of segment)) },
+    pub(crate) ghost room: { head + most_octets + longest_line ≤ size_of segment },
 }
 
 /// What of the two files is open.

@@ -1,14 +1,14 @@
 //! A port, and a store beside it.
-ghost use Rattle.std.specs.Prelude.{◌≡◌, ◌++◌, ℕ, List, true, [], length};
+ghost use Rattle.std.specs.Prelude.{◌≡◌, ◌++◌, ℕ, List, true, false, [], length, IfErr, OnOk};
 ghost use Rattle.std.specs.List.{AllByRecursion};
 ghost use Rattle.gateway.specs.Ports.{FitsBuffer, logged_by};
-ghost use Rattle.state.specs.Crashed.{FitsLine, IsWritable};
+ghost use Rattle.state.specs.Lines.{FitsLine, IsRefusedBy, IsWritable};
 ghost use Rattle.traces.specs.Printed.{lines_of_log};
 
 use crate::disk_store::DiskStore;
 use crate::ends::Ends;
 use crate::folder::Folder;
-use crate::loss::Loss;
+use crate::loss::{Loss, StoreFault};
 use crate::renewal::is_renewal_due;
 use crate::store::Store;
 use crate::trail::{Done, Trail};
@@ -30,8 +30,9 @@ pub struct Pair<P: Watched + Drop, S: Store + Drop> {
 impl<P: Watched + Drop, S: Store + Drop> Model for Pair<P, S> {
     ghost use Rattle.std.specs.List.{AllByRecursion};
     ghost use Rattle.state.specs.Both.{Both};
-    ghost use Rattle.state.specs.Crashed.{IsWritable};
-    ghost use Rattle.state.specs.Stores.{IsMarked, IsStored, written};
+    ghost use Rattle.state.specs.Deeds.{written};
+    ghost use Rattle.state.specs.Lines.{IsWritable};
+    ghost use Rattle.state.specs.Stores.{IsMarked, IsStored};
 
     ghost Value = { Both P S };
 
@@ -45,8 +46,9 @@ impl<P: Watched + Drop, S: Store + Drop> Model for Pair<P, S> {
 
 impl<P: Watched + Drop, S: Store + Drop> Pair<P, S> {
     ghost use Rattle.std.specs.List.{AllByRecursion};
-    ghost use Rattle.state.specs.Crashed.{IsWritable};
-    ghost use Rattle.state.specs.Stores.{IsMarked, IsStored, written};
+    ghost use Rattle.state.specs.Deeds.{written};
+    ghost use Rattle.state.specs.Lines.{IsWritable};
+    ghost use Rattle.state.specs.Stores.{IsMarked, IsStored};
 
     /// Both, at which nothing was done.
     pub fn new(alloc: Global, port: P, store: S) -> Pair<P, S>
@@ -91,7 +93,8 @@ impl<P: Watched + Drop, F: Folder + Drop> Pair<P, DiskStore<F>> {
 
 /// A line can hold the event of this answer: its moment has 15 digits at most, and it has octets.
 fn is_writable(next: Next) -> bool
-    ensures { result ≡ true → FitsLine next }
+    ensures fits { result ≡ true → FitsLine next }
+    ensures others { result ≡ false → FitsLine next → ⊥ }
 {
     match next {
         Next::Line(now, len) | Next::Bytes(now, len) => now <= LAST_MOMENT && len >= 1,
@@ -102,22 +105,29 @@ fn is_writable(next: Next) -> bool
 }
 
 /// Appends the line of an event to a store, if there is one and memory for it.
-fn take<S: Store>(alloc: Global, store: &mut S, next: Next, buf: &[u8; 1024]) -> bool
+fn take<S: Store>(
+    alloc: Global,
+    store: &mut S,
+    next: Next,
+    buf: &[u8; 1024],
+) -> Result<(), StoreFault>
     requires { FitsBuffer next }
-    ensures taken { result ≡ true → S.stored store.new ≡ record (S.stored store.old) {
+    ensures taken { OnOk result (S.stored store.new ≡ record (S.stored store.old) {
       text = (S.stored store.old).text ++ lines_of_log (logged_by next buf.now);
-    } }
-    ensures writable { result ≡ true → AllByRecursion IsWritable (logged_by next buf.now) }
+    }) }
+    ensures refused { IfErr result (λ fault.
+        IsRefusedBy fault (logged_by next buf.now) (length (S.stored store.old).text)) }
+    ensures writable { OnOk result (AllByRecursion IsWritable (logged_by next buf.now)) }
     ensures mark { S.mark store.new ≡ S.mark store.old }
     ensures settings { S.settings store.new ≡ S.settings store.old }
 {
     // A start couldn't read such a line (docs/DECISIONS.md, "A line that can't be read").
     if !is_writable(next) {
-        return false;
+        return Err(StoreFault::Unwritable);
     }
     let mut line = String::new(alloc);
     if append_event(alloc, &mut line, next, buf).is_err() {
-        return false;
+        return Err(StoreFault::Failed);
     }
     // Without a sum of its own: no crash needs one (docs/DECISIONS.md, "No sum by line").
     store.append(line.as_bytes())
@@ -139,8 +149,6 @@ impl<P: Watched + Drop, S: Store + Drop> Ends for Pair<P, S> {
     ghost shows = { λ p sight. P.shows p.port sight };
 
     ghost deeds = { λ p. p.deeds };
-
-    ghost grown = { λ p. length (S.stored p.store).text };
 
     fn next(&mut self, buf: &mut [u8; 1024]) -> Next {
         let next = self.port.next(buf);
@@ -165,13 +173,13 @@ impl<P: Watched + Drop, S: Store + Drop> Ends for Pair<P, S> {
     }
 
     fn append(&mut self, next: Next, buf: &[u8; 1024]) -> Result<(), Loss> {
-        if take(self.alloc, &mut self.store, next, buf) {
-            self.trail = self.trail.with(&Done::Appended(next, buf));
-            return Ok(());
+        if let Err(fault) = take(self.alloc, &mut self.store, next, buf) {
+            let loss = self.store.give_up();
+            self.trail = self.trail.with(&Done::GivenUp(fault, loss));
+            return Err(loss);
         }
-        let loss = self.store.give_up();
-        self.trail = self.trail.with(&Done::GivenUp(loss));
-        Err(loss)
+        self.trail = self.trail.with(&Done::Appended(next, buf));
+        Ok(())
     }
 
     fn sync(&mut self) -> Result<(), Loss> {
@@ -180,7 +188,7 @@ impl<P: Watched + Drop, S: Store + Drop> Ends for Pair<P, S> {
             return Ok(());
         }
         let loss = self.store.give_up();
-        self.trail = self.trail.with(&Done::GivenUp(loss));
+        self.trail = self.trail.with(&Done::GivenUp(StoreFault::Failed, loss));
         Err(loss)
     }
 
@@ -194,7 +202,7 @@ impl<P: Watched + Drop, S: Store + Drop> Ends for Pair<P, S> {
             return Ok(());
         }
         let loss = self.store.give_up();
-        self.trail = self.trail.with(&Done::GivenUp(loss));
+        self.trail = self.trail.with(&Done::GivenUp(StoreFault::Failed, loss));
         Err(loss)
     }
 }

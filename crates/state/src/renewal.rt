@@ -1,7 +1,8 @@
 //! When a log is begun anew, and when the keeper reports that none is kept.
 ghost use Rattle.std.specs.Prelude.{◌≡◌, ℕ, List};
-ghost use Rattle.state.specs.Renewals.{after_notice, has_passed, is_renewal_due, is_try_due};
-ghost use Rattle.state.specs.Renewals.{moment_after, notice_of};
+ghost use Rattle.state.specs.Lines.{is_renewal_due};
+ghost use Rattle.state.specs.Renewals.{after_notice, has_passed, is_try_due, moment_after};
+ghost use Rattle.state.specs.Renewals.{notice_of};
 ghost use Rattle.gateway.specs.Ports.{logged_by};
 
 use gateway::Next;

@@ -1,16 +1,17 @@
 //! What keeps the events of a run.
 
-use crate::loss::Loss;
+use crate::loss::{Loss, StoreFault};
 use gateway::Gateway;
 
 /// A log of lines behind the state of a gateway. It says what it has, and what of it is on the
 /// disk.
 pub trait Store {
     ghost use Rattle.gateway.specs.Restored.{state_lines};
+    ghost use Rattle.state.specs.Lines.{IsRefusedBy, longest_line};
     ghost use Rattle.state.specs.Stores.{Stored};
     ghost use Rattle.std.specs.Io.Iter.{u64_saturate};
-    ghost use Rattle.std.specs.Prelude.{◌≡◌, ℕ, ◌+◌, ◌≤◌, length, List, [], ◌∷◌, ◌++◌, Option};
-    ghost use Rattle.std.specs.Prelude.{Some, Bool, true, false};
+    ghost use Rattle.std.specs.Prelude.{◌≡◌, ◌⊎◌, ℕ, ◌+◌, ◌≤◌, length, List, [], ◌∷◌, ◌++◌};
+    ghost use Rattle.std.specs.Prelude.{Option, Some, Bool, true, false, IfErr, OnOk};
 
     ghost stored: { Self → Stored };
 
@@ -26,10 +27,14 @@ pub trait Store {
     /// The log that takes lines bears this number.
     ghost bears: { Self → ℕ → Type 0 };
 
-    /// Appends lines, each with its line feed. `false` says that it failed.
-    fn append(&mut self, lines: &[u8]) -> bool
-        ensures appended { result ≡ true → stored self.new
-            ≡ record (stored self.old) { text = (stored self.old).text ++ lines.now } }
+    /// Appends the line of an event, with its line feed. An `Err` says why it failed.
+    fn append(&mut self, lines: &[u8]) -> Result<(), StoreFault>
+        requires short { length lines.now ≤ longest_line }
+        ensures appended { OnOk result (stored self.new
+            ≡ record (stored self.old) { text = (stored self.old).text ++ lines.now }) }
+        // While no new log is due, there is room for each line.
+        ensures refused { IfErr result
+            (λ fault. IsRefusedBy fault [] (length (stored self.old).text)) }
         ensures mark { mark self.new ≡ mark self.old }
         ensures next { next self.new ≡ next self.old }
         ensures settings { settings self.new ≡ settings self.old };
@@ -44,16 +49,16 @@ pub trait Store {
         ensures settings { settings self.new ≡ settings self.old };
 
     /// Begins a new log behind the settings and this gateway's state. Where `true` is answered it
-    /// stands on the disk, takes the place of the one before, and isn't marked as stale. Its number
-    /// is above that of each one before it.
+    /// stands on the disk, takes the place of the one before, and isn't marked as stale. It has the
+    /// next number, and no number is left out.
     fn begin(&mut self, gateway: &Gateway) -> bool
         ensures begun { result ≡ true → stored self.new
             ≡ record { head = settings self.old ∷ state_lines gateway.now; text = []; safe = [] } }
         ensures mark { result ≡ true → mark self.new ≡ Some false }
         ensures bears { result ≡ true → bears self.new (next self.old) }
-        ensures above { result ≡ true →
-            u64_saturate (next self.old + 1) ≤ next self.new }
-        ensures next { next self.old ≤ next self.new }
+        ensures above { result ≡ true → next self.new ≡ u64_saturate (next self.old + 1) }
+        ensures next { (next self.new ≡ next self.old)
+            ⊎ (next self.new ≡ u64_saturate (next self.old + 1)) }
         ensures settings { settings self.new ≡ settings self.old };
 
     /// How many octets the lines behind the head of the log have.

@@ -3,7 +3,7 @@ ghost use Rattle.std.specs.Prelude.{◌≡◌, List, [], ◌++◌};
 ghost use Rattle.std.specs.Borrow.{ftrue};
 ghost use Rattle.state.specs.Deeds.{Deed};
 
-use crate::loss::Loss;
+use crate::loss::{Loss, StoreFault};
 use gateway::{Action, Gateway, Next};
 use std::marker::Model;
 
@@ -18,8 +18,8 @@ pub enum Done<'a> {
     Synced,
     /// A new log stands on the disk, with the state of this gateway at its head.
     Begun(&'a Gateway),
-    /// The store has failed; whether the state on the disk was marked as stale.
-    GivenUp(Loss),
+    /// The store has failed; why, and whether the state on the disk was marked as stale.
+    GivenUp(StoreFault, Loss),
     /// An action was handed out at a moment, in ms.
     PutOut(u64, &'a Action<'a>),
 }

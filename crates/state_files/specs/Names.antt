@@ -1,5 +1,5 @@
 -- What is done to the names of files in a directory (this gateway's own profile).
-use Rattle.std.specs.Prelude.{◌≡◌, ℕ, ◌<◌, ◌≤◌, Bool, true, false, List, [], ◌∷◌, ◌++◌, codes}
+use Rattle.std.specs.Prelude.{◌≡◌, ◌⊎◌, ℕ, ◌<◌, ◌≤◌, Bool, true, false, List, [], ◌∷◌, ◌++◌, codes}
 use Rattle.std.specs.Prelude.{Option}
 use Rattle.std.specs.Prelude.{Some, None, Result, Ok, Err}
 use Rattle.std.specs.Fmt.{decimal}
@@ -11,6 +11,7 @@ pub data NameStep : Type 0 where
   Sought : (name : List ℕ) → (is_there : Option Bool) → NameStep
   Made : (name : List ℕ) → (is_made : Bool) → NameStep
   Synced : (is_done : Bool) → NameStep
+  Locked : (is_taken : Option Bool) → NameStep
 
 -- the calls so far, the newest first, where they are kept
 abbrev pub Steps : Type 0
@@ -28,6 +29,11 @@ answer_of (Err fault) = None
 abbrev pub is_done : {A E : Type 0} → Result A E → Bool
 is_done (Ok answer) = true
 is_done (Err fault) = false
+
+-- The directory was locked before, or the latest call has locked it.
+abbrev pub IsLockTaken : (was_locked : Bool) → (after : Steps) → Type 0
+IsLockTaken was_locked after =
+    (was_locked ≡ true) ⊎ ((earlier : Steps) × (after ≡ noted earlier (Locked (Some true))))
 
 -- A mark is made: one name is replaced by another, then a file of that name is there, and then the
 -- names are synced.
@@ -63,10 +69,15 @@ AreRenamed n before after =
     × IsRenamed (codes "segments-wal") (unread_name n ++ codes "-wal") between then
     × (after ≡ noted then (Synced true))
 
--- Both files got names with a number from 1 to 9. Unless that is 9, no file had its name.
+-- no file has one of the names with this number
+abbrev pub IsFree : (number : ℕ) → (after : Steps) → Type 0
+IsFree n after =
+    (earlier : Steps)
+    × (after ≡ noted (noted earlier (Sought (unread_name n) (Some false)))
+    (Sought (unread_name n ++ codes "-wal") (Some false)))
+
+-- Both files got names with a number from 1 to 9. Unless that is 9, no file had either name.
 abbrev pub IsPutAside : (after : Steps) → Type 0
 IsPutAside after =
-    (n : ℕ) × (sought : Steps) × (1 ≤ n) × (n ≤ 9)
-    × (n < 9 → (earlier : Steps)
-    × (sought ≡ noted earlier (Sought (unread_name n) (Some false))))
+    (n : ℕ) × (sought : Steps) × (1 ≤ n) × (n ≤ 9) × (n < 9 → IsFree n sought)
     × AreRenamed n sought after

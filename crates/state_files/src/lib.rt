@@ -11,12 +11,12 @@
 //! [`stood_in`] reads what stands in such a directory, beside a process that has it or alone, and
 //! changes nothing.
 //!
-//! Not proved is what the system does. What is proved is what this crate makes of its answers: the
+//! Not proved is what the system does. What is proved is what this crate makes of its answers. The
 //! mark counts as made or taken away only where the rename and the sync behind it have succeeded.
+//! No name is looked for or changed, and no file of the log is opened, before the lock is taken.
 #![tactic(auto)]
 
-ghost use Rattle.std.specs.Prelude.{◌≡◌, IfOk, None, false, true};
-ghost use Rattle.std.specs.Option.{is_some};
+ghost use Rattle.std.specs.Prelude.{◌≡◌, IfOk, IsTrue, None, false, true};
 ghost use Rattle.state_files.specs.Faults.{fault_by, refusal_of};
 ghost use Rattle.std.specs.IoError.{error_kind};
 
@@ -27,36 +27,19 @@ mod names;
 use crate::marks::Marks;
 use crate::names::SystemNames;
 pub use looking::{Stood, stood_in};
-use sqlite_disk::Files;
+use segments::Segment;
+use sqlite_disk::{Disk, Files};
 use sqlite_std_file::{File, OpenError, Unknown};
 use state::{Folder, FolderFault};
 use std::io::ErrorKind;
 use std::{fs, io};
 
-/// How often the lock is tried: some milliseconds. Who looks at the directory ([`stood_in`]) has it
-/// for a few microseconds.
-const TRIES: u32 = 10_000;
-
 /// The directory of a state. It is made, and locked, where its files are opened first.
 #[derive(Drop)]
 pub struct Directory {
     marks: Marks<SystemNames>,
-    /// The file that is locked.
-    lock: Option<fs::File>,
     /// Files that couldn't be read were put aside.
     has_put_aside: bool,
-}
-
-/// Locks a file. `false`: another process has it.
-fn lock(file: &fs::File) -> io::Result<bool> {
-    for _ in 0..TRIES {
-        match file.try_lock() {
-            Ok(()) => return Ok(true),
-            Err(fs::TryLockError::WouldBlock) => {}
-            Err(fs::TryLockError::Error(error)) => return Err(error),
-        }
-    }
-    Ok(false)
 }
 
 /// Why the system refused.
@@ -86,56 +69,34 @@ impl Directory {
     /// The directory at a path. Nothing is asked of the system yet.
     pub fn new(rt: HostRuntime, path: String) -> Directory
         ensures { result ≡ record {
-          marks = record { names = record { rt = rt; path = path }; mark = None };
-          lock = None;
+          marks = record {
+            names = record { rt = rt; path = path; lock = None };
+            is_locked = false;
+            mark = None;
+          };
           has_put_aside = false;
         } }
     {
         Directory {
             marks: Marks {
-                names: SystemNames { rt, path },
+                names: SystemNames {
+                    rt,
+                    path,
+                    lock: None,
+                },
+                is_locked: false,
                 mark: None,
             },
-            lock: None,
             has_put_aside: false,
         }
     }
 
-    /// Locks the directory, which is made where it isn't there. `false`: another process has it.
-    fn take_lock(&mut self) -> io::Result<bool>
-        ensures mark { self.new.marks ≡ self.old.marks }
-        ensures locked { IfOk result (λ is_locked. is_locked ≡ is_some self.new.lock) }
+    /// Opens both files of the directory, which is locked.
+    fn open_files(&self) -> Result<Files<File>, FolderFault>
+        requires { IsTrue self.now.marks.is_locked }
+        ensures log { IfOk result (λ files. IsTrue (⟦<File as Disk>⟧.is_usable files.log)) }
+        ensures db { IfOk result (λ files. IsTrue (⟦<File as Disk>⟧.is_usable files.db)) }
     {
-        if self.lock.is_some() {
-            return Ok(true);
-        }
-        let names = &self.marks.names;
-        fs::create_dir_all(&names.rt, names.path.as_str())?;
-        let file = names.opened("lock")?;
-        let is_locked = lock(&file)?;
-        if is_locked {
-            self.lock = Some(file);
-        }
-        Ok(is_locked)
-    }
-}
-
-impl Folder for Directory {
-    type File = File;
-
-    ghost mark = { λ d. d.marks.mark };
-
-    ghost aside = { λ d _ _. d.has_put_aside ≡ true };
-
-    fn open(&mut self) -> Result<Files<File>, FolderFault> {
-        match self.take_lock() {
-            Ok(true) => {}
-            Ok(false) => return Err(FolderFault::InUse),
-            Err(error) => return Err(fault_of(&error)),
-        }
-        if let Err(error) = self.marks.make_kept() {
-            return Err(fault_of(&error));
-        }
         let names = &self.marks.names;
         let path = match names.path_of("segments") {
             Ok(path) => path,
@@ -145,6 +106,28 @@ impl Folder for Directory {
             Ok(files) => Ok(files),
             Err(error) => Err(refusal(&error)),
         }
+    }
+}
+
+impl Folder for Directory {
+    type File = File;
+
+    ghost mark = { λ d. d.marks.mark };
+
+    ghost is_locked = { λ d. d.marks.is_locked };
+
+    ghost aside = { λ d _ _. d.has_put_aside ≡ true };
+
+    fn open(&mut self) -> Result<Files<File>, FolderFault> {
+        match self.marks.lock() {
+            Ok(true) => {}
+            Ok(false) => return Err(FolderFault::InUse),
+            Err(error) => return Err(fault_of(&error)),
+        }
+        if let Err(error) = self.marks.make_kept() {
+            return Err(fault_of(&error));
+        }
+        self.open_files()
     }
 
     fn is_stale(&mut self) -> Result<bool, FolderFault> {
@@ -158,7 +141,7 @@ impl Folder for Directory {
         self.marks.mark_stale()
     }
 
-    fn unmark(&mut self) -> bool {
+    fn unmark(&mut self, _log: &Segment<File>) -> bool {
         self.marks.unmark()
     }
 

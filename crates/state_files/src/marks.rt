@@ -1,7 +1,9 @@
 //! What the names of files in a directory say of the state there.
 ghost use Rattle.std.specs.Prelude.{◌≡◌, ◌<◌, ◌≤◌, ◌++◌, codes, false, true, IfOk, None, Some};
-ghost use Rattle.state_files.specs.Names.{AreRenamed, HasMark, IsMarkedAs, IsPutAside};
-ghost use Rattle.state_files.specs.Names.{IsRenamed, Sought, Steps, Synced, noted, unread_name};
+ghost use Rattle.std.specs.Prelude.{IsTrue};
+ghost use Rattle.state_files.specs.Names.{AreRenamed, HasMark, IsFree, IsLockTaken, IsMarkedAs};
+ghost use Rattle.state_files.specs.Names.{IsPutAside, IsRenamed, Sought, Synced, noted};
+ghost use Rattle.state_files.specs.Names.{unread_name};
 
 use crate::names::{Names, named};
 use std::alloc::Global;
@@ -11,21 +13,49 @@ use std::io::ErrorKind;
 /// How many files that couldn't be read are kept.
 const MOST_UNREAD: u32 = 9;
 
+/// How often the lock is tried: some milliseconds. Who looks at the directory
+/// ([`crate::stood_in`]) has it for a few microseconds.
+const TRIES: u32 = 10_000;
+
 /// The names in the directory of a state.
 #[derive(Drop)]
 pub(crate) struct Marks<N: Names> {
     pub(crate) names: N,
+    /// This process has the directory locked. Without that no name is looked for or changed.
+    pub(crate) is_locked: bool,
     /// Whether the mark stands on the disk, where that is known.
     pub(crate) mark: Option<bool>,
 }
 
 impl<N: Names> Marks<N> {
+    /// Locks the directory, and keeps it locked. `false`: another process has it.
+    pub(crate) fn lock(&mut self) -> io::Result<bool>
+        ensures locked { IfOk result (λ is_locked. is_locked ≡ self.new.is_locked) }
+        ensures taken { IfOk result (λ is_locked. is_locked ≡ true →
+            IsLockTaken self.old.is_locked (N.steps self.new.names)) }
+        ensures stays { IsTrue self.old.is_locked → IsTrue self.new.is_locked }
+        ensures mark { self.new.mark ≡ self.old.mark }
+    {
+        if self.is_locked {
+            return Ok(true);
+        }
+        'locking: for _ in 0..TRIES {
+            if self.names.try_lock()? {
+                self.is_locked = true;
+                return Ok(true);
+            }
+        }
+        Ok(false)
+    }
+
     /// Renames a file, and makes sure that the name is on the disk. Where it isn't there, a file of
     /// the new name is.
     fn mark_as(&mut self, from: &str, to: &str) -> io::Result<()>
+        requires { IsTrue self.old.is_locked }
         ensures marked { IfOk result (λ _. IsMarkedAs from.now to.now (N.steps self.old.names)
             (N.steps self.new.names)) }
         ensures mark { self.new.mark ≡ self.old.mark }
+        ensures lock { self.new.is_locked ≡ self.old.is_locked }
     {
         self.names.rename(from, to)?;
         if !self.names.has(to)? {
@@ -36,9 +66,11 @@ impl<N: Names> Marks<N> {
 
     /// Makes the file that says that the state is good, where none says anything.
     pub(crate) fn make_kept(&mut self) -> io::Result<()>
+        requires { IsTrue self.old.is_locked }
         ensures made { IfOk result (λ _. HasMark (N.steps self.old.names)
             (N.steps self.new.names)) }
         ensures mark { self.new.mark ≡ self.old.mark }
+        ensures lock { self.new.is_locked ≡ self.old.is_locked }
     {
         if self.names.has("kept")? {
             return Ok(());
@@ -52,10 +84,12 @@ impl<N: Names> Marks<N> {
 
     /// Whether the mark stands on the disk.
     pub(crate) fn is_stale(&mut self) -> io::Result<bool>
+        requires { IsTrue self.old.is_locked }
         ensures found { IfOk result (λ is_stale. N.steps self.new.names
             ≡ noted (noted (N.steps self.old.names) (Synced true))
             (Sought (codes "stale") (Some is_stale))) }
         ensures mark { IfOk result (λ is_stale. self.new.mark ≡ Some is_stale) }
+        ensures lock { self.new.is_locked ≡ self.old.is_locked }
     {
         self.names.sync()?;
         let is_stale = self.names.has("stale")?;
@@ -65,10 +99,12 @@ impl<N: Names> Marks<N> {
 
     /// Marks the state as stale, on the disk. `false`: it couldn't be done.
     pub(crate) fn mark_stale(&mut self) -> bool
+        requires { IsTrue self.old.is_locked }
         ensures marked { result ≡ true → IsMarkedAs (codes "kept") (codes "stale")
             (N.steps self.old.names) (N.steps self.new.names) }
         ensures mark { result ≡ true → self.new.mark ≡ Some true }
         ensures unknown { result ≡ false → self.new.mark ≡ None }
+        ensures lock { self.new.is_locked ≡ self.old.is_locked }
     {
         self.mark = None;
         let is_made = self.mark_as("kept", "stale").is_ok();
@@ -80,10 +116,12 @@ impl<N: Names> Marks<N> {
 
     /// Takes the mark away, on the disk. `false`: it couldn't be done.
     pub(crate) fn unmark(&mut self) -> bool
+        requires { IsTrue self.old.is_locked }
         ensures marked { result ≡ true → IsMarkedAs (codes "stale") (codes "kept")
             (N.steps self.old.names) (N.steps self.new.names) }
         ensures mark { result ≡ true → self.new.mark ≡ Some false }
         ensures unknown { result ≡ false → self.new.mark ≡ None }
+        ensures lock { self.new.is_locked ≡ self.old.is_locked }
     {
         self.mark = None;
         let is_taken = self.mark_as("stale", "kept").is_ok();
@@ -93,16 +131,33 @@ impl<N: Names> Marks<N> {
         is_taken
     }
 
+    /// Whether no file that couldn't be read is kept under this number.
+    fn is_free(&mut self, alloc: Global, number: u32) -> io::Result<bool>
+        requires { IsTrue self.old.is_locked }
+        ensures free { IfOk result (λ is_free. is_free ≡ true →
+            IsFree number (N.steps self.new.names)) }
+        ensures mark { self.new.mark ≡ self.old.mark }
+        ensures lock { self.new.is_locked ≡ self.old.is_locked }
+    {
+        let name = named(format!(in alloc; "unread-{number}"))?;
+        if self.names.has(name.as_str())? {
+            return Ok(false);
+        }
+        // Where the first file was missing, the second one alone may have been put aside.
+        let name = named(format!(in alloc; "unread-{number}-wal"))?;
+        Ok(!self.names.has(name.as_str())?)
+    }
+
     /// The first number under which no file that couldn't be read is kept, or the last one.
     fn unread_number(&mut self, alloc: Global) -> io::Result<u32>
+        requires { IsTrue self.old.is_locked }
         ensures range { IfOk result (λ n. (1 ≤ n) × (n ≤ 9)) }
-        ensures free { IfOk result (λ n. n < 9 → (earlier : Steps) × (N.steps self.new.names
-            ≡ noted earlier (Sought (unread_name n) (Some false)))) }
+        ensures free { IfOk result (λ n. n < 9 → IsFree n (N.steps self.new.names)) }
         ensures mark { self.new.mark ≡ self.old.mark }
+        ensures lock { self.new.is_locked ≡ self.old.is_locked }
     {
         for number in 1..MOST_UNREAD {
-            let name = named(format!(in alloc; "unread-{number}"))?;
-            if !self.names.has(name.as_str())? {
+            if self.is_free(alloc, number)? {
                 return Ok(number);
             }
         }
@@ -111,10 +166,12 @@ impl<N: Names> Marks<N> {
 
     /// Gives a file the name with this number, and another word behind it.
     fn rename_to(&mut self, alloc: Global, from: &str, number: u32, ending: &str) -> io::Result<()>
+        requires { IsTrue self.old.is_locked }
         ensures renamed { IfOk result (λ _. IsRenamed from.now
             (unread_name number ++ ending.now) (N.steps self.old.names)
             (N.steps self.new.names)) }
         ensures mark { self.new.mark ≡ self.old.mark }
+        ensures lock { self.new.is_locked ≡ self.old.is_locked }
     {
         let name = named(format!(in alloc; "unread-{number}{ending}"))?;
         self.names.rename(from, name.as_str())?;
@@ -123,9 +180,11 @@ impl<N: Names> Marks<N> {
 
     /// Gives both files the names with this number, and syncs the names.
     fn rename_both(&mut self, alloc: Global, number: u32) -> io::Result<()>
+        requires { IsTrue self.old.is_locked }
         ensures renamed { IfOk result (λ _. AreRenamed number (N.steps self.old.names)
             (N.steps self.new.names)) }
         ensures mark { self.new.mark ≡ self.old.mark }
+        ensures lock { self.new.is_locked ≡ self.old.is_locked }
     {
         self.rename_to(alloc, "segments", number, "")?;
         self.rename_to(alloc, "segments-wal", number, "-wal")?;
@@ -134,8 +193,10 @@ impl<N: Names> Marks<N> {
 
     /// Renames both files, so that a run begins anew.
     pub(crate) fn set_aside(&mut self, alloc: Global) -> io::Result<()>
+        requires { IsTrue self.old.is_locked }
         ensures aside { IfOk result (λ _. IsPutAside (N.steps self.new.names)) }
         ensures mark { self.new.mark ≡ self.old.mark }
+        ensures lock { self.new.is_locked ≡ self.old.is_locked }
     {
         let number = self.unread_number(alloc)?;
         self.rename_both(alloc, number)

@@ -16,11 +16,20 @@ pub(crate) fn named(name: Result<String, AllocError>) -> io::Result<String>
     }
 }
 
+/// Whether a file is locked now. `false`: another process has it.
+fn is_taken(file: &fs::File) -> io::Result<bool> {
+    match file.try_lock() {
+        Ok(()) => Ok(true),
+        Err(fs::TryLockError::WouldBlock) => Ok(false),
+        Err(fs::TryLockError::Error(error)) => Err(error),
+    }
+}
+
 /// The names of files in a directory.
 pub(crate) trait Names: Drop {
     ghost use Rattle.std.specs.Prelude.{◌≡◌};
-    ghost use Rattle.state_files.specs.Names.{Made, Renamed, Sought, Steps, Synced, answer_of};
-    ghost use Rattle.state_files.specs.Names.{is_done, noted};
+    ghost use Rattle.state_files.specs.Names.{Locked, Made, Renamed, Sought, Steps, Synced};
+    ghost use Rattle.state_files.specs.Names.{answer_of, is_done, noted};
 
     /// The calls that were made, where they are kept.
     ghost steps: { Self → Steps };
@@ -41,6 +50,10 @@ pub(crate) trait Names: Drop {
     /// Syncs the names.
     fn sync(&mut self) -> io::Result<()>
         ensures { steps self.new ≡ noted (steps self.old) (Synced (is_done result)) };
+
+    /// Locks the directory, which is made where it isn't there. `false`: another process has it.
+    fn try_lock(&mut self) -> io::Result<bool>
+        ensures { steps self.new ≡ noted (steps self.old) (Locked (answer_of result)) };
 }
 
 /// A directory of the system.
@@ -48,6 +61,8 @@ pub(crate) trait Names: Drop {
 pub(crate) struct SystemNames {
     pub(crate) rt: HostRuntime,
     pub(crate) path: String,
+    /// The file that is locked.
+    pub(crate) lock: Option<fs::File>,
 }
 
 impl SystemNames {
@@ -97,5 +112,18 @@ impl Names for SystemNames {
 
     fn sync(&mut self) -> io::Result<()> {
         fs::File::open(&self.rt, self.path.as_str())?.sync_all()
+    }
+
+    fn try_lock(&mut self) -> io::Result<bool> {
+        let file = match self.lock.take() {
+            Some(file) => file,
+            None => {
+                fs::create_dir_all(&self.rt, self.path.as_str())?;
+                self.opened("lock")?
+            }
+        };
+        let answer = is_taken(&file);
+        self.lock = Some(file);
+        answer
     }
 }

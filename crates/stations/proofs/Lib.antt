@@ -14,3 +14,7 @@ pub mod Reporting
 pub mod Timing
 pub mod PlayLaws
 pub mod ReplyLaws
+pub mod WrittenCues
+pub mod SpokenOf
+pub mod RepliedTo
+pub mod CueTexts

@@ -1,10 +1,10 @@
 -- What a reply has of its command.
-use Rattle.std.proofs.Common.{◌≡◌, ◌≢◌, ℕ, ◌+◌, ◌-◌, ◌<◌, ◌≤◌, Bool, true, false, ◌&&◌, List}
+use Rattle.std.proofs.Common.{◌≡◌, ℕ, ◌+◌, ◌<◌, ◌≤◌, Bool, true, false, ◌&&◌, List}
 use Rattle.std.proofs.Common.{length}
-use Rattle.std.proofs.Common.{get_or, set, Option, Some, None, ap, refl, sym, ◌∙◌, subst, arith}
+use Rattle.std.proofs.Common.{Option, Some, None, ap, refl, sym, ◌∙◌, subst, arith}
 use Rattle.std.proofs.lemmas.Bool.{eqb-true, leb-false, leb-true}
 use Rattle.std.proofs.lemmas.List.{get_or-set_same, get_or-set_other, length-set}
-use Rattle.std.specs.Prelude.{if◌then◌else◌, ◌%◌, ◌==◌, ◌||◌, IsSome, nat_le, not, slice_index}
+use Rattle.std.specs.Prelude.{if◌then◌else◌, ◌%◌, ◌==◌, ◌||◌, IsSome, nat_le, not}
 use Rattle.std.specs.Prelude.{slice_set}
 use Rattle.ft12.specs.declared.frame.LinkSize.{LinkSize}
 use Rattle.asdu.specs.Asdu.{AsduValue, IsAsdu}
@@ -33,112 +33,51 @@ none_some e = cc
 some_same : {A : Type 0} {x y : A} → Some x ≡ Some y → x ≡ y
 some_same e = cc
 
--- a confirmation with cause 7
-confirms_by_7 : (command : ℕ) (refuses test : Bool) → nat_le 128 command ≡ test
-    → command % 64 ≡ 6
-    → IsAnsweringCause refuses false command
-    (if test then 128 + (negative_by refuses + 7) else negative_by refuses + 7)
-confirms_by_7 command true true is e = record {
-  activates = λ h. false_true h;
-  terminates = λ h. false_true h;
-  confirms = λ _. sym (ap (λ (k : ℕ). k + 1) e);
-  negative = λ _ h. omega arith;
-  positive = λ h. true_false h;
-  test = λ _. omega arith;
-  no_test = λ lt. let le : 128 ≤ command = leb-true 128 command is in absurd (omega arith);
-}
-confirms_by_7 command true false is e = record {
-  activates = λ h. false_true h;
-  terminates = λ h. false_true h;
-  confirms = λ _. sym (ap (λ (k : ℕ). k + 1) e);
-  negative = λ _ h. omega arith;
-  positive = λ h. true_false h;
-  test = λ le. let lt : command < 128 = leb-false 128 command is in absurd (omega arith);
-  no_test = λ _. omega arith;
-}
-confirms_by_7 command false true is e = record {
-  activates = λ h. false_true h;
-  terminates = λ h. false_true h;
-  confirms = λ _. sym (ap (λ (k : ℕ). k + 1) e);
-  negative = λ _ h. false_true h;
-  positive = λ h. omega arith;
-  test = λ _. omega arith;
-  no_test = λ lt. let le : 128 ≤ command = leb-true 128 command is in absurd (omega arith);
-}
-confirms_by_7 command false false is e = record {
-  activates = λ h. false_true h;
-  terminates = λ h. false_true h;
-  confirms = λ _. sym (ap (λ (k : ℕ). k + 1) e);
-  negative = λ _ h. false_true h;
-  positive = λ h. omega arith;
-  test = λ le. let lt : command < 128 = leb-false 128 command is in absurd (omega arith);
-  no_test = λ _. omega arith;
-}
+-- what is known of a cause is known of its octet, which has the test bit of the command
+answers_by : (refuses is_confirmed test : Bool) (command cause : ℕ) → nat_le 128 command ≡ test
+    → cause < 128 → (is_confirmed ≡ true → (command % 64 ≡ 6) × (cause % 64 ≡ 10))
+    → (is_confirmed ≡ false → cause % 64 ≡ command % 64 + 1)
+    → (is_confirmed ≡ false → refuses ≡ true → 64 ≤ cause) → (refuses ≡ false → cause < 64)
+    → IsAnsweringCause refuses is_confirmed command (if test then 128 + cause else cause)
+answers_by refuses is_confirmed true command cause is small ends confirms negative positive =
+    record {
+      activates = λ h. (ends h).0;
+      terminates = λ h. let e : cause % 64 ≡ 10 = (ends h).1 in omega arith;
+      confirms = λ h. let e : cause % 64 ≡ command % 64 + 1 = confirms h in omega arith;
+      negative = λ h r. let le : 64 ≤ cause = negative h r in omega arith;
+      positive = λ h. let lt : cause < 64 = positive h in omega arith;
+      test = λ _. omega arith;
+      no_test = λ lt. let le : 128 ≤ command = leb-true 128 command is in absurd (omega arith);
+    }
+answers_by refuses is_confirmed false command cause is small ends confirms negative positive =
+    record {
+      activates = λ h. (ends h).0;
+      terminates = λ h. (ends h).1;
+      confirms = confirms;
+      negative = λ h r. let le : 64 ≤ cause = negative h r in omega arith;
+      positive = λ h. let lt : cause < 64 = positive h in omega arith;
+      test = λ le. let lt : command < 128 = leb-false 128 command is in absurd (omega arith);
+      no_test = λ _. small;
+    }
 
--- a confirmation with cause 9
-confirms_by_9 : (command : ℕ) (refuses test : Bool) → nat_le 128 command ≡ test
-    → command % 64 ≡ 8
+-- a confirmation, with cause 7 or 9
+confirms_by : (command cause : ℕ) (refuses : Bool) → cause < 64 → command % 64 + 1 ≡ cause
     → IsAnsweringCause refuses false command
-    (if test then 128 + (negative_by refuses + 9) else negative_by refuses + 9)
-confirms_by_9 command true true is e = record {
-  activates = λ h. false_true h;
-  terminates = λ h. false_true h;
-  confirms = λ _. sym (ap (λ (k : ℕ). k + 1) e);
-  negative = λ _ h. omega arith;
-  positive = λ h. true_false h;
-  test = λ _. omega arith;
-  no_test = λ lt. let le : 128 ≤ command = leb-true 128 command is in absurd (omega arith);
-}
-confirms_by_9 command true false is e = record {
-  activates = λ h. false_true h;
-  terminates = λ h. false_true h;
-  confirms = λ _. sym (ap (λ (k : ℕ). k + 1) e);
-  negative = λ _ h. omega arith;
-  positive = λ h. true_false h;
-  test = λ le. let lt : command < 128 = leb-false 128 command is in absurd (omega arith);
-  no_test = λ _. omega arith;
-}
-confirms_by_9 command false true is e = record {
-  activates = λ h. false_true h;
-  terminates = λ h. false_true h;
-  confirms = λ _. sym (ap (λ (k : ℕ). k + 1) e);
-  negative = λ _ h. false_true h;
-  positive = λ h. omega arith;
-  test = λ _. omega arith;
-  no_test = λ lt. let le : 128 ≤ command = leb-true 128 command is in absurd (omega arith);
-}
-confirms_by_9 command false false is e = record {
-  activates = λ h. false_true h;
-  terminates = λ h. false_true h;
-  confirms = λ _. sym (ap (λ (k : ℕ). k + 1) e);
-  negative = λ _ h. false_true h;
-  positive = λ h. omega arith;
-  test = λ le. let lt : command < 128 = leb-false 128 command is in absurd (omega arith);
-  no_test = λ _. omega arith;
-}
+    (if nat_le 128 command then 128 + (negative_by refuses + cause)
+    else negative_by refuses + cause)
+confirms_by command cause true small e =
+    answers_by true false (nat_le 128 command) command (64 + cause) refl (omega arith)
+    (λ h. false_true h) (λ _. omega arith) (λ _ _. omega arith) (λ h. true_false h)
+confirms_by command cause false small e =
+    answers_by false false (nat_le 128 command) command (0 + cause) refl (omega arith)
+    (λ h. false_true h) (λ _. omega arith) (λ _ h. false_true h) (λ _. omega arith)
 
 -- a termination
-terminates_by_10 : (command : ℕ) (test : Bool) → nat_le 128 command ≡ test
-    → command % 64 ≡ 6
-    → IsAnsweringCause false true command (if test then 128 + 10 else 10)
-terminates_by_10 command true is e = record {
-  activates = λ _. e;
-  terminates = λ _. refl;
-  confirms = λ h. true_false h;
-  negative = λ h. true_false h;
-  positive = λ h. omega arith;
-  test = λ _. omega arith;
-  no_test = λ lt. let le : 128 ≤ command = leb-true 128 command is in absurd (omega arith);
-}
-terminates_by_10 command false is e = record {
-  activates = λ _. e;
-  terminates = λ _. refl;
-  confirms = λ h. true_false h;
-  negative = λ h. true_false h;
-  positive = λ h. omega arith;
-  test = λ le. let lt : command < 128 = leb-false 128 command is in absurd (omega arith);
-  no_test = λ _. omega arith;
-}
+terminates_by : (command : ℕ) → command % 64 ≡ 6
+    → IsAnsweringCause false true command (if nat_le 128 command then 128 + 10 else 10)
+terminates_by command e =
+    answers_by false true (nat_le 128 command) command 10 refl (omega arith) (λ _. (e, refl))
+    (λ h. true_false h) (λ h. true_false h) (λ _. omega arith)
 
 confirmed_by : (refuses : Bool) (v : AsduValue) (cause : ℕ) → confirmation_of refuses v ≡ Some cause
     → IsCause refuses false v cause
@@ -157,7 +96,8 @@ confirmed_by refuses v cause is = by_6 (v.cause % 64 == 6) refl is
         → IsCause refuses false v cause
     by_8 true e same =
         found (negative_by refuses + 9)
-        (confirms_by_9 v.cause refuses (nat_le 128 v.cause) refl (eqb-true (v.cause % 64) 8 e)) same
+        (confirms_by v.cause 9 refuses (omega arith)
+        (ap (λ (k : ℕ). k + 1) (eqb-true (v.cause % 64) 8 e))) same
     by_8 false e same = none_some same
 
     by_6 : (b : Bool) → (v.cause % 64 == 6) ≡ b
@@ -167,7 +107,8 @@ confirmed_by refuses v cause is = by_6 (v.cause % 64 == 6) refl is
         → IsCause refuses false v cause
     by_6 true e same =
         found (negative_by refuses + 7)
-        (confirms_by_7 v.cause refuses (nat_le 128 v.cause) refl (eqb-true (v.cause % 64) 6 e)) same
+        (confirms_by v.cause 7 refuses (omega arith)
+        (ap (λ (k : ℕ). k + 1) (eqb-true (v.cause % 64) 6 e))) same
     by_6 false e same = by_8 (v.cause % 64 == 8) refl same
 
 terminated_by : (refuses : Bool) (v : AsduValue) (cause : ℕ) → termination_of refuses v ≡ Some cause
@@ -182,7 +123,7 @@ terminated_by false v cause is = by (v.cause % 64 == 6) refl (is_select v) refl 
     by true e true f same = none_some same
     by true e false f same = (
       subst (IsAnsweringCause false true v.cause) (some_same same)
-          (terminates_by_10 v.cause (nat_le 128 v.cause) refl (eqb-true (v.cause % 64) 6 e)),
+          (terminates_by v.cause (eqb-true (v.cause % 64) 6 e)),
       λ _. refl,
       λ _. f,
     )

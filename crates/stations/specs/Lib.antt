@@ -10,3 +10,6 @@ pub mod Scenarios
 pub mod TimedServers
 pub mod Reporting
 pub mod Law
+pub mod CuesWritten
+pub mod SpokenOf
+pub mod CueTexts

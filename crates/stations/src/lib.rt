@@ -4,6 +4,7 @@
 #![tactic(auto)]
 
 mod cue;
+mod cue_laws;
 mod cue_line;
 mod examples;
 mod late;
@@ -18,6 +19,10 @@ mod scenario;
 mod timed_server;
 
 pub use cue::{Cue, Timer};
+pub use cue_laws::{
+    commands_are_replied_to_in_order, each_line_speaks_of_its_own,
+    lines_for_outstations_say_what_they_write, lines_for_outstations_stand_together,
+};
 pub use examples::lines_are_read_by_example;
 pub use laws::{
     a_connection_begins_anew, all_have_a_turn_in_each_round, late_answers_go_out_when_due,

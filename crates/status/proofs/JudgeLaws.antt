@@ -1,7 +1,7 @@
 -- What a judgement means.
-use Rattle.std.proofs.Common.{◌≡◌, ◌≢◌, ℕ, ◌+◌, ◌-◌, ◌*◌, ◌<◌, ◌≤◌, Bool, true, false, ◌||◌, List}
+use Rattle.std.proofs.Common.{◌≡◌, ◌≢◌, ◌-◌, ◌*◌, ◌≤◌, Bool, true, false, ◌||◌, List}
 use Rattle.std.proofs.Common.{[]}
-use Rattle.std.proofs.Common.{◌∷◌, Option, Some, None, ap, refl, sym, ◌∙◌, subst, arith}
+use Rattle.std.proofs.Common.{◌∷◌, Option, Some, None, ap, refl, sym, ◌∙◌, arith}
 use Rattle.std.proofs.lemmas.Bool.{ltb-false, le-ltb}
 use Rattle.std.proofs.Math.Nat.{div-mul-le_self}
 use Rattle.std.proofs.lemmas.Nat.{le-div}
@@ -11,7 +11,6 @@ use Rattle.std.specs.Prelude.{◌/◌, ◌&&◌, if◌then◌else◌, nat_le, na
 use Rattle.status.specs.Judge.{cannot_keep, does_not_answer, is_critical, is_full, is_lost}
 use Rattle.status.specs.Judge.{is_silent, is_warning, judgement_of}
 use Rattle.status.specs.Law.{Answers, IsWell}
-use Rattle.status.specs.declared.judging.Judgement.{Judgement}
 use Rattle.status.specs.declared.judging.Judgement.TheVariants.{Ok, Warning, Critical}
 use Rattle.status.specs.declared.snapshot.Keeping.{Keeping}
 use Rattle.status.specs.declared.snapshot.Keeping.TheVariants.{Off, Kept, NotKept}

@@ -127,7 +127,8 @@ pub kept_received : (given taken given' taken' : Passed) (stage : VisitStage) (s
 kept_received given taken given' taken' stage sent d page' k is (octets, more, puts) same = record {
   receives = λ _ all is_all.
       let was = was_before given octets all (sym more ∙ is_all) in
-      received_more d.request page' was.0 octets (k.receives is was.0 was.1) puts
+      received_more d.request page' was.0 octets
+      (k.receives (λ e. leaving_receiving (sym e ∙ is)) was.0 was.1) puts
       ∙ ap (λ (l : List ℕ). (put l (empty page'.room)).text) (sym was.2);
   unsent = k.unsent;
   begun = λ all is_all. k.begun all (sym same ∙ is_all);
@@ -137,11 +138,15 @@ kept_received given taken given' taken' stage sent d page' k is (octets, more, p
 
 -- the request has come whole, and the answer lies on the desk
 pub kept_answered : (given taken : Passed) (stage : VisitStage) (sent : ℕ) (d d' : Desk)
-    → IsKept given taken stage sent d → stage ≡ Receiving → IsKept given taken Answering sent d'
-kept_answered given taken stage sent d d' k is =
+    → IsKept given taken stage sent d → stage ≡ Receiving → d'.request ≡ d.request
+    → IsKept given taken Answering sent d'
+kept_answered given taken stage sent d d' k is asked =
     let none : sent ≡ 0 = k.unsent is in
     record {
-      receives = λ e. absurd (answering_receiving e);
+      receives = λ _ all is_all.
+          ap (λ (p : Sheet). p.text) asked
+          ∙ k.receives (λ e. leaving_receiving (sym e ∙ is)) all is_all
+          ∙ ap (λ (p : Sheet). (put all (empty p.room)).text) (sym asked);
       unsent = λ e. none;
       begun = λ all is_all. k.begun all is_all ∙ ap (λ (n : ℕ). take n (answer_on d)) none
           ∙ sym (ap (λ (n : ℕ). take n (answer_on d')) none);
@@ -155,9 +160,10 @@ pub kept_sent : (given taken given' taken' : Passed) (stage : VisitStage) (sent 
     (piece : List ℕ)
     → IsKept given taken stage sent d → stage ≡ Answering → IsNext (answer_on d) sent piece
     → count ≤ length piece
-    → taken' ≡ more_passed taken (take count piece) → IsKept given' taken' stage (sent + count) d
-kept_sent given taken given' taken' stage sent count d piece k is next le more = record {
-  receives = λ e. absurd (answering_receiving (sym is ∙ e));
+    → taken' ≡ more_passed taken (take count piece) → given' ≡ given
+    → IsKept given' taken' stage (sent + count) d
+kept_sent given taken given' taken' stage sent count d piece k is next le more same = record {
+  receives = λ here all is_all. k.receives here all (sym same ∙ is_all);
   unsent = λ e. absurd (answering_receiving (sym is ∙ e));
   begun = λ all is_all.
       let was = was_before taken (take count piece) all (sym more ∙ is_all) in
@@ -174,7 +180,7 @@ pub kept_left : (given taken given' taken' : Passed) (stage : VisitStage) (sent 
     → taken' ≡ taken
     → IsKept given' taken' Leaving sent d
 kept_left given taken given' taken' stage sent d piece k (rest, cut, goes) none same = record {
-  receives = λ e. absurd (leaving_receiving e);
+  receives = λ here. absurd (here refl);
   unsent = λ e. absurd (leaving_receiving e);
   begun = λ all is_all. k.begun all (sym same ∙ is_all);
   within = k.within;
@@ -194,7 +200,7 @@ pub kept_drained : (given taken given' taken' : Passed) (sent : ℕ) (d : Desk) 
     → IsKept given taken stage sent d → stage ≡ Leaving → taken' ≡ taken
     → IsKept given' taken' stage sent d
 kept_drained given taken given' taken' sent d stage k is same = record {
-  receives = λ e. absurd (leaving_receiving (sym is ∙ e));
+  receives = λ here. absurd (here is);
   unsent = k.unsent;
   begun = λ all is_all. k.begun all (sym same ∙ is_all);
   within = k.within;

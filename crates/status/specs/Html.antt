@@ -23,10 +23,13 @@ row_head s = joined (
     ∷ codes "</td><td class=\"s\">" ∷ standing_text s.standing ∷ cell ∷ [])
 
 -- what was counted of a station
-abbrev pub row_counts : StationView → List ℕ
-row_counts s = joined (
+abbrev pub count_parts : StationView → List (List ℕ)
+count_parts s =
     cell ∷ decimal s.reports ∷ cell ∷ decimal s.skipped ∷ cell ∷ decimal s.gaps
-    ∷ cell ∷ decimal s.commands ∷ codes "</td></tr>\n" ∷ [])
+    ∷ cell ∷ decimal s.commands ∷ codes "</td></tr>\n" ∷ []
+
+abbrev pub row_counts : StationView → List ℕ
+row_counts s = joined (count_parts s)
 
 abbrev pub row_parts : (now : ℕ) → StationView → List (List ℕ)
 row_parts now s =

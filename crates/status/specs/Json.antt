@@ -18,8 +18,8 @@ abbrev pub json_of_peer : Option (Bor (List ℕ)) → List ℕ
 json_of_peer (Some peer) = joined (codes "\"" ∷ escaped Json peer.now ∷ codes "\"" ∷ [])
 json_of_peer None = codes "null"
 
-abbrev pub json_of_station : StationView → List ℕ
-json_of_station s = joined (
+abbrev pub station_parts : StationView → List (List ℕ)
+station_parts s =
     codes "{\"name\":\"" ∷ escaped Json s.name.now ∷ codes "\",\"address\":" ∷ decimal s.address
     ∷ codes ",\"common_address\":" ∷ decimal s.common_address
     ∷ codes ",\"standing\":\"" ∷ standing_text s.standing
@@ -27,7 +27,10 @@ json_of_station s = joined (
     ∷ codes ",\"last_report_ms\":" ∷ number_or s.last_report_ms (codes "null")
     ∷ codes ",\"reports\":" ∷ decimal s.reports ∷ codes ",\"skipped\":" ∷ decimal s.skipped
     ∷ codes ",\"gaps\":" ∷ decimal s.gaps ∷ codes ",\"commands\":" ∷ decimal s.commands
-    ∷ codes "}" ∷ [])
+    ∷ codes "}" ∷ []
+
+abbrev pub json_of_station : StationView → List ℕ
+json_of_station s = joined (station_parts s)
 
 -- a setting as a member of an object
 abbrev pub json_of_setting : Setting → List ℕ

@@ -1,5 +1,5 @@
 -- Words of the laws of a judgement (this gateway's own profile).
-use Rattle.std.specs.Prelude.{◌≡◌, ◌≢◌, ℕ, ◌+◌, ◌*◌, ◌<◌, ◌≤◌, true, false, Option, Some, None}
+use Rattle.std.specs.Prelude.{◌≡◌, ◌≢◌, ◌+◌, ◌*◌, ◌<◌, ◌≤◌, true, false, None}
 use Rattle.std.specs.List.{AllByRecursion}
 use Rattle.status.specs.declared.snapshot.Keeping.TheVariants.{NotKept}
 use Rattle.status.specs.declared.snapshot.LinkState.TheVariants.{Silent, Down}

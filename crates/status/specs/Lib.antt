@@ -7,6 +7,8 @@ pub mod Law
 pub mod Labels
 pub mod Metrics
 pub mod TextPage
+pub mod Visits
+pub mod Reading
 pub mod Reply
 pub mod Request
 pub mod Seats

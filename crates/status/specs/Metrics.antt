@@ -65,8 +65,8 @@ build_text s = joined (
     ∷ codes "# HELP telegate_station_info Names of the outstations.\n"
     ∷ codes "# TYPE telegate_station_info gauge\n" ∷ [])
 
-abbrev pub gauges_text : Snapshot → List ℕ
-gauges_text s = joined (
+abbrev pub gauge_parts : Snapshot → List (List ℕ)
+gauge_parts s =
     gauge_text (codes "telegate_uptime_seconds") (codes "How long the process has been running.")
     (decimal (seconds s.now_ms s.started_ms))
     ∷ gauge_text (codes "telegate_line_up") (codes "Whether the serial line can be reached.")
@@ -86,10 +86,13 @@ gauges_text s = joined (
     (decimal s.queue.taken)
     ∷ gauge_text (codes "telegate_state_lost")
     (codes "Whether the state is to be kept on the disk and can not be.")
-    (if cannot_keep s.keeping then codes "1" else codes "0") ∷ [])
+    (if cannot_keep s.keeping then codes "1" else codes "0") ∷ []
 
-abbrev pub families_text : List StationView → List ℕ
-families_text stations = joined (
+abbrev pub gauges_text : Snapshot → List ℕ
+gauges_text s = joined (gauge_parts s)
+
+abbrev pub family_parts : List StationView → List (List ℕ)
+family_parts stations =
     family_text stations (codes "telegate_station_up") (codes "Whether the outstation answers.")
     (codes "gauge") count.Up
     ∷ family_text stations (codes "telegate_station_reports_total")
@@ -99,7 +102,10 @@ families_text stations = joined (
     ∷ family_text stations (codes "telegate_station_gaps_total")
     (codes "How often reports of the outstation may have been lost.") (codes "counter") count.Gaps
     ∷ family_text stations (codes "telegate_station_commands_total")
-    (codes "Commands that went to the outstation.") (codes "counter") count.Commands ∷ [])
+    (codes "Commands that went to the outstation.") (codes "counter") count.Commands ∷ []
+
+abbrev pub families_text : List StationView → List ℕ
+families_text stations = joined (family_parts stations)
 
 abbrev pub metrics_parts : Snapshot → List (List ℕ)
 metrics_parts s =

@@ -52,10 +52,10 @@ abbrev pub IsNext : (all : List ℕ) → (sent : ℕ) → List ℕ → Type 0
 IsNext all sent piece =
     (rest : List ℕ) × (drop sent all ≡ piece ++ rest) × (sent < length all → 0 < length piece)
 
--- What is known of who sits there, by what the stream keeps. While the request comes, what it gave
+-- What is known of who sits there, by what the stream keeps. Until the visitor leaves, what it gave
 -- is the request. What it took is a beginning of the answer on the desk, and all of it at the end.
 pub record IsKept (given taken : Passed) (stage : VisitStage) (sent : ℕ) (d : Desk) : Type 0 where
-  pub receives : stage ≡ Receiving → (octets : List ℕ) → given ≡ Some octets
+  pub receives : stage ≢ Leaving → (octets : List ℕ) → given ≡ Some octets
       → d.request.text ≡ (put octets (empty d.request.room)).text
   pub unsent : stage ≡ Receiving → sent ≡ 0
   pub begun : (octets : List ℕ) → taken ≡ Some octets → octets ≡ take sent (answer_on d)
@@ -66,7 +66,7 @@ pub record IsKept (given taken : Passed) (stage : VisitStage) (sent : ℕ) (d : 
 abbrev pub Answers : VisitStage → Snapshot → (before after : Desk) → Type 0
 Answers Receiving s before after = IsAsked after.request.text Nothing
 Answers Answering s before after = IsAnswer s before after
-Answers Leaving s before after = Unit {0}
+Answers Leaving s before after = ⊥
 
 -- what a turn does to the desk: nothing but while the request comes
 abbrev pub Turned : VisitStage → VisitStage → Snapshot → Desk → Desk → Type 0

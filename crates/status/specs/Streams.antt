@@ -55,6 +55,14 @@ abbrev pub called : Calls → StreamCall → Calls
 called None call = None
 called (Some before) call = Some (call ∷ before)
 
+-- whether somebody had come at each look, the newest first, where that is kept
+abbrev pub Arrivals : Type 0
+Arrivals = Option (List Bool)
+
+abbrev pub arrived : Arrivals → (is_there : Bool) → Arrivals
+arrived None is_there = None
+arrived (Some before) is_there = Some (is_there ∷ before)
+
 -- the other end isn't there any more
 abbrev pub is_over : StreamCall → Bool
 is_over (Looked (got.Octets len)) = false

@@ -13,11 +13,15 @@ abbrev pub row_head : StationView → List ℕ
 row_head s = joined (
     right 7 s.address ∷ right 7 s.common_address ∷ codes "  " ∷ wide_text s.standing ∷ [])
 
--- what was counted of a station, and its name
+-- what was counted of a station, with a space before each number, and its name
+abbrev pub count_parts : StationView → List (List ℕ)
+count_parts s =
+    codes " " ∷ right 8 s.reports ∷ codes " " ∷ right 8 s.skipped
+    ∷ codes " " ∷ right 5 s.gaps ∷ codes " " ∷ right 9 s.commands ∷ codes "  "
+    ∷ escaped Plain s.name.now ∷ codes "\n" ∷ []
+
 abbrev pub row_counts : StationView → List ℕ
-row_counts s = joined (
-    right 9 s.reports ∷ right 9 s.skipped ∷ right 6 s.gaps ∷ right 10 s.commands ∷ codes "  "
-    ∷ escaped Plain s.name.now ∷ codes "\n" ∷ [])
+row_counts s = joined (count_parts s)
 
 abbrev pub row_parts : (now : ℕ) → StationView → List (List ℕ)
 row_parts now s =

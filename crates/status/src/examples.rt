@@ -4,14 +4,17 @@ ghost use Rattle.status.specs.Answer.{head_text};
 ghost use Rattle.status.specs.Hour.{noted};
 ghost use Rattle.status.specs.Json.{json_before_hour, json_before_peer, json_before_stations};
 ghost use Rattle.status.specs.Json.{json_of_station};
+ghost use Rattle.status.specs.Html as html;
 ghost use Rattle.status.specs.Html.{depth};
 ghost use Rattle.status.specs.Judge.{is_lost};
 ghost use Rattle.status.specs.Metrics.{families_text, gauge_text, gauges_text};
 ghost use Rattle.status.specs.Reply.{exit_status};
 ghost use Rattle.status.specs.Request.{asked_by};
+ghost use Rattle.status.specs.Table as table;
 ghost use Rattle.status.specs.Texts.{age_or, age_text};
 ghost use Rattle.status.specs.Words.{escaped, listed, right};
 ghost use Rattle.std.specs.Fmt.{decimal};
+ghost use Rattle.status.specs.declared.html.TheConstants.{STATIONS};
 ghost use Rattle.status.specs.declared.request.Inquiry.TheVariants as asked;
 ghost use Rattle.status.specs.declared.request.View.TheVariants as view;
 ghost use Rattle.status.specs.declared.snapshot.Keeping.TheVariants.{NotKept};
@@ -71,7 +74,8 @@ pub fn answers_by_example()
 {}
 
 /// Which number stands under which name, in JSON and for Prometheus: of a station, and of all
-/// else. Each number is another one.
+/// else; and a station's row in the table and on the page for a person, with the heads of the
+/// latter. Each number is another one.
 pub fn pages_by_example()
     ensures station { (s : StationView) → s.name.now ≡ codes "Mill" →
         json_of_station (record s {
@@ -120,4 +124,39 @@ pub fn pages_by_example()
         ++ codes "# HELP telegate_station_commands_total Commands that went to the outstation.\n"
         ++ codes "# TYPE telegate_station_commands_total counter\n"
         ++ codes "telegate_station_commands_total{station=\"1\"} 8\n" }
+    ensures row { (s : StationView) → s.name.now ≡ codes "Mill" →
+        table.text_of_row 10000 (record s {
+          address = 1;
+          common_address = 2;
+          standing = stands.Silent;
+          since_ms = 3000;
+          last_report_ms = Some 4000;
+          reports = 5;
+          skipped = 6;
+          gaps = 7;
+          commands = 8;
+        })
+        ≡ codes "      1      2  silent            7 s       "
+        ++ codes "    6 s          5        6     7         8  Mill\n" }
+    ensures cells { (s : StationView) → s.name.now ≡ codes "Mill" →
+        html.text_of_row 10000 (record s {
+          address = 1;
+          common_address = 2;
+          standing = stands.Silent;
+          since_ms = 3000;
+          last_report_ms = Some 4000;
+          reports = 5;
+          skipped = 6;
+          gaps = 7;
+          commands = 8;
+        })
+        ≡ codes "<tr class=\"silent\"><td>Mill</td><td class=\"n\">1</td><td class=\"n\">2</td>"
+        ++ codes "<td class=\"s\">silent</td><td class=\"n\">7 s  </td><td class=\"n\">6 s  </td>"
+        ++ codes "<td class=\"n\">5</td><td class=\"n\">6</td><td class=\"n\">7</td>"
+        ++ codes "<td class=\"n\">8</td></tr>\n" }
+    ensures heads { STATIONS.now
+        ≡ codes "<h2>Stations</h2>\n<div class=\"scroll\"><table>\n<tr><th>name</th>"
+        ++ codes "<th>address</th><th>common address</th><th>standing</th><th>since</th>"
+        ++ codes "<th>last report</th><th>reports</th><th>skipped</th><th>gaps</th>"
+        ++ codes "<th>commands</th></tr>\n" }
 {}

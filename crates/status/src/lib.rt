@@ -11,10 +11,11 @@
 //! Proved: the body of each page is a small function of the snapshot, text for text, with what is
 //! written in place of octets that would mean something else. The status, the fields and the body
 //! of an answer are functions of what is asked. What is asked is read by the grammar of `httparse`:
-//! it distinguishes a request that isn't whole, one that is too long, and what is none. What a
-//! visitor was written is a beginning of the answer on the desk of that seat, in its order, nothing
-//! twice and nothing left out, however the stream takes it. After a turn nobody has been there for
-//! two seconds. A page goes out whole or not at all ([`a_text_stands_whole_or_not_at_all`]). Of
+//! it distinguishes a request that isn't whole, one that is too long, and what is none. Who comes
+//! has a seat where one is free. A visitor is sent the page that he asked for, whole and once,
+//! whatever others do ([`visitors_are_sent_what_they_asked_for`]). After a turn nobody has been
+//! there for two seconds. A page goes out whole or not at all
+//! ([`a_text_stands_whole_or_not_at_all`]). Of
 //! escapes, ages, answers and the judgement there are literal examples ([`texts_by_example`],
 //! [`answers_by_example`]).
 //!
@@ -33,6 +34,7 @@ mod laws;
 mod lists;
 mod metrics;
 mod page;
+mod reading_laws;
 mod reply;
 mod request;
 mod seat;
@@ -47,7 +49,13 @@ mod words;
 pub use examples::{answers_by_example, pages_by_example, texts_by_example};
 pub use hour::Hour;
 pub use judging::{Judgement, judge};
-pub use laws::{a_text_stands_whole_or_not_at_all, judgements_mean_what_they_say};
+pub use laws::{
+    a_text_stands_whole_or_not_at_all, judgements_mean_what_they_say,
+    visitors_are_sent_what_they_asked_for,
+};
+pub use reading_laws::{
+    lists_have_each_thing, numbers_stand_under_their_names, texts_are_read_back,
+};
 pub use reply::{UNKNOWN, body_of, exit_status};
 pub use snapshot::{
     CentreView, Keeping, LineView, LinkState, Queue, Setting, Snapshot, StationView,

@@ -1,6 +1,6 @@
 //! A visitor's seat: what was received of who sits there, and the answer on its way.
 ghost use Rattle.std.specs.Prelude.{◌≡◌, ◌≤◌, ◌<◌, ◌^◌, length, min, take, IfOk, IfSome, None};
-ghost use Rattle.std.specs.Prelude.{Bool, Some, if◌then◌else◌};
+ghost use Rattle.std.specs.Prelude.{Some};
 ghost use Rattle.std.proofs.Props.{props};
 ghost use Rattle.std.specs.Bool.{OnTrue};
 ghost use Rattle.std.specs.Option.{ForSome, is_none, is_some};
@@ -9,7 +9,7 @@ ghost use Rattle.status.specs.Seats.{Answers, Turned, Receives, IsAsked, IsKept,
 ghost use Rattle.status.specs.Seats.{Hands, IsYoung, Looks};
 ghost use Rattle.status.specs.Seats.{answer_on, cleared, fresh_desk};
 ghost use Rattle.status.specs.Streams.{IsNew, more_passed};
-ghost use Rattle.status.specs.declared.seat.Client.{Client};
+ghost use Rattle.status.specs.Visits.{GivesMore, IsSeatTurn, place};
 
 use crate::answer::make_answer;
 use crate::page::TextPage;
@@ -126,6 +126,7 @@ fn receive<S: Stream>(stream: &mut S, request: &mut TextPage) -> bool
 
 /// Drops what still comes. `false` says that the visitor has gone.
 fn drain<S: Stream>(stream: &mut S) -> bool
+    ensures given { GivesMore (S.given stream.old) (S.given stream.new) }
     ensures taken { S.taken stream.new ≡ S.taken stream.old }
     ensures looks { Looks (S.calls stream.old) (S.calls stream.new) result }
 {
@@ -166,6 +167,7 @@ fn receive_more<S: Stream>(client: &mut Client<S>, desk: &mut Desk, snapshot: &S
     ensures kept { OnTrue result (IsKept (S.given client.new.stream) (S.taken client.new.stream)
         client.new.stage client.new.sent desk.new) }
     ensures since { client.new.since_ms ≡ client.old.since_ms }
+    ensures gives { GivesMore (S.given client.old.stream) (S.given client.new.stream) }
     ensures answers { OnTrue result (Answers client.new.stage snapshot.now desk.old desk.new) }
     ensures turn { IsTurn (S.calls client.old.stream) (S.calls client.new.stream) client.old.stage
         client.new.stage result desk.old }
@@ -191,6 +193,7 @@ fn send_more<S: Stream>(client: &mut Client<S>, desk: &Desk) -> bool
     ensures kept { OnTrue result (IsKept (S.given client.new.stream) (S.taken client.new.stream)
         client.new.stage client.new.sent desk.now) }
     ensures since { client.new.since_ms ≡ client.old.since_ms }
+    ensures gives { GivesMore (S.given client.old.stream) (S.given client.new.stream) }
     ensures turn { IsTurn (S.calls client.old.stream) (S.calls client.new.stream) client.old.stage
         client.new.stage result desk.now }
 {
@@ -218,6 +221,7 @@ fn take_turn<S: Stream>(client: &mut Client<S>, desk: &mut Desk, snapshot: &Snap
     ensures kept { OnTrue result (IsKept (S.given client.new.stream) (S.taken client.new.stream)
         client.new.stage client.new.sent desk.new) }
     ensures since { client.new.since_ms ≡ client.old.since_ms }
+    ensures gives { GivesMore (S.given client.old.stream) (S.given client.new.stream) }
     ensures answers { OnTrue result (Turned client.old.stage client.new.stage snapshot.now
         desk.old desk.new) }
     ensures turn { IsTurn (S.calls client.old.stream) (S.calls client.new.stream) client.old.stage
@@ -243,7 +247,8 @@ pub(crate) struct Seat<S: Stream> {
 impl<S: Stream> Seat<S> {
     /// A free seat.
     pub(crate) fn new(alloc: Global) -> Result<Seat<S>, AllocError>
-        ensures { IfOk result (λ seat. seat.client ≡ None) }
+        ensures client { IfOk result (λ seat. seat.client ≡ None) }
+        ensures desk { IfOk result (λ seat. seat.desk ≡ fresh_desk) }
     {
         Ok(Seat {
             client: None,
@@ -283,11 +288,8 @@ impl<S: Stream> Seat<S> {
     /// Reads once, or writes once. Who has been there for two seconds goes.
     pub(crate) fn turn(&mut self, now_ms: u64, snapshot: &Snapshot<'_>)
         ensures young { ForSome self.new.client (λ g. IsYoung now_ms g.since_ms) }
-        ensures free { self.old.client ≡ None → self.new.client ≡ None }
-        ensures turned { (g : Client S) → self.old.client ≡ Some g → IsYoung now_ms g.since_ms →
-            (after : Client S) × (stays : Bool) × IsTurn (S.calls g.stream) (S.calls after.stream)
-            g.stage after.stage stays self.old.desk
-            × (self.new.client ≡ (if stays then Some after else None)) }
+        ensures turned { IsSeatTurn S.given S.taken S.calls now_ms snapshot.now
+            (place self.old.client self.old.desk) (place self.new.client self.new.desk) }
     {
         // Who isn't put back is gone: dropping the stream closes it.
         let Some(mut client) = self.client.take() else {

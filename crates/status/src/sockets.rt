@@ -74,6 +74,8 @@ impl VisitorListener {
 impl StreamSource for VisitorListener {
     type Stream = VisitorSocket;
 
+    ghost arrivals = { λ _. None };
+
     fn accept(&mut self) -> Option<VisitorSocket> {
         // Who can't be accepted is no visitor, and the listener stays open.
         let (stream, _) = self.listener.accept().ok()?;

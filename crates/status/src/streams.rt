@@ -59,13 +59,18 @@ pub trait Stream: Drop {
 
 /// Where streams come from.
 pub trait StreamSource {
-    ghost use Rattle.std.specs.Prelude.{IfSome};
-    ghost use Rattle.status.specs.Streams.{IsNew};
+    ghost use Rattle.std.specs.Option.{is_some};
+    ghost use Rattle.std.specs.Prelude.{◌≡◌, IfSome};
+    ghost use Rattle.status.specs.Streams.{Arrivals, IsNew, arrived};
 
     type Stream: Stream;
+
+    /// Whether somebody had come at each look, the newest first, where it keeps that.
+    ghost arrivals: { Self → Arrivals };
 
     /// Looks once for somebody who has come, without a wait. Nothing has been read or written yet.
     fn accept(&mut self) -> Option<Self::Stream>
         ensures given { IfSome result (λ stream. IsNew (Self.Stream.given stream)) }
-        ensures taken { IfSome result (λ stream. IsNew (Self.Stream.taken stream)) };
+        ensures taken { IfSome result (λ stream. IsNew (Self.Stream.taken stream)) }
+        ensures arrivals { arrivals self.new ≡ arrived (arrivals self.old) (is_some result) };
 }

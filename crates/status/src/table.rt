@@ -37,10 +37,14 @@ fn put_row_counts(page: &mut TextPage, station: &StationView<'_>)
     put_words(
         page,
         &[
-            Word::Right(9, station.reports),
-            Word::Right(9, station.skipped),
-            Word::Right(6, station.gaps),
-            Word::Right(10, station.commands),
+            Word::Text(" "),
+            Word::Right(8, station.reports),
+            Word::Text(" "),
+            Word::Right(8, station.skipped),
+            Word::Text(" "),
+            Word::Right(5, station.gaps),
+            Word::Text(" "),
+            Word::Right(9, station.commands),
             Word::Text("  "),
             Word::Escaped(Marks::Plain, station.name),
             Word::Text("\n"),

@@ -1,5 +1,6 @@
 //! A port of a run that other lives came before.
-ghost use Rattle.std.specs.Prelude.{◌≡◌, ◌+◌, ◌<◌, ◌∷◌, [], true, if◌then◌else◌};
+ghost use Rattle.std.specs.Option.{is_some};
+ghost use Rattle.std.specs.Prelude.{◌≡◌, ◌+◌, ◌<◌, ◌∷◌, [], true, if◌then◌else◌, nat_lt};
 ghost use Rattle.gateway.specs.Log.{Went, with_news};
 ghost use Rattle.gateway.specs.Ports.{FitsBuffer, faults_of, output_of, logged_by};
 ghost use Rattle.gateway.specs.declared.ports.Next.TheVariants.{Done};
@@ -89,7 +90,14 @@ impl<P: Watched + Drop> Watched for Life<P> {
 
     ghost failure = { λ l. P.failure l.port };
 
-    fn sight(&self) -> EndsSight {
+    ghost shows = { λ l sight. P.shows l.port sight };
+
+    /// The ends are those of the port inside.
+    fn sight(&self) -> EndsSight
+        ensures shows { P.shows self.now.port result }
+        ensures failure { result.failure ≡ P.failure self.now.port }
+        ensures failed { is_some result.failure ≡ nat_lt 0 (P.failed self.now.port) }
+    {
         self.port.sight()
     }
 

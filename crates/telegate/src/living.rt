@@ -119,6 +119,7 @@ fn opened<T: RunSite>(
     logger: &mut Logger<T::Sink>,
 ) -> Result<RunEnds<T::Line, T::Listener, T::Clock>, Fault>
     ensures clock { IfOk result (λ ends. T.begins_at ends.clock moment) }
+    ensures line { IfOk result (λ ends. T.comes_back ends.line ≡ redial) }
     ensures fault { IfErr result IsEndFault }
 {
     // First, so that a second run by mistake takes nothing from the first (docs/DECISIONS.md, "The
@@ -258,7 +259,7 @@ fn run_new<T: RunSite>(
 }
 
 /// A port between the ends of a site, whose events are kept in a directory of it.
-type Kept<T> = Keeper<
+pub(crate) type Kept<T> = Keeper<
     Pair<
         Live<<T as RunSite>::Line, <T as RunSite>::Listener, <T as RunSite>::Clock>,
         DiskStore<<T as RunSite>::Folder>,

@@ -35,6 +35,7 @@ mod host;
 mod in_words;
 mod inquiry;
 mod job;
+mod laws;
 mod life;
 mod living;
 mod manner;

@@ -1,5 +1,6 @@
 //! Where a live run finds its ends.
-ghost use Rattle.std.specs.Prelude.{◌≡◌, ℕ, IfOk};
+ghost use Rattle.std.specs.Prelude.{◌≡◌, ℕ, Bool, IfOk};
+ghost use Rattle.telegate.specs.Lines.{is_again};
 ghost use Rattle.telegate.specs.Logged.{fault_of};
 
 use crate::fault::Fault;
@@ -61,6 +62,9 @@ pub(crate) trait RunSite {
     // This clock begins at this moment, in ms.
     ghost begins_at: { Self.Clock → ℕ → Type 0 };
 
+    // This line is reached again where it ends.
+    ghost comes_back: { Self.Line → Bool };
+
     fn alloc(&self) -> Global;
 
     /// Where the lines of the log go.
@@ -80,7 +84,8 @@ pub(crate) trait RunSite {
     fn status_listener(&self, place: &str) -> Result<Self::Glass, EndRefusal>;
 
     /// The line: one that is there, or one that is reached again where it ends.
-    fn line(&self, redial: bool) -> Result<Self::Line, EndRefusal>;
+    fn line(&self, redial: bool) -> Result<Self::Line, EndRefusal>
+        ensures { IfOk result (λ line. comes_back line ≡ redial) };
 
     /// A clock that begins at this moment, in ms.
     fn clock(&self, moment: u64) -> Result<Self::Clock, EndRefusal>
@@ -111,9 +116,12 @@ pub(crate) enum ProcessLine<'r, R: Net<Stream = TcpStream> + Clock> {
 }
 
 impl<R: Net<Stream = TcpStream> + Clock> OctetStream for ProcessLine<'_, R> {
-    ghost use Rattle.std.specs.Prelude.{None};
+    ghost use Rattle.std.specs.Prelude.{None, Some};
+    ghost use Rattle.telegate.specs.Lines.{presence_of};
 
     ghost history = { λ _. None };
+
+    ghost presence = { λ line. Some (presence_of line) };
 
     fn read(&mut self, buf: &mut [u8; 1024]) -> Got {
         match self {
@@ -164,6 +172,8 @@ impl<'r> RunSite for Process<'r> {
     ghost use Rattle.live.specs.Clocks.{BeginsAt};
 
     ghost begins_at = { λ clock moment. BeginsAt moment clock.first clock.now };
+
+    ghost comes_back = { λ line. is_again line };
 
     fn alloc(&self) -> Global {
         self.rt.alloc()
@@ -230,7 +240,9 @@ fn reached<'r, R: Net<Stream = TcpStream> + Clock>(
     rt: &'r R,
     place: &'r str,
     redial: bool,
-) -> io::Result<ProcessLine<'r, R>> {
+) -> io::Result<ProcessLine<'r, R>>
+    ensures { IfOk result (λ line. is_again line ≡ redial) }
+{
     if !redial {
         return Ok(ProcessLine::Once(LineSocket::reach(rt, place)?));
     }

@@ -1,9 +1,11 @@
 //! What I frames wait for, and what they bear.
-ghost use Rattle.std.specs.Prelude.{◌∷◌, List, ℕ};
+ghost use Rattle.std.specs.Prelude.{◌≡◌, ◌∷◌, List, ℕ};
 ghost use Rattle.gateway.specs.Log.{Log, latest};
 ghost use Rattle.gateway.specs.Reports.{Setup, taken_pieces};
 ghost use Rattle.gateway.specs.Course.{Course, here_of, HandsOver, Runs};
-ghost use Rattle.gateway.specs.GoingOut.{BearWholePieces, DataWaits, ReportsWait};
+ghost use Rattle.gateway.specs.Ends.{ends_in, ends_on};
+ghost use Rattle.gateway.specs.GoingOut.{AnswersGoOut, BearWholePieces, DataWaits, HasGoneOut};
+ghost use Rattle.gateway.specs.GoingOut.{ReportsWait};
 
 use apci::{one_front, spellings_cancel};
 use command::commands_keep_the_rules;
@@ -42,3 +44,29 @@ pub fn frames_bear_whole_pieces()
     line_keeps_the_procedures();
     giving_up_is_logged();
 }
+
+/// Each own answer goes out. Of those that were kept on the open connection the oldest are, octet
+/// by octet and in order, the I frames that went out without monitor objects. All others wait. So
+/// none is dropped, none goes out twice, and none that wasn't kept. A log that ends earlier shows
+/// the same of the connections before.
+pub fn own_answers_go_out()
+    ensures { (p : Setup) (log : Log) (c : Course) → Runs p log c → AnswersGoOut c }
+{
+    commands_keep_the_rules();
+}
+
+/// What was forwarded, selected and kept for a connection lasts as long as that: at each point of a
+/// log it was taken back as often as a connection was over. So no command that waits is taken back
+/// while its connection is open, and none waits for the next one.
+pub fn commands_last_as_long_as_their_connection()
+    ensures { (p : Setup) (log : Log) (c : Course) → Runs p log c →
+        ends_in c.works.history ≡ ends_on log }
+{}
+
+/// What a connection's history has as gone out was handed to TCP, octet by octet and in order, and
+/// nothing else was: each I frame, each S frame and each U frame. So none is only noted: what is
+/// acknowledged or tested by the history is acknowledged and tested on the line to the control
+/// centre.
+pub fn what_goes_out_is_handed_to_tcp()
+    ensures { (p : Setup) (log : Log) (c : Course) → Runs p log c → HasGoneOut log c }
+{}

@@ -5,7 +5,8 @@ ghost use Rattle.gateway.specs.Log.{Log, latest};
 ghost use Rattle.gateway.specs.Reports.{Setup};
 ghost use Rattle.gateway.specs.Traffic.{IsFaithful};
 ghost use Rattle.gateway.specs.Order.{KeepsOrder};
-ghost use Rattle.gateway.specs.Moments.{IsGreatest, BearGreatest};
+ghost use Rattle.gateway.specs.Course.{Course, Runs};
+ghost use Rattle.gateway.specs.Moments.{IsGreatest, BearGreatest, IsSaidInSteps};
 ghost use Rattle.gateway.specs.Setups.{setup_of};
 
 /// A step puts out at most one request to the line and at most one close, and nothing goes to TCP
@@ -23,8 +24,11 @@ pub fn steps_keep_their_order()
 
 /// Moments never fall: a step acts at the greatest moment, in milliseconds, that its events have
 /// given so far, so an event whose moment goes back is taken at the greatest before it, and one
-/// whose moment is past 999999999999999 at that. Each action bears this moment.
+/// whose moment is past 999999999999999 at that. Each action bears this moment, and so does all
+/// that is said on a connection: t1, t2 and t3 run by the moments of the log.
 pub fn moments_never_fall()
     ensures step { (p : Setup) (log : Log) → IsFaithful p log → IsGreatest log (latest log) }
     ensures actions { (p : Setup) (log : Log) → IsFaithful p log → BearGreatest log }
+    ensures talk { (p : Setup) (log : Log) (c : Course) → Runs p log c →
+        IsSaidInSteps log c.talk }
 {}

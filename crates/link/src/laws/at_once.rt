@@ -1,9 +1,9 @@
-//! Repeats come at once, and polls behind a command.
+//! Repeats come at once, and what a turn has first behind a held service.
 ghost use Rattle.std.specs.Prelude.{◌≡◌, ◌<◌, ◌≤◌, ◌||◌, ℕ, suc, nat_le, Bool, true, List, length};
 ghost use Rattle.std.specs.Prelude.{None};
 ghost use Rattle.std.specs.List.{AllByRecursion};
 ghost use Rattle.link.specs.Answers.{Service};
-ghost use Rattle.link.specs.AtOnce.{RepeatsComeAtOnce, PollsFollowCommands, TurnsGoOn};
+ghost use Rattle.link.specs.AtOnce.{RepeatsComeAtOnce, TurnsGoOn};
 ghost use Rattle.link.specs.Exchanges.{Exchange};
 ghost use Rattle.link.specs.Procedure.{LinkSettings, Next, link_after, has_repeats, is_up};
 ghost use Rattle.link.specs.Repeats.{IsMissed};
@@ -43,20 +43,10 @@ pub fn repeats_are_as_many_as_set()
         ≡ nat_le (length sent) settings.retries }
 {}
 
-/// Whatever is called: where the latest request of the line is a command that was answered, and the
-/// station's link is up, the next request goes to the same station, if the caller has leave. It is
-/// the poll that ACD asks for, or the command that waits there. (That one may follow a command that
-/// was held before the turn: `turns_end` says that a turn has at most one new command.) Where
-/// nothing went out meanwhile, for want of leave, the turn is over.
-pub fn polls_follow_commands()
-    ensures { (settings : LinkSettings) (addresses : List ℕ) (calls : List Call) →
-        PollsFollowCommands (start settings addresses) None calls }
-{}
-
 /// Whatever is called: where a turn began with a service that was held, its repeats being used up,
 /// and that was answered, and the station's link is up, the next request goes to the same station,
-/// if the caller has leave. It is the command that waits there, or the poll that ACD asks for. So a
-/// held service takes the place of none of the turn's requests.
+/// if the caller has leave. It is the command that waits there, if DFC is clear, or else the poll
+/// that ACD asks for. So a held service takes the place of none of the turn's requests.
 pub fn turns_go_on_behind_held_services()
     ensures { (settings : LinkSettings) (addresses : List ℕ) (calls : List Call) →
         TurnsGoOn (start settings addresses) None calls }

@@ -1,8 +1,13 @@
-//! A stream in memory that goes and comes back.
+//! A stream in memory that goes and comes back, and notes the tries to reach it.
+ghost use Rattle.std.specs.Prelude.{◌≡◌, ◌≤◌, ℕ, Bool, List, [], ◌∷◌, length, Some, None, false};
+ghost use Rattle.live.specs.Memory.{attempts_in};
+ghost use Rattle.live.specs.declared.ends.Got.TheVariants.{Quiet};
+
 use super::{Dialled, Dialler, Redialled};
-use crate::ends::{Got, OctetStream, Presence, Reached};
-use crate::memory::MemoryStream;
+use crate::ends::{Got, OctetStream, Presence, Reached, RunClock};
+use crate::memory::{MemoryClock, MemoryStream, with_attempt};
 use crate::timed::{Time, TimedClock};
+use gateway::History;
 use std::process::Abort;
 
 /// Reaches a stream, but for the tries that fail first, each once it was asked so often.
@@ -16,10 +21,14 @@ struct MemoryDialler<'a> {
     asked: u32,
     /// Which read of a stream finds that it is gone.
     failing_read: u32,
+    /// Whether each try that ended reached a stream.
+    log: History,
 }
 
 impl<'a> MemoryDialler<'a> {
-    fn new(time: &'a Time, failing_tries: u32, asks: u32, failing_read: u32) -> MemoryDialler<'a> {
+    fn new(time: &'a Time, failing_tries: u32, asks: u32, failing_read: u32) -> MemoryDialler<'a>
+        ensures { result.log.entries ≡ [] }
+    {
         MemoryDialler {
             time,
             failing_tries,
@@ -27,16 +36,15 @@ impl<'a> MemoryDialler<'a> {
             asks,
             asked: 0,
             failing_read,
+            log: History::new(),
         }
     }
 }
 
 impl<'a> Dialler for MemoryDialler<'a> {
-    ghost use Rattle.std.specs.Prelude.{None};
-
     type Stream = MemoryStream;
 
-    ghost tries = { λ _. None };
+    ghost tries = { λ dialler. Some (attempts_in dialler.log.entries) };
 
     fn dial(&mut self) -> Dialled<MemoryStream> {
         self.tries = self.tries.saturating_add(1);
@@ -50,8 +58,10 @@ impl<'a> Dialler for MemoryDialler<'a> {
             return Dialled::Pending;
         }
         if self.tries <= self.failing_tries {
+            self.log = with_attempt(&self.log, false);
             return Dialled::Failed;
         }
+        self.log = with_attempt(&self.log, true);
         let mut stream = MemoryStream::busy();
         stream.failing_read = self.failing_read;
         Dialled::Reached(stream)
@@ -60,6 +70,24 @@ impl<'a> Dialler for MemoryDialler<'a> {
     fn pause(&mut self) {
         self.time.pass(1);
     }
+}
+
+/// A first look at a stream, which has not been tried. The try begins at the moment that the clock
+/// gives, and it is the only one.
+fn first_look<D: Dialler + Drop, C: RunClock + Drop>(
+    stream: &mut Redialled<D, C>,
+    buf: &mut [u8; 1024],
+) -> Got
+    requires tries { stream.old.tries ≡ Some [] }
+    requires clock { stream.old.clock ≡ Some [] }
+    requires away { stream.old.stream ≡ None }
+    requires idle { stream.old.is_trying ≡ false }
+    requires untried { stream.old.tried ≡ None }
+    ensures { (result ≡ Quiet) × (now : ℕ) × (stream.new.clock ≡ Some (now ∷ []))
+        × (stream.new.tried ≡ Some now) × (tries : List Bool) × (stream.new.tries ≡ Some tries)
+        × (length tries ≤ 1) }
+{
+    stream.read(buf)
 }
 
 type TestStream<'a> = Redialled<MemoryDialler<'a>, TimedClock<'a>>;
@@ -146,4 +174,16 @@ fn a_try_goes_on_between_the_looks(rt: HostRuntime) {
     is_away(&rt, &mut stream, &time, 3000, 1);
     assert_eq!(rt; look(&mut stream), Got::Quiet);
     assert_eq!(rt; look(&mut stream), Got::Octets(1));
+}
+
+#[test]
+fn the_first_look_begins_a_try(rt: HostRuntime) {
+    let time = Time::new(0, 0);
+    let mut buf = [0; 1024];
+    for (failing_tries, presence) in [(0, Presence::There), (1, Presence::Away)] {
+        let dialler = MemoryDialler::new(&time, failing_tries, 0, 0);
+        let mut stream = Redialled::new(dialler, MemoryClock::new());
+        assert_eq!(rt; first_look(&mut stream, &mut buf), Got::Quiet);
+        assert_eq!(rt; stream.presence(), presence);
+    }
 }

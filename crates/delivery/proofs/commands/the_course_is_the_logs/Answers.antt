@@ -20,6 +20,7 @@ returns c = λ p log course f set runs.
       fit = c.requests_wait_their_turn.ensures.fit;
       carried = c.requests_wait_their_turn.ensures.carried;
       back = c.requests_are_read_back.ensures.whole;
+      begun = c.commands_are_those_that_wait.ensures;
       answered = c.outcomes_are_answers.ensures.octets;
       silent = c.outcomes_are_answers.ensures.due;
       early = c.outcomes_are_answers.ensures.early;

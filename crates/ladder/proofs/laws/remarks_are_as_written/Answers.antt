@@ -1,9 +1,12 @@
-use Rattle.std.proofs.Common.{◌≡◌, ℕ, Bool, true, false, not, List, ◌∷◌, refl, ap, ◌∙◌}
+use Rattle.std.proofs.Common.{◌≡◌, ℕ, Bool, true, false, not, List, [], ◌∷◌, refl, ap, ◌∙◌}
+use Rattle.std.specs.Prelude.{Option, Some}
 use Rattle.ft12.specs.declared.assembling.Received.{Received}
 use Rattle.ft12.specs.declared.assembling.Received.TheVariants.{Frame, More, Never, Deaf}
-use Rattle.ladder.specs.Described.{AreFramesReceived, Remembered, no_more, one_more}
-use Rattle.ladder.specs.Described.{still_awaited}
-use Rattle.ladder.specs.Remarks.{IsAwaitedBehind, IsFirstLine, IsRemark}
+use Rattle.gateway.specs.Log.{LogEntry, Came, Went, LineIn, Opened, TcpIn, CutOff, Ticked, WallIs}
+use Rattle.gateway.specs.Log.{Restarted, LineOut, TcpOut, Closed, GapOut}
+use Rattle.ladder.specs.Described.{AreApdusReceived, AreFramesReceived, IsEntryLogged, Remembered}
+use Rattle.ladder.specs.Described.{no_more, no_more_apdus, one_more, one_more_apdu, still_awaited}
+use Rattle.ladder.specs.Remarks.{IsAwaitedBehind, IsFirstLine, IsOfTheLine, IsRemark, IsSameLine}
 use Rattle.ladder.specs.Rungs.{received_line, received_remark}
 use Rattle.ladder.specs.declared.rungs.Style.{Style}
 use Rattle.ladder.proofs.laws.remarks_are_as_written.Goals as goal
@@ -75,6 +78,56 @@ none_awaited style now before after octets lines
       is_awaited = still_awaited mind.is_awaited arrived;
     }) last _ rest more
     (ap (λ a. still_awaited a arrived) none ∙ never_awaited arrived)
+
+-- nothing of the line is changed, where all is as before but what came of the connection
+same : (before after : Remembered) (centre : Option (List ℕ))
+    → after ≡ record before { centre = centre } → IsSameLine before after
+same before after centre h = record {
+  line = ap (λ (m : Remembered). m.line) h;
+  request = ap (λ (m : Remembered). m.request) h;
+  awaited = ap (λ (m : Remembered). m.is_awaited) h;
+}
+
+apdus_same : (style : Style) (now : ℕ) (before after : Remembered) (octets lines : List ℕ)
+    → AreApdusReceived style now before octets after lines → IsSameLine before after
+apdus_same style now before after octets lines (no_more_apdus mind) =
+    record { line = refl; request = refl; awaited = refl }
+apdus_same style now before after octets lines
+    (one_more_apdu mind last all rest n arrived whole later some listens more) =
+    let m = apdus_same style now (record mind { centre = later }) last _ rest more in
+    record { line = m.line; request = m.request; awaited = m.awaited }
+
+entry_same : (style : Style) (before after : Remembered) (entry : LogEntry) (lines : List ℕ)
+    → (IsOfTheLine entry → ⊥) → IsEntryLogged style before entry after lines
+    → IsSameLine before after
+entry_same style before after (Came at (LineIn octets)) lines other h = absurd (other tt)
+entry_same style before after (Came at Opened) lines other h = same before after (Some []) h.0
+entry_same style before after (Came at (TcpIn octets)) lines other h =
+    apdus_same style at before after octets lines h
+entry_same style before after (Came at CutOff) lines other h = same before after (Some []) h.0
+entry_same style before after (Came at Ticked) lines other h = same before after before.centre h.0
+entry_same style before after (Came at (WallIs wall)) lines other h =
+    same before after before.centre h.0
+entry_same style before after (Came at Restarted) lines other h =
+    same before after before.centre h.0
+entry_same style before after (Went at (LineOut octets)) lines other h = absurd (other tt)
+entry_same style before after (Went at (TcpOut octets)) lines other h =
+    same before after before.centre h.remembered.0
+entry_same style before after (Went at (Closed cause)) lines other h =
+    same before after (Some []) h.remembered.0
+entry_same style before after (Went at (GapOut station session)) lines other h =
+    same before after before.centre h.remembered.0
+
+pub returns-clause-others : goal.returns-clause-others
+returns-clause-others c = λ style now before after entry lines no h.
+    entry_same style before after entry lines no h
+
+pub returns-clause-anew : goal.returns-clause-anew
+returns-clause-anew c = λ style now before after cause lines. (
+  λ h. ap (λ (m : Remembered). m.centre) h.0,
+  λ h. ap (λ (m : Remembered). m.centre) h.0,
+  λ h. ap (λ (m : Remembered). m.centre) h.remembered.0,
+)
 
 pub returns-clause-firsts : goal.returns-clause-firsts
 returns-clause-firsts c = first_line

@@ -5,8 +5,8 @@ use Rattle.ladder.specs.Described.{centre_line, wall_line}
 use Rattle.ladder.proofs.laws.rungs_by_example.Goals as goal
 
 pub returns-clause-ways : goal.returns-clause-ways
-unfolding digits head side colour plain
-returns-clause-ways c = (refl, refl, refl, refl, refl)
+unfolding head side colour plain
+returns-clause-ways c = λ now. (refl, refl, refl, refl, refl)
 
 pub returns-clause-colours : goal.returns-clause-colours
 unfolding digits head side colour plain
@@ -19,16 +19,16 @@ pub returns-clause-closes : goal.returns-clause-closes
 returns-clause-closes c = (refl, refl, refl, refl, refl, refl, refl)
 
 pub returns-clause-gaps : goal.returns-clause-gaps
-unfolding digits station_text session_text
-returns-clause-gaps c = refl
+unfolding station_text session_text
+returns-clause-gaps c = λ station session. refl
 
 pub returns-clause-clock : goal.returns-clause-clock
-unfolding digits head side colour plain wall_line
-returns-clause-clock c = refl
+unfolding head side colour plain wall_line
+returns-clause-clock c = λ now wall. refl
 
 pub returns-clause-connections : goal.returns-clause-connections
-unfolding digits head side colour plain centre_line
-returns-clause-connections c = λ style before after lines is_plain. (
-  λ h. h.1 ∙ ap (λ b. centre_line b 40 (codes "connects")) is_plain,
-  λ h. h.1 ∙ ap (λ b. centre_line b 40 (codes "the connection is cut")) is_plain,
+unfolding head side colour plain centre_line
+returns-clause-connections c = λ style now before after lines is_plain. (
+  λ h. h.1 ∙ ap (λ b. centre_line b now (codes "connects")) is_plain,
+  λ h. h.1 ∙ ap (λ b. centre_line b now (codes "the connection is cut")) is_plain,
 )

@@ -1,4 +1,4 @@
-use Rattle.live.proofs.WaitsTimed.{given, kept, shown}
+use Rattle.live.proofs.WaitsTimed.{given, kept, shown, put_walled}
 use Rattle.live.proofs.laws.the_wall_clock_is_that_of_its_moment.Goals as goal
 
 pub returns-clause-shown : goal.returns-clause-shown
@@ -9,3 +9,6 @@ returns-clause-given c = given
 
 pub returns-clause-kept : goal.returns-clause-kept
 returns-clause-kept c = kept
+
+pub returns-clause-put : goal.returns-clause-put
+returns-clause-put c = put_walled

@@ -1,5 +1,8 @@
-use Rattle.settings.proofs.Knowing.{all_known}
+use Rattle.settings.proofs.Filing.{live_others_refused, others_refused}
 use Rattle.settings.proofs.named.other_keys_are_refused.Goals as goal
 
-pub returns : goal.returns
-returns c = λ root e. all_known root e
+pub returns-clause-settings : goal.returns-clause-settings
+returns-clause-settings c = others_refused
+
+pub returns-clause-live : goal.returns-clause-live
+returns-clause-live c = live_others_refused

@@ -1,5 +1,5 @@
 use Rattle.sim.proofs.Firsts.{wall_first, cut_next, opening_next, start_next, sending_next}
-use Rattle.sim.proofs.Firsts.{acknowledging_next, answer_next, tick_last}
+use Rattle.sim.proofs.Firsts.{acknowledging_next, answer_next, tick_last, event_is, calls_are}
 use Rattle.sim.proofs.laws.calls_give_the_first_that_applies.Goals as goal
 
 pub returns-clause-wall : goal.returns-clause-wall
@@ -25,3 +25,9 @@ returns-clause-answer c = answer_next
 
 pub returns-clause-tick : goal.returns-clause-tick
 returns-clause-tick c = tick_last
+
+pub returns-clause-each : goal.returns-clause-each
+returns-clause-each c = event_is
+
+pub returns-clause-count : goal.returns-clause-count
+returns-clause-count c = calls_are

@@ -7,7 +7,7 @@ use Rattle.state.proofs.beginning.begin.Goals as goal
 pub carry_on-requires-clause-reset : goal.carry_on-requires-clause-reset
 carry_on-requires-clause-reset g c _ =
     elim (c.found_in.ensures.reset (sym c.in-LinksReset.ensures)) [
-      | inl stale ↦ inl (c.in_ok-is_stale.ensures ∙ ap Some stale)
+      | inl stale ↦ inl (c.in_ok-is_stale.ensures.mark ∙ ap Some stale)
       | inr doubt ↦ inr (λ clean first second. let no : true ≡ false = sym doubt
           ∙ c.in_ok-start.ensures.sound clean first second in cc)
     ]
@@ -50,4 +50,4 @@ returns-in-Anew-clause-numbered g c =
     c.into_files-newest.ensures.newest c.into_files-newest.ensures.other
     (c.with_files.ensures.number ∙ c.new-store.ensures.number ∙ c.next_number.ensures) refl
     (λ clean. clean)
-    c.in_ok-start.ensures.above))
+    c.in_ok-start.ensures.above c.in_ok-start.ensures.next))

@@ -58,9 +58,11 @@ returns-in-Ok-clause-numbered g c =
     ∙ ap (λ n. n.1) (c.resume.ensures.next ∙ c.may_go_on.ensures.next))
     (c.resume.ensures.seen ∙ c.may_go_on.ensures.seen)
     (λ clean. c.may_go_on.ensures.clean (c.resume.ensures.clean clean)) c.requires.above
+    c.requires.next
 
 pub put_aside-requires : goal.put_aside-requires
 put_aside-requires g c = record {
+  locked = c.requires.locked;
   unread = unread_from g.F.File.Disk c.args.config.now c.args.settings.items c.deref.result.now
       c.into_files-newest-in-Err-Wrong.result.0 c.into_files-newest-in-Err-Wrong.result.1
       c.resume.new.start.newest c.args.start.newest c.args.start.other c.args.start.checkpoint

@@ -1,14 +1,26 @@
-use Rattle.std.proofs.Common.{rules, ◌≤◌, length}
+use Rattle.std.proofs.Common.{rules, ◌≡◌, ◌∙◌, ◌≤◌, length, sym}
 use Rattle.std.specs.List.{AllByRecursion}
 use Rattle.gateway.specs.Ports.{logged_by}
 use Rattle.traces.specs.Printed.{IsPrintable}
-use Rattle.state.specs.Crashed.{FitsLine}
+use Rattle.state.specs.Lines.{FitsLine}
+use Rattle.state.proofs.LineLemmas.{short_appended, where_ok}
 use Rattle.state.proofs.Surviving.{writable}
 use Rattle.state.proofs.pair.take.Goals as goal
 
 pub returns-clause-writable : goal.returns-clause-writable
-returns-clause-writable g c _ =
+returns-clause-writable g c =
     let line : FitsLine c.args.next = search rules in
     let long : 1024 ≤ length c.args.buf.now = search rules in
     let all : AllByRecursion IsPrintable (logged_by c.args.next c.args.buf.now) = search rules in
-    writable c.args.next c.args.buf.now c.requires line long all
+    where_ok c.append.result (writable c.args.next c.args.buf.now c.requires line long all)
+
+pub append-requires : goal.append-requires
+append-requires g c =
+    let line : FitsLine c.args.next = search rules in
+    let long : 1024 ≤ length c.args.buf.now = search rules in
+    record {
+      short = short_appended c.append_event.result c.args.next c.args.buf.now _ _ _
+          (sym c.is_err.ensures.value ∙ c.if-is_err.false) c.append_event.ensures.line
+          c.append_event.ensures.printable c.new-line.ensures.bytes c.as_bytes.ensures.value
+          c.requires line long;
+    }

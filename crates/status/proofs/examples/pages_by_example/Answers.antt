@@ -1,4 +1,4 @@
-use Rattle.std.proofs.Common.{refl, ap}
+use Rattle.std.proofs.Common.{refl}
 use Rattle.std.specs.Fmt.{digits}
 use Rattle.status.proofs.examples.pages_by_example.Goals as goal
 
@@ -16,3 +16,14 @@ returns-clause-state c s = refl
 pub returns-clause-families : goal.returns-clause-families
 unfolding digits
 returns-clause-families c s = refl
+
+pub returns-clause-row : goal.returns-clause-row
+unfolding digits
+returns-clause-row c s name = rw name
+
+pub returns-clause-cells : goal.returns-clause-cells
+unfolding digits
+returns-clause-cells c s name = rw name
+
+pub returns-clause-heads : goal.returns-clause-heads
+returns-clause-heads c = refl

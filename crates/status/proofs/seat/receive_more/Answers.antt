@@ -10,14 +10,18 @@ returns-in-Nothing-clause-kept g c =
 pub returns-in-Nothing-clause-answers : goal.returns-in-Nothing-clause-answers
 returns-in-Nothing-clause-answers g c = rw c.requires.stage c.in-Nothing.ensures
 
+pub returns-in-Nothing-clause-gives : goal.returns-in-Nothing-clause-gives
+returns-in-Nothing-clause-gives g c = (c.receive.ensures.given.0, c.receive.ensures.given.1)
+
 pub returns-in_default : goal.returns-in_default
 returns-in_default g c = record {
   kept = kept_answered _ _ _ _ _ _
       (kept_received _ _ _ _ _ _ c.args.desk.now c.receive.new.request c.requires.kept
       c.requires.stage
       c.receive.ensures.given c.receive.ensures.taken)
-      c.requires.stage;
+      c.requires.stage refl;
   since = refl;
+  gives = (c.receive.ensures.given.0, c.receive.ensures.given.1);
   answers = (
     c.asked.result,
     c.asked.ensures,

@@ -2,14 +2,13 @@ use Rattle.gateway.proofs.LineTurns.{turns}
 use Rattle.gateway.proofs.laws.turning.logs_keep_turns.Goals as goal
 
 pub returns : goal.returns
-returns c = λ settings s log rules burst follows.
+returns c = λ settings log rules faithful.
     turns (record {
       ends = c.turns_end.ensures.visits;
       starves = c.no_station_starves.ensures;
       first = c.commands_go_before_polls.ensures;
-      bursts = c.class_1_polls_go_on.ensures;
+      bursts = c.polls_go_on.ensures;
       repeats = c.repeats_come_at_once.ensures;
-      polls = c.polls_follow_commands.ensures;
       held = c.turns_go_on_behind_held_services.ensures;
       each = c.a_turn_is_one_visit.ensures;
       times = c.answers_have_their_time.ensures;
@@ -28,4 +27,4 @@ returns c = λ settings s log rules burst follows.
       };
       waiting = c.commands_are_forwarded.ensures.waiting;
       stay = c.waiting_commands_stay.ensures.mirrored;
-    }) settings s log rules burst follows.0
+    }) settings log rules faithful

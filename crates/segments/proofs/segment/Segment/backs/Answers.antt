@@ -13,4 +13,5 @@ returns-clause-backed g c is clean =
 pub returns-clause-newer : goal.returns-clause-newer
 returns-clause-newer g c isnt clean =
     newer_front _ c.in_ok-front.front c.args.self.now.number (c.in_ok-front.ensures.head clean)
+    c.in_ok-front.ensures.fits
     (omega (arith, c.number_of.ensures, leb-false _ _ isnt))

@@ -1,10 +1,11 @@
 use Rattle.std.proofs.Common.{◌≡◌, List, ℕ, IsTrue, ap, subst, sym, ◌∙◌, arith}
 use Rattle.std.specs.Option.{is_some}
 use Rattle.segments.specs.Starts.{HasNoNewer, IsAbove, IsBacked, IsFoundIn, IsHeadIn, IsNewest}
-use Rattle.segments.specs.Starts.{IsSound, other_side}
+use Rattle.segments.specs.Starts.{IsNext, IsSound, other_side}
 use Rattle.segments.specs.declared.start.FoundHead.{FoundHead}
 use Rattle.segments.specs.declared.start.FileFront.TheVariants as fronts
-use Rattle.segments.proofs.Fronts.{above_front, backed_first, first_newest, not_doubtful, of_both}
+use Rattle.segments.proofs.Fronts.{above_front, backed_first, first_newest, next_front, next_other}
+use Rattle.segments.proofs.Fronts.{not_doubtful, of_both}
 use Rattle.segments.proofs.Fronts.{of_four}
 use Rattle.segments.proofs.Fronts.{of_missing, of_none, of_some, of_three, placed_as, placed_other}
 use Rattle.segments.proofs.Fronts.{sound_shut, sure_first, sure_second}
@@ -81,12 +82,12 @@ returns-in-Some-clause-above g c =
           (subst (λ (l : List ℕ). IsAbove c.args.number l) (sym (ap (λ d. g.D.Disk.seen d) is
           ∙ c.found_in.ensures.seen))
           (above_front (g.D.Disk.seen c.args.newer) c.args.front c.args.number
-          (c.requires.head (c.found_in.ensures.clean newer)) c.requires.above)),
+          (c.requires.head (c.found_in.ensures.clean newer)) (omega (arith, c.requires.next)))),
       subst (λ n. IsAbove n (g.D.Disk.seen s.other)) (sym number)
           (subst (λ (l : List ℕ). IsAbove c.args.number l) (sym (ap (λ d. g.D.Disk.seen d) other))
           (above_front (g.D.Disk.seen c.args.older) c.args.other_front c.args.number
           (c.requires.other older)
-          (omega (arith, c.requires.order, c.requires.above)))),
+          (omega (arith, c.requires.order, c.requires.next)))),
     ))
 
 pub returns-clause-above : goal.returns-clause-above
@@ -102,12 +103,12 @@ returns-clause-above g c =
           ∙ c.found_in-2.ensures.seen))
           (above_front (g.D.Disk.seen c.args.older) c.args.other_front c.args.number
           (c.requires.other (c.found_in-2.ensures.clean older))
-          (omega (arith, c.requires.order, c.requires.above)))),
+          (omega (arith, c.requires.order, c.requires.next)))),
       subst (λ n. IsAbove n (g.D.Disk.seen s.other)) (sym number)
           (subst (λ (l : List ℕ). IsAbove c.args.number l) (sym (ap (λ d. g.D.Disk.seen d) other
           ∙ c.found_in.ensures.seen))
           (above_front (g.D.Disk.seen c.args.newer) c.args.front c.args.number
-          (c.requires.head (c.found_in.ensures.clean newer)) c.requires.above)),
+          (c.requires.head (c.found_in.ensures.clean newer)) (omega (arith, c.requires.next)))),
     ))
 
 pub returns-in-Some-clause-sure : goal.returns-in-Some-clause-sure
@@ -128,7 +129,7 @@ returns-in-Some-clause-sure g c =
     (of_some (λ (x : FoundHead). c.args.front ≡ fronts.Head x.head) c.in_ok-found.field-0 _
     c.in-Some.is
     c.in_ok-found.ensures.head)
-    (sym c.is_other-is_doubtful.ensures ∙ sym logged ∙ sure))))
+    (sym c.is_other-is_doubtful.ensures ∙ sym logged ∙ sure) c.requires.fits c.requires.both)))
 
 pub returns-clause-sure : goal.returns-clause-sure
 returns-clause-sure g c =
@@ -163,3 +164,28 @@ returns-in-Some-clause-backed g c =
     (of_some (λ (x : FoundHead). IsTrue (g.D.Disk.is_clean c.found_in.new.file) →
     IsFoundIn (g.D.Disk.seen c.found_in.new.file) x.head x.text.items) c.in_ok-found.field-0 _
     c.in-Some.is c.in_ok-found.ensures.found newer))))
+
+pub returns-in-Some-clause-next : goal.returns-in-Some-clause-next
+returns-in-Some-clause-next g c =
+    of_three c.made.result c.made.ensures.newest c.made.ensures.other c.made.ensures.number
+    (λ s is other number clean.
+    let newer : IsTrue (g.D.Disk.is_clean c.found_in.new.file) =
+    subst (λ d. IsTrue (g.D.Disk.is_clean d)) is clean.0 in
+    subst (λ n. IsNext n (g.D.Disk.seen s.newest) (g.D.Disk.seen s.other)) (sym number)
+    (subst (λ (l : List ℕ). IsNext c.args.number l (g.D.Disk.seen s.other))
+    (sym (ap (λ d. g.D.Disk.seen d) is ∙ c.found_in.ensures.seen))
+    (next_front (g.D.Disk.seen c.args.newer) (g.D.Disk.seen s.other) c.args.front c.args.number
+    (c.requires.head (c.found_in.ensures.clean newer)) c.requires.fits c.requires.next)))
+
+pub returns-clause-next : goal.returns-clause-next
+returns-clause-next g c =
+    of_three c.made-2.result c.made-2.ensures.newest c.made-2.ensures.other c.made-2.ensures.number
+    (λ s is other number clean.
+    let newer : IsTrue (g.D.Disk.is_clean c.found_in.new.file) =
+    subst (λ d. IsTrue (g.D.Disk.is_clean d)) other clean.1 in
+    subst (λ n. IsNext n (g.D.Disk.seen s.newest) (g.D.Disk.seen s.other)) (sym number)
+    (subst (λ (l : List ℕ). IsNext c.args.number (g.D.Disk.seen s.newest) l)
+    (sym (ap (λ d. g.D.Disk.seen d) other ∙ c.found_in.ensures.seen))
+    (next_other c.args.number (g.D.Disk.seen c.args.newer) (g.D.Disk.seen s.newest)
+    (next_front (g.D.Disk.seen c.args.newer) (g.D.Disk.seen s.newest) c.args.front c.args.number
+    (c.requires.head (c.found_in.ensures.clean newer)) c.requires.fits c.requires.next))))

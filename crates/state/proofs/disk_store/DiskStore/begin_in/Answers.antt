@@ -22,4 +22,5 @@ invariant_of-t-23 g c = record {
   whole = subst (IsWholeText c.args.self.now.number)
       (sym (all_taken (text_of c.in-Some.segment) c.octets-head.result c.octets-head.ensures))
       c.in-Some.ensures.whole;
+  room = omega (arith, c.octets-head.ensures, c.in-Some.ensures.room, c.blocks-blocks.ensures.room);
 }

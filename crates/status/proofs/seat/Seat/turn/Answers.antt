@@ -1,27 +1,27 @@
-use Rattle.std.proofs.Common.{◌≡◌, Some, true, false, refl, sym, subst, ◌∙◌}
-use Rattle.status.specs.Seats.{IsTurn}
-use Rattle.status.specs.declared.seat.Client.{Client}
-use Rattle.status.proofs.SeatLemmas.{some_same}
+use Rattle.std.proofs.Common.{arith, refl, sym, ◌∙◌}
+use Rattle.status.specs.Visits.{Goes, IsOver, Stays}
 use Rattle.status.proofs.seat.Seat.turn.Goals as goal
 
+pub returns-then-saturating_sub-ge-STAY_MS-clause-turned :
+    goal.returns-then-saturating_sub-ge-STAY_MS-clause-turned
+returns-then-saturating_sub-ge-STAY_MS-clause-turned g c =
+    IsOver c.in-Some.client (sym c.take.ensures.value ∙ c.in-Some.is) (omega arith)
+    c.take.ensures.after
+
 pub returns-then-take_turn-clause-turned : goal.returns-then-take_turn-clause-turned
-returns-then-take_turn-clause-turned g c v is young = (
-  c.take_turn.new.client,
-  true,
-  subst (λ (x : Client g.row.S.Denot). IsTurn (g.S.Stream.calls x.stream)
-      (g.S.Stream.calls c.take_turn.new.client.stream) x.stage c.take_turn.new.client.stage true
-      c.args.self.now.desk)
-      (some_same (sym c.in-Some.is ∙ c.take.ensures.value ∙ is)) c.if-take_turn.ensures.turn,
-  refl,
-)
+returns-then-take_turn-clause-turned g c =
+    Stays c.in-Some.client c.take_turn.new.client (sym c.take.ensures.value ∙ c.in-Some.is)
+    (omega arith)
+    (record {
+      turn = c.if-take_turn.ensures.turn;
+      gives = c.if-take_turn.ensures.gives;
+      desk = c.if-take_turn.ensures.answers;
+      kept = c.if-take_turn.ensures.kept;
+      since = c.if-take_turn.ensures.since;
+    })
+    refl
 
 pub returns-else-take_turn-clause-turned : goal.returns-else-take_turn-clause-turned
-returns-else-take_turn-clause-turned g c v is young = (
-  c.take_turn.new.client,
-  false,
-  subst (λ (x : Client g.row.S.Denot). IsTurn (g.S.Stream.calls x.stream)
-      (g.S.Stream.calls c.take_turn.new.client.stream) x.stage c.take_turn.new.client.stage false
-      c.args.self.now.desk)
-      (some_same (sym c.in-Some.is ∙ c.take.ensures.value ∙ is)) c.if-take_turn.ensures.turn,
-  c.take.ensures.after,
-)
+returns-else-take_turn-clause-turned g c =
+    Goes c.in-Some.client c.take_turn.new.client (sym c.take.ensures.value ∙ c.in-Some.is)
+    (omega arith) c.if-take_turn.ensures.turn c.take.ensures.after

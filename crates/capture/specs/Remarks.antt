@@ -1,0 +1,50 @@
+-- What docs/TEXTS.md says beside the packets of the line, for the laws (this gateway's own
+-- profile).
+-- Nothing is borrowed here of how the packets are made.
+use Rattle.std.specs.Prelude.{◌≡◌, ℕ, Bool, true, false, if◌then◌else◌, List, [], ◌∷◌, codes}
+use Rattle.std.specs.Prelude.{length}
+use Rattle.std.specs.Str.{bytes_eq}
+use Rattle.ft12.specs.Fronts.{front_of}
+use Rattle.ft12.specs.declared.frame.Frame.{Frame}
+use Rattle.ft12.specs.declared.frame.Front.TheVariants.{Whole, More, Never}
+use Rattle.ft12.specs.declared.frame.LinkSize.{LinkSize}
+use Rattle.ft12.specs.declared.frame.Why.{Why}
+use Rattle.capture.specs.Examples.{brought, sent}
+use Rattle.capture.specs.Wires.{Serial, gap_comment}
+
+-- one frame and nothing else, or octets that begin none
+pub record IsFrame (size : LinkSize) (octets : List ℕ) : Type 0 where
+  pub frame : Frame
+  pub is : front_of size octets ≡ Whole frame (length octets)
+
+pub record IsNoFrame (size : LinkSize) (octets : List ℕ) : Type 0 where
+  pub place : ℕ
+  pub why : Why
+  pub is : front_of size octets ≡ Never place why
+
+-- What is said beside packets, behind one of this request, where a frame is awaited or not. A
+-- request is a repeat if the latest one has its octets, and awaits a frame. The first frame is its
+-- answer, and the others are late. Octets that are no frame change nothing.
+pub data AreSaid (size : LinkSize) : (request : List ℕ) → (is_awaited : Bool) → List Serial → Type 0
+  where
+    none : (request : List ℕ) → (is_awaited : Bool) → AreSaid size request is_awaited []
+    asks : (request : List ℕ) → (is_awaited : Bool) → (octets : List ℕ) → (serial : List Serial)
+        → AreSaid size octets true serial
+        → AreSaid size request is_awaited
+        (sent octets (if bytes_eq request octets then codes "repeat" else []) ∷ serial)
+    answered : (request octets : List ℕ) → (serial : List Serial) → IsFrame size octets
+        → AreSaid size request false serial
+        → AreSaid size request true (brought octets [] ∷ serial)
+    late : (request octets : List ℕ) → (serial : List Serial) → IsFrame size octets
+        → AreSaid size request false serial
+        → AreSaid size request false (brought octets (codes "late") ∷ serial)
+    spoilt : (request : List ℕ) → (is_awaited : Bool) → (octets : List ℕ) → (serial : List Serial)
+        → IsNoFrame size octets → AreSaid size request is_awaited serial
+        → AreSaid size request is_awaited (brought octets (codes "spoilt") ∷ serial)
+    broken : (request : List ℕ) → (is_awaited : Bool) → (octets : List ℕ) → (serial : List Serial)
+        → front_of size octets ≡ More → AreSaid size request is_awaited serial
+        → AreSaid size request is_awaited (brought octets (codes "no whole frame") ∷ serial)
+    missing : (request : List ℕ) → (is_awaited : Bool) → (station session : ℕ)
+        → (serial : List Serial)
+        → AreSaid size request is_awaited serial
+        → AreSaid size request is_awaited (brought [] (gap_comment station session) ∷ serial)

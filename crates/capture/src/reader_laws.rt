@@ -1,0 +1,49 @@
+//! What a reader finds in every capture, and what whoever follows its connections sees.
+ghost use Rattle.std.specs.Prelude.{◌≡◌, [], List, ℕ, false};
+ghost use Rattle.std.specs.List.{AllByRecursion, filter_map, flat_map};
+ghost use Rattle.ft12.specs.declared.frame.LinkSize.{LinkSize};
+ghost use Rattle.gateway.specs.Log.{LogEntry};
+ghost use Rattle.capture.specs.Captures.{begun, blocks_of, packets_in, segments_in, serial_in};
+ghost use Rattle.capture.specs.Captures.{whole_capture};
+ghost use Rattle.capture.specs.Readers.{ArePackets, IsLogged};
+ghost use Rattle.capture.specs.Remarks.{AreSaid};
+ghost use Rattle.capture.specs.Streams.{AreStreams, Absent, mark_of, marks_due};
+
+use ft12::front_is_computed;
+
+/// Whatever a record logs, a reader finds in the octets of its capture one block behind another,
+/// and nothing else: those of its segments, each in a datagram, and those of its packets of the
+/// line. Each has its moment, its comment and its data.
+pub fn captures_are_read_back()
+    ensures { (size : LinkSize) (entries : List LogEntry) → AllByRecursion IsLogged entries →
+        ArePackets (whole_capture size entries)
+        (flat_map blocks_of (whole_capture size entries)) }
+{
+    front_is_computed();
+}
+
+/// What is said beside the packets of the line is as docs/TEXTS.md has it, whatever a record logs.
+/// Each frame is a packet of its own, and late if one came since the latest request. A request is a
+/// repeat if the latest one has its octets. Octets that begin no frame are spoilt.
+pub fn comments_are_as_written()
+    ensures { (size : LinkSize) (entries : List LogEntry) →
+        AreSaid size [] false (serial_in (whole_capture size entries)) }
+{
+    front_is_computed();
+}
+
+/// The segments of a capture are connections, one after another. The control centre begins each one
+/// by SYN, from a port of its own; the gateway answers it; data follow; and the FIN of both ends or
+/// a RST ends it before the next one begins.
+pub fn connections_are_streams()
+    ensures { (size : LinkSize) (entries : List LogEntry) →
+        AreStreams 49151 Absent (segments_in (packets_in (begun size) entries)) }
+{}
+
+/// Connections begin, end and break off as the record says, in its order. A close of the gateway
+/// has its cause as the comment.
+pub fn connections_are_as_recorded()
+    ensures { (size : LinkSize) (entries : List LogEntry) →
+        filter_map mark_of (segments_in (packets_in (begun size) entries))
+        ≡ marks_due false entries }
+{}

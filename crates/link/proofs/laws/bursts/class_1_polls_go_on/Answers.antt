@@ -1,5 +1,0 @@
-use Rattle.link.proofs.Bursting.{all_go_on}
-use Rattle.link.proofs.laws.bursts.class_1_polls_go_on.Goals as goal
-
-pub returns : goal.returns
-returns c = all_go_on

@@ -1,0 +1,14 @@
+use Rattle.sim.proofs.WrongLines.{lines_are, last_line_is, all_said, first_fault}
+use Rattle.sim.proofs.script_laws.texts_are_read_line_by_line.Goals as goal
+
+pub returns-clause-lines : goal.returns-clause-lines
+returns-clause-lines c = lines_are
+
+pub returns-clause-last : goal.returns-clause-last
+returns-clause-last c = last_line_is
+
+pub returns-clause-said : goal.returns-clause-said
+returns-clause-said c = all_said
+
+pub returns-clause-fault : goal.returns-clause-fault
+returns-clause-fault c = first_fault

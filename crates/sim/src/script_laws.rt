@@ -1,0 +1,65 @@
+//! What holds of every script, and of every text of one.
+ghost use Rattle.std.specs.Prelude.{◌≡◌, ◌⊎◌, ◌<◌, ◌==◌, ◌++◌, ◌∷◌, [], ℕ, false, List, length};
+ghost use Rattle.std.specs.Prelude.{Contains, Some, None};
+ghost use Rattle.std.specs.List.{AllByRecursion, flat_map, slice_split};
+ghost use Rattle.ft12.specs.declared.frame.LinkSize.{LinkSize};
+ghost use Rattle.sim.specs.declared.directive.Directive.{Directive};
+ghost use Rattle.sim.specs.declared.directive.Directive.TheVariants.{Turns, Ack, Wall};
+ghost use Rattle.sim.specs.Directives.{directive_in};
+ghost use Rattle.sim.specs.Examples.{line};
+ghost use Rattle.sim.specs.Losses.{turns_of, ack_of, wall_at};
+ghost use Rattle.sim.specs.Scripts.{IsScript, AreSaidBy, first_wrong, lines_of};
+ghost use Rattle.sim.specs.Written.{IsWritten, Collide, HasNoFeed, HasTurns, AreRight, said_by};
+ghost use Rattle.sim.specs.Written.{IsFirstWrong, LacksTurns};
+
+/// A line of a script says what its fields write, each behind one space: its words, then numbers of
+/// 1 to 9 decimal digits (15 for a wall clock) and octets in hexadecimal. A line with other fields
+/// says nothing.
+pub fn lines_say_what_they_write()
+    ensures written { (size : LinkSize) (stations : ℕ) (text : List ℕ) (directive : Directive) →
+        IsWritten size stations directive (slice_split (λ b. b == 32) text) →
+        directive_in size stations text ≡ Some directive }
+    ensures only { (size : LinkSize) (stations : ℕ) (text : List ℕ) (directive : Directive) →
+        directive_in size stations text ≡ Some directive →
+        IsWritten size stations directive (slice_split (λ b. b == 32) text) }
+{}
+
+/// A text that is read has lines that line feeds end, and what follows the last. None of them is
+/// wrong, and the script is what they say in their order, but for empty lines and comments. Of a
+/// text that is refused the first wrong line is named, or the line behind the last where none says
+/// how many calls there are.
+pub fn texts_are_read_line_by_line()
+    ensures lines { (ls : List (List ℕ)) → AllByRecursion HasNoFeed ls →
+        lines_of (flat_map line ls) ≡ ls }
+    ensures last { (ls : List (List ℕ)) (l : List ℕ) → AllByRecursion HasNoFeed ls →
+        HasNoFeed l → 0 < length l → lines_of (flat_map line ls ++ l) ≡ ls ++ l ∷ [] }
+    ensures said { (size : LinkSize) (stations : ℕ) (lines : List (List ℕ))
+        (directives : List Directive) → AreSaidBy size stations lines directives →
+        AreRight size stations [] lines × (directives ≡ said_by size stations lines) }
+    ensures fault { (size : LinkSize) (stations : ℕ) (lines : List (List ℕ)) (number : ℕ) →
+        first_wrong size stations [] 1 lines ≡ Some number →
+        IsFirstWrong size stations lines number ⊎ LacksTurns size stations lines number }
+{}
+
+/// A script says one thing of each: how many calls there are, when the control centre acknowledges,
+/// the wall clock, how an answer is spoilt and what is sent at a call. What its line says holds.
+/// Without a line the control centre acknowledges each frame, and no wall clock is given; it is
+/// given at the first call alone.
+pub fn what_is_said_once_holds()
+    ensures once { (ds : List Directive) (directive other : Directive) → IsScript ds →
+        Contains ds directive → Contains ds other → Collide directive other →
+        directive ≡ other }
+    ensures has_turns { (ds : List Directive) → IsScript ds → HasTurns ds }
+    ensures turns { (ds : List Directive) (n : ℕ) → IsScript ds → Contains ds (Turns n) →
+        turns_of ds ≡ n }
+    ensures ack { (ds : List Directive) (n : ℕ) → IsScript ds → Contains ds (Ack n) →
+        ack_of ds ≡ n }
+    ensures no_ack { (ds : List Directive) → ((n : ℕ) → Contains ds (Ack n) → ⊥) →
+        ack_of ds ≡ 1 }
+    ensures wall { (ds : List Directive) (n : ℕ) → IsScript ds → Contains ds (Wall n) →
+        wall_at ds 1 ≡ Some n }
+    ensures no_wall { (ds : List Directive) → ((n : ℕ) → Contains ds (Wall n) → ⊥) →
+        wall_at ds 1 ≡ None }
+    ensures later { (ds : List Directive) (call : ℕ) → (call == 1) ≡ false →
+        wall_at ds call ≡ None }
+{}

@@ -1,0 +1,50 @@
+//! What the texts of the pages mean to who reads them.
+ghost use Rattle.std.specs.Prelude.{◌≡◌, ℕ, List, [], ◌∷◌, ◌++◌};
+ghost use Rattle.status.specs.Html as html;
+ghost use Rattle.status.specs.Html.{html_of};
+ghost use Rattle.status.specs.Json.{json_of, json_of_station};
+ghost use Rattle.status.specs.Metrics.{metrics_of};
+ghost use Rattle.status.specs.Reading.{Has, HasColumns, HasGauges, HasSamples, HasStation};
+ghost use Rattle.status.specs.Reading.{InHtml, InJson, InLabel, ReadsAs, cells_of};
+ghost use Rattle.status.specs.Table as table;
+ghost use Rattle.status.specs.Table.{table_of};
+ghost use Rattle.status.specs.Words.{escaped, listed, rows};
+ghost use Rattle.status.specs.declared.snapshot.Snapshot.{Snapshot};
+ghost use Rattle.status.specs.declared.snapshot.StationView.{StationView};
+ghost use Rattle.status.specs.declared.words.Marks.TheVariants.{Html, Json, Label};
+
+/// Whatever a text is, each octet of it is read back: between the quotation marks of a JSON string
+/// and of a label's value, and in HTML. So no name ends what it stands in.
+pub fn texts_are_read_back()
+    ensures json { (text : List ℕ) → ReadsAs InJson (escaped Json text) text }
+    ensures label { (text : List ℕ) → ReadsAs InLabel (escaped Label text) text }
+    ensures html { (text : List ℕ) → ReadsAs InHtml (escaped Html text) text }
+{}
+
+/// The texts of things stand one behind another, each once and in their order, however many they
+/// are; where commas stand between them, there is one between two.
+pub fn lists_have_each_thing<T>()
+    ensures row { (f : T → List ℕ) (x : T) → rows f (x ∷ []) ≡ f x }
+    ensures rows { (f : T → List ℕ) (xs ys : List T) →
+        rows f (xs ++ ys) ≡ rows f xs ++ rows f ys }
+    ensures item { (f : T → List ℕ) (x : T) → listed f (x ∷ []) ≡ f x }
+    ensures items { (f : T → List ℕ) (x y : T) (xs ys : List T) →
+        listed f ((x ∷ xs) ++ y ∷ ys) ≡ listed f (x ∷ xs) ++ 44 ∷ listed f (y ∷ ys) }
+{}
+
+/// Each number stands under its name, whatever it is: of each station, the first or the last of
+/// many, and of the whole gateway; in JSON, for Prometheus, in the table and for a person.
+pub fn numbers_stand_under_their_names()
+    ensures station { (s : StationView) → HasStation s (json_of_station s) }
+    ensures stations { (s : Snapshot) (before after : List StationView) (station : StationView) →
+        s.stations.now ≡ before ++ station ∷ after → Has (json_of s) (json_of_station station) }
+    ensures samples { (s : Snapshot) (before after : List StationView) (station : StationView) →
+        s.stations.now ≡ before ++ station ∷ after → HasSamples station (metrics_of s) }
+    ensures rows { (s : Snapshot) (before after : List StationView) (station : StationView) →
+        s.stations.now ≡ before ++ station ∷ after →
+        Has (table_of s) (table.text_of_row s.now_ms station)
+        × Has (html_of s) (html.text_of_row s.now_ms station) }
+    ensures columns { (now : ℕ) (s : StationView) → HasColumns s (table.text_of_row now s) }
+    ensures cells { (now : ℕ) (s : StationView) → Has (html.text_of_row now s) (cells_of s) }
+    ensures gauges { (s : Snapshot) → HasGauges s (metrics_of s) }
+{}

@@ -1,0 +1,74 @@
+//! What of a run's ends is seen by its log and by its page, and what is said of a run.
+ghost use Rattle.std.specs.Prelude.{◌≡◌, ◌||◌};
+ghost use Rattle.std.specs.Option.{option_or};
+ghost use Rattle.sitefile.specs.Site.{SiteValues};
+ghost use Rattle.live.specs.Redial.{Redial};
+ghost use Rattle.live.specs.Sights.{ShowsEnds};
+ghost use Rattle.live.specs.Streams.{Calls};
+ghost use Rattle.live.specs.declared.watched.EndsSight.{EndsSight};
+ghost use Rattle.telegate.specs.Wishes.{Said, said_in, said_of};
+ghost use Rattle.telegate.specs.declared.site.ProcessLine.TheVariants.{Once, Again};
+
+use crate::life::Life;
+use crate::living::Kept;
+use crate::site::{ProcessLine, RunSite};
+use live::{LineDialler, LineSocket, Live, OctetStream, Redialled, SystemClock, Watched};
+use record::Recorder;
+
+/// The line of the program.
+type ProgramLine = ProcessLine<'static, HostRuntime>;
+
+/// One that is reached again where it ends.
+type ReturningLine = Redialled<
+    LineDialler<'static, HostRuntime>,
+    SystemClock<'static, HostRuntime>,
+>;
+
+/// The port of a run that keeps no state, behind the lives before it.
+type PortAnew<T> = Life<
+    Recorder<
+        Live<<T as RunSite>::Line, <T as RunSite>::Listener, <T as RunSite>::Clock>,
+        <T as RunSite>::Sheet,
+    >,
+>;
+
+/// The port of a run whose state is kept, behind the lives before it.
+type PortKept<T> = Life<Recorder<Kept<T>, <T as RunSite>::Sheet>>;
+
+/// The line of the program is there as the stream is that it holds, and says so.
+pub fn the_line_is_there_as_its_stream_is()
+    ensures once { (line : Calls) →
+        ⟦<ProgramLine as OctetStream>⟧.presence (Once line)
+        ≡ ⟦<LineSocket as OctetStream>⟧.presence line }
+    ensures again { (line : Redial) →
+        ⟦<ProgramLine as OctetStream>⟧.presence (Again line)
+        ≡ ⟦<ReturningLine as OctetStream>⟧.presence line }
+{}
+
+/// A sight that shows the port of a run shows the live ends inside it, whatever its record and the
+/// lives before it are, and with a state on the disk as without one.
+pub fn sights_show_the_ends<T: RunSite>()
+    ensures anew { (run : _) (sight : EndsSight) →
+        ⟦<PortAnew<T> as Watched>⟧.shows run sight → ShowsEnds run.port.port sight }
+    ensures kept { (run : _) (sight : EndsSight) →
+        ⟦<PortKept<T> as Watched>⟧.shows run sight → ShowsEnds run.port.port.ends.port sight }
+{}
+
+/// Each value of a site's file reaches the run under its own name: flags, the state's directory,
+/// who may connect, and the status listener. What words say of it wins, and a flag is set where
+/// either says so.
+pub fn what_is_said_keeps_its_name()
+    ensures site { (s : SiteValues) → ((said_in s).redial ≡ s.flags.redial)
+        × ((said_in s).log ≡ s.flags.log) × ((said_in s).log_severity ≡ s.flags.log_severity)
+        × ((said_in s).or_stop ≡ s.flags.state_or_stop) × ((said_in s).state ≡ s.places.state)
+        × ((said_in s).allow ≡ s.places.allow) × ((said_in s).status ≡ s.places.status) }
+    ensures wins { (words site : Said) →
+        ((said_of words site).redial ≡ (words.redial || site.redial))
+        × ((said_of words site).log ≡ (words.log || site.log))
+        × ((said_of words site).log_severity ≡ (words.log_severity || site.log_severity))
+        × ((said_of words site).recorded ≡ (words.recorded || site.recorded))
+        × ((said_of words site).or_stop ≡ (words.or_stop || site.or_stop))
+        × ((said_of words site).state ≡ option_or words.state site.state)
+        × ((said_of words site).allow ≡ option_or words.allow site.allow)
+        × ((said_of words site).status ≡ option_or words.status site.status) }
+{}
