@@ -10,7 +10,7 @@ use std::alloc::{AllocError, Global};
 use std::test::Fail;
 
 /// One station with the addresses 1 and 1.
-fn config(alloc: Global) -> Result<Config, AllocError> {
+pub(crate) fn config(alloc: Global) -> Result<Config, AllocError> {
     let line = LineSettings {
         link: LinkSize::One,
         sizes: Sizes {
