@@ -277,7 +277,7 @@ tcp_right root v tab e =
 
 -- ---- a table that is none
 
-section_path : (name first : List ℕ) (root : Members) (p : Path)
+pub section_path : (name first : List ℕ) (root : Members) (p : Path)
     → section_of name first root ≡ Err p → p ≡ first
 section_path name first root p e = go (get_member name root) e
   where
@@ -289,7 +289,7 @@ section_path name first root p e = go (get_member name root) e
     go None is = cc
     go (Some d) is = found (as_table d) is
 
-no_table : (name first : List ℕ) (root : Members) (p : Path) → section_of name first root ≡ Err p
+pub no_table : (name first : List ℕ) (root : Members) (p : Path) → section_of name first root ≡ Err p
     → IsTableIfAny name root → ⊥
 no_table name first root p e is =
     never _ (table_at name root) p (section_back name first root is) e
@@ -318,7 +318,7 @@ pub record WrongAt (link : LinkSize) (ca : CaSize) (before : List StationSetting
   pub first : IsFirstAt link ca before ds p place
   pub found : wrong_from link ca at before ds ≡ Some place
 
-taken_path : (n : ℕ) (taken : Bool) (path p : Path) → distinct_number n taken path ≡ Err p
+pub taken_path : (n : ℕ) (taken : Bool) (path p : Path) → distinct_number n taken path ≡ Err p
     → (taken ≡ true) × (p ≡ path)
 taken_path n true path p e = (refl, sym (same_err path p e))
 taken_path n false path p e = cc
@@ -351,7 +351,7 @@ own_number key path high most taken t p few same e =
         let one : n ≡ m = same_ok n m (sym is ∙ too) in
         let both : true ≡ false = sym has ∙ ap taken one ∙ free in cc
 
-select_path : (o : Option Data) (path p : Path) → flag_or path o ≡ Err p → p ≡ path
+pub select_path : (o : Option Data) (path p : Path) → flag_or path o ≡ Err p → p ≡ path
 select_path None path p e = cc
 select_path (Some d) path p e = go (as_bool d) e
   where
