@@ -1,5 +1,6 @@
 -- A fault of a file names the first key that isn't right.
-use Rattle.std.proofs.Common.{◌≡◌, ℕ, ◌≤◌, ◌<◌, ◌&&◌, Bool, true, false, List, [], ◌∷◌, ◌++◌, drop, length}
+use Rattle.std.proofs.Common.{◌≡◌, ℕ, ◌≤◌, ◌<◌, ◌&&◌, Bool, true, false, List, [], ◌∷◌, ◌++◌, drop}
+use Rattle.std.proofs.Common.{length}
 use Rattle.std.proofs.Common.{Option, Some, None, Result, Ok, Err, refl, sym, ap, subst, ◌∙◌, arith}
 use Rattle.std.proofs.Common.{inl, inr}
 use Rattle.std.proofs.lemmas.Bool.{and_parts}
@@ -9,7 +10,8 @@ use Rattle.ft12.specs.declared.frame.LinkSize.{LinkSize}
 use Rattle.asdu.specs.declared.sizes.CaSize.{CaSize}
 use Rattle.gateway.specs.declared.settings.StationSettings.{StationSettings}
 use Rattle.settings.specs.Faults.{Path, ◌>>=◌}
-use Rattle.settings.specs.FirstWrong.{Wanted, WholeNumber, AnyText, LinePlace, HostPort, Entry, entry}
+use Rattle.settings.specs.FirstWrong.{Wanted, WholeNumber, AnyText, LinePlace, HostPort, Entry}
+use Rattle.settings.specs.FirstWrong.{entry}
 use Rattle.settings.specs.FirstWrong.{line_entries, tcp_entries, end_entries, text_entries}
 use Rattle.settings.specs.Files.{IsHostAndPort, IsPlaceOfLine}
 use Rattle.settings.specs.FirstWrong.{HasText, AreRight, IsFirstIn, IsFirstAt, IsStationWrong}
@@ -85,7 +87,8 @@ list_first root l p tab is e = go (get_member (codes "station") root) refl e
         inl (
           λ has. few_or_many ds within
               (subst (λ z. 1 ≤ count_of z) (same_items has.0 ds (sym has.1.are ∙ here)) has.1.some)
-              (subst (λ z. count_of z ≤ 32) (same_items has.0 ds (sym has.1.are ∙ here)) has.1.most),
+              (subst (λ z. count_of z ≤ 32) (same_items has.0 ds (sym has.1.are ∙ here))
+              has.1.most),
           sym (same_err (codes "station") p wrong),
         )
     read d ds at array true within wrong =
@@ -197,7 +200,8 @@ gateway_first : {B : Type 0} (ends : List Entry) (root : Members) (p : Path)
 gateway_first ends root p f e later =
     step (gateway_values root) f p _ e
     (λ wrong.
-    section_first root (codes "line") (codes "link") (WholeNumber 1 2 None) p _ (drop 1 line_entries)
+    section_first root (codes "line") (codes "link") (WholeNumber 1 2 None) p _
+    (drop 1 line_entries)
     _ wrong
     (λ first. inl (also line_entries tcp_entries root p first))
     (λ tab e1.
@@ -358,10 +362,22 @@ live_right root both e =
     record {
       first = before.first;
       stations = before.stations;
-      last = more_right (tab, (both.1.line, all.line.at_key,
-          place_of_line both.1.line all.line.as_it_should))
-          (more_right (tab, (both.1.listen, all.listen.at_key,
-          host_and_port both.1.listen all.listen.as_it_should)) tt);
+      last = more_right (
+        tab,
+        (
+          both.1.line,
+          all.line.at_key,
+          place_of_line both.1.line all.line.as_it_should,
+        ),
+      )
+          (more_right (
+            tab,
+            (
+              both.1.listen,
+              all.listen.at_key,
+              host_and_port both.1.listen all.listen.as_it_should,
+            ),
+          ) tt);
     }
 
 is_ok : {V : Type 0} (r : Result V Path) → IsOk r → (v : V) × (r ≡ Ok v)
@@ -393,7 +409,8 @@ with_ends_right root v e =
 
 pub fault_named : (text : List ℕ) (fault : ConfigFault) → IsReadFor false text (Err fault)
     → IsFaultNamed text_entries text fault
-fault_named text fault read = named_by text_entries known_settings known_first known_right text fault
+fault_named text fault read = named_by text_entries known_settings known_first known_right text
+    fault
     read
 
 pub fault_named_with_ends : (text : List ℕ) (fault : ConfigFault) → IsReadFor true text (Err fault)

@@ -181,7 +181,8 @@ unfolding SaysOf
 word_in (Some word) s e = (word, refl, word_is word s e)
 word_in None s e = cc
 
-pub silence_is : (t : Option Members) (s : Silence) → silence_of (given_at (codes "silence") t) ≡ Ok s
+pub silence_is : (t : Option Members) (s : Silence) → silence_of (given_at (codes "silence") t)
+    ≡ Ok s
     → IsSilence t s
 unfolding SaysOf
 silence_is t s e = record {
@@ -308,7 +309,8 @@ pub record StationOf (link : LinkSize) (ca : CaSize) (before : List StationSetti
   pub new_address : list_any (λ o. o.address == s.address) before ≡ false
   pub new_ca : list_any (λ o. o.ca == s.ca) before ≡ false
 
-pub station_is : (link : LinkSize) (ca : CaSize) (before : List StationSettings) (t : Option Members)
+pub station_is : (link : LinkSize) (ca : CaSize) (before : List StationSettings)
+    (t : Option Members)
     (s : StationSettings) → station_in link ca before t ≡ Ok s → StationOf link ca before t s
 station_is link ca before None s e = cc
 station_is link ca before (Some t) s e =
@@ -396,7 +398,8 @@ table_is name first root t e d at = found (as_table d) refl
     found (Some m) is e = (m, is)
     found None is e = cc
 
-pub record ItemsOf (link : LinkSize) (ca : CaSize) (o : Option Data) (v : List StationSettings) : Type
+pub record ItemsOf (link : LinkSize) (ca : CaSize) (o : Option Data)
+    (v : List StationSettings) : Type
     0 where
   pub items : Items
   pub are : option_and_then as_array o ≡ Some items

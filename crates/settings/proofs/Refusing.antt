@@ -1,6 +1,7 @@
 -- A fault names the first key that isn't right.
 use Rattle.std.proofs.Common.{◌≡◌, ℕ, ◌-◌, ◌≤◌, ◌<◌, ◌+◌, ◌&&◌, ◌==◌, Bool, true, false, List, []}
-use Rattle.std.proofs.Common.{◌∷◌, ◌++◌, drop, length, Option, Some, None, Result, Ok, Err, refl, sym, ap}
+use Rattle.std.proofs.Common.{◌∷◌, ◌++◌, drop, length, Option, Some, None, Result, Ok, Err, refl}
+use Rattle.std.proofs.Common.{sym, ap}
 use Rattle.std.proofs.Common.{subst, ◌∙◌, arith, inl, inr, length-append}
 use Rattle.std.specs.Prelude.{codes, ◌⊎◌, ◌^◌, nat_le, nat_lt, if◌then◌else◌, option_and_then}
 use Rattle.std.specs.List.{list_any}
@@ -131,7 +132,8 @@ last_entries =
     entry (codes "line") (codes "burst") (WholeNumber 1 255 (Some 8))
     ∷ entry (codes "line") (codes "queue") (WholeNumber 3 65535 (Some 1000)) ∷ []
 
-pub no_more : {A : Type 0} (x : A) (p : Path) (Goal : Type 0) → ◌≡◌ {A = Result A Path} (Ok x) (Err p)
+pub no_more : {A : Type 0} (x : A) (p : Path) (Goal : Type 0)
+    → ◌≡◌ {A = Result A Path} (Ok x) (Err p)
     → Goal
 no_more x p Goal e = absurd (never (Ok x) x p refl e)
 
@@ -139,11 +141,14 @@ sizes_first : (root : Members) (p : Path) → IsTableIfAny (codes "line") root
     → sizes_of (table_at (codes "line") root) ≡ Err p → IsFirstIn size_entries root p
 unfolding size_entries
 sizes_first root p tab e =
-    number_step root (codes "line") (codes "cause") 1 2 None p _ (drop 1 size_entries) (omega arith) tab e
+    number_step root (codes "line") (codes "cause") 1 2 None p _ (drop 1 size_entries) (omega arith)
+    tab e
     (λ c c_is e1.
-    number_step root (codes "line") (codes "ca") 1 2 None p _ (drop 2 size_entries) (omega arith) tab e1
+    number_step root (codes "line") (codes "ca") 1 2 None p _ (drop 2 size_entries) (omega arith)
+    tab e1
     (λ a a_is e2.
-    number_step root (codes "line") (codes "ioa") 1 3 None p _ (drop 3 size_entries) (omega arith) tab e2
+    number_step root (codes "line") (codes "ioa") 1 3 None p _ (drop 3 size_entries) (omega arith)
+    tab e2
     (λ i i_is e3. no_more _ p _ e3)))
 
 silence_first : {B : Type 0} (root : Members) (p : Path) (f : Silence → Result B Path)
@@ -164,9 +169,11 @@ waits_first : (root : Members) (p : Path) → IsTableIfAny (codes "line") root
     → waits_of (table_at (codes "line") root) ≡ Err p → IsFirstIn wait_entries root p
 unfolding wait_entries
 waits_first root p tab e =
-    number_step root (codes "line") (codes "answer_ms") 1 60000 (Some 200) p _ (drop 1 wait_entries) (omega arith) tab e
+    number_step root (codes "line") (codes "answer_ms") 1 60000 (Some 200) p _ (drop 1 wait_entries)
+    (omega arith) tab e
     (λ m m_is e1.
-    number_step root (codes "line") (codes "retries") 0 10 (Some 3) p _ (drop 2 wait_entries) (omega arith) tab e1
+    number_step root (codes "line") (codes "retries") 0 10 (Some 3) p _ (drop 2 wait_entries)
+    (omega arith) tab e1
     (λ r r_is e2. silence_first root p _ (drop 3 wait_entries) tab e2 (λ s e3. no_more _ p _ e3)))
 
 pub line_first : (root : Members) (p : Path) → IsTableIfAny (codes "line") root
@@ -190,9 +197,11 @@ line_first root p tab e =
     let waits = waits_are t w w_is in
     behind wait_entries last_entries root p
     ((tab, (_, waits.answer_ms)), ((tab, (_, waits.retries)), ((tab, (_, waits.silence)), tt)))
-    (number_step root (codes "line") (codes "burst") 1 255 (Some 8) p _ (drop 1 last_entries) (omega arith) tab e3
+    (number_step root (codes "line") (codes "burst") 1 255 (Some 8) p _ (drop 1 last_entries)
+    (omega arith) tab e3
     (λ b b_is e4.
-    number_step root (codes "line") (codes "queue") 3 65535 (Some 1000) p _ (drop 2 last_entries) (omega arith) tab e4
+    number_step root (codes "line") (codes "queue") 3 65535 (Some 1000) p _ (drop 2 last_entries)
+    (omega arith) tab e4
     (λ q q_is e5. no_more _ p _ e5)))))))
 
 pub more_right : {A B : Type 0} → A → B → A × B
@@ -217,7 +226,8 @@ t2_never : (root : Members) (p : Path) (t1 other n : ℕ)
     (table_at (codes "tcp") root) ≡ Err p → ⊥
 t2_never root p t1 other n t1_is other_is n_is e =
     let t = table_at (codes "tcp") root in
-    let own = whole_back (codes "t1_ms") (codes "tcp.t1_ms") 2 255000 (Some 15000) t t1 (omega arith)
+    let own = whole_back (codes "t1_ms") (codes "tcp.t1_ms") 2 255000 (Some 15000) t t1
+    (omega arith)
     t1_is in
     let too = whole_back (codes "t1_ms") (codes "tcp.t1_ms") 2 255000 (Some 15000) t other
     (omega arith) other_is in
@@ -241,29 +251,44 @@ t2_step root p t1 f more tab t1_is e later =
       number_path (row (codes "t2_ms") (codes "tcp.t2_ms") 1 (t1 - 1) (Some 10000)) t p first,
     ))
     (λ n is rest. inr (
-      (tab, (t1, t1_is, (n,
-          whole_is (codes "t2_ms") (codes "tcp.t2_ms") 1 (t1 - 1) (Some 10000) t n is))),
+      (
+        tab,
+        (
+          t1,
+          t1_is,
+          (
+            n,
+            whole_is (codes "t2_ms") (codes "tcp.t2_ms") 1 (t1 - 1) (Some 10000) t n is,
+          ),
+        ),
+      ),
       later n rest,
     ))
 
 pub tcp_first : (root : Members) (p : Path) → IsTableIfAny (codes "tcp") root
     → tcp_settings (table_at (codes "tcp") root) ≡ Err p → IsFirstIn tcp_entries root p
 tcp_first root p tab e =
-    number_step root (codes "tcp") (codes "k") 1 32767 (Some 12) p _ (drop 1 tcp_entries) (omega arith) tab e
+    number_step root (codes "tcp") (codes "k") 1 32767 (Some 12) p _ (drop 1 tcp_entries)
+    (omega arith) tab e
     (λ k k_is e1.
-    number_step root (codes "tcp") (codes "w") 1 32767 (Some 8) p _ (drop 2 tcp_entries) (omega arith) tab e1
+    number_step root (codes "tcp") (codes "w") 1 32767 (Some 8) p _ (drop 2 tcp_entries)
+    (omega arith) tab e1
     (λ w w_is e2.
-    number_step root (codes "tcp") (codes "t1_ms") 2 255000 (Some 15000) p _ (drop 3 tcp_entries) (omega arith) tab e2
+    number_step root (codes "tcp") (codes "t1_ms") 2 255000 (Some 15000) p _ (drop 3 tcp_entries)
+    (omega arith) tab e2
     (λ t1 t1_is e3.
     t2_step root p t1 _ (drop 4 tcp_entries) tab t1_is e3
     (λ t2 e4.
-    number_step root (codes "tcp") (codes "t3_ms") 1 86400000 (Some 20000) p _ (drop 5 tcp_entries) (omega arith) tab
+    number_step root (codes "tcp") (codes "t3_ms") 1 86400000 (Some 20000) p _ (drop 5 tcp_entries)
+    (omega arith) tab
     e4
     (λ t3 t3_is e5.
-    number_step root (codes "tcp") (codes "select_ms") 1 600000 (Some 30000) p _ (drop 6 tcp_entries) (omega arith) tab
+    number_step root (codes "tcp") (codes "select_ms") 1 600000 (Some 30000) p _
+    (drop 6 tcp_entries) (omega arith) tab
     e5
     (λ s s_is e6.
-    number_step root (codes "tcp") (codes "max_age_ms") 1 3600000 (Some 10000) p _ (drop 7 tcp_entries) (omega arith)
+    number_step root (codes "tcp") (codes "max_age_ms") 1 3600000 (Some 10000) p _
+    (drop 7 tcp_entries) (omega arith)
     tab e6
     (λ a a_is e7. no_more _ p _ e7)))))))
 
@@ -289,7 +314,8 @@ section_path name first root p e = go (get_member name root) e
     go None is = cc
     go (Some d) is = found (as_table d) is
 
-pub no_table : (name first : List ℕ) (root : Members) (p : Path) → section_of name first root ≡ Err p
+pub no_table : (name first : List ℕ) (root : Members) (p : Path) → section_of name first root
+    ≡ Err p
     → IsTableIfAny name root → ⊥
 no_table name first root p e is =
     never _ (table_at name root) p (section_back name first root is) e

@@ -6,8 +6,46 @@ use Rattle.settings.specs.FirstWrong.{AreWordsRight}
 pub words_right : AreWordsRight
 unfolding digits
 words_right = record {
-  rows = (refl, (refl, (refl, (refl, (refl, (refl, (refl, (refl, (refl, (refl, (refl, (refl, (refl,
-      (refl, (refl, (refl, (refl, (refl, tt))))))))))))))))));
+  rows = (
+    refl,
+    (
+      refl,
+      (
+        refl,
+        (
+          refl,
+          (
+            refl,
+            (
+              refl,
+              (
+                refl,
+                (
+                  refl,
+                  (
+                    refl,
+                    (
+                      refl,
+                      (
+                        refl,
+                        (
+                          refl,
+                          (
+                            refl,
+                            (refl, (refl, (refl, (refl, (refl, tt))))),
+                          ),
+                        ),
+                      ),
+                    ),
+                  ),
+                ),
+              ),
+            ),
+          ),
+        ),
+      ),
+    ),
+  );
   list = refl;
   address = refl;
   common = refl;

@@ -1,6 +1,7 @@
 -- A fault of a site's file names the first key that isn't right.
 use Rattle.std.proofs.Common.{◌≡◌, ℕ, ◌+◌, ◌==◌, Bool, true, false, List, [], ◌∷◌, ◌++◌, drop, suc}
-use Rattle.std.proofs.Common.{length, Option, Some, None, Result, Ok, Err, refl, sym, ap, subst, ◌∙◌}
+use Rattle.std.proofs.Common.{length, Option, Some, None, Result, Ok, Err, refl, sym, ap, subst}
+use Rattle.std.proofs.Common.{◌∙◌}
 use Rattle.std.proofs.Common.{arith, inl, inr, length-append}
 use Rattle.std.specs.Prelude.{codes, ◌⊎◌, if◌then◌else◌, option_and_then, IfSome, IsOk}
 use Rattle.std.specs.List.{list_any}
@@ -92,8 +93,17 @@ text_first root form key p f more e later =
       text_path form (given_at key (Some root)) key p first,
     ))
     (λ text is rest.
-    inr ((tt, (text, text_is form key key (Some root) text is,
-    text_good form key key (Some root) text is)), later text rest))
+    inr (
+      (
+        tt,
+        (
+          text,
+          text_is form key key (Some root) text is,
+          text_good form key key (Some root) text is,
+        ),
+      ),
+      later text rest,
+    ))
 
 flag_first : {B : Type 0} (root : Members) (key : List ℕ) (p : Path) (f : Bool → Result B Path)
     (more : List Entry) → (flag_of key key (Some root) >>= f) ≡ Err p
@@ -160,12 +170,30 @@ places_right : (root : Members) (v : SitePlaces) → known_places root ≡ Ok v
 places_right root v e =
     let a = bound _ _ v e in
     let s = bound _ _ v a.rest in
-    let d = bound _ _ v s.rest in
-    ((tt, (a.value, allow_is root a.value a.first)),
-    ((tt, (s.value, text_is Address (codes "status") (codes "status") (Some root) s.value s.first,
-    text_good Address (codes "status") (codes "status") (Some root) s.value s.first)),
-    ((tt, (d.value, text_is Directory (codes "state") (codes "state") (Some root) d.value d.first,
-    text_good Directory (codes "state") (codes "state") (Some root) d.value d.first)), tt)))
+    let d = bound _ _ v s.rest in (
+      (tt, (a.value, allow_is root a.value a.first)),
+      (
+        (
+          tt,
+          (
+            s.value,
+            text_is Address (codes "status") (codes "status") (Some root) s.value s.first,
+            text_good Address (codes "status") (codes "status") (Some root) s.value s.first,
+          ),
+        ),
+        (
+          (
+            tt,
+            (
+              d.value,
+              text_is Directory (codes "state") (codes "state") (Some root) d.value d.first,
+              text_good Directory (codes "state") (codes "state") (Some root) d.value d.first,
+            ),
+          ),
+          tt,
+        ),
+      ),
+    )
 
 flags_first : (root : Members) (p : Path) → flags_of root ≡ Err p → IsFirstIn flag_entries root p
 flags_first root p e =
@@ -178,9 +206,16 @@ flags_first root p e =
 
 flags_right : (root : Members) (f : Flags) → flags_of root ≡ Ok f → AreRight flag_entries root
 flags_right root f e =
-    let are = flags_are root f e in
-    ((tt, (_, are.state_or_stop)), ((tt, (_, are.log)), ((tt, (_, are.log_severity)),
-    ((tt, (_, are.redial)), ((tt, (_, are.recording)), tt)))))
+    let are = flags_are root f e in (
+      (tt, (_, are.state_or_stop)),
+      (
+        (tt, (_, are.log)),
+        (
+          (tt, (_, are.log_severity)),
+          ((tt, (_, are.redial)), ((tt, (_, are.recording)), tt)),
+        ),
+      ),
+    )
 
 -- ---- the name of the line
 
@@ -199,9 +234,17 @@ line_name_first root p f tab e later before =
       text_path Name (given_at (codes "name") t) (codes "line.name") p first,
     ))))
     (λ text is rest.
-    later text
-    ((tab, (text, text_is Name (codes "name") (codes "line.name") t text is,
-    text_good Name (codes "name") (codes "line.name") t text is)), tt) rest)
+    later text (
+      (
+        tab,
+        (
+          text,
+          text_is Name (codes "name") (codes "line.name") t text is,
+          text_good Name (codes "name") (codes "line.name") t text is,
+        ),
+      ),
+      tt,
+    ) rest)
 
 no_line : (root : Members) (p : Path) → section_of (codes "line") (codes "line.name") root ≡ Err p
     → IsFirstIn line_entries root p
@@ -256,7 +299,8 @@ no_link before t p e =
     step (whole_of (row (codes "link") (codes "station.link") 1 65534 None) (Some t)) _ p _ e
     (λ first. (
       λ has. never _ has.0 p
-          (whole_back (codes "link") (codes "station.link") 1 65534 None (Some t) has.0 (omega arith)
+          (whole_back (codes "link") (codes "station.link") 1 65534 None (Some t) has.0
+          (omega arith)
           has.1) first,
       number_path (row (codes "link") (codes "station.link") 1 65534 None) (Some t) p first,
     ))
@@ -491,10 +535,17 @@ known_right root v e =
     record {
       first = all_before place_entries (flag_entries ++ line_entries) root
           (places_right root places.value places.first)
-          (all_before flag_entries line_entries root (flags_right root flags.value flags.first)
-          (subst (λ z. IsTableIfAny (codes "line") root × HasGood Name (codes "name") z) (sym at)
-          (tab, (l.value, text_is Name (codes "name") (codes "line.name") t.value l.value l.first,
-          text_good Name (codes "name") (codes "line.name") t.value l.value l.first)), tt));
+          (all_before flag_entries line_entries root (flags_right root flags.value flags.first) (
+            subst (λ z. IsTableIfAny (codes "line") root × HasGood Name (codes "name") z) (sym at) (
+              tab,
+              (
+                l.value,
+                text_is Name (codes "name") (codes "line.name") t.value l.value l.first,
+                text_good Name (codes "name") (codes "line.name") t.value l.value l.first,
+              ),
+            ),
+            tt,
+          ));
       list = list.list;
       stations = list.stations;
     }

@@ -1,4 +1,5 @@
--- Which key a fault of a site's file names: the first of docs/SITE.md that is wrong, in the order of
+-- Which key a fault of a site's file names: the first of docs/SITE.md that is wrong, in the order
+-- of
 -- that page (this gateway's own profile). All of it speaks of the document alone.
 use Rattle.std.specs.Prelude.{◌≡◌, ◌⊎◌, ◌++◌, ◌==◌, ℕ, codes, Bool, false, List, [], ◌∷◌, length}
 use Rattle.std.specs.Prelude.{Option, Some, None, option_and_then, IfSome, IsUtf8}
