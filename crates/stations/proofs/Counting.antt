@@ -15,7 +15,8 @@ use Rattle.sim.specs.Texts.{reports_for}
 use Rattle.sim.specs.declared.directive.Class.{Class}
 use Rattle.sim.specs.declared.directive.Class.TheVariants as class
 use Rattle.sim.specs.declared.directive.Directive.{Directive}
-use Rattle.sim.specs.declared.directive.Directive.TheVariants.{Turns, Ack, Wall, Report, LoseRequest}
+use Rattle.sim.specs.declared.directive.Directive.TheVariants.{Turns, Ack, Wall, Report}
+use Rattle.sim.specs.declared.directive.Directive.TheVariants.{LoseRequest}
 use Rattle.sim.specs.declared.directive.Directive.TheVariants.{LoseAnswer, SpoilAnswer, Cut, Send}
 use Rattle.stations.specs.Exchanges.{OutstationsState, first_counts, first_standing}
 use Rattle.stations.specs.Reporting.{IsReported, one_more, reported}
@@ -66,7 +67,8 @@ counted_alike (d ∷ ds) i =
     of_one d i in
     let rest = counted_alike ds i in
     let first = length-append (report_said i class.One d) (flat_map (report_said i class.One) ds) in
-    let second = length-append (report_said i class.Two d) (flat_map (report_said i class.Two) ds) in
+    let second =
+    length-append (report_said i class.Two d) (flat_map (report_said i class.Two) ds) in
     omega (arith, more, one, rest, first, second)
 
 -- ---- the counts from the start

@@ -141,9 +141,9 @@ pub fn reports_stand_behind_those_of_their_class()
         IsReported i class report old false new → new ≡ old }
 {}
 
-/// The reports of each station are counted, by which at most 64 wait: at the start it had those that
-/// wait in either class, and each report that it takes is one more of its own, as far as 64 bits
-/// count.
+/// The reports of each station are counted, by which at most 64 wait: at the start it had those
+/// that wait in either class, and each report that it takes is one more of its own, as far as 64
+/// bits count.
 pub fn reports_are_counted()
     ensures begun { (c : Settings) (scenario : Scenario) (i n : ℕ) (s : Secondary) →
         slice_get (first_standing c scenario).had i ≡ Some n →
