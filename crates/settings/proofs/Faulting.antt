@@ -1,33 +1,30 @@
 -- A fault of a file names the first key that isn't right.
 use Rattle.std.proofs.Common.{◌≡◌, ℕ, ◌≤◌, ◌<◌, ◌&&◌, Bool, true, false, List, [], ◌∷◌, ◌++◌, drop}
-use Rattle.std.proofs.Common.{length}
 use Rattle.std.proofs.Common.{Option, Some, None, Result, Ok, Err, refl, sym, ap, subst, ◌∙◌, arith}
 use Rattle.std.proofs.Common.{inl, inr}
 use Rattle.std.proofs.lemmas.Bool.{and_parts}
-use Rattle.std.specs.Prelude.{codes, ◌⊎◌, nat_le, nat_lt, if◌then◌else◌, option_and_then, IsOk}
+use Rattle.std.specs.Prelude.{codes, nat_le, nat_lt, if◌then◌else◌, option_and_then, IsOk}
 use Rattle.toml.specs.Data.{Data, Items, Members, get_member, as_array, as_str}
-use Rattle.ft12.specs.declared.frame.LinkSize.{LinkSize}
-use Rattle.asdu.specs.declared.sizes.CaSize.{CaSize}
 use Rattle.gateway.specs.declared.settings.StationSettings.{StationSettings}
 use Rattle.settings.specs.Faults.{Path, ◌>>=◌}
-use Rattle.settings.specs.FirstWrong.{Wanted, WholeNumber, AnyText, LinePlace, HostPort, Entry}
+use Rattle.settings.specs.FirstWrong.{WholeNumber, AnyText, LinePlace, HostPort, Entry}
 use Rattle.settings.specs.FirstWrong.{entry}
 use Rattle.settings.specs.FirstWrong.{line_entries, tcp_entries, end_entries, text_entries}
 use Rattle.settings.specs.Files.{IsHostAndPort, IsPlaceOfLine}
-use Rattle.settings.specs.FirstWrong.{HasText, AreRight, IsFirstIn, IsFirstAt, IsStationWrong}
-use Rattle.settings.specs.FirstWrong.{AreStationsWrong, AreStationsRight, AreSizesOf, IsListOf}
+use Rattle.settings.specs.FirstWrong.{HasText, AreRight, IsFirstIn}
+use Rattle.settings.specs.FirstWrong.{AreStationsWrong, AreStationsRight, AreSizesOf}
 use Rattle.settings.specs.FirstWrong.{IsFirstWrong, IsAllRight, IsFaultNamed, first_entries}
 use Rattle.settings.specs.Keys.{given_at, section_of}
 use Rattle.settings.specs.Line.{Line, line_settings}
 use Rattle.settings.specs.Live.{Places, live_keys, live_places, is_address, is_line, place_in}
 use Rattle.settings.specs.Live.{place_of, text_in, text_of, text_or, word_of}
-use Rattle.settings.specs.Named.{AreNewAfter, AreStationsOf, IsTableIfAny, table_at}
-use Rattle.settings.specs.Settings.{IsDocument, IsFaultOfText, IsFirstFault, IsLiveReadOfText}
+use Rattle.settings.specs.Named.{IsTableIfAny, table_at}
+use Rattle.settings.specs.Settings.{IsFaultOfText, IsLiveReadOfText}
 use Rattle.settings.specs.Settings.{IsReadFor, Values, gateway_values, known_live, known_settings}
 use Rattle.settings.specs.Settings.{known_with_ends, line_values, wrong_behind, wrong_station}
 use Rattle.settings.specs.Stations.{count_of, stations_from, stations_in, stations_of, wrong_in}
 use Rattle.settings.specs.Stations.{wrong_of}
-use Rattle.settings.specs.Tcp.{Tcp, tcp_settings}
+use Rattle.settings.specs.Tcp.{tcp_settings}
 use Rattle.settings.specs.declared.fault.ConfigFault.{ConfigFault}
 use Rattle.settings.specs.declared.fault.ConfigFault.TheVariants.{NotToml, Key, Unknown, NoMemory}
 use Rattle.settings.proofs.NamedBack.{next_is, place_back, section_back, text_back}

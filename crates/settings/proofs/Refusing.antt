@@ -1,36 +1,31 @@
 -- A fault names the first key that isn't right.
-use Rattle.std.proofs.Common.{◌≡◌, ℕ, ◌-◌, ◌≤◌, ◌<◌, ◌+◌, ◌&&◌, ◌==◌, Bool, true, false, List, []}
+use Rattle.std.proofs.Common.{◌≡◌, ℕ, ◌-◌, ◌<◌, ◌+◌, ◌&&◌, ◌==◌, Bool, true, false, List, []}
 use Rattle.std.proofs.Common.{◌∷◌, ◌++◌, drop, length, Option, Some, None, Result, Ok, Err, refl}
 use Rattle.std.proofs.Common.{sym, ap}
 use Rattle.std.proofs.Common.{subst, ◌∙◌, arith, inl, inr, length-append}
-use Rattle.std.specs.Prelude.{codes, ◌⊎◌, ◌^◌, nat_le, nat_lt, if◌then◌else◌, option_and_then}
+use Rattle.std.specs.Prelude.{codes, ◌^◌, nat_le, if◌then◌else◌}
 use Rattle.std.specs.List.{list_any}
-use Rattle.toml.specs.Data.{Data, Items, no_items, item, Members, get_member, as_array, as_table}
+use Rattle.toml.specs.Data.{Data, Items, no_items, item, Members, get_member, as_table}
 use Rattle.toml.specs.Data.{as_str, as_bool}
 use Rattle.ft12.specs.declared.frame.LinkSize.{LinkSize}
-use Rattle.ft12.specs.Spelling.{address_len}
 use Rattle.asdu.specs.declared.sizes.CaSize.{CaSize}
-use Rattle.asdu.specs.Sizes.{cause_len, ca_len, ioa_len}
 use Rattle.gateway.specs.declared.settings.Silence.{Silence}
 use Rattle.gateway.specs.declared.settings.Silence.TheVariants.{Hold, Reset}
 use Rattle.std.specs.Str.{bytes_eq}
 use Rattle.gateway.specs.declared.settings.StationSettings.{StationSettings}
 use Rattle.settings.specs.Faults.{Path, ◌>>=◌}
-use Rattle.settings.specs.FirstWrong.{Wanted, WholeNumber, BelowT1, HoldOrReset, AnyText, LinePlace}
-use Rattle.settings.specs.FirstWrong.{HostPort, Entry, entry, path_of, line_entries, tcp_entries}
-use Rattle.settings.specs.FirstWrong.{end_entries, text_entries, HasText, IsRight, IsRightIn}
+use Rattle.settings.specs.FirstWrong.{Wanted, WholeNumber, BelowT1, HoldOrReset}
+use Rattle.settings.specs.FirstWrong.{Entry, entry, line_entries, tcp_entries}
 use Rattle.settings.specs.FirstWrong.{AreRight, IsFirstIn, HasAddress, HasCommonAddress, HasSelect}
 use Rattle.settings.specs.FirstWrong.{IsFirstOf}
-use Rattle.settings.specs.FirstWrong.{IsFirstAt, IsStationWrong, AreStationsWrong, AreStationsRight}
-use Rattle.settings.specs.FirstWrong.{AreSizesOf, IsListOf, IsFirstWrong, IsAllRight, IsFaultNamed}
-use Rattle.settings.specs.FirstWrong.{first_entries}
+use Rattle.settings.specs.FirstWrong.{IsFirstAt}
 use Rattle.settings.specs.Keys.{Row, row, judged, number_or, given_at, whole_of}
 use Rattle.settings.specs.Keys.{flag_in, flag_of, flag_or, table_or, section_or, section_of}
 use Rattle.settings.specs.Line.{Line, line_settings, sizes_of, waits_of, silence_of, silence_word}
-use Rattle.settings.specs.Named.{IsNumber, IsSilence, IsTableIfAny, table_at}
-use Rattle.settings.specs.Stations.{address_of, ca_of, count_of, distinct_number, greatest_address}
+use Rattle.settings.specs.Named.{IsNumber, IsTableIfAny, table_at}
+use Rattle.settings.specs.Stations.{address_of, ca_of, distinct_number, greatest_address}
 use Rattle.settings.specs.Stations.{greatest_ca, or_later, station_in, station_of, stations_from}
-use Rattle.settings.specs.Stations.{stations_in, stations_of, wrong_from, wrong_in, wrong_of}
+use Rattle.settings.specs.Stations.{wrong_from}
 use Rattle.settings.specs.Tcp.{Tcp, tcp_settings}
 use Rattle.settings.proofs.NamedBack.{few_addresses, few_cas, flag_back, section_back, silence_back}
 use Rattle.settings.proofs.NamedBack.{whole_back}

@@ -3,7 +3,7 @@ use Rattle.std.proofs.Common.{◌≡◌, ℕ, ◌+◌, ◌==◌, Bool, true, fal
 use Rattle.std.proofs.Common.{length, Option, Some, None, Result, Ok, Err, refl, sym, ap, subst}
 use Rattle.std.proofs.Common.{◌∙◌}
 use Rattle.std.proofs.Common.{arith, inl, inr, length-append}
-use Rattle.std.specs.Prelude.{codes, ◌⊎◌, if◌then◌else◌, option_and_then, IfSome, IsOk}
+use Rattle.std.specs.Prelude.{codes, if◌then◌else◌, option_and_then, IfSome, IsOk}
 use Rattle.std.specs.List.{list_any}
 use Rattle.toml.specs.Data.{Data, Items, no_items, item, Members, get_member, as_array, as_str}
 use Rattle.toml.specs.Data.{as_table}
@@ -11,20 +11,20 @@ use Rattle.settings.specs.Faults.{Path, ◌>>=◌}
 use Rattle.settings.specs.Keys.{flag_of, given_at, row, section_of, whole_of}
 use Rattle.settings.specs.Named.{IsNumber, IsTableIfAny, table_at}
 use Rattle.settings.proofs.NamedBack.{flag_back, whole_back}
-use Rattle.settings.proofs.Naming.{bound, flag_is, same_ok, section_is, table_is, whole_is}
+use Rattle.settings.proofs.Naming.{bound, flag_is, same_ok, section_is, table_is}
 use Rattle.settings.proofs.Refusing.{never, no_more, no_table, number_path, same_err, section_path}
 use Rattle.settings.proofs.Refusing.{select_path, step}
-use Rattle.sitefile.specs.FirstWrong.{Wanted, AddressList, OneText, TrueOrFalse, Entry, entry}
-use Rattle.sitefile.specs.FirstWrong.{path_of, place_entries, flag_entries, line_entries}
-use Rattle.sitefile.specs.FirstWrong.{first_entries, AreRight, IsFirstIn, IsListIfAny, HasLink}
+use Rattle.sitefile.specs.FirstWrong.{AddressList, OneText, TrueOrFalse, Entry, entry}
+use Rattle.sitefile.specs.FirstWrong.{place_entries, flag_entries, line_entries}
+use Rattle.sitefile.specs.FirstWrong.{AreRight, IsFirstIn, IsListIfAny, HasLink}
 use Rattle.sitefile.specs.FirstWrong.{HasName, IsFirstOf, IsRightWith, IsFirstAt, AreAllRight}
-use Rattle.sitefile.specs.FirstWrong.{IsOfForm, IsStationWrong, AreStationsWrong, IsFirstWrong}
+use Rattle.sitefile.specs.FirstWrong.{IsOfForm, AreStationsWrong, IsFirstWrong}
 use Rattle.sitefile.specs.FirstWrong.{IsAllRight, IsFaultNamed}
 use Rattle.sitefile.specs.Keys.{is_good, text_in, text_or_none, text_of_key}
-use Rattle.sitefile.specs.Named.{IsAllowList, IsText}
+use Rattle.sitefile.specs.Named.{IsText}
 use Rattle.sitefile.specs.Names.{Named, link_of, name_of, named_in, named_of, needed, or_later}
 use Rattle.sitefile.specs.Names.{stations_from, stations_in, stations_of, wrong_from, wrong_in}
-use Rattle.sitefile.specs.Names.{wrong_of, wrong_station}
+use Rattle.sitefile.specs.Names.{wrong_of}
 use Rattle.sitefile.specs.Site.{IsSiteRead, SiteNames, SitePlaces, SiteValues, allow_of, flags_of}
 use Rattle.sitefile.specs.Site.{known_names, known_places, known_site, list_of, text_needed}
 use Rattle.sitefile.specs.Site.{texts_from}

@@ -3,7 +3,6 @@ use Rattle.std.proofs.Common.{◌≡◌, ℕ, ◌≤◌, ◌&&◌, ◌||◌, ◌
 use Rattle.std.proofs.Common.{◌∷◌, ◌++◌, length, slice_index, refl, ap, subst, ◌∙◌, arith}
 use Rattle.std.proofs.lemmas.Bool.{and_parts, leb-true, eqb-true}
 use Rattle.std.specs.Prelude.{◌≢◌, nat_le, nat_lt, not}
-use Rattle.settings.specs.Files.{IsHostAndPort}
 use Rattle.settings.proofs.PlaceLemmas.{address_back, host_and_port}
 use Rattle.sitefile.specs.FirstWrong.{IsOfForm}
 use Rattle.sitefile.specs.Keys.{characters, has_control, is_control, is_directory, is_good, is_name}

@@ -1,7 +1,7 @@
 -- The reports of a station are counted.
 use Rattle.std.proofs.Common.{◌≡◌, ◌≢◌, ℕ, zero, suc, ◌+◌, Bool, true, false, ◌&&◌, ◌==◌, List, []}
-use Rattle.std.proofs.Common.{◌∷◌, ◌++◌, length, Option, Some, None, refl, sym, ap, ◌∙◌, arith, inl}
-use Rattle.std.proofs.Common.{inr, ◌⊎◌, subst, length-append}
+use Rattle.std.proofs.Common.{◌∷◌, ◌++◌, length, Option, Some, refl, sym, ap, ◌∙◌, arith, inl}
+use Rattle.std.proofs.Common.{inr, ◌⊎◌, length-append}
 use Rattle.std.proofs.lemmas.List.Sums.{sum_by-cons}
 use Rattle.std.specs.Prelude.{if◌then◌else◌, slice_get, count_by}
 use Rattle.std.specs.List.{flat_map}
@@ -19,7 +19,7 @@ use Rattle.sim.specs.declared.directive.Directive.TheVariants.{Turns, Ack, Wall,
 use Rattle.sim.specs.declared.directive.Directive.TheVariants.{LoseRequest}
 use Rattle.sim.specs.declared.directive.Directive.TheVariants.{LoseAnswer, SpoilAnswer, Cut, Send}
 use Rattle.stations.specs.Exchanges.{OutstationsState, first_counts, first_standing}
-use Rattle.stations.specs.Reporting.{IsReported, one_more, reported}
+use Rattle.stations.specs.Reporting.{IsReported, one_more}
 use Rattle.stations.specs.declared.scenario.Scenario.{Scenario}
 use Rattle.stations.proofs.PlayLaws.{changed_get, changed_other}
 

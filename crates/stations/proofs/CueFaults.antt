@@ -1,5 +1,5 @@
 -- A fault names the first wrong line.
-use Rattle.std.specs.Prelude.{◌&&◌, ◌||◌, option_to_list, map, min}
+use Rattle.std.specs.Prelude.{◌||◌, option_to_list, map, min}
 use Rattle.std.proofs.Common.{◌≡◌, ℕ, ◌+◌, ◌≤◌, nat_le, Bool, true, false, List, [], ◌∷◌, ◌++◌}
 use Rattle.std.proofs.Common.{length, Option, Some, None, refl, sym, ap, ◌∙◌, inl, inr, ◌⊎◌, arith}
 use Rattle.std.proofs.Common.{if◌then◌else◌, subst, append_assoc}
@@ -7,14 +7,12 @@ use Rattle.std.proofs.lemmas.Bool.{and_parts, eqb-true, leb-true}
 use Rattle.std.proofs.lemmas.List.{append-nil}
 use Rattle.std.specs.List.{list_any, Contains}
 use Rattle.ft12.specs.declared.frame.LinkSize.{LinkSize}
-use Rattle.gateway.specs.Config.{Settings}
-use Rattle.sim.specs.Scripts.{first_wrong, lines_of}
-use Rattle.traces.specs.declared.reading.TextFault.TheVariants.{Line}
+use Rattle.sim.specs.Scripts.{first_wrong}
 use Rattle.stations.specs.CueLines.{cue_in, is_cue_line}
 use Rattle.stations.specs.CueTexts.{Collide, said_by, IsWrong, AreRight, IsFirstWrongLine}
 use Rattle.stations.specs.CueTexts.{IsFirstOfText}
 use Rattle.stations.specs.Scenarios.{clashes, commented, first_of_two, first_wrong_cue, is_refused}
-use Rattle.stations.specs.Scenarios.{is_wrong_cue, refuses_cue, said_alone}
+use Rattle.stations.specs.Scenarios.{is_wrong_cue, said_alone}
 use Rattle.stations.specs.declared.cue.Cue.{Cue}
 use Rattle.stations.specs.declared.cue.Cue.TheVariants.{Confirm, Delayed, Refuse, Timed}
 use Rattle.stations.proofs.CueTexts.{right_so, said_next}
