@@ -8,3 +8,6 @@ mod Knowing
 pub mod PlaceLemmas
 mod Filing
 mod FilingBack
+pub mod Refusing
+mod Faulting
+mod Wording

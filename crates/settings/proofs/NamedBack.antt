@@ -97,7 +97,7 @@ word_back word Hold says =
 word_back word Reset says =
     resets_word word ((bytes_eq-Decides word (codes "reset")).0 says)
 
-silence_back : (t : Option Members) (s : Silence) → IsSilence t s
+pub silence_back : (t : Option Members) (s : Silence) → IsSilence t s
     → silence_of (given_at (codes "silence") t) ≡ Ok s
 silence_back t s is = go (given_at (codes "silence") t) refl
   where
@@ -214,11 +214,11 @@ tcp_back t v is =
 
 -- ---- stations
 
-few_addresses : (s : LinkSize) → greatest_address s < 2 ^ 32
+pub few_addresses : (s : LinkSize) → greatest_address s < 2 ^ 32
 few_addresses link.One = omega arith
 few_addresses link.Two = omega arith
 
-few_cas : (s : CaSize) → greatest_ca s < 2 ^ 32
+pub few_cas : (s : CaSize) → greatest_ca s < 2 ^ 32
 few_cas ca.One = omega arith
 few_cas ca.Two = omega arith
 
@@ -323,7 +323,7 @@ gateway_back root v are may =
     are.are (list_back v.line.link v.line.sizes.ca are.items v.stations are.stations may.distinct
     may.some may.most)) refl))))
 
-text_back : (key path : List ℕ) (t : Option Members) → IsTextIfAny key t
+pub text_back : (key path : List ℕ) (t : Option Members) → IsTextIfAny key t
     → word_of key path t ≡ Ok tt
 text_back key path t is = go (given_at key t) refl
   where
@@ -343,7 +343,7 @@ all_read root v are may =
     (text_back (codes "listen") (codes "live.listen") (table_at (codes "live") root)
     may.listen_end)) refl))
 
-place_back : (good : List ℕ → Bool) (key path : List ℕ) (t : Option Members) (text : List ℕ)
+pub place_back : (good : List ℕ → Bool) (key path : List ℕ) (t : Option Members) (text : List ℕ)
     → option_and_then as_str (value_at key t) ≡ Some text → good text ≡ true
     → place_of good key path t ≡ Ok text
 place_back good key path t text at is =

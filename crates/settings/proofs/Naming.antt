@@ -181,7 +181,8 @@ unfolding SaysOf
 word_in (Some word) s e = (word, refl, word_is word s e)
 word_in None s e = cc
 
-silence_is : (t : Option Members) (s : Silence) → silence_of (given_at (codes "silence") t) ≡ Ok s
+pub silence_is : (t : Option Members) (s : Silence) → silence_of (given_at (codes "silence") t)
+    ≡ Ok s
     → IsSilence t s
 unfolding SaysOf
 silence_is t s e = record {
@@ -193,12 +194,12 @@ silence_is t s e = record {
 
 -- ---- tables
 
-record SizesOf (t : Option Members) (s : Sizes) : Type 0 where
-  cause : IsNumber (codes "cause") 1 2 None t (cause_len s.cause)
-  ca : IsNumber (codes "ca") 1 2 None t (ca_len s.ca)
-  ioa : IsNumber (codes "ioa") 1 3 None t (ioa_len s.ioa)
+pub record SizesOf (t : Option Members) (s : Sizes) : Type 0 where
+  pub cause : IsNumber (codes "cause") 1 2 None t (cause_len s.cause)
+  pub ca : IsNumber (codes "ca") 1 2 None t (ca_len s.ca)
+  pub ioa : IsNumber (codes "ioa") 1 3 None t (ioa_len s.ioa)
 
-sizes_are : (t : Option Members) (s : Sizes) → sizes_of t ≡ Ok s → SizesOf t s
+pub sizes_are : (t : Option Members) (s : Sizes) → sizes_of t ≡ Ok s → SizesOf t s
 sizes_are t s e =
     let c = bound _ _ s e in
     let a = bound _ _ s c.rest in
@@ -214,12 +215,12 @@ sizes_are t s e =
           ioa;
     })
 
-record WaitsOf (t : Option Members) (w : Waits) : Type 0 where
-  answer_ms : IsNumber (codes "answer_ms") 1 60000 (Some 200) t w.answer_ms
-  retries : IsNumber (codes "retries") 0 10 (Some 3) t w.retries
-  silence : IsSilence t w.silence
+pub record WaitsOf (t : Option Members) (w : Waits) : Type 0 where
+  pub answer_ms : IsNumber (codes "answer_ms") 1 60000 (Some 200) t w.answer_ms
+  pub retries : IsNumber (codes "retries") 0 10 (Some 3) t w.retries
+  pub silence : IsSilence t w.silence
 
-waits_are : (t : Option Members) (w : Waits) → waits_of t ≡ Ok w → WaitsOf t w
+pub waits_are : (t : Option Members) (w : Waits) → waits_of t ≡ Ok w → WaitsOf t w
 waits_are t w e =
     let m = bound _ _ w e in
     let r = bound _ _ w m.rest in
@@ -231,7 +232,7 @@ waits_are t w e =
       silence = silence_is t h.value h.first;
     })
 
-line_is : (t : Option Members) (l : Line) → line_settings t ≡ Ok l → IsLineOf t l
+pub line_is : (t : Option Members) (l : Line) → line_settings t ≡ Ok l → IsLineOf t l
 line_is t l e =
     let k = bound _ _ l e in
     let s = bound _ _ l k.rest in
@@ -254,7 +255,7 @@ line_is t l e =
       queue = whole_is (codes "queue") (codes "line.queue") 3 65535 (Some 1000) t q.value q.first;
     })
 
-tcp_is : (t : Option Members) (v : Tcp) → tcp_settings t ≡ Ok v → IsTcpOf t v
+pub tcp_is : (t : Option Members) (v : Tcp) → tcp_settings t ≡ Ok v → IsTcpOf t v
 tcp_is t v e =
     let k = bound _ _ v e in
     let w = bound _ _ v k.rest in
@@ -285,7 +286,7 @@ number_kept : (n m : ℕ) (taken : Bool) (path : Path) → distinct_number n tak
 number_kept n m true path e = cc
 number_kept n m false path e = same_ok n m e
 
-number_free : (n m : ℕ) (taken : Bool) (path : Path) → distinct_number n taken path ≡ Ok m
+pub number_free : (n m : ℕ) (taken : Bool) (path : Path) → distinct_number n taken path ≡ Ok m
     → taken ≡ false
 number_free n m true path e = cc
 number_free n m false path e = refl
@@ -302,13 +303,14 @@ pub as_most : (key : List ℕ) (high most : ℕ) (t : Option Members) (n : ℕ) 
     → IsNumber key 1 high None t n → IsNumber key 1 most None t n
 as_most key high most t n e h = subst (λ k. IsNumber key 1 k None t n) e h
 
-record StationOf (link : LinkSize) (ca : CaSize) (before : List StationSettings)
+pub record StationOf (link : LinkSize) (ca : CaSize) (before : List StationSettings)
     (t : Option Members) (s : StationSettings) : Type 0 where
-  is : IsStationOf link ca t s
-  new_address : list_any (λ o. o.address == s.address) before ≡ false
-  new_ca : list_any (λ o. o.ca == s.ca) before ≡ false
+  pub is : IsStationOf link ca t s
+  pub new_address : list_any (λ o. o.address == s.address) before ≡ false
+  pub new_ca : list_any (λ o. o.ca == s.ca) before ≡ false
 
-station_is : (link : LinkSize) (ca : CaSize) (before : List StationSettings) (t : Option Members)
+pub station_is : (link : LinkSize) (ca : CaSize) (before : List StationSettings)
+    (t : Option Members)
     (s : StationSettings) → station_in link ca before t ≡ Ok s → StationOf link ca before t s
 station_is link ca before None s e = cc
 station_is link ca before (Some t) s e =
@@ -337,14 +339,14 @@ station_is link ca before (Some t) s e =
           (number_free common.value c.value _ _ common.rest);
     })
 
-record StationsOf (link : LinkSize) (ca : CaSize) (before : List StationSettings) (ds : Items)
+pub record StationsOf (link : LinkSize) (ca : CaSize) (before : List StationSettings) (ds : Items)
     (v : List StationSettings) : Type 0 where
-  more : List StationSettings
-  whole : before ++ more ≡ v
-  are : AreStationsOf link ca ds more
-  new : AreNewAfter before more
+  pub more : List StationSettings
+  pub whole : before ++ more ≡ v
+  pub are : AreStationsOf link ca ds more
+  pub new : AreNewAfter before more
 
-stations_are : (link : LinkSize) (ca : CaSize) (before : List StationSettings) (ds : Items)
+pub stations_are : (link : LinkSize) (ca : CaSize) (before : List StationSettings) (ds : Items)
     (v : List StationSettings) → stations_from link ca before ds ≡ Ok v
     → StationsOf link ca before ds v
 stations_are link ca before no_items v e = record {
@@ -396,16 +398,17 @@ table_is name first root t e d at = found (as_table d) refl
     found (Some m) is e = (m, is)
     found None is e = cc
 
-record ItemsOf (link : LinkSize) (ca : CaSize) (o : Option Data) (v : List StationSettings) : Type
+pub record ItemsOf (link : LinkSize) (ca : CaSize) (o : Option Data)
+    (v : List StationSettings) : Type
     0 where
-  items : Items
-  are : option_and_then as_array o ≡ Some items
-  stations : AreStationsOf link ca items v
-  some : 1 ≤ length v
-  most : length v ≤ 32
-  new : AreNewAfter [] v
+  pub items : Items
+  pub are : option_and_then as_array o ≡ Some items
+  pub stations : AreStationsOf link ca items v
+  pub some : 1 ≤ length v
+  pub most : length v ≤ 32
+  pub new : AreNewAfter [] v
 
-items_are : (link : LinkSize) (ca : CaSize) (o : Option Data) (v : List StationSettings)
+pub items_are : (link : LinkSize) (ca : CaSize) (o : Option Data) (v : List StationSettings)
     → stations_of link ca o ≡ Ok v → ItemsOf link ca o v
 items_are link ca None v e = cc
 items_are link ca (Some d) v e = go (as_array d) refl e
@@ -436,14 +439,14 @@ items_are link ca (Some d) v e = go (as_array d) refl e
     go None at is = cc
     go (Some ds) at is = read ds at (nat_lt 0 (count_of ds) && nat_le (count_of ds) 32) refl is
 
-record GatewayOf (root : Members) (v : Values) : Type 0 where
-  named : AreNamed root v
-  tcp : IsTableIfAny (codes "tcp") root
-  some : 1 ≤ length v.stations
-  most : length v.stations ≤ 32
-  new : AreNewAfter [] v.stations
+pub record GatewayOf (root : Members) (v : Values) : Type 0 where
+  pub named : AreNamed root v
+  pub tcp : IsTableIfAny (codes "tcp") root
+  pub some : 1 ≤ length v.stations
+  pub most : length v.stations ≤ 32
+  pub new : AreNewAfter [] v.stations
 
-gateway_named : (root : Members) (v : Values) → gateway_values root ≡ Ok v → GatewayOf root v
+pub gateway_named : (root : Members) (v : Values) → gateway_values root ≡ Ok v → GatewayOf root v
 gateway_named root v e =
     let lt = bound _ _ v e in
     let l = bound _ _ v lt.rest in
@@ -472,7 +475,7 @@ gateway_named root v e =
 
 -- ---- the ends of a live run
 
-word_text : (key path : List ℕ) (t : Option Members) (done : Unit {0})
+pub word_text : (key path : List ℕ) (t : Option Members) (done : Unit {0})
     → word_of key path t ≡ Ok done → IsTextIfAny key t
 word_text key path t done e d at = found (as_str d) refl
     (sym (ap (λ (o : Option Data). text_or path o) (same_value key t ∙ at)) ∙ e)
@@ -488,7 +491,7 @@ pub record EndOf (good : List ℕ → Bool) (key : List ℕ) (t : Option Members
   pub at_key : option_and_then as_str (value_at key t) ≡ Some text
   pub as_it_should : good text ≡ true
 
-end_is : (good : List ℕ → Bool) (key path : List ℕ) (t : Option Members) (text : List ℕ)
+pub end_is : (good : List ℕ → Bool) (key path : List ℕ) (t : Option Members) (text : List ℕ)
     → place_of good key path t ≡ Ok text → EndOf good key t text
 end_is good key path t text e = found (text_of (given_at key t)) refl e
   where
@@ -554,7 +557,7 @@ pub record LiveOf (root : Members) (v : Values) (p : Places) : Type 0 where
   pub line : EndOf is_line (codes "line") (table_at (codes "live") root) p.line
   pub listen : EndOf is_address (codes "listen") (table_at (codes "live") root) p.listen
 
-places_are : (t : Option Members) (p : Places) → live_places t ≡ Ok p
+pub places_are : (t : Option Members) (p : Places) → live_places t ≡ Ok p
     → EndOf is_line (codes "line") t p.line × EndOf is_address (codes "listen") t p.listen
 places_are t p e =
     let l = bound (place_of is_line (codes "line") (codes "live.line") t) _ p e in

@@ -10,3 +10,4 @@ pub mod Wanted
 pub mod Named
 pub mod Known
 pub mod Files
+pub mod FirstWrong

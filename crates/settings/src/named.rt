@@ -1,8 +1,9 @@
 //! Each setting has one key.
-ghost use Rattle.std.specs.Prelude.{◌≡◌, ℕ, List, Bool, true, Ok, Result};
+ghost use Rattle.std.specs.Prelude.{◌≡◌, ℕ, List, Bool, false, true, Ok, Err, Result};
 ghost use Rattle.gateway.specs.Config.{Settings};
 ghost use Rattle.settings.specs.Files.{AreEndsOf, HasNoOtherKeys, HasPlaces, IsFileOf, IsFromFile};
 ghost use Rattle.settings.specs.Files.{IsReadAs, IsReadWith};
+ghost use Rattle.settings.specs.FirstWrong.{AreWordsRight, IsFaultNamed, end_entries, text_entries};
 ghost use Rattle.settings.specs.Live.{Places};
 ghost use Rattle.settings.specs.Settings.{IsLiveReadOfText, IsReadFor, IsReadOfText, Values};
 ghost use Rattle.settings.specs.declared.fault.ConfigFault.{ConfigFault};
@@ -43,4 +44,24 @@ pub fn other_keys_are_refused()
         IsReadFor needs_ends text (Ok c) → HasNoOtherKeys text }
     ensures live { (text : List ℕ) (c : Settings) (ends : LiveSettings) →
         IsLiveReadOfText text (Ok (c, ends)) → HasNoOtherKeys text }
+{}
+
+/// A file that can't be used is refused with the dotted path of the first key of docs/SETTINGS.md, in
+/// the order of that page, that is missing, of another type or out of its range: all that stands
+/// before it is right. Of the stations it is the first that isn't right, whose place
+/// [`wrong_station`](crate::wrong_station) finds. An unknown key is named only where all of these
+/// are right.
+pub fn faults_name_the_first_wrong_key()
+    ensures settings { (text : List ℕ) (fault : ConfigFault) →
+        IsReadFor false text (Err fault) → IsFaultNamed text_entries text fault }
+    ensures needing_ends { (text : List ℕ) (fault : ConfigFault) →
+        IsReadFor true text (Err fault) → IsFaultNamed end_entries text fault }
+    ensures live { (text : List ℕ) (fault : ConfigFault) →
+        IsLiveReadOfText text (Err fault) → IsFaultNamed end_entries text fault }
+{}
+
+/// The words that say what is wanted of a key have the range of that key, and of each other key
+/// what it may have: those of the rows by which faults are named.
+pub fn words_are_those_of_the_rows()
+    ensures { AreWordsRight }
 {}

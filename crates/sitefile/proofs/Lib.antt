@@ -6,3 +6,5 @@ pub mod Naming
 mod Knowing
 mod TextLemmas
 mod NamingBack
+mod Refusing
+mod Wording

@@ -33,7 +33,7 @@ use Rattle.sitefile.specs.declared.site.Flags.{Flags}
 
 -- ---- texts
 
-text_is : (form : TextForm) (key path : List ℕ) (t : Option Members) (text : Option (List ℕ))
+pub text_is : (form : TextForm) (key path : List ℕ) (t : Option Members) (text : Option (List ℕ))
     → text_of_key form key path t ≡ Ok text → IsText key t text
 text_is form key path t text e = record {
   given = λ d at. some (as_str d) d refl
@@ -53,7 +53,7 @@ text_is form key path t text e = record {
     some (Some word) d at is = (word, at, good word (is_good form word) is)
 
 -- and it is as it has to be
-text_good : (form : TextForm) (key path : List ℕ) (t : Option Members) (text : Option (List ℕ))
+pub text_good : (form : TextForm) (key path : List ℕ) (t : Option Members) (text : Option (List ℕ))
     → text_of_key form key path t ≡ Ok text → IfSome text (Good form)
 text_good form key path t text e = go (given_at key t) e
   where
@@ -98,7 +98,7 @@ texts_are before (item d ds) v e =
       are = (needed_is (as_str d) t.value t.first, rest.are);
     }
 
-allow_is : (root : Members) (allow : Option (List (List ℕ)))
+pub allow_is : (root : Members) (allow : Option (List (List ℕ)))
     → allow_of (get_member (codes "allow") root) ≡ Ok allow → IsAllowList root allow
 allow_is root allow e = record {
   given = λ d at. listed d (as_array d) refl (sym (ap allow_of at) ∙ e);
@@ -141,7 +141,7 @@ places_are root p e =
 
 -- ---- flags
 
-flags_are : (root : Members) (f : Flags) → flags_of root ≡ Ok f → AreFlags root f
+pub flags_are : (root : Members) (f : Flags) → flags_of root ≡ Ok f → AreFlags root f
 flags_are root f e =
     let s = bound _ _ f e in
     let l = bound _ _ f s.rest in
@@ -169,7 +169,7 @@ free_before : (n m : ℕ) (b : Bool) → (if b then Err (codes "station.link") e
 free_before n m true e = cc
 free_before n m false e = refl
 
-link_new : (before : List Named) (t : Members) (n : ℕ) → link_of before t ≡ Ok n
+pub link_new : (before : List Named) (t : Members) (n : ℕ) → link_of before t ≡ Ok n
     → list_any (λ s. s.link == n) before ≡ false
 link_new before t n e =
     let l = bound (whole_of (row (codes "link") (codes "station.link") 1 65534 None) (Some t))
@@ -178,7 +178,7 @@ link_new before t n e =
     subst (λ k. list_any (λ s. s.link == k) before ≡ false) (free_link l.value n taken l.rest)
     (free_before l.value n taken l.rest)
 
-link_is : (before : List Named) (t : Members) (n : ℕ) → link_of before t ≡ Ok n
+pub link_is : (before : List Named) (t : Members) (n : ℕ) → link_of before t ≡ Ok n
     → IsNumber (codes "link") 1 65534 None (Some t) n
 link_is before t n e =
     let l = bound _ _ n e in
@@ -191,7 +191,7 @@ there : (o : Option (List ℕ)) (name : List ℕ) → needed (codes "station.nam
 there None name e = cc
 there (Some text) name e = ap Some (same_ok text name e)
 
-name_is : (t : Members) (name : List ℕ) → name_of t ≡ Ok name
+pub name_is : (t : Members) (name : List ℕ) → name_of t ≡ Ok name
     → IsText (codes "name") (Some t) (Some name)
 name_is t name e =
     let o = bound (text_of_key Name (codes "name") (codes "station.name") (Some t))
@@ -199,7 +199,7 @@ name_is t name e =
     text_is Name (codes "name") (codes "station.name") (Some t) (Some name)
     (o.first ∙ ap Ok (there o.value name o.rest))
 
-name_good : (t : Members) (name : List ℕ) → name_of t ≡ Ok name → Good Name name
+pub name_good : (t : Members) (name : List ℕ) → name_of t ≡ Ok name → Good Name name
 name_good t name e =
     let o = bound (text_of_key Name (codes "name") (codes "station.name") (Some t))
     (needed (codes "station.name")) name e in

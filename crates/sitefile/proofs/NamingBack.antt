@@ -38,7 +38,7 @@ use Rattle.sitefile.proofs.TextLemmas.{Good, good_back}
 
 -- ---- texts
 
-text_back : (form : TextForm) (key path : List ℕ) (t : Option Members) (text : Option (List ℕ))
+pub text_back : (form : TextForm) (key path : List ℕ) (t : Option Members) (text : Option (List ℕ))
     → IsText key t text → IfSome text (Good form) → text_of_key form key path t ≡ Ok text
 text_back form key path t text is good = go (given_at key t) refl
   where
@@ -70,7 +70,7 @@ texts_back before (item d ds) (text ∷ texts) are =
 texts_back before no_items (text ∷ texts) are = absurd are
 texts_back before (item d ds) [] are = absurd are
 
-allow_back : (root : Members) (allow : Option (List (List ℕ))) → IsAllowList root allow
+pub allow_back : (root : Members) (allow : Option (List (List ℕ))) → IsAllowList root allow
     → allow_of (get_member (codes "allow") root) ≡ Ok allow
 allow_back root allow is = go (get_member (codes "allow") root) refl
   where

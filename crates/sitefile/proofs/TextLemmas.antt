@@ -3,8 +3,8 @@ use Rattle.std.proofs.Common.{◌≡◌, ℕ, ◌≤◌, ◌&&◌, ◌||◌, ◌
 use Rattle.std.proofs.Common.{◌∷◌, ◌++◌, length, slice_index, refl, ap, subst, ◌∙◌, arith}
 use Rattle.std.proofs.lemmas.Bool.{and_parts, leb-true, eqb-true}
 use Rattle.std.specs.Prelude.{◌≢◌, nat_le, nat_lt, not}
-use Rattle.settings.specs.Files.{IsHostAndPort}
 use Rattle.settings.proofs.PlaceLemmas.{address_back, host_and_port}
+use Rattle.sitefile.specs.FirstWrong.{IsOfForm}
 use Rattle.sitefile.specs.Keys.{characters, has_control, is_control, is_directory, is_good, is_name}
 use Rattle.sitefile.specs.Named.{IsDirectoryName, IsNameText, IsPlain}
 use Rattle.sitefile.specs.declared.keys.TextForm.{TextForm}
@@ -138,9 +138,7 @@ directory_back text is =
 
 -- the text is as it has to be
 abbrev pub Good : TextForm → List ℕ → Type 0
-Good Name text = IsNameText text
-Good Address text = IsHostAndPort text
-Good Directory text = IsDirectoryName text
+Good form text = IsOfForm form text
 
 pub good_is : (form : TextForm) (text : List ℕ) → is_good form text ≡ true → Good form text
 good_is Name text e = name_is text e

@@ -1,5 +1,6 @@
 //! Each value of a site has one key.
-ghost use Rattle.std.specs.Prelude.{◌≡◌, ℕ, List, Ok, Result};
+ghost use Rattle.std.specs.Prelude.{◌≡◌, ℕ, List, Ok, Err, Result};
+ghost use Rattle.sitefile.specs.FirstWrong.{AreWordsRight, IsFaultNamed};
 ghost use Rattle.sitefile.specs.Known.{HasNoOtherKeys};
 ghost use Rattle.sitefile.specs.Named.{IsFileOf, IsReadOrNoMemory};
 ghost use Rattle.sitefile.specs.Site.{IsSiteOf, IsSiteRead};
@@ -27,4 +28,19 @@ pub fn named_sites_are_read()
 /// keep out.
 pub fn other_site_keys_are_refused()
     ensures { (text : List ℕ) (site : Site) → IsSiteOf text site → HasNoOtherKeys text }
+{}
+
+/// A file of a site that can't be used is refused with the dotted path of the first key of
+/// docs/SITE.md, in the order of that page, that is of another type or isn't as it has to be: all
+/// that stands before it is right. Of the stations it is the first that isn't right, whose place
+/// [`wrong_station`](crate::wrong_station) finds. An unknown key is named only where all of these
+/// are right.
+pub fn site_faults_name_the_first_wrong_key()
+    ensures { (text : List ℕ) (fault : SiteFault) → IsSiteRead text (Err fault) →
+        IsFaultNamed text fault }
+{}
+
+/// The words that say what is wanted of a key are those of what it may have.
+pub fn site_words_are_those_of_the_rows()
+    ensures { AreWordsRight }
 {}

@@ -38,7 +38,7 @@ clash a b is = absurd is
 
 module _ (size : LinkSize) (stations : ℕ) where
   -- a line for them that isn't refused is none of the wrong ones
-  right_so : (before : List Cue) (l : List ℕ) → is_wrong_cue size stations before l ≡ false
+  pub right_so : (before : List Cue) (l : List ℕ) → is_wrong_cue size stations before l ≡ false
       → IsWrong size stations before l → ⊥
   right_so before l right (alone, why) = go (cue_in size stations l) refl refused why
     where
@@ -76,7 +76,7 @@ module _ (size : LinkSize) (stations : ℕ) where
           none_of (λ x. clashes x c) before earlier (free c none).1 there_is
           (ap (λ (x : Cue). clashes earlier x) one ∙ clash earlier cue both)
 
-  said_next : (l : List ℕ) (ls : List (List ℕ))
+  pub said_next : (l : List ℕ) (ls : List (List ℕ))
       → option_to_list (said_alone size stations l) ++ said_by size stations ls
       ≡ said_by size stations (l ∷ ls)
   said_next l ls = go (is_cue_line l) (cue_in size stations l) refl refl

@@ -18,3 +18,5 @@ pub mod WrittenCues
 pub mod SpokenOf
 pub mod RepliedTo
 pub mod CueTexts
+mod CueFaults
+mod Counting

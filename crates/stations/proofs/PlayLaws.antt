@@ -101,13 +101,13 @@ stations_have_turns now i old new round lt =
 some_same : {A : Type 0} (y x : A) → Some y ≡ Some x → y ≡ x
 some_same y x e = cc
 
-changed_get : {A : Type 0} → (xs : List A) (i : ℕ) (change : A → A) (x : A)
+pub changed_get : {A : Type 0} → (xs : List A) (i : ℕ) (change : A → A) (x : A)
     → slice_get xs i ≡ Some x → slice_get (changed_at i change xs) i ≡ Some (change x)
 changed_get [] i change x is = cc
 changed_get (y ∷ xs) zero change x is = ap (λ z. Some (change z)) (some_same y x is)
 changed_get (y ∷ xs) (suc i) change x is = changed_get xs i change x is
 
-changed_other : {A : Type 0} → (xs : List A) (i j : ℕ) (change : A → A) → j ≢ i
+pub changed_other : {A : Type 0} → (xs : List A) (i j : ℕ) (change : A → A) → j ≢ i
     → slice_get (changed_at i change xs) j ≡ slice_get xs j
 changed_other [] i j change other = refl
 changed_other (y ∷ xs) zero zero change other = absurd (other refl)

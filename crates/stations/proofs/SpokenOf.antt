@@ -17,10 +17,10 @@ use Rattle.stations.specs.declared.cue.Cue.TheVariants.{Confirm, Delayed, Refuse
 pub none_in : (c : Cue) → Contains [] c → ⊥
 none_in c h = omega (arith, h.1)
 
-here : (c : Cue) (cs : List Cue) → Contains (c ∷ cs) c
+pub here : (c : Cue) (cs : List Cue) → Contains (c ∷ cs) c
 here c cs = Contains-append_left (c ∷ []) cs c (Contains-push [] c)
 
-there : (b c : Cue) (cs : List Cue) → Contains cs c → Contains (b ∷ cs) c
+pub there : (b c : Cue) (cs : List Cue) → Contains cs c → Contains (b ∷ cs) c
 there b c cs h = Contains-append_right (b ∷ []) cs c h
 
 pub either : (b c : Cue) (cs : List Cue) → Contains (b ∷ cs) c → (b ≡ c) ⊎ Contains cs c

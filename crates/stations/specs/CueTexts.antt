@@ -1,10 +1,13 @@
 -- What the lines of a text say to the outstations alone, and which can't stand (texts of this
 -- gateway's own profile).
-use Rattle.std.specs.Prelude.{◌≡◌, ◌⊎◌, ◌≤◌, ℕ, true, List, [], ◌∷◌, ◌++◌, length, Contains}
+use Rattle.std.specs.Prelude.{◌≡◌, ◌⊎◌, ◌+◌, ◌≤◌, ℕ, true, List, [], ◌∷◌, ◌++◌, length, map}
+use Rattle.std.specs.Prelude.{Contains}
 use Rattle.std.specs.Prelude.{Some, None}
 use Rattle.std.specs.List.{filter, filter_map}
 use Rattle.ft12.specs.declared.frame.LinkSize.{LinkSize}
+use Rattle.sim.specs.Scripts.{first_wrong}
 use Rattle.stations.specs.CueLines.{cue_in, is_cue_line}
+use Rattle.stations.specs.Scenarios.{commented, first_wrong_cue}
 use Rattle.stations.specs.declared.cue.Cue.{Cue}
 use Rattle.stations.specs.declared.cue.Cue.TheVariants.{Confirm, Delayed, Refuse}
 
@@ -35,3 +38,24 @@ AreRight size stations before [] = Unit {0}
 AreRight size stations before (l ∷ ls) =
     (IsWrong size stations before l → ⊥)
     × AreRight size stations (before ++ said_by size stations (l ∷ [])) ls
+
+-- The line with this number, counted from 1, is wrong behind those before it, and none of them is.
+pub record IsFirstWrongLine (size : LinkSize) (stations : ℕ) (lines : List (List ℕ)) (number : ℕ) :
+    Type 0 where
+  pub before : List (List ℕ)
+  pub line : List ℕ
+  pub behind : List (List ℕ)
+  pub are : lines ≡ before ++ line ∷ behind
+  pub counted : number ≡ length before + 1
+  pub right : AreRight size stations [] before
+  pub wrong : IsWrong size stations (said_by size stations before) line
+
+-- The number is that of the first wrong line of a text: one for the outstations alone, or one of
+-- the script around them; and no wrong line of the other kind comes before it.
+pub record IsFirstOfText (size : LinkSize) (stations : ℕ) (lines : List (List ℕ)) (number : ℕ) :
+    Type 0 where
+  pub one : IsFirstWrongLine size stations lines number
+      ⊎ (first_wrong size stations [] 1 (map commented lines) ≡ Some number)
+  pub cues : (other : ℕ) → first_wrong_cue size stations [] 1 lines ≡ Some other → number ≤ other
+  pub script : (other : ℕ) → first_wrong size stations [] 1 (map commented lines) ≡ Some other →
+      number ≤ other

@@ -1,22 +1,25 @@
 //! What holds of lines for the outstations alone, and of the replies that they have stations give.
 ghost use Rattle.std.specs.Prelude.{◌≡◌, ◌==◌, ◌&&◌, ◌<◌, ◌+◌, ◌^◌, ◌++◌, ◌∷◌, [], ℕ, nat_le};
-ghost use Rattle.std.specs.Prelude.{Bool, true, false, List, Contains, Some, None};
+ghost use Rattle.std.specs.Prelude.{Bool, true, false, List, Contains, Some, None, Err, length};
 ghost use Rattle.std.specs.List.{slice_split};
 ghost use Rattle.asdu.specs.Asdu.{AsduValue, Info};
 ghost use Rattle.elements.specs.declared.types.TypeId.{TypeId};
 ghost use Rattle.ft12.specs.declared.frame.LinkSize.{LinkSize};
+ghost use Rattle.gateway.specs.Config.{Settings};
+ghost use Rattle.sim.specs.Scripts.{lines_of};
 ghost use Rattle.stations.specs.CueLines.{cue_in};
-ghost use Rattle.stations.specs.CueTexts.{AreRight, said_by};
+ghost use Rattle.stations.specs.CueTexts.{AreRight, IsFirstOfText, IsFirstWrongLine, said_by};
 ghost use Rattle.stations.specs.CuesWritten.{IsCueWritten};
 ghost use Rattle.stations.specs.Late.{delay_of};
 ghost use Rattle.stations.specs.Progress.{next_step};
 ghost use Rattle.stations.specs.Replies.{is_command, is_process_command, is_select};
 ghost use Rattle.stations.specs.Replying.{manner_of};
-ghost use Rattle.stations.specs.Scenarios.{AreCuesOf};
+ghost use Rattle.stations.specs.Scenarios.{AreCuesOf, IsScenarioOf, first_wrong_cue};
 ghost use Rattle.stations.specs.SpokenOf.{habit, is_one_of};
 ghost use Rattle.stations.specs.declared.cue.Cue.{Cue};
 ghost use Rattle.stations.specs.declared.cue.Cue.TheVariants.{Delayed};
 ghost use Rattle.stations.specs.declared.outstations.replying.ReplyProgress.{ReplyProgress};
+ghost use Rattle.traces.specs.declared.reading.TextFault.TheVariants.{Line};
 
 /// A line for the outstations alone says what its fields write, each behind one space: its words,
 /// times in ms, numbers from 1, and behind a time the report of a line of `sim`. A line with other
@@ -37,6 +40,18 @@ pub fn lines_for_outstations_stand_together()
     ensures { (size : LinkSize) (stations : ℕ) (lines : List (List ℕ)) (cues : List Cue) →
         AreCuesOf size stations lines cues →
         AreRight size stations [] lines × (cues ≡ said_by size stations lines) }
+{}
+
+/// Of a text that is refused the first wrong line is named, counted from 1 over all lines: none of
+/// those before it is wrong, whether it is for the outstations alone or of the script around it
+/// (for which `sim` says which line is wrong).
+pub fn the_first_wrong_line_is_named()
+    ensures alone { (size : LinkSize) (stations : ℕ) (lines : List (List ℕ)) (number : ℕ) →
+        first_wrong_cue size stations [] 1 lines ≡ Some number →
+        IsFirstWrongLine size stations lines number }
+    ensures text { (c : Settings) (text : List ℕ) (number : ℕ) →
+        IsScenarioOf c text (Err (Line number)) →
+        IsFirstOfText c.line.link (length c.stations) (lines_of text) number }
 {}
 
 /// A line `delay` is about the answer to the request that has its number, and a line `confirm` or

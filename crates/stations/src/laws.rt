@@ -1,11 +1,13 @@
 //! What holds of all outstations at a line.
 ghost use Rattle.std.specs.Prelude.{◌≡◌, ◌≢◌, ◌-◌, ◌<◌, ◌≤◌, ◌++◌, [], List, ℕ, Bool, Option};
+ghost use Rattle.std.specs.Prelude.{◌+◌, ◌^◌, min};
 ghost use Rattle.std.specs.Prelude.{◌%◌, None, Some, IsSome, false, true, length, map, slice_get};
 ghost use Rattle.asdu.specs.Asdu.{AsduValue, IsAsdu};
 ghost use Rattle.asdu.specs.declared.sizes.Sizes.{Sizes};
 ghost use Rattle.ft12.specs.Spelling.{spelling};
 ghost use Rattle.ft12.specs.declared.frame.Frame.{Frame};
 ghost use Rattle.ft12.specs.declared.frame.LinkSize.{LinkSize};
+ghost use Rattle.gateway.specs.Config.{Settings};
 ghost use Rattle.link.specs.Requests.{reading_of};
 ghost use Rattle.link.specs.declared.request.Reading.TheVariants.{Foreign};
 ghost use Rattle.link.specs.Secondary.{Secondary, ReceivesOctets};
@@ -13,7 +15,7 @@ ghost use Rattle.live.specs.OctetStreams.{StreamHistory};
 ghost use Rattle.sim.specs.declared.directive.Class.{Class};
 ghost use Rattle.stations.specs.Cues.{AreInPeriods, IsOneFrom, given_moments};
 ghost use Rattle.stations.specs.Exchanges.{Brings, ComesBack, RequestExchange, IsRequestAnswered};
-ghost use Rattle.stations.specs.Exchanges.{OutstationsState};
+ghost use Rattle.stations.specs.Exchanges.{OutstationsState, first_standing};
 ghost use Rattle.stations.specs.Exchanges.{next_number, requests_joined};
 ghost use Rattle.stations.specs.Late.{LateAnswer, delay_of, late_behind, late_now};
 ghost use Rattle.stations.specs.Law.{CouldReply, HadItsTurn, HasOneMore, IsAnswering};
@@ -23,6 +25,7 @@ ghost use Rattle.stations.specs.Replying.{Replies};
 ghost use Rattle.stations.specs.Reporting.{IsReported};
 ghost use Rattle.stations.specs.TimedServers.{IsRound, RoundsAt, TimedServer, WasHeld};
 ghost use Rattle.stations.specs.declared.cue.Timer.{Timer};
+ghost use Rattle.stations.specs.declared.scenario.Scenario.{Scenario};
 
 use ft12::spellings_cancel;
 
@@ -136,6 +139,22 @@ pub fn reports_stand_behind_those_of_their_class()
         slice_get old.had i ≡ Some n → slice_get old.stations i ≡ Some s → n - s.given < 64 }
     ensures left { (i : ℕ) (class : Class) (report : List ℕ) (old new : OutstationsState) →
         IsReported i class report old false new → new ≡ old }
+{}
+
+/// The reports of each station are counted, by which at most 64 wait: at the start it had those
+/// that wait in either class, and each report that it takes is one more of its own, as far as 64
+/// bits count.
+pub fn reports_are_counted()
+    ensures begun { (c : Settings) (scenario : Scenario) (i n : ℕ) (s : Secondary) →
+        slice_get (first_standing c scenario).had i ≡ Some n →
+        slice_get (first_standing c scenario).stations i ≡ Some s →
+        n ≡ length s.class1 + length s.class2 }
+    ensures taken { (i n : ℕ) (class : Class) (report : List ℕ) (old new : OutstationsState) →
+        IsReported i class report old true new → slice_get old.had i ≡ Some n →
+        slice_get new.had i ≡ Some (min (n + 1) (2 ^ 64 - 1)) }
+    ensures others { (i j : ℕ) (class : Class) (report : List ℕ) (old new : OutstationsState) →
+        IsReported i class report old true new → j ≢ i →
+        slice_get new.had j ≡ slice_get old.had j }
 {}
 
 /// A reply to a command has its octets but for the cause (IEC 60870-5-101, 7.2.3): the cause of the

@@ -1,0 +1,152 @@
+-- The reports of a station are counted.
+use Rattle.std.proofs.Common.{◌≡◌, ◌≢◌, ℕ, zero, suc, ◌+◌, Bool, true, false, ◌&&◌, ◌==◌, List, []}
+use Rattle.std.proofs.Common.{◌∷◌, ◌++◌, length, Option, Some, refl, sym, ap, ◌∙◌, arith, inl}
+use Rattle.std.proofs.Common.{inr, ◌⊎◌, length-append}
+use Rattle.std.proofs.lemmas.List.Sums.{sum_by-cons}
+use Rattle.std.specs.Prelude.{if◌then◌else◌, slice_get, count_by}
+use Rattle.std.specs.List.{flat_map}
+use Rattle.ft12.specs.declared.frame.LinkSize.{LinkSize}
+use Rattle.gateway.specs.Config.{Settings}
+use Rattle.gateway.specs.declared.settings.StationSettings.{StationSettings}
+use Rattle.link.specs.Secondary.{Secondary}
+use Rattle.sim.specs.Lives.{begun, begun_from}
+use Rattle.sim.specs.Losses.{report_said}
+use Rattle.sim.specs.Texts.{reports_for}
+use Rattle.sim.specs.declared.directive.Class.{Class}
+use Rattle.sim.specs.declared.directive.Class.TheVariants as class
+use Rattle.sim.specs.declared.directive.Directive.{Directive}
+use Rattle.sim.specs.declared.directive.Directive.TheVariants.{Turns, Ack, Wall, Report}
+use Rattle.sim.specs.declared.directive.Directive.TheVariants.{LoseRequest}
+use Rattle.sim.specs.declared.directive.Directive.TheVariants.{LoseAnswer, SpoilAnswer, Cut, Send}
+use Rattle.stations.specs.Exchanges.{OutstationsState, first_counts, first_standing}
+use Rattle.stations.specs.Reporting.{IsReported, one_more}
+use Rattle.stations.specs.declared.scenario.Scenario.{Scenario}
+use Rattle.stations.proofs.PlayLaws.{changed_get, changed_other}
+
+same_some : {A : Type 0} (x y : A) → ◌≡◌ {A = Option A} (Some x) (Some y) → x ≡ y
+same_some x y e = cc
+
+-- the reports that a script has for a station are those of both classes
+both_classes : List Directive → (i : ℕ) → ℕ
+both_classes ds i =
+    length (flat_map (report_said i class.One) ds) + length (flat_map (report_said i class.Two) ds)
+
+of_one : (d : Directive) (i : ℕ) → (if reports_for i d then 1 else 0)
+    ≡ length (report_said i class.One d) + length (report_said i class.Two d)
+of_one (Report j class.One octets) i = by (j == i)
+  where
+    by : (b : Bool) → (if b then 1 else 0)
+        ≡ length (if b && true then octets ∷ [] else []) + length
+        (if b && false then octets ∷ [] else [])
+    by true = refl
+    by false = refl
+of_one (Report j class.Two octets) i = by (j == i)
+  where
+    by : (b : Bool) → (if b then 1 else 0)
+        ≡ length (if b && false then octets ∷ [] else []) + length
+        (if b && true then octets ∷ [] else [])
+    by true = refl
+    by false = refl
+of_one (Turns n) i = refl
+of_one (Ack n) i = refl
+of_one (Wall n) i = refl
+of_one (LoseRequest n) i = refl
+of_one (LoseAnswer n) i = refl
+of_one (SpoilAnswer n m) i = refl
+of_one (Cut n) i = refl
+of_one (Send n octets) i = refl
+
+counted_alike : (ds : List Directive) (i : ℕ) → count_by (reports_for i) ds ≡ both_classes ds i
+unfolding both_classes
+counted_alike [] i = refl
+counted_alike (d ∷ ds) i =
+    let worth : ℕ = if reports_for i d then 1 else 0 in
+    let more : count_by (reports_for i) (d ∷ ds) ≡ worth + count_by (reports_for i) ds =
+    sum_by-cons (λ x. if reports_for i x then 1 else 0) d ds in
+    let one : worth ≡ length (report_said i class.One d) + length (report_said i class.Two d) =
+    of_one d i in
+    let rest = counted_alike ds i in
+    let first = length-append (report_said i class.One d) (flat_map (report_said i class.One) ds) in
+    let second =
+    length-append (report_said i class.Two d) (flat_map (report_said i class.Two) ds) in
+    omega (arith, more, one, rest, first, second)
+
+-- ---- the counts from the start
+
+last_or_before : {A : Type 0} (xs : List A) (x y : A) (i : ℕ)
+    → slice_get (xs ++ x ∷ []) i ≡ Some y
+    → (slice_get xs i ≡ Some y) ⊎ ((i ≡ length xs) × (x ≡ y))
+last_or_before [] x y zero e = inr (refl, same_some x y e)
+last_or_before [] x y (suc i) e = cc
+last_or_before (z ∷ xs) x y zero e = inl e
+last_or_before (z ∷ xs) x y (suc i) e = by (last_or_before xs x y i e)
+  where
+    by : (slice_get xs i ≡ Some y) ⊎ ((i ≡ length xs) × (x ≡ y))
+        → (slice_get xs i ≡ Some y) ⊎ ((suc i ≡ suc (length xs)) × (x ≡ y))
+    by (inl before) = inl before
+    by (inr (here, same)) = inr (ap (λ n. suc n) here, same)
+
+as_many_counts : (m : ℕ) (ds : List Directive) → length (first_counts m ds) ≡ m
+as_many_counts zero ds = refl
+as_many_counts (suc m) ds =
+    let more = length-append (first_counts m ds) (count_by (reports_for m) ds ∷ []) in
+    let rest = as_many_counts m ds in
+    omega (arith, more, rest)
+
+count_at : (m : ℕ) (ds : List Directive) (i n : ℕ) → slice_get (first_counts m ds) i ≡ Some n
+    → n ≡ count_by (reports_for i) ds
+count_at zero ds i n e = cc
+count_at (suc m) ds i n e =
+    by (last_or_before (first_counts m ds) (count_by (reports_for m) ds) n i e)
+    (λ before. count_at m ds i n before)
+  where
+    by : (slice_get (first_counts m ds) i ≡ Some n)
+        ⊎ ((i ≡ length (first_counts m ds)) × (count_by (reports_for m) ds ≡ n))
+        → (slice_get (first_counts m ds) i ≡ Some n → n ≡ count_by (reports_for i) ds)
+        → n ≡ count_by (reports_for i) ds
+    by (inl before) rest = rest before
+    by (inr (here, same)) rest =
+        sym same ∙ ap (λ k. count_by (reports_for k) ds) (sym (here ∙ as_many_counts m ds))
+
+station_at : (size : LinkSize) (k : ℕ) (ds : List Directive) (ss : List StationSettings) (i : ℕ)
+    (s : Secondary) → slice_get (begun_from size k ds ss) i ≡ Some s
+    → length s.class1 + length s.class2 ≡ both_classes ds (k + i)
+unfolding both_classes
+station_at size k ds [] i s e = cc
+station_at size k ds (x ∷ ss) zero s e =
+    let here : k ≡ k + 0 = omega arith in
+    ap (λ (z : Secondary). length z.class1 + length z.class2)
+    (sym (same_some (begun size k ds x) s e))
+    ∙ ap (λ j. both_classes ds j) here
+station_at size k ds (x ∷ ss) (suc i) s e =
+    let next : (k + 1) + i ≡ k + suc i = omega arith in
+    station_at size (k + 1) ds ss i s e ∙ ap (λ j. both_classes ds j) next
+
+pub counted_from_the_start : (c : Settings) (scenario : Scenario) (i n : ℕ) (s : Secondary)
+    → slice_get (first_standing c scenario).had i ≡ Some n
+    → slice_get (first_standing c scenario).stations i ≡ Some s
+    → n ≡ length s.class1 + length s.class2
+counted_from_the_start c scenario i n s had stands =
+    count_at (length c.stations) scenario.script i n had
+    ∙ counted_alike scenario.script i
+    ∙ ap (λ k. both_classes scenario.script k) from_0
+    ∙ sym (station_at c.line.link 0 scenario.script c.stations i s stands)
+  where
+    from_0 : i ≡ 0 + i
+    from_0 = omega arith
+
+-- ---- one report more
+
+pub one_more_counted : (i n : ℕ) (class : Class) (report : List ℕ) (old new : OutstationsState)
+    → IsReported i class report old true new → slice_get old.had i ≡ Some n
+    → slice_get new.had i ≡ Some (one_more n)
+one_more_counted i n class report old new is at =
+    ap (λ (o : OutstationsState). slice_get o.had i) is.new_is
+    ∙ changed_get old.had i one_more n at
+
+pub others_counted : (i j : ℕ) (class : Class) (report : List ℕ) (old new : OutstationsState)
+    → IsReported i class report old true new → j ≢ i
+    → slice_get new.had j ≡ slice_get old.had j
+others_counted i j class report old new is other =
+    ap (λ (o : OutstationsState). slice_get o.had j) is.new_is
+    ∙ changed_other old.had i j one_more other
