@@ -10,6 +10,7 @@ ghost use Rattle.live.specs.Law.{AtMoment, AtBytes, AtClock, AtBegun, IsWaitedOu
 ghost use Rattle.live.specs.Law.{AtRounds, first_of, IsTickDue, IfTick, AtWall, IsEve, IsOneOf};
 ghost use Rattle.live.specs.Law.{IsWrittenBehind, AsksNothing, is_cut, peer_of};
 ghost use Rattle.live.specs.Cuts.{CutsFirst, shuts_nothing};
+ghost use Rattle.live.specs.Runs.{IsInRun, WallFirst};
 ghost use Rattle.live.specs.declared.ends.CutCause.TheVariants.{Gone, NotTaken};
 ghost use Rattle.live.specs.AllowLists.{Allows};
 ghost use Rattle.live.specs.declared.allow_list.AllowList.TheVariants.{Anyone, Only};
@@ -146,8 +147,15 @@ pub fn a_cut_that_is_due_comes_next()
 /// A run that goes on after a restart begins with the cut of the connection of then. The first
 /// event of its log, but for the wall clock, is a cut, where no connection was shut before.
 pub fn a_run_that_goes_on_begins_with_a_cut()
-    ensures { (start end : LiveEnds) → start.log ≡ [] → start.is_cut_due ≡ true →
+    ensures due { (start end : LiveEnds) → start.log ≡ [] → start.is_cut_due ≡ true →
         LiveRun start end → CutsFirst end.log }
+    ensures run { (ends : LiveEnds) → IsInRun ends → ends.goes_on ≡ true →
+        CutsFirst ends.log }
+{}
+
+/// Each run begins with the wall clock: so the gateway knows it before anything else has come.
+pub fn a_run_begins_with_the_wall_clock()
+    ensures { (ends : LiveEnds) → IsInRun ends → WallFirst ends.log }
 {}
 
 /// Why a connection was cut. A cut that wasn't due has a stream that was gone. A cut comes to be
