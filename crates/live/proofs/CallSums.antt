@@ -54,12 +54,12 @@ pub front_taken : (old new : List SystemCall) (octets : List ℕ) (is_taken : Bo
     → (is_taken ≡ true) ↔ (took new ≡ took old ++ octets)
 front_taken old new octets is_taken w = (
   λ is. let whole : (w.count == length octets) ≡ true = sym w.all ∙ is in
-  w.taken ∙ ap (λ xs. took old ++ xs) (take_all w.count octets (grind (arith, whole))),
+      w.taken ∙ ap (λ xs. took old ++ xs) (take_all w.count octets (grind (arith, whole))),
   λ same. let as_long : take w.count octets ≡ octets =
-  append_cancel_left (took old) (take w.count octets) octets (sym w.taken ∙ same) in
-  let many : w.count ≡ length octets =
-  sym (length-take-le w.count octets w.bound) ∙ ap (λ xs. length xs) as_long in
-  w.all ∙ eq_by (w.count == length octets) true (λ e. refl) (λ e. grind (arith, many)),
+      append_cancel_left (took old) (take w.count octets) octets (sym w.taken ∙ same) in
+      let many : w.count ≡ length octets =
+      sym (length-take-le w.count octets w.bound) ∙ ap (λ xs. length xs) as_long in
+      w.all ∙ eq_by (w.count == length octets) true (λ e. refl) (λ e. grind (arith, many)),
 )
 
 answer_all : (answer : Result ℕ Error) (size : ℕ) → 1 ≤ size

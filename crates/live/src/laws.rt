@@ -27,7 +27,7 @@ ghost use Rattle.live.specs.Late.{dropped_of, gone_of, CountsLate};
 ghost use Rattle.live.specs.Streams.{Calls, Came, ReadsLine, ReadsOnce, octets_of};
 ghost use Rattle.live.specs.Walls.{is_wall};
 ghost use Rattle.live.specs.Redial.{Redial, is_due, settled, known_by, clock_read_at, IsPut};
-ghost use Rattle.live.specs.Redial.{IsRedialled};
+ghost use Rattle.live.specs.Redial.{Asked, Dialed, IsRedialled};
 ghost use Rattle.live.specs.declared.redial.Dialled.TheVariants.{Reached, Failed};
 ghost use Rattle.live.specs.declared.ends.Got.{Got};
 ghost use Rattle.live.specs.declared.ends.Got.TheVariants.{Octets, Quiet};
@@ -354,13 +354,21 @@ pub fn tries_by_example()
         × ((known_by ended.Gone r).presence ≡ Away) }
 {}
 
-/// A stream that is away is tried when that is due, and not before: the try begins at the look.
+/// A stream that is away is tried when that is due, and not before: the try begins at the look, and
+/// the dialler is called once for it. At each look it is asked about a try that goes on.
 /// Meanwhile it is quiet and takes nothing. One that is there gives what its stream gives, and one
 /// that has gone is kept no longer.
 pub fn a_stream_that_is_away_is_tried_when_due()
     ensures due { (old new : Redial) (got : Got) (buf : List ℕ) → IsRedialled old got buf new →
         old.stream ≡ None → AtClock new.clock (λ now. is_due old now ≡ true →
         new.tried ≡ Some now) }
+    ensures dialed { (old new : Redial) (got : Got) (buf : List ℕ) → IsRedialled old got buf new →
+        old.stream ≡ None → AtClock new.clock (λ now. is_due old now ≡ true →
+        IfSome old.calls (λ before. (reached : Bool)
+        × (new.calls ≡ Some (Dialed reached ∷ before)))) }
+    ensures asked { (old new : Redial) (got : Got) (buf : List ℕ) → IsRedialled old got buf new →
+        old.stream ≡ None → old.is_trying ≡ true → IfSome old.calls (λ before.
+        (reached : Bool) × (new.calls ≡ Some (Asked reached ∷ before))) }
     ensures undue { (old new : Redial) (got : Got) (buf : List ℕ) → IsRedialled old got buf new →
         old.stream ≡ None → old.is_trying ≡ false → AtClock new.clock (λ now.
         is_due old now ≡ false → new ≡ clock_read_at now old) }

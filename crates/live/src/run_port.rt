@@ -84,8 +84,7 @@ impl<S: OctetStream, L: Listener + Drop, C: RunClock + Drop> Port for RunPort<S,
 }
 
 impl<S: OctetStream + Reached, L: Listener + Drop, C: RunClock + Drop> Watched
-    for RunPort<S, L, C>
-{
+    for RunPort<S, L, C> {
     ghost use Rattle.live.specs.Runs.{ShowsRun};
 
     ghost tends = { λ old _ new notice. (new ≡ old) × (notice ≡ None) };
