@@ -27,3 +27,4 @@ pub mod Reasons
 pub mod Cuts
 pub mod Runs
 pub mod CallSums
+pub mod Plain

@@ -1,5 +1,6 @@
 -- A stream that is reached again where it has gone (this gateway's own profile).
-use Rattle.std.specs.Prelude.{◌≡◌, ℕ, ◌-◌, ◌*◌, min, nat_le, List, ◌∷◌, Bool, true, false, Option, Some}
+use Rattle.std.specs.Prelude.{◌≡◌, ℕ, ◌-◌, ◌*◌, min, nat_le, List, ◌∷◌, Bool, true, false, Option}
+use Rattle.std.specs.Prelude.{Some}
 use Rattle.std.specs.Prelude.{None}
 use Rattle.live.specs.OctetStreams.{StreamHistory, Dropped, Wrote, noted, IsNew, Attempts}
 use Rattle.live.specs.OctetStreams.{attempted}
@@ -12,7 +13,8 @@ use Rattle.live.specs.declared.ends.Got.TheVariants.{Octets, Quiet, Gone}
 use Rattle.live.specs.declared.ends.Presence.{Presence}
 use Rattle.live.specs.declared.ends.Presence.TheVariants.{Away, There, Receiving}
 
--- a call of a dialler, and whether it reached a stream: to begin a try, or to ask what has become of
+-- a call of a dialler, and whether it reached a stream: to begin a try, or to ask what has become
+-- of
 -- the one that goes on
 pub data DialCall : Type 0 where
   Dialed : (reached : Bool) → DialCall
