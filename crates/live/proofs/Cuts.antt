@@ -56,7 +56,7 @@ put_due old new moment (GapOut station session) l due stays = ap due_of l.puts.d
 
 -- One entry more: whether those before cut first, whether all of them leave a cut due, whether this
 -- one may follow them and leaves it due, and whether one is due before and behind it.
-one_by : (cuts all may leaves before now : Bool) → (cuts && (not all || before)) ≡ true
+pub one_by : (cuts all may leaves before now : Bool) → (cuts && (not all || before)) ≡ true
     → (before ≡ true → may ≡ true) → (leaves ≡ true → before ≡ true → now ≡ true)
     → ((cuts && (not all || may)) && (not (leaves && all) || now)) ≡ true
 one_by false all may leaves before now so may_be stays = absurd (cc)
@@ -77,7 +77,7 @@ one_more entry log before now so may_be stays =
     so may_be stays
 
 -- and none more
-none_by : (cuts all before now : Bool) → (cuts && (not all || before)) ≡ true
+pub none_by : (cuts all before now : Bool) → (cuts && (not all || before)) ≡ true
     → (before ≡ true → now ≡ true) → (cuts && (not all || now)) ≡ true
 none_by false all before now so stays = absurd (cc)
 none_by true false before now so stays = refl
@@ -170,7 +170,7 @@ cut_of now Ticked may_be dark = absurd (cc)
 cut_of now (WallIs number) may_be dark = absurd (cc)
 cut_of now Restarted may_be dark = absurd (cc)
 
-may_be_next : (all may : Bool) → (not all || may) ≡ true → all ≡ true → may ≡ true
+pub may_be_next : (all may : Bool) → (not all || may) ≡ true → all ≡ true → may ≡ true
 may_be_next true may so is = so
 may_be_next false may so is = absurd (cc)
 

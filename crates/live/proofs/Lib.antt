@@ -25,3 +25,6 @@ pub mod Late
 pub mod Failures
 pub mod Reasons
 pub mod Cuts
+pub mod Runs
+pub mod CallSums
+pub mod Plain

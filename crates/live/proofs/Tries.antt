@@ -6,6 +6,7 @@ use Rattle.live.specs.OctetStreams.{StreamHistory, IsNew, Attempts, looked, note
 use Rattle.live.specs.Redial.{Redial, ended, IfReached, dialled_map, is_due, clock_read_at, settled}
 use Rattle.live.specs.Redial.{begun_by, tried_by, looked_by, is_due_by, IsTryAnswered, IsTriedOn}
 use Rattle.live.specs.Redial.{IsRedialled, IsPut, answered, known_by, put_by, quieted}
+use Rattle.live.specs.Redial.{Asked, DialCall, DialCalls, Dialed, dial_noted, is_reached}
 use Rattle.live.specs.Ends.{read_open}
 use Rattle.live.specs.Law.{AtClock}
 use Rattle.live.specs.declared.ends.Got.{Got}
@@ -27,29 +28,42 @@ new_map f (Reached stream) fresh = fresh
 new_map f Pending fresh = tt
 new_map f Failed fresh = tt
 
+reached_map : {A : Type 0} (f : A → StreamHistory) (d : Dialled A)
+    → is_reached (dialled_map f d) ≡ is_reached d
+reached_map f (Reached stream) = refl
+reached_map f Pending = refl
+reached_map f Failed = refl
+
 -- what has become of a try
-answered_so : {A : Type 0} (f : A → StreamHistory) (d : Dialled A) (tries : Attempts)
-    (old new : Redial)
+answered_so : {A : Type 0} (f : A → StreamHistory) (call : Bool → DialCall) (d : Dialled A)
+    (tries : Attempts) (calls : DialCalls) (old new : Redial)
     → IfReached d (λ stream. IsNew (f stream)) → tries ≡ ended old.tries d
-    → new ≡ settled (dialled_map f d) (record old { tries = tries }) → IsTryAnswered old new
-answered_so f d tries old new fresh given done = record {
+    → calls ≡ dial_noted old.calls (call (is_reached d))
+    → new ≡ settled (dialled_map f d) (record old { tries = tries; calls = calls })
+    → IsTryAnswered call old new
+answered_so f call d tries calls old new fresh given told done = record {
   answer = dialled_map f d;
   is_new = new_map f d fresh;
   done = done
-      ∙ ap (λ t. settled (dialled_map f d) (record old { tries = t })) (given
-      ∙ sym (ended_map f old.tries d));
+      ∙ (ap (λ t. settled (dialled_map f d) (record old { tries = t; calls = calls })) (given
+      ∙ sym (ended_map f old.tries d))
+      ∙ ap (λ c. settled (dialled_map f d)
+      (record old { tries = ended old.tries (dialled_map f d); calls = c })) (told
+      ∙ ap (λ b. dial_noted old.calls (call b)) (sym (reached_map f d))));
 }
 
-pub answered_from : {A : Type 0} (f : A → StreamHistory) (d : Dialled A) (tries : Attempts)
-    (seen old new : Redial)
+pub answered_from : {A : Type 0} (f : A → StreamHistory) (call : Bool → DialCall) (d : Dialled A)
+    (tries : Attempts) (calls : DialCalls) (seen old new : Redial)
     → seen ≡ old → IfReached d (λ stream. IsNew (f stream)) → tries ≡ ended seen.tries d
-    → new ≡ settled (dialled_map f d) (record seen { tries = tries }) → IsTryAnswered old new
-answered_from f d tries seen old new same fresh given done =
-    let P : Redial → Type 0 = λ r. IsTryAnswered r new in
-    subst P same (answered_so f d tries seen new fresh given done)
+    → calls ≡ dial_noted seen.calls (call (is_reached d))
+    → new ≡ settled (dialled_map f d) (record seen { tries = tries; calls = calls })
+    → IsTryAnswered call old new
+answered_from f call d tries calls seen old new same fresh given told done =
+    let P : Redial → Type 0 = λ r. IsTryAnswered call r new in
+    subst P same (answered_so f call d tries calls seen new fresh given told done)
 
 -- the try that goes on, of which it was asked
-pub tried_asked : (now : ℕ) (old new : Redial) → old.is_trying ≡ true → IsTryAnswered old new
+pub tried_asked : (now : ℕ) (old new : Redial) → old.is_trying ≡ true → IsTryAnswered Asked old new
     → IsTriedOn now old new
 tried_asked now old new trying a = record {
   answer = a.answer;
@@ -59,7 +73,7 @@ tried_asked now old new trying a = record {
 
 -- one that begins
 pub tried_due : (now : ℕ) (old new : Redial) → old.is_trying ≡ false → is_due old now ≡ true
-    → IsTryAnswered (record old { tried = Some now }) new → IsTriedOn now old new
+    → IsTryAnswered Dialed (record old { tried = Some now }) new → IsTriedOn now old new
 tried_due now old new trying due a = record {
   answer = a.answer;
   is_new = a.is_new;
@@ -128,7 +142,10 @@ first_try old new got buf none dark away idle untried l =
     let now = l.now in
     let seen = clock_read_at now old in
     let begun : Redial = record seen { tried = Some now } in
-    let asked : Redial = record begun { tries = ended begun.tries l.answer } in
+    let asked : Redial = record begun {
+      tries = ended begun.tries l.answer;
+      calls = dial_noted begun.calls (Dialed (is_reached l.answer));
+    } in
     let tried : finds got new ≡ finds Quiet (settled l.answer asked) =
     l.looked ∙ (ap (λ s. looked_by s now l.answer l.found buf old) away
     ∙ (ap (λ b. finds Quiet (tried_by b now l.answer seen)) idle
@@ -160,17 +177,21 @@ pub away_quiet : (old new : Redial) (got : Got) (buf : List ℕ) → IsRedialled
 away_quiet old new got buf l away = ap (λ (p : Got × Redial). p.0) (away_by old new got buf l away)
 
 -- the clock was read
-settled_at : (answer : Dialled StreamHistory) (r : Redial) → (answered answer r).clock ≡ r.clock
-settled_at answer r = settled_clock answer (record r { tries = ended r.tries answer })
+settled_at : (call : Bool → DialCall) (answer : Dialled StreamHistory) (r : Redial)
+    → (answered call answer r).clock ≡ r.clock
+settled_at call answer r = settled_clock answer (record r {
+  tries = ended r.tries answer;
+  calls = dial_noted r.calls (call (is_reached answer));
+})
 
 begun_clock : (b : Bool) (now : ℕ) (answer : Dialled StreamHistory) (r : Redial)
     → (begun_by b now answer r).clock ≡ r.clock
 begun_clock false now answer r = refl
-begun_clock true now answer r = settled_at answer (record r { tried = Some now })
+begun_clock true now answer r = settled_at Dialed answer (record r { tried = Some now })
 
 tried_clock : (b : Bool) (now : ℕ) (answer : Dialled StreamHistory) (r : Redial)
     → (tried_by b now answer r).clock ≡ r.clock
-tried_clock true now answer r = settled_at answer r
+tried_clock true now answer r = settled_at Asked answer r
 tried_clock false now answer r = begun_clock (is_due r now) now answer r
 
 at_clock_read : (c : Moments) (now : ℕ) (Holds : ℕ → Type 0) → Holds now
@@ -200,7 +221,10 @@ begins_by b now answer r idle due =
     let begun : Redial = record r { tried = Some now } in
     ap (λ x. (tried_by x now answer r).tried) idle
     ∙ (ap (λ x. (begun_by x now answer r).tried) due
-    ∙ settled_tried answer (record begun { tries = ended begun.tries answer }))
+    ∙ settled_tried answer (record begun {
+      tries = ended begun.tries answer;
+      calls = dial_noted begun.calls (Dialed (is_reached answer));
+    }))
 
 pub begins_due : (old new : Redial) (got : Got) (buf : List ℕ) → IsRedialled old got buf new
     → old.stream ≡ None → AtClock new.clock (λ now. is_due old now ≡ true → new.tried ≡ Some now)
@@ -219,6 +243,55 @@ waits_undue old new got buf l away idle =
     (λ undue. ap (λ (p : Got × Redial). p.1) (away_by old new got buf l away)
     ∙ (ap (λ x. tried_by x l.now l.answer (clock_read_at l.now old)) idle
     ∙ ap (λ x. begun_by x l.now l.answer (clock_read_at l.now old)) undue))
+
+-- the dialler is asked about a try that goes on, and begins one that is due
+settled_calls : (d : Dialled StreamHistory) (r : Redial) → (settled d r).calls ≡ r.calls
+settled_calls (Reached stream) r = refl
+settled_calls Pending r = refl
+settled_calls Failed r = refl
+
+called_by : (call : Bool → DialCall) (answer : Dialled StreamHistory) (r : Redial)
+    → (answered call answer r).calls ≡ dial_noted r.calls (call (is_reached answer))
+called_by call answer r = settled_calls answer (record r {
+  tries = ended r.tries answer;
+  calls = dial_noted r.calls (call (is_reached answer));
+})
+
+noted_by : (call : Bool → DialCall) (reached : Bool) (before now : DialCalls)
+    → now ≡ dial_noted before (call reached)
+    → IfSome before (λ calls. (r : Bool) × (now ≡ Some (call r ∷ calls)))
+noted_by call reached None now is = tt
+noted_by call reached (Some before) now is = (reached, is)
+
+pub asks_on : (old new : Redial) (got : Got) (buf : List ℕ) → IsRedialled old got buf new
+    → old.stream ≡ None → old.is_trying ≡ true
+    → IfSome old.calls (λ before. (reached : Bool) × (new.calls ≡ Some (Asked reached ∷ before)))
+asks_on old new got buf l away trying =
+    let read = clock_read_at l.now old in
+    noted_by Asked (is_reached l.answer) old.calls new.calls
+    (ap (λ (p : Got × Redial). p.1.calls) (away_by old new got buf l away)
+    ∙ (ap (λ b. (tried_by b l.now l.answer read).calls) trying
+    ∙ called_by Asked l.answer read))
+
+dials_by : (b : Bool) (now : ℕ) (answer : Dialled StreamHistory) (r : Redial) → b ≡ false
+    → is_due r now ≡ true
+    → (tried_by b now answer r).calls ≡ dial_noted r.calls (Dialed (is_reached answer))
+dials_by b now answer r idle due =
+    ap (λ x. (tried_by x now answer r).calls) idle
+    ∙ (ap (λ x. (begun_by x now answer r).calls) due
+    ∙ called_by Dialed answer (record r { tried = Some now }))
+
+pub dials_due : (old new : Redial) (got : Got) (buf : List ℕ) → IsRedialled old got buf new
+    → old.stream ≡ None → AtClock new.clock (λ now. is_due old now ≡ true
+    → IfSome old.calls (λ before. (reached : Bool)
+    × (new.calls ≡ Some (Dialed reached ∷ before))))
+dials_due old new got buf l away =
+    away_clock old new got buf l (λ now. is_due old now ≡ true → IfSome old.calls (λ before.
+    (reached : Bool) × (new.calls ≡ Some (Dialed reached ∷ before)))) away
+    (λ due. noted_by Dialed (is_reached l.answer) old.calls new.calls
+    (ap (λ (p : Got × Redial). p.1.calls) (away_by old new got buf l away)
+    ∙ dials_by old.is_trying l.now l.answer (clock_read_at l.now old)
+    (due_idle old.is_trying old.tried old.wait l.now due) due))
 
 -- a look at one that is there
 there_at : (found : Got) (buf : List ℕ) (h : StreamHistory) (old : Redial)

@@ -104,7 +104,7 @@ undue_since a b c d first second buf more same t u =
     ∙ quiet_undue start u.first u.looks.count u.looks.begun u.looks.before u.looks.quiet
     (ap (λ k. is_due_since k true u.first) (sym given) ∙ at_first)
 
-wall_of : (a b : LiveEnds) (first : Next) (buf : List ℕ) → TurnsToWall a first b → is_wall first
+pub wall_of : (a b : LiveEnds) (first : Next) (buf : List ℕ) → TurnsToWall a first b → is_wall first
     ≡ true
 wall_of a b first buf t = ap is_wall t.given.given
 

@@ -9,7 +9,7 @@ use Rattle.live.specs.Streams.{Calls, Sent, Waits, called, taken_of, takes_all, 
 use Rattle.live.specs.Streams.{WritesOnce, WritesAll, WritesFront}
 
 -- octets that one call more took
-took_once : (old : Calls) (octets : List ℕ) (answer : Result ℕ Error)
+pub took_once : (old : Calls) (octets : List ℕ) (answer : Result ℕ Error)
     → Took old (take (taken_of answer) octets) (called old (Sent octets answer))
 took_once None octets answer = tt
 took_once (Some before) octets answer = refl
@@ -27,6 +27,7 @@ pub written_whole : (old new : Calls) (octets : List ℕ) (n : ℕ) → WritesOn
     → WritesFront old octets true new
 written_whole old new octets n w all = record {
   count = n;
+  bound = grind (arith, all);
   taken = took_by old new octets n w;
   all = grind (arith, all);
 }
@@ -36,6 +37,7 @@ pub written_part : (old new : Calls) (octets : List ℕ) (n : ℕ) → WritesOnc
     → (n == length octets) ≡ false → WritesFront old octets false new
 written_part old new octets n w some part = record {
   count = n;
+  bound = some;
   taken = took_by old new octets n w;
   all = sym part;
 }
@@ -51,7 +53,7 @@ took_both (Some a) (Some b) None first second t u = u
 took_both (Some a) (Some b) (Some c) first second t u =
     u ∙ (ap (λ x. x ++ second) t ∙ append_assoc (took a) first second)
 
-eq_by : (a b : Bool) → (a ≡ true → b ≡ true) → (b ≡ true → a ≡ true) → a ≡ b
+pub eq_by : (a b : Bool) → (a ≡ true → b ≡ true) → (b ≡ true → a ≡ true) → a ≡ b
 eq_by true true f g = refl
 eq_by false false f g = refl
 eq_by true false f g = let wrong : false ≡ true = f refl in absurd (cc)
@@ -67,7 +69,7 @@ all_by (Ok count) n octets some part =
 all_by (Err fault) n octets some part =
     let none : n + 0 ≡ n = omega arith in sym (ap (λ k. k == length octets) none ∙ part)
 
-unequal : (n l : ℕ) → (n ≡ l → ⊥) → (n == l) ≡ false
+pub unequal : (n l : ℕ) → (n ≡ l → ⊥) → (n == l) ≡ false
 unequal n l other = eq_by (n == l) false (λ e. absurd (other (grind (arith, e))))
     (λ e. let wrong : false ≡ true = e in absurd (cc))
 
@@ -91,6 +93,7 @@ written_refused old mid new octets n w s once some part done =
     let P : Calls → Type 0 = λ c. Took old (take n octets) c in
     record {
       count = n;
+      bound = some;
       taken =
           subst P (sym done) (waits_took old mid (take n octets) w s
           (took_by old mid octets n once));
@@ -116,6 +119,7 @@ written_rest old mid again last new octets n is_taken w s v r once some part sam
     (subst Q (sym stays) (waits_took again last (take m rest) v r sent)) in
     record {
       count = n + m;
+      bound = grind (arith, a.bound, some, length-drop n octets);
       taken = subst R (sym (take-add n m octets))
           (took_both old mid new (take n octets) (take m rest) (took_by old mid octets n once)
           second);

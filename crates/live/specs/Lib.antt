@@ -14,3 +14,5 @@ pub mod Clocks
 pub mod Late
 pub mod Sights
 pub mod Cuts
+pub mod Runs
+pub mod CallSums

@@ -1,5 +1,6 @@
 -- A stream that is reached again where it has gone (this gateway's own profile).
-use Rattle.std.specs.Prelude.{◌≡◌, ℕ, ◌-◌, ◌*◌, min, nat_le, List, Bool, true, false, Option, Some}
+use Rattle.std.specs.Prelude.{◌≡◌, ℕ, ◌-◌, ◌*◌, min, nat_le, List, ◌∷◌, Bool, true, false, Option}
+use Rattle.std.specs.Prelude.{Some}
 use Rattle.std.specs.Prelude.{None}
 use Rattle.live.specs.OctetStreams.{StreamHistory, Dropped, Wrote, noted, IsNew, Attempts}
 use Rattle.live.specs.OctetStreams.{attempted}
@@ -12,11 +13,32 @@ use Rattle.live.specs.declared.ends.Got.TheVariants.{Octets, Quiet, Gone}
 use Rattle.live.specs.declared.ends.Presence.{Presence}
 use Rattle.live.specs.declared.ends.Presence.TheVariants.{Away, There, Receiving}
 
--- Whether each try that ended reached a stream, what the clock gave, what happened at the stream,
--- if there is one, when the last try began, whether it goes on, how long after it the next one
--- begins, in ms, and what is known of the stream.
+-- a call of a dialler, and whether it reached a stream: to begin a try, or to ask what has become
+-- of
+-- the one that goes on
+pub data DialCall : Type 0 where
+  Dialed : (reached : Bool) → DialCall
+  Asked : (reached : Bool) → DialCall
+
+-- the calls of a dialler, the newest first, where it notes them
+abbrev pub DialCalls : Type 0
+DialCalls = Option (List DialCall)
+
+abbrev pub dial_noted : DialCalls → DialCall → DialCalls
+dial_noted None call = None
+dial_noted (Some before) call = Some (call ∷ before)
+
+abbrev pub is_reached : {A : Type 0} → Dialled A → Bool
+is_reached (Reached stream) = true
+is_reached Pending = false
+is_reached Failed = false
+
+-- Whether each try that ended reached a stream, the dialler's calls, what the clock gave, what
+-- happened at the stream, if there is one, when the last try began, whether it goes on, how long
+-- after it the next one begins, in ms, and what is known of the stream.
 pub record Redial : Type 0 where
   pub tries : Attempts
+  pub calls : DialCalls
   pub clock : Moments
   pub stream : Option StreamHistory
   pub tried : Option ℕ
@@ -70,22 +92,26 @@ settled (Reached stream) r = record r {
 settled Pending r = record r { is_trying = true }
 settled Failed r = record r { is_trying = false; presence = Away }
 
-abbrev pub answered : Dialled StreamHistory → Redial → Redial
-answered answer r = settled answer (record r { tries = ended r.tries answer })
+-- by such a call
+abbrev pub answered : (call : Bool → DialCall) → Dialled StreamHistory → Redial → Redial
+answered call answer r = settled answer (record r {
+  tries = ended r.tries answer;
+  calls = dial_noted r.calls (call (is_reached answer));
+})
 
-pub record IsTryAnswered (old new : Redial) : Type 0 where
+pub record IsTryAnswered (call : Bool → DialCall) (old new : Redial) : Type 0 where
   pub answer : Dialled StreamHistory
   pub is_new : IfReached answer IsNew
-  pub done : new ≡ answered answer old
+  pub done : new ≡ answered call answer old
 
 -- where one is due it begins
 abbrev pub begun_by : Bool → ℕ → Dialled StreamHistory → Redial → Redial
 begun_by false now answer r = r
-begun_by true now answer r = answered answer (record r { tried = Some now })
+begun_by true now answer r = answered Dialed answer (record r { tried = Some now })
 
 -- where one goes on it is asked what has become of it
 abbrev pub tried_by : (is_trying : Bool) → ℕ → Dialled StreamHistory → Redial → Redial
-tried_by true now answer r = answered answer r
+tried_by true now answer r = answered Asked answer r
 tried_by false now answer r = begun_by (is_due r now) now answer r
 
 pub record IsTriedOn (now : ℕ) (old new : Redial) : Type 0 where

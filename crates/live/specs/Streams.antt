@@ -143,6 +143,7 @@ takes_all (Err fault) size = false
 pub record WritesAll (old : Calls) (octets : List ℕ) (is_taken : Bool) (new : Calls) : Type 0 where
   pub answer : Result ℕ Error
   pub asked : new ≡ called old (Sent octets answer)
+  pub bound : taken_of answer ≤ length octets
   pub means : is_taken ≡ takes_all answer (length octets)
 
 -- the octets that a stream took, in their order
@@ -163,6 +164,7 @@ Took (Some before) octets (Some after) = took after ≡ took before ++ octets
 pub record WritesFront (old : Calls) (octets : List ℕ) (is_taken : Bool) (new : Calls)
     : Type 0 where
   pub count : ℕ
+  pub bound : count ≤ length octets
   pub taken : Took old (take count octets) new
   pub all : is_taken ≡ (count == length octets)
 

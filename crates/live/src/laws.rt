@@ -10,6 +10,7 @@ ghost use Rattle.live.specs.Law.{AtMoment, AtBytes, AtClock, AtBegun, IsWaitedOu
 ghost use Rattle.live.specs.Law.{AtRounds, first_of, IsTickDue, IfTick, AtWall, IsEve, IsOneOf};
 ghost use Rattle.live.specs.Law.{IsWrittenBehind, AsksNothing, is_cut, peer_of};
 ghost use Rattle.live.specs.Cuts.{CutsFirst, shuts_nothing};
+ghost use Rattle.live.specs.Runs.{IsInRun, WallFirst};
 ghost use Rattle.live.specs.declared.ends.CutCause.TheVariants.{Gone, NotTaken};
 ghost use Rattle.live.specs.AllowLists.{Allows};
 ghost use Rattle.live.specs.declared.allow_list.AllowList.TheVariants.{Anyone, Only};
@@ -26,7 +27,7 @@ ghost use Rattle.live.specs.Late.{dropped_of, gone_of, CountsLate};
 ghost use Rattle.live.specs.Streams.{Calls, Came, ReadsLine, ReadsOnce, octets_of};
 ghost use Rattle.live.specs.Walls.{is_wall};
 ghost use Rattle.live.specs.Redial.{Redial, is_due, settled, known_by, clock_read_at, IsPut};
-ghost use Rattle.live.specs.Redial.{IsRedialled};
+ghost use Rattle.live.specs.Redial.{Asked, Dialed, IsRedialled};
 ghost use Rattle.live.specs.declared.redial.Dialled.TheVariants.{Reached, Failed};
 ghost use Rattle.live.specs.declared.ends.Got.{Got};
 ghost use Rattle.live.specs.declared.ends.Got.TheVariants.{Octets, Quiet};
@@ -146,8 +147,15 @@ pub fn a_cut_that_is_due_comes_next()
 /// A run that goes on after a restart begins with the cut of the connection of then. The first
 /// event of its log, but for the wall clock, is a cut, where no connection was shut before.
 pub fn a_run_that_goes_on_begins_with_a_cut()
-    ensures { (start end : LiveEnds) → start.log ≡ [] → start.is_cut_due ≡ true →
+    ensures due { (start end : LiveEnds) → start.log ≡ [] → start.is_cut_due ≡ true →
         LiveRun start end → CutsFirst end.log }
+    ensures run { (ends : LiveEnds) → IsInRun ends → ends.goes_on ≡ true →
+        CutsFirst ends.log }
+{}
+
+/// Each run begins with the wall clock: so the gateway knows it before anything else has come.
+pub fn a_run_begins_with_the_wall_clock()
+    ensures { (ends : LiveEnds) → IsInRun ends → WallFirst ends.log }
 {}
 
 /// Why a connection was cut. A cut that wasn't due has a stream that was gone. A cut comes to be
@@ -346,13 +354,21 @@ pub fn tries_by_example()
         × ((known_by ended.Gone r).presence ≡ Away) }
 {}
 
-/// A stream that is away is tried when that is due, and not before: the try begins at the look.
+/// A stream that is away is tried when that is due, and not before: the try begins at the look, and
+/// the dialler is called once for it. At each look it is asked about a try that goes on.
 /// Meanwhile it is quiet and takes nothing. One that is there gives what its stream gives, and one
 /// that has gone is kept no longer.
 pub fn a_stream_that_is_away_is_tried_when_due()
     ensures due { (old new : Redial) (got : Got) (buf : List ℕ) → IsRedialled old got buf new →
         old.stream ≡ None → AtClock new.clock (λ now. is_due old now ≡ true →
         new.tried ≡ Some now) }
+    ensures dialed { (old new : Redial) (got : Got) (buf : List ℕ) → IsRedialled old got buf new →
+        old.stream ≡ None → AtClock new.clock (λ now. is_due old now ≡ true →
+        IfSome old.calls (λ before. (reached : Bool)
+        × (new.calls ≡ Some (Dialed reached ∷ before)))) }
+    ensures asked { (old new : Redial) (got : Got) (buf : List ℕ) → IsRedialled old got buf new →
+        old.stream ≡ None → old.is_trying ≡ true → IfSome old.calls (λ before.
+        (reached : Bool) × (new.calls ≡ Some (Asked reached ∷ before))) }
     ensures undue { (old new : Redial) (got : Got) (buf : List ℕ) → IsRedialled old got buf new →
         old.stream ≡ None → old.is_trying ≡ false → AtClock new.clock (λ now.
         is_due old now ≡ false → new ≡ clock_read_at now old) }

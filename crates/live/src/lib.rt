@@ -66,9 +66,11 @@ mod laws;
 mod memory;
 mod port;
 mod redial;
+mod run_port;
 mod sockets;
 mod source;
 mod stream;
+mod stream_laws;
 #[cfg(test)]
 mod timed;
 mod timing;
@@ -83,8 +85,9 @@ pub use laws::{
     a_close_shuts_the_connection, a_cut_has_its_reason, a_cut_shuts_the_connection,
     a_cut_that_is_due_comes_next, a_line_that_is_waited_out_holds_no_moment,
     a_look_gives_what_its_calls_brought, a_moment_is_held_only_before_the_end_of_an_exchange,
-    a_request_is_written_and_timed_behind_what_waits, a_run_that_goes_on_begins_with_a_cut,
-    a_stream_that_is_away_is_tried_when_due, a_tick_has_a_reason, allowed_addresses_by_example,
+    a_request_is_written_and_timed_behind_what_waits, a_run_begins_with_the_wall_clock,
+    a_run_that_goes_on_begins_with_a_cut, a_stream_that_is_away_is_tried_when_due,
+    a_tick_has_a_reason, allowed_addresses_by_example,
     an_exchange_that_is_over_gives_an_event_at_once, late_octets_are_those_that_were_dropped,
     looks_ask_nothing, looks_at_the_line_are_timed_by_the_clock,
     looks_for_an_event_begin_within_100_ms, no_exchange_ends_unread, no_source_hides_another,
@@ -96,7 +99,12 @@ pub use laws::{
 };
 pub use port::Live;
 pub use redial::{Dialled, Dialler, Redialled};
+pub use run_port::RunPort;
 pub use sockets::{
     CentreListener, CentreSocket, LineDialler, LineSocket, LocalSocket, SystemClock,
+};
+pub use stream_laws::{
+    a_look_goes_on_until_a_frame_ends, a_write_is_taken_where_all_its_octets_are,
+    answers_of_streams_mean_what_they_say, what_waits_is_dropped_to_its_end,
 };
 pub use watched::{EndsSight, Failure, Notice, Watched};

@@ -3,6 +3,7 @@ ghost use Rattle.std.specs.Prelude.{◌≡◌, ◌≢◌, ℕ, List, Some, None,
 ghost use Rattle.live.specs.OctetStreams.{FitsBuffer};
 ghost use Rattle.live.specs.Redial.{IsRedialled, HasDropped, IsPut, IsTriedOn, IsTryAnswered};
 ghost use Rattle.live.specs.Redial.{dialled_map, is_due, grown, settled, clock_read_at};
+ghost use Rattle.live.specs.Redial.{Asked, Dialed};
 ghost use Rattle.live.specs.declared.ends.Got.TheVariants.{Quiet, Gone};
 ghost use Rattle.live.specs.declared.ends.Presence.TheVariants.{Untried};
 
@@ -29,27 +30,37 @@ pub enum Dialled<W> {
 /// stream that it reaches.
 pub trait Dialler {
     ghost use Rattle.live.specs.OctetStreams.{Attempts, IsNew};
-    ghost use Rattle.live.specs.Redial.{ended, IfReached};
+    ghost use Rattle.live.specs.Redial.{ended, IfReached, DialCalls, Dialed, Asked, dial_noted};
+    ghost use Rattle.live.specs.Redial.{is_reached};
+    ghost use Rattle.std.specs.Prelude.{None};
 
     type Stream: OctetStream;
 
     /// Whether each try that ended reached a stream, the newest first, where it notes that.
     ghost tries: { Self → Attempts };
 
+    /// Its calls, and whether each reached a stream, the newest first, where it notes them.
+    ghost calls: { Self → DialCalls } = { λ _. None };
+
     /// Begins a try to reach a stream, and doesn't wait for it.
     fn dial(&mut self) -> Dialled<Self::Stream>
         ensures fresh { IfReached result (λ stream. IsNew (Self.Stream.history stream)) }
-        ensures noted { tries self.new ≡ ended (tries self.old) result };
+        ensures noted { tries self.new ≡ ended (tries self.old) result }
+        ensures called { calls self.new
+            ≡ dial_noted (calls self.old) (Dialed (is_reached result)) };
 
     /// What has become of the try that goes on, without a wait.
     fn ask(&mut self) -> Dialled<Self::Stream>
         ensures fresh { IfReached result (λ stream. IsNew (Self.Stream.history stream)) }
-        ensures noted { tries self.new ≡ ended (tries self.old) result };
+        ensures noted { tries self.new ≡ ended (tries self.old) result }
+        ensures called { calls self.new
+            ≡ dial_noted (calls self.old) (Asked (is_reached result)) };
 
     /// Waits for as long as a look at a quiet stream does, so that who looks at a stream that is
     /// away doesn't spin.
     fn pause(&mut self)
-        ensures { tries self.new ≡ tries self.old };
+        ensures noted { tries self.new ≡ tries self.old }
+        ensures called { calls self.new ≡ calls self.old };
 }
 
 /// A stream that is reached again where it has gone: a try begins at once, then every second; after
@@ -77,6 +88,7 @@ impl<D: Dialler + Drop, C: RunClock + Drop> Model for Redialled<D, C> {
 
     ghost view = { λ a. record {
       tries = D.tries a.dialler;
+      calls = D.calls a.dialler;
       clock = C.moments a.clock;
       stream = option_map (λ stream. D.Stream.history stream) a.stream;
       tried = a.tried;
@@ -91,6 +103,7 @@ impl<D: Dialler + Drop, C: RunClock + Drop> Redialled<D, C> {
     pub fn new(dialler: D, clock: C) -> Redialled<D, C>
         ensures { result ≡ record {
           tries = D.tries dialler;
+          calls = D.calls dialler;
           clock = C.moments clock;
           stream = None;
           tried = None;
@@ -150,7 +163,7 @@ impl<D: Dialler + Drop, C: RunClock + Drop> Redialled<D, C> {
 
     /// Asks what has become of the try that goes on.
     fn ask(&mut self)
-        ensures { IsTryAnswered self.old self.new }
+        ensures { IsTryAnswered Asked self.old self.new }
     {
         let answer = self.dialler.ask();
         self.settle(answer);
@@ -158,7 +171,7 @@ impl<D: Dialler + Drop, C: RunClock + Drop> Redialled<D, C> {
 
     /// Begins a try.
     fn dial(&mut self)
-        ensures { IsTryAnswered self.old self.new }
+        ensures { IsTryAnswered Dialed self.old self.new }
     {
         let answer = self.dialler.dial();
         self.settle(answer);

@@ -3,10 +3,14 @@
 //! Only a look at the line waits, for some milliseconds, and again behind octets that don't end a
 //! frame; the listener and a connection are asked without a wait. So a frame of the line is seen at
 //! once, octets of a control centre after one look at a quiet line.
-ghost use Rattle.std.specs.Prelude.{◌≡◌, ◌≤◌, IfOk, None, Some, true, false};
-ghost use Rattle.live.specs.AllowLists.{one_more_refused};
+ghost use Rattle.std.specs.Option.{is_some};
+ghost use Rattle.std.specs.Prelude.{◌≡◌, ◌≤◌, IfOk, IfSome, None, Some, true, false};
+ghost use Rattle.std.specs.Net.Addr.{IsCanonicalOf, MatchIp};
+ghost use Rattle.std.specs.Net.Socket.{socket_ip};
+ghost use Rattle.live.specs.AllowLists.{Allows, IsPlain, one_more_refused};
 ghost use Rattle.live.specs.Clocks.{BeginsAt};
-ghost use Rattle.live.specs.OctetStreams.{FitsBuffer, noted, looked, Dropped, Wrote};
+ghost use Rattle.live.specs.OctetStreams.{FitsBuffer, IsNew, attempted, noted, looked, Dropped};
+ghost use Rattle.live.specs.OctetStreams.{Wrote};
 ghost use Rattle.live.specs.Streams.{ReadsOnce, ReadsLine, DropsWaiting, WritesAll, WritesFront};
 ghost use Rattle.live.specs.Streams.{called, Waits};
 ghost use Rattle.live.specs.declared.ends.Presence.TheVariants.{There};
@@ -397,6 +401,16 @@ impl<S: SystemStream + Drop> OctetStream for LocalSocket<S> {
     }
 }
 
+/// Whose address this is: an IPv4 address that is written as an IPv6 one is that IPv4 address.
+#[tactic(auto, using(crate::proofs::Plain::plain_of))]
+fn peer_of(address: SocketAddr) -> IpAddr
+    ensures same { MatchIp (socket_ip address) (λ _. result ≡ socket_ip address)
+        (λ a. IsCanonicalOf a result) }
+    ensures plain { IsPlain result }
+{
+    address.ip().to_canonical()
+}
+
 /// A TCP listener that doesn't wait. It accepts all who wait and are on the allow list, and the
 /// last of them stays; it refuses the others.
 #[derive(Drop)]
@@ -466,7 +480,12 @@ impl<R: Net<Listener = TcpListener, Stream = TcpStream> + Eprint> Listener
     ghost attempts = { λ _. None };
 
     /// An IPv4 address that is written as an IPv6 one counts as that IPv4 address.
-    fn accept(&mut self, allow_list: &AllowList) -> Option<Accepted<CentreSocket>> {
+    fn accept(&mut self, allow_list: &AllowList) -> Option<Accepted<CentreSocket>>
+        ensures allowed { IfSome result (λ accepted. Allows allow_list.now accepted.address) }
+        ensures fresh { IfSome result (λ accepted. IsNew None) }
+        ensures noted { None ≡ attempted None (is_some result) }
+        ensures plain { IfSome result (λ accepted. IsPlain accepted.address) }
+    {
         let mut newest = None;
         'taking: for _ in 0..MOST_ACCEPTED {
             match self.listener.accept() {
@@ -474,7 +493,7 @@ impl<R: Net<Listener = TcpListener, Stream = TcpStream> + Eprint> Listener
                     self.is_shut = false;
                     // Addresses and no names, before the open connection is touched
                     // (docs/DECISIONS.md, "`run --allow` compares addresses").
-                    let address = address.ip().to_canonical();
+                    let address = peer_of(address);
                     if allow_list.allows(address) {
                         // The newest: a control centre that comes again has left the ones before.
                         newest = Some((address, stream));

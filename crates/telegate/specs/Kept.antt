@@ -31,9 +31,9 @@ IsKeptFault StateInUse = Unit {0}
 IsKeptFault StateUnusable = Unit {0}
 IsKeptFault fault = IsEndFault fault
 
--- A run with this beginning is over. The port is that of these settings and this allow list, and
--- began with the cut where it goes on. Where the gateway began with the state that the lives before
--- lead to, all lives together keep every promise of a gateway with these settings.
+-- A run with this beginning is over. The port is that of these settings and this allow list, and of
+-- a run that goes on where the beginning has a moment. Where the gateway began with the state that
+-- the lives before lead to, all lives together keep every promise of a gateway with these settings.
 pub record HasLivedOn {E : Type 0} (settings : Settings) (allow_list : AllowList) (origin : Origin)
     (before : Log) (port : LiveEnds) (pen : Recording) (ended : Result (Unit {0}) E) : Type 0 where
   pub behind : before ≡ origin.before.entries

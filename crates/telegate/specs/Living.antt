@@ -9,8 +9,9 @@ use Rattle.record.specs.Recording.{Recording}
 use Rattle.telegate.specs.Lives.{all_passed}
 use Rattle.telegate.specs.Running.{HasEnded, HasRunFaithfully, IsRecorded}
 
--- The port is that of a run with these settings and this allow list; where it goes on after a
--- restart it began with the cut of the connection of then.
+-- The port is that of a run with these settings and this allow list, which goes on after a restart
+-- or not. That the log of one that goes on begins with the cut of the connection of then is said of
+-- each call of the port (laws of `live`), not here: `port_between` makes the cut due at first.
 abbrev pub IsPortOf : Settings → AllowList → (goes_on : Bool) → LiveEnds → Type 0
 IsPortOf settings allow_list goes_on port = fixed_of port ≡ record {
   allow_list = allow_list;

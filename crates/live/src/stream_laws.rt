@@ -1,0 +1,60 @@
+//! Laws of the calls to a stream of the system.
+ghost use Rattle.std.specs.Prelude.{◌≡◌, ◌≢◌, ◌⊎◌, ◌↔◌, ℕ, ◌+◌, ◌≤◌, List, [], ◌∷◌, ◌++◌, length};
+ghost use Rattle.std.specs.Prelude.{Bool, true, false, Some, Ok, Err};
+ghost use Rattle.std.specs.declared.io.Error.{Error};
+ghost use Rattle.std.specs.declared.io.ErrorKind.TheVariants.{WouldBlock, TimedOut, Interrupted};
+ghost use Rattle.std.specs.IoError.{error_kind};
+ghost use Rattle.live.specs.CallSums.{BroughtNone, IsReadEmpty, brought_in, received_in};
+ghost use Rattle.live.specs.Streams.{Calls, DropsWaiting, MeansGot, ReadsFrame, SystemCall};
+ghost use Rattle.live.specs.Streams.{Waits, WritesAll, WritesFront, ends_frame, took};
+ghost use Rattle.live.specs.declared.ends.Got.{Got};
+ghost use Rattle.live.specs.declared.ends.Got.TheVariants.{Octets, Quiet, Gone};
+
+/// What the answer of a call means. Octets are octets, and none at all are the stream's end. A wait
+/// that ended without octets and an interruption are quiet, and each other failure is the end.
+pub fn answers_of_streams_mean_what_they_say()
+    ensures octets { (n : ℕ) (got : Got) → MeansGot (Ok n) got → 1 ≤ n → got ≡ Octets n }
+    ensures none { (got : Got) → MeansGot (Ok 0) got → got ≡ Gone }
+    ensures quiet { (fault : Error) (got : Got) → MeansGot (Err fault) got →
+        (error_kind fault ≡ WouldBlock) ⊎ ((error_kind fault ≡ TimedOut)
+        ⊎ (error_kind fault ≡ Interrupted)) → got ≡ Quiet }
+    ensures broken { (fault : Error) (got : Got) → MeansGot (Err fault) got →
+        error_kind fault ≢ WouldBlock → error_kind fault ≢ TimedOut →
+        error_kind fault ≢ Interrupted → got ≡ Gone }
+{}
+
+/// A write counts as taken exactly where the stream took all its octets, once and in their order:
+/// in one call, and in two. A part of a write isn't the whole.
+pub fn a_write_is_taken_where_all_its_octets_are()
+    ensures once { (old new : List SystemCall) (octets : List ℕ) (is_taken : Bool) →
+        WritesAll (Some old) octets is_taken (Some new) → 1 ≤ length octets →
+        (is_taken ≡ true) ↔ (took new ≡ took old ++ octets) }
+    ensures front { (old new : List SystemCall) (octets : List ℕ) (is_taken : Bool) →
+        WritesFront (Some old) octets is_taken (Some new) →
+        (is_taken ≡ true) ↔ (took new ≡ took old ++ octets) }
+{}
+
+/// A look at the line goes on until its octets end as a line frame does, a call brings none, or it
+/// has made 15 calls more. Behind octets that end so nothing is waited for. A frame ends with the
+/// end character, or is the single character.
+pub fn a_look_goes_on_until_a_frame_ends()
+    ensures on { (calls new : List SystemCall) (first came : List ℕ) →
+        ReadsFrame (Some calls) first came (Some new) → (ends_frame came ≡ true)
+        ⊎ (BroughtNone new ⊎ (received_in new ≡ received_in calls + 15)) }
+    ensures whole { (calls new : Calls) (first came : List ℕ) →
+        ReadsFrame calls first came new → ends_frame first ≡ true →
+        (came ≡ first) × (new ≡ calls) }
+    ensures ends { (ends_frame (0x10 ∷ 0x09 ∷ 0x01 ∷ 0x0A ∷ 0x16 ∷ []) ≡ true)
+        × (ends_frame (0xE5 ∷ []) ≡ true) × (ends_frame (0x10 ∷ 0x09 ∷ []) ≡ false) }
+{}
+
+/// What waits is dropped, however many buffers it fills: it is read until a read brings none, or 64
+/// times. All octets that were read so are counted. A stream that can't be set not to wait isn't
+/// read.
+pub fn what_waits_is_dropped_to_its_end()
+    ensures empty { (old new : List SystemCall) (count : ℕ) →
+        DropsWaiting (Some old) count (Some new) →
+        (new ≡ Waits false false ∷ old) ⊎ IsReadEmpty old new }
+    ensures counted { (old new : List SystemCall) (count : ℕ) →
+        DropsWaiting (Some old) count (Some new) → brought_in new ≡ brought_in old + count }
+{}
