@@ -1,4 +1,4 @@
-use Rattle.std.proofs.Common.{List, ℕ, length, ◌≤◌, subst}
+use Rattle.std.proofs.Common.{◌+◌, ◌≤◌, ◌∷◌, subst}
 use Rattle.gateway.specs.Course.{here_of}
 use Rattle.gateway.specs.Frames.{acknowledged_reports}
 use Rattle.gateway.specs.Reports.{parts_of_all, reports_in}
