@@ -1,5 +1,6 @@
 -- What stands before what in a step, and what own answers and polls need places for (IEC
--- 60870-5-104, 5.1 to 5.5; the order within a step, and the places, are this gateway's own profile).
+-- 60870-5-104, 5.1 to 5.5; the order within a step, and the places, are this gateway's own
+-- profile).
 use Rattle.std.specs.Prelude.{◌≡◌, ◌⊎◌, ◌+◌, ◌<◌, ℕ, Bool, true, false, List, [], ◌∷◌, length, None}
 use Rattle.std.specs.Prelude.{Some}
 use Rattle.apci.specs.declared.apdu.Apdu.{Apdu}

@@ -17,7 +17,8 @@ ghost use Rattle.gateway.specs.Reports.{Setup, exchanges_of, parts_of_all, repor
 ghost use Rattle.gateway.specs.Course.{Course, here_of, room_in, with_frames, MayTake, TakesFrames};
 ghost use Rattle.gateway.specs.Course.{HandsOver, SendsNext, Runs};
 ghost use Rattle.gateway.specs.Traffic.{IsFaithful, IsAtRest};
-ghost use Rattle.gateway.specs.Stepping.{GoesLast, HasTakenOne, IsAllOut, IsLateBehindAll, unplaced};
+ghost use Rattle.gateway.specs.Stepping.{GoesLast, HasTakenOne, IsAllOut, IsLateBehindAll};
+ghost use Rattle.gateway.specs.Stepping.{unplaced};
 
 use apci::spellings_cancel;
 use asdu::pieces_carry_the_report;
