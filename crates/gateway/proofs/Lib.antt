@@ -73,3 +73,5 @@ pub mod Handing
 pub mod Clock
 pub mod OneAction
 pub mod Decided
+pub mod Stepping
+pub mod Placing

@@ -46,3 +46,4 @@ pub mod Turning
 pub mod Restarts
 pub mod GoingOut
 pub mod Ends
+pub mod Stepping

@@ -5,6 +5,7 @@ pub(crate) mod going_out;
 pub(crate) mod ordering;
 pub(crate) mod passing_on;
 pub(crate) mod restarts;
+pub(crate) mod stepping;
 pub(crate) mod turning;
 pub(crate) mod walls;
 

@@ -25,7 +25,11 @@
 //! ([`what_is_due_is_given`]), stations' answers to commands being known by their types
 //! ([`answers_have_the_types_of_commands`]), and on the line turns end, no station starves and
 //! commands go before polls ([`logs_keep_turns`]), by the one list of calls that the log shows
-//! ([`one_list_of_calls`]).
+//! ([`one_list_of_calls`]). Within a step what came is taken first, one frame after another, each
+//! answered before the next ([`each_frame_is_answered_before_the_next`],
+//! [`s_frames_and_tests_go_last`], [`late_answers_close_behind_what_came`],
+//! [`octets_count_up_to_the_last_moment`]). An own answer without a place closes the connection
+//! ([`own_answers_without_a_place_close`]), and a poll needs three ([`polls_need_three_places`]).
 //!
 //! At a restart a gateway is read from the lines of its state ([`Gateway::read_state`]), gives up
 //! the commands without an answer ([`Gateway::give_up_commands`]), and goes on with other settings
@@ -69,6 +73,11 @@ pub use laws::going_out::{
 pub use laws::ordering::{moments_never_fall, steps_keep_their_order};
 pub use laws::passing_on::answers_have_the_types_of_commands;
 pub use laws::restarts::restarts_give_up_commands;
+pub use laws::stepping::{
+    each_frame_is_answered_before_the_next, late_answers_close_behind_what_came,
+    octets_count_up_to_the_last_moment, own_answers_without_a_place_close, polls_need_three_places,
+    s_frames_and_tests_go_last,
+};
 pub use laws::turning::{logs_keep_turns, one_list_of_calls};
 pub use laws::walls::the_wall_clock_is_known;
 pub use laws::{
