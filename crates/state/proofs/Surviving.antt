@@ -14,7 +14,7 @@ use Rattle.gateway.specs.State.{State}
 use Rattle.gateway.specs.declared.ports.Next.{Next}
 use Rattle.gateway.specs.declared.ports.Next.TheVariants as answers
 use Rattle.segments.specs.Crash.{AreMixing, HasNoOther}
-use Rattle.segments.specs.Crashes.{HasNoZero, StandsIn, Survives}
+use Rattle.segments.specs.Crashes.{AreOlder, HasNoZero, StandsIn, Survives}
 use Rattle.segments.specs.Head.{Fits, IsWholeText, head_for, whole_text}
 use Rattle.segments.specs.Segment.{durable_of, outcomes_of, text_of}
 use Rattle.segments.specs.declared.head.SegmentHead.{SegmentHead}
@@ -117,6 +117,15 @@ some_head settings lines logged is none = let no : [] ≡ settings ∷ lines = s
     absurd (cc)
 
 -- The file of a log
+
+-- where a segment stands whole, each segment is older than a later one
+pub stands_older : (outcomes : List ℕ → Type 0) (own number : ℕ) → StandsIn outcomes own
+    → own < number → AreOlder outcomes number
+stands_older outcomes own number stands less c left head text fits found =
+    let (body, whole, there) = stands c left in
+    let same : head.number ≡ own = ap (λ (h : SegmentHead). h.number)
+    (same_first c head (head_for own body) fits whole found.first there.first) in
+    omega (arith, same, less)
 
 module _ {D : Type 0} {g : Ghosts D} where
   pub current_survives : (current : Current D g)

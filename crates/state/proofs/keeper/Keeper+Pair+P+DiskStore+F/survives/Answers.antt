@@ -13,7 +13,8 @@ returns-clause-goes_on g c kept mixing file left wanted text log origin begun =
     file =
     subst (λ (k : Keeping _). is_kept k.ends.deeds ≡ true → AreMixing g.F.File.Disk →
     (file : List ℕ) → leaves_in k.ends.store.opened file →
-    IsKeptIn k.ends.store.settings.items k.ends.deeds file) c.self.view_is c.survives.ensures.kept kept
+    IsKeptIn k.ends.store.settings.items k.ends.deeds file) c.self.view_is c.survives.ensures.kept
+    kept
     mixing file left in
     goes_on g.F.File.Disk c.args.self.now.ends.store.settings.items c.args.self.now.ends.deeds
     file wanted text log origin there begun
