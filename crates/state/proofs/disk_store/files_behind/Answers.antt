@@ -1,5 +1,4 @@
 use Rattle.std.proofs.Common.{subst, sym}
-use Rattle.std.proofs.lemmas.Bool.{leb-false}
 use Rattle.segments.specs.Crashes.{AreOlder}
 use Rattle.segments.specs.Segment.{file_of}
 use Rattle.state.proofs.Surviving.{stands_older}
@@ -12,4 +11,4 @@ returns-then-may_be_used-clause-older g c _ =
     (sym c.into_file-newest.ensures)
     (stands_older (g.D.Disk.may_leave (file_of current.segment)) current.number c.args.number
     (c.survives.ensures.stands current.number current.head current.within current.whole)
-    (leb-false _ _ c.if-own-number.false))
+    c.if-own-number.false)
