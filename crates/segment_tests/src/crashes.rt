@@ -1,5 +1,6 @@
 //! A crash at each call of a script of appends, syncs and changes of the segment.
 ghost use Rattle.std.specs.Prelude.{IsTrue};
+ghost use Rattle.segments.specs.Crashes.{StaysBacked};
 ghost use Rattle.segments.specs.Starts.{IsBacked};
 
 use checkpoint::{Lines, Sheet};
@@ -36,9 +37,29 @@ fn first_segment(
     }
     let (mut first, mut second) = (first, second);
     match newest_side(alloc, &mut first, &mut second) {
-        Ok(Side::Log) => segment_beside(alloc, first, second, number, number_written),
-        Ok(Side::Db) => segment_beside(alloc, second, first, number, number_written),
+        Ok(Side::Log) => segment_behind(alloc, first, second, number, number_written),
+        Ok(Side::Db) => segment_behind(alloc, second, first, number, number_written),
         Err(_) => Err((first, second)),
+    }
+}
+
+/// Writes a segment into the other file, once the newest one is on the disk as it reads.
+fn segment_behind<D: Disk + Drop>(
+    alloc: Global,
+    newest: D,
+    spare: D,
+    number: u64,
+    number_written: u64,
+) -> Result<(Segment<D>, D), (D, D)>
+    requires usable { IsTrue (D.Disk.is_usable newest) }
+    requires spare { IsTrue (D.Disk.is_usable spare) }
+    requires backed { IsTrue (D.Disk.is_clean newest) → IsTrue (D.Disk.is_clean spare) →
+        IsBacked (D.Disk.seen newest) (D.Disk.seen spare) }
+{
+    let mut newest = newest;
+    match newest.sync() {
+        Ok(()) => segment_beside(alloc, newest, spare, number, number_written),
+        Err(_) => Err((newest, spare)),
     }
 }
 
@@ -70,7 +91,7 @@ fn segment_beside<D: Disk + Drop>(
 ) -> Result<(Segment<D>, D), (D, D)>
     requires usable { IsTrue (D.Disk.is_usable spare) }
     requires backed { IsTrue (D.Disk.is_clean newest) → IsTrue (D.Disk.is_clean spare) →
-        IsBacked (D.Disk.seen newest) (D.Disk.seen spare) }
+        StaysBacked (D.Disk.may_leave newest) (D.Disk.seen spare) }
 {
     match segment_in(alloc, spare, &newest, number, number_written) {
         Ok(segment) => Ok((segment, newest)),
@@ -88,7 +109,7 @@ fn segment_in<D: Disk + Drop>(
 ) -> Result<Segment<D>, D>
     requires usable { IsTrue (D.Disk.is_usable spare) }
     requires backed { IsTrue (D.Disk.is_clean newest.now) → IsTrue (D.Disk.is_clean spare) →
-        IsBacked (D.Disk.seen newest.now) (D.Disk.seen spare) }
+        StaysBacked (D.Disk.may_leave newest.now) (D.Disk.seen spare) }
 {
     let writer = match Writer::begin(alloc, spare, newest) {
         Ok(writer) => writer,

@@ -15,10 +15,10 @@ use Rattle.sqlite_disk.specs.Disk.{Holds}
 use Rattle.statetext.specs.Sum.{remainder_after, sum_of}
 use Rattle.segments.specs.Crash.{BeginsWith, HasLength, HasNoOther, IsOldIfOpen, IsShut}
 use Rattle.segments.specs.Crash.{IsTextIfOpen}
-use Rattle.segments.specs.Crashes.{AreBoth, AreOlder, HasNoZero, IsThatOf, Survives}
-use Rattle.segments.specs.Crashes.{lines_behind}
+use Rattle.segments.specs.Crashes.{AreBoth, AreOlder, HasNoZero, IsThatOf, StandsIn, StaysBacked}
+use Rattle.segments.specs.Crashes.{Survives, lines_behind}
 use Rattle.segments.specs.Head.{Fits, IsWholeText, head_for, head_of, whole_text}
-use Rattle.segments.specs.Starts.{BeginsNewer, FitsIn, IsBacked, IsFoundIn, IsHeadIn, IsNewest}
+use Rattle.segments.specs.Starts.{BeginsNewer, FitsIn, IsBelow, IsFoundIn, IsHeadIn, IsNewest}
 use Rattle.segments.specs.Starts.{number_in}
 use Rattle.segments.specs.Written.{text_in}
 use Rattle.segments.specs.declared.head.SegmentHead.{SegmentHead}
@@ -328,6 +328,17 @@ whole_begun number end seen few few' within summed is = record {
   is = is;
 }
 
+-- a segment's text begins with what stands in its file
+pub whole_in_text : (number begins stored : ℕ) (seen held : List ℕ)
+    → IsWholeText number (take begins seen) → begins ≤ stored → stored ≤ length seen
+    → IsWholeText number (take begins (text_in stored seen held))
+whole_in_text number begins stored seen held whole le within =
+    subst (IsWholeText number) (sym (take-append-le begins (take stored seen) held
+    (omega (arith, length-take-le stored seen within, le))
+    ∙ sym (take-append-le begins (take stored seen) (drop stored seen)
+    (omega (arith, length-take-le stored seen within, le)))
+    ∙ ap (take begins) (take-append-drop stored seen))) whole
+
 -- a write behind it leaves it as it is
 pub whole_written : (number begins stored : ℕ) (seen seen' held : List ℕ)
     → IsWholeText number (take begins seen) → begins ≤ stored → stored ≤ length seen
@@ -346,22 +357,57 @@ whole_written number begins stored seen seen' held whole le within long same =
         (omega (arith, length-take-le stored file fits, le)))
         ∙ ap (take begins) (take-append-drop stored file)
 
-pub backs_other : (own other : List ℕ) (number begins : ℕ) (front : FileFront)
-    → IsWholeText number (take begins own) → begins ≤ length own → IsHeadIn other front
-    → number_in front ≤ number → IsBacked own other
-backs_other own other number begins front whole within behind order head text fits found =
+-- whatever a crash leaves of a segment's file has that segment
+module _ (outcomes : List ℕ → Type 0) (number begins durable size : ℕ) (text : List ℕ)
+    (whole : IsWholeText number (take begins text)) (head : begins ≤ durable)
+    (synced : durable ≤ length text) (room : length text ≤ size) (long : HasLength outcomes size)
+    (kept : BeginsWith outcomes durable text) where
+  abbrev own_body : List ℕ
+  own_body = drop 87 (take begins text)
+
+  own_length : length (whole_text number own_body) ≡ begins
+  own_length = ap (λ (l : List ℕ). length l) (sym whole.is)
+      ∙ length-take-le begins text (omega (arith, head, synced))
+
+  own_octet : (c : List ℕ) → outcomes c → (i : ℕ) → i < 87 + length own_body + 0 →
+      slice_index c i ≡ slice_index (whole_text number own_body ++ []) i
+  own_octet c is i lt =
+      let low : i < begins = omega (arith, lt, own_length, whole_length number own_body) in
+      kept c is i (omega (arith, low, head))
+      ∙ sym (get_or-take begins text i 0 low)
+      ∙ ap (λ (l : List ℕ). slice_index l i)
+      (whole.is ∙ sym (append-nil (whole_text number own_body)))
+
+  own_long : (c : List ℕ) → outcomes c → 87 + length own_body ≤ length c
+  own_long c is =
+      omega (arith, long c is, room, synced, head, own_length, whole_length number own_body)
+
+  pub stands : StandsIn outcomes number
+  stands c is = (
+    own_body,
+    whole.fits,
+    found_so c number own_body [] 0 (own_octet c is) (own_long c is),
+  )
+
+pub backs_other : (outcomes : List ℕ → Type 0) (other : List ℕ) (number : ℕ) (front : FileFront)
+    → StandsIn outcomes number → IsHeadIn other front → number_in front ≤ number
+    → StaysBacked outcomes other
+backs_other outcomes other number front whole behind order c is head text fits found =
     let here : number_in front ≡ head.number =
     ap number_in (behind.heads head fits found.first) in
-    let long : length (whole_text number (drop 87 (take begins own))) ≡ begins =
-    ap (λ (l : List ℕ). length l) (sym whole.is) ∙ length-take-le begins own within in
+    let (body, fits', found') = whole c is in
     record {
-      head = head_for number (drop 87 (take begins own));
-      text = drop 87 (take begins own);
-      fits = whole.fits;
-      found = found_front own number (drop 87 (take begins own))
-          (ap (λ (n : ℕ). take n own) long ∙ whole.is);
+      head = head_for number body;
+      text = body;
+      fits = fits';
+      found = found';
       order = omega (arith, here, order);
     }
+
+pub below_front : (file : List ℕ) (front : FileFront) (number : ℕ) → IsHeadIn file front
+    → number_in front < number → IsBelow number file
+below_front file front number begins lt head text fits found =
+    omega (arith, lt, ap number_in (begins.heads head fits found.first))
 
 pub newer_front : (file : List ℕ) (front : FileFront) (number : ℕ) → IsHeadIn file front
     → FitsIn front → number < number_in front → BeginsNewer number file

@@ -3,7 +3,7 @@ use Rattle.std.specs.Prelude.{◌≡◌, ◌⊎◌, ℕ, ◌+◌, ◌<◌, ◌�
 use Rattle.std.specs.Prelude.{slice_index}
 use Rattle.segments.specs.Crash.{BeginsWith, HasLength}
 use Rattle.segments.specs.Head.{Fits, head_for, whole_text}
-use Rattle.segments.specs.Starts.{IsFoundIn, before_zero}
+use Rattle.segments.specs.Starts.{IsBacked, IsFoundIn, before_zero}
 use Rattle.segments.specs.declared.head.SegmentHead.{SegmentHead}
 
 -- no octet of these lines is 0
@@ -28,6 +28,15 @@ abbrev pub AreOlder : (List ℕ → Type 0) → ℕ → Type 0
 AreOlder outcomes number = (c : List ℕ) → outcomes c → (head : SegmentHead) (text : List ℕ)
     → Fits head →
     IsFoundIn c head text → head.number < number
+
+-- whatever a crash leaves of a file has the segment with this number, whole
+abbrev pub StandsIn : (List ℕ → Type 0) → ℕ → Type 0
+StandsIn outcomes number = (c : List ℕ) → outcomes c → (body : List ℕ)
+    × Fits (head_for number body) × IsFoundIn c (head_for number body) body
+
+-- whatever a crash leaves of the newest file, this other one may be written over beside it
+abbrev pub StaysBacked : (newest : List ℕ → Type 0) → (other : List ℕ) → Type 0
+StaysBacked newest other = (c : List ℕ) → newest c → IsBacked c other
 
 -- the lines that a start reads behind the checkpoint of a file
 abbrev pub lines_behind : (body file : List ℕ) → List ℕ

@@ -128,6 +128,11 @@ abbrev pub BeginsNewer : ℕ → List ℕ → Type 0
 BeginsNewer number file =
     (head : SegmentHead) × Fits head × Holds file 0 (head_of head) × (number < head.number)
 
+-- each segment that the file has is older than the one with this number
+abbrev pub IsBelow : ℕ → List ℕ → Type 0
+IsBelow number file = (head : SegmentHead) (text : List ℕ) → Fits head → IsFoundIn file head text →
+    head.number < number
+
 -- so does the file of this side back the other one
 abbrev pub IsBackedBy : Side → (log db : List ℕ) → Type 0
 IsBackedBy sides.Log log db = IsBacked log db

@@ -33,5 +33,5 @@ pub use laws::{
     no_file_is_written_over_but_beside_one_as_new, the_other_file_has_older_segments,
 };
 pub use segment::Segment;
-pub use start::{FoundHead, Side, Start, newest_side};
+pub use start::{FoundHead, Side, Start, is_below, newest_side};
 pub use writer::{Failed, Writer};

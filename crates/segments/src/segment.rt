@@ -5,9 +5,9 @@ ghost use Rattle.std.specs.Prelude.{true};
 ghost use Rattle.std.specs.Prelude.{false};
 ghost use Rattle.segments.specs.declared.fault.SegmentFault.TheVariants.{Device, Full, NoMemory};
 ghost use Rattle.segments.specs.Crash.{AreMixing, HasLength, BeginsWith, HasNoOther, IsBlankFrom};
-ghost use Rattle.segments.specs.Crashes.{HasNoZero, Survives};
+ghost use Rattle.segments.specs.Crashes.{HasNoZero, StandsIn, StaysBacked, Survives};
 ghost use Rattle.segments.specs.Head.{Fits, IsWholeText, head_for, whole_text};
-ghost use Rattle.segments.specs.Starts.{BeginsNewer, IsBacked};
+ghost use Rattle.segments.specs.Starts.{BeginsNewer};
 ghost use Rattle.segments.specs.Written.{text_in};
 ghost use Rattle.sqlite_disk.specs.Disk.{Only};
 ghost use Rattle.statetext.specs.Sum.{sum_of};
@@ -118,12 +118,12 @@ impl<D: Disk> Segment<D> {
     }
 
     /// Whether the other file may be written over: no segment begins there that is newer than this
-    /// one, which stands whole in its own file. Of the other file one line is read, and of its own
-    /// file none. An `Err` says that it couldn't be read.
+    /// one, which stands whole in its own file, whatever a crash leaves of that. Of the other file
+    /// one line is read, and of its own file none. An `Err` says that it couldn't be read.
     pub fn backs(&self, alloc: Global, other: &mut D) -> Result<bool, SegmentFault>
         requires { IsTrue (D.Disk.is_usable other.old) }
         ensures backed { IfOk result (λ backs. backs ≡ true → IsTrue (D.Disk.is_clean other.new) →
-            IsBacked (D.Disk.seen (file_of self.now)) (D.Disk.seen other.new)) }
+            StaysBacked (outcomes_of self.now) (D.Disk.seen other.new)) }
         ensures newer { IfOk result (λ backs. backs ≡ false → IsTrue (D.Disk.is_clean other.new) →
             BeginsNewer (own_number self.now) (D.Disk.seen other.new)) }
         ensures usable { IsTrue (D.Disk.is_usable other.new) }
@@ -152,6 +152,10 @@ impl<D: Disk> Segment<D> {
         ensures durable { durable_of self.now ≤ length (text_of self.now) }
         ensures mixed { AreMixing D.Disk →
             HasNoOther (outcomes_of self.now) (text_of self.now) }
+        // So the segment stands there whole, whichever number its first line says.
+        ensures stands { (number begins : ℕ) → begins ≤ durable_of self.now →
+            IsWholeText number (take begins (text_of self.now)) →
+            StandsIn (outcomes_of self.now) number }
         // So a start finds its checkpoint and its synced lines, of which no octet is 0
         // ([`crate::a_start_finds_what_was_synced`]).
         ensures start { (number : ℕ) (body lines : List ℕ) → Fits (head_for number body) →

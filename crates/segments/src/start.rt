@@ -8,7 +8,7 @@ ghost use Rattle.std.specs.Prelude.{if◌then◌else◌};
 ghost use Rattle.sqlite_disk.specs.Disk.{Holds};
 ghost use Rattle.segments.specs.Head.{Fits};
 ghost use Rattle.segments.specs.Starts.{ArePlaced, FitsIn, HasNoNewer, HasNone, IsAbove};
-ghost use Rattle.segments.specs.Starts.{IsBacked, IsBackedBy, IsFoundIn, IsWholeIn};
+ghost use Rattle.segments.specs.Starts.{IsBacked, IsBackedBy, IsBelow, IsFoundIn, IsWholeIn};
 ghost use Rattle.segments.specs.Starts.{IsHeadIn, IsNewest, IsNext, IsShut, IsSound, before_zero};
 ghost use Rattle.segments.specs.Starts.{is_doubtful, is_other, is_shut, number_in, other_side};
 ghost use Rattle.statetext.specs.Sum.{sum_of};
@@ -69,6 +69,7 @@ pub(crate) fn front_at<D: Disk>(alloc: Global, file: &mut D) -> Result<FileFront
         IsHeadIn (D.Disk.seen file.new) front) }
     ensures fits { IfOk result FitsIn }
     ensures usable { IsTrue (D.Disk.is_usable file.new) }
+    ensures clean { IsTrue (D.Disk.is_clean file.new) → IsTrue (D.Disk.is_clean file.old) }
     ensures seen { D.Disk.seen file.new ≡ D.Disk.seen file.old }
 {
     let Ok(octets) = file.len() else {
@@ -384,6 +385,19 @@ pub fn newest_side<D: Disk>(alloc: Global, log: &mut D, db: &mut D) -> Result<Si
         let is_newest = is_whole(alloc, log, first)?;
         Ok(Side::Log.or_other(is_newest))
     }
+}
+
+/// Whether each segment that a file has is older than the one with this number. One line is read.
+pub fn is_below<D: Disk>(alloc: Global, file: &mut D, number: u64) -> Result<bool, SegmentFault>
+    requires { IsTrue (D.Disk.is_usable file.old) }
+    ensures below { IfOk result (λ is. is ≡ true → IsTrue (D.Disk.is_clean file.new) →
+        IsBelow number (D.Disk.seen file.new)) }
+    ensures usable { IsTrue (D.Disk.is_usable file.new) }
+    ensures clean { IsTrue (D.Disk.is_clean file.new) → IsTrue (D.Disk.is_clean file.old) }
+    ensures seen { D.Disk.seen file.new ≡ D.Disk.seen file.old }
+{
+    let front = front_at(alloc, file)?;
+    Ok(number_of(front) < number)
 }
 
 impl<D: Disk + Drop> Start<D> {

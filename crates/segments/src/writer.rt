@@ -5,7 +5,7 @@ ghost use Rattle.std.specs.Prelude.{true, false};
 ghost use Rattle.sqlite_disk.specs.Disk.{Only};
 ghost use Rattle.segments.specs.Crash.{IsShut, IsLong, IsBlankFrom, IsOldIfOpen, IsTextIfOpen};
 ghost use Rattle.segments.specs.Head.{IsWholeText, whole_text};
-ghost use Rattle.segments.specs.Starts.{IsBacked};
+ghost use Rattle.segments.specs.Crashes.{StaysBacked};
 ghost use Rattle.segments.specs.Written.{text_in};
 ghost use Rattle.statetext.specs.Sum.{remainder_after};
 
@@ -54,12 +54,13 @@ impl<D: Disk> Writer<D> {
     ghost use Rattle.segments.specs.Writer.{appended_to};
 
     /// Begins a segment in a file: first of all the file is shut, on the disk too. What stood there
-    /// may go: where it had a segment, the newest file has one that isn't older. An `Err` gives
-    /// the file back; then a start finds the segment that stood there, if it finds one there.
+    /// may go: where it had a segment, the newest file has one that isn't older, whatever a crash
+    /// leaves of that file. An `Err` gives the file back; then a start finds the segment that stood
+    /// there, if it finds one there.
     pub fn begin(alloc: Global, file: D, _newest: &D) -> Result<Writer<D>, Failed<D>>
         requires usable { IsTrue (D.Disk.is_usable file) }
         requires backed { IsTrue (D.Disk.is_clean _newest.now) → IsTrue (D.Disk.is_clean file) →
-            IsBacked (D.Disk.seen _newest.now) (D.Disk.seen file) }
+            StaysBacked (D.Disk.may_leave _newest.now) (D.Disk.seen file) }
         ensures empty { IfOk result (λ w. appended_to w ≡ []) }
         ensures crash { IfErr result (λ failed. IsTrue (D.Disk.is_mixing file)
             → IsOldIfOpen (D.Disk.may_leave file) (D.Disk.may_leave failed.file)) }

@@ -14,10 +14,11 @@ use Rattle.gateway.specs.State.{State}
 use Rattle.gateway.specs.declared.ports.Next.{Next}
 use Rattle.gateway.specs.declared.ports.Next.TheVariants as answers
 use Rattle.segments.specs.Crash.{AreMixing, HasNoOther}
-use Rattle.segments.specs.Crashes.{HasNoZero, Survives}
-use Rattle.segments.specs.Head.{Fits, head_for, whole_text}
+use Rattle.segments.specs.Crashes.{AreOlder, HasNoZero, StandsIn, Survives}
+use Rattle.segments.specs.Head.{Fits, IsWholeText, head_for, whole_text}
 use Rattle.segments.specs.Segment.{durable_of, outcomes_of, text_of}
-use Rattle.segments.proofs.Crashes.{whole_left}
+use Rattle.segments.specs.declared.head.SegmentHead.{SegmentHead}
+use Rattle.segments.proofs.Crashes.{same_first, whole_left}
 use Rattle.traces.specs.Event as events
 use Rattle.traces.specs.Event.{Event}
 use Rattle.traces.specs.Printed.{FitsTrace, IsPrintable, lines_of_log}
@@ -27,7 +28,7 @@ use Rattle.state.specs.Crashed.{HasLog, IsKeptIn}
 use Rattle.state.specs.Deeds.{Deeds, Received, Appended, Synced, Begun, GivenUp, PutOut, is_kept}
 use Rattle.state.specs.Deeds.{waiting, written}
 use Rattle.state.specs.Lines.{FitsLine, IsWritable}
-use Rattle.state.specs.Logs.{SurvivesAsLogged, leaves_in, stored_in}
+use Rattle.state.specs.Logs.{HasOlderBeside, SurvivesAsLogged, leaves_in, stored_in}
 use Rattle.state.specs.Stores.{IsStored, Stored, head, lines_of_head, safe}
 use Rattle.state.specs.declared.opened.Current.{Current}
 use Rattle.state.specs.declared.opened.Opened.{Opened}
@@ -117,6 +118,15 @@ some_head settings lines logged is none = let no : [] ≡ settings ∷ lines = s
 
 -- The file of a log
 
+-- where a segment stands whole, each segment is older than a later one
+pub stands_older : (outcomes : List ℕ → Type 0) (own number : ℕ) → StandsIn outcomes own
+    → own < number → AreOlder outcomes number
+stands_older outcomes own number stands less c left head text fits found =
+    let (body, whole, there) = stands c left in
+    let same : head.number ≡ own = ap (λ (h : SegmentHead). h.number)
+    (same_first c head (head_for own body) fits whole found.first there.first) in
+    omega (arith, same, less)
+
 module _ {D : Type 0} {g : Ghosts D} where
   pub current_survives : (current : Current D g)
       → durable_of current.segment ≤ length (text_of current.segment)
@@ -158,6 +168,21 @@ module _ {D : Type 0} {g : Ghosts D} where
         mixed = λ mixing.
             subst (HasNoOther (outcomes_of current.segment)) is (mixed mixing);
       }
+
+  -- the other file has older segments
+  pub older_beside : (current : Current D g)
+      → ((number begins : ℕ) → begins ≤ durable_of current.segment
+      → IsWholeText number (take begins (text_of current.segment))
+      → StandsIn (outcomes_of current.segment) number)
+      → HasOlderBeside (opens.Current current)
+  older_beside current stands clean file other left left' own head text others fits fits' found
+      found' =
+      let (body, whole, there) =
+      stands current.number current.head current.within current.whole file left in
+      let same : own.number ≡ current.number = ap (λ (h : SegmentHead). h.number)
+      (same_first file own (head_for current.number body) fits whole found.first there.first) in
+      let below = current.older clean other left' head others fits' found' in
+      omega (arith, same, below)
 
   -- a log that takes no lines has no head
   pub none_survives : (opened : Opened D g) → (stored_in opened).head ≡ []

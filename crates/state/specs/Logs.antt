@@ -1,14 +1,21 @@
 -- What a log in two files has (profile).
-use Rattle.std.specs.Prelude.{◌≡◌, ℕ, List, [], ◌∷◌, ◌++◌, length, take, drop}
+use Rattle.std.specs.Prelude.{◌≡◌, ℕ, ◌<◌, List, [], ◌∷◌, ◌++◌, length, take, drop, IsTrue}
 use Rattle.sqlite_disk.specs.declared.Disk.{Ghosts}
 use Rattle.segments.specs.Crash.{AreMixing, HasNoOther}
 use Rattle.segments.specs.Crashes.{Survives}
-use Rattle.segments.specs.Head.{whole_text}
+use Rattle.segments.specs.Head.{Fits, whole_text}
 use Rattle.segments.specs.Segment.{durable_of, outcomes_of, text_of}
+use Rattle.segments.specs.Starts.{IsFoundIn}
+use Rattle.segments.specs.declared.head.SegmentHead.{SegmentHead}
 use Rattle.statetext.specs.Text.{lines_in}
 use Rattle.state.specs.Stores.{Stored}
 use Rattle.state.specs.declared.opened.Opened.{Opened}
 use Rattle.state.specs.declared.opened.Opened.TheVariants as opens
+
+-- a segment of the other file is older than each one of this file
+abbrev pub HasOlder : (file other : List ℕ) → Type 0
+HasOlder file other = (own head : SegmentHead) (text others : List ℕ) → Fits own → Fits head
+    → IsFoundIn file own text → IsFoundIn other head others → head.number < own.number
 
 -- the text of a segment that begins with these settings and these lines, and has no events yet
 pub record IsHeaded (settings : List ℕ) (lines : List (List ℕ)) (text : List ℕ) : Type 0 where
@@ -56,6 +63,14 @@ module _ {D : Type 0} {g : Ghosts D} where
   leaves_in opens.Neither = λ file. Unit {0}
   leaves_in (opens.Both newest spare) = λ file. Unit {0}
   leaves_in (opens.Current c) = outcomes_of c.segment
+
+  -- Whatever a crash leaves of that file and of the other one, each segment of the other is older,
+  -- where each read of that one has gone well. Where no log takes lines, this says nothing.
+  abbrev pub HasOlderBeside : Opened D g → Type 0
+  HasOlderBeside opens.Neither = Unit {0}
+  HasOlderBeside (opens.Both newest spare) = Unit {0}
+  HasOlderBeside (opens.Current c) = IsTrue (g.is_clean c.spare) → (file other : List ℕ)
+      → outcomes_of c.segment file → g.may_leave c.spare other → HasOlder file other
 
   -- Whatever a crash leaves of that file: the segment with the head that the log says, and behind
   -- it the log's lines, as far as they are synced. Where a crash leaves each octet old or new, each

@@ -1,24 +1,18 @@
 -- What a start makes of a log that a crash left (profile).
-use Rattle.std.specs.Prelude.{◌≡◌, ℕ, ◌<◌, false, List, [], ◌∷◌, ◌++◌, reverse, Some, IsTrue}
+use Rattle.std.specs.Prelude.{◌≡◌, ℕ, false, List, [], ◌∷◌, ◌++◌, reverse, Some, IsTrue}
 use Rattle.gateway.specs.Agrees.{Follows}
 use Rattle.gateway.specs.Config.{Settings}
 use Rattle.gateway.specs.Log.{Came, Log, Restarted, events_of}
 use Rattle.gateway.specs.Setups.{setup_of}
 use Rattle.segments.specs.Crashes.{AreBoth}
-use Rattle.segments.specs.Head.{Fits}
-use Rattle.segments.specs.Starts.{IsFoundIn, IsSound}
-use Rattle.segments.specs.declared.head.SegmentHead.{SegmentHead}
+use Rattle.segments.specs.Starts.{IsSound}
 use Rattle.sqlite_disk.specs.declared.Disk.{Ghosts}
 use Rattle.state.specs.Deeds.{Deeds, waiting}
+use Rattle.state.specs.Logs.{HasOlder}
 use Rattle.state.specs.Origins.{IsBegun}
 use Rattle.state.specs.Stores.{safe}
 use Rattle.state.specs.declared.beginning.Origin.{Origin}
 use Rattle.state.specs.declared.opened.Opened.TheVariants as opens
-
--- a segment of the other file is older than each one of this file
-abbrev pub HasOlder : (file other : List ℕ) → Type 0
-HasOlder file other = (own head : SegmentHead) (text others : List ℕ) → Fits own → Fits head
-    → IsFoundIn file own text → IsFoundIn other head others → head.number < own.number
 
 -- With these settings, which this text says, a run begins so where it finds this file as it is, and
 -- another one beside it: each segment there is older, and nothing stands there that no crash

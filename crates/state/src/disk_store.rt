@@ -6,6 +6,7 @@ ghost use Rattle.std.specs.Prelude.{Some, length, true, false};
 ghost use Rattle.gateway.specs.Restored.{state_lines};
 ghost use Rattle.segments.specs.Head.{IsWholeText, whole_text};
 ghost use Rattle.segments.specs.Segment.{durable_of, file_of, size_of, text_of};
+ghost use Rattle.segments.specs.Crashes.{AreOlder, StaysBacked};
 ghost use Rattle.segments.specs.Starts.{IsBacked};
 ghost use Rattle.segments.specs.Writer.{appended_to};
 ghost use Rattle.state.specs.Logs.{IsHeaded};
@@ -17,7 +18,7 @@ use crate::opened::{Current, Opened};
 use crate::store::Store;
 use checkpoint::{Sheet, StateFault};
 use gateway::Gateway;
-use segments::{Segment, SegmentFault, Side, Writer, newest_side};
+use segments::{Segment, SegmentFault, Side, Writer, is_below, newest_side};
 use sqlite_disk::{Disk, Files};
 use statetext::TextSheet;
 use std::alloc::Global;
@@ -44,9 +45,8 @@ pub struct DiskStore<F: Folder + Drop> {
 }
 
 impl<F: Folder + Drop> DiskStore<F> {
-    ghost use Rattle.segments.specs.Starts.{IsBacked};
-    ghost use Rattle.segments.specs.Crashes.{HasNoZero};
-    ghost use Rattle.state.specs.Logs.{Bears, SpareIs, SurvivesAsLogged, stored_in};
+    ghost use Rattle.segments.specs.Crashes.{AreOlder, HasNoZero, StaysBacked};
+    ghost use Rattle.state.specs.Logs.{Bears, HasOlderBeside, SpareIs, SurvivesAsLogged, stored_in};
 
     /// One over a directory whose files aren't open. The next segment has this number.
     pub(crate) fn new(alloc: Global, folder: F, settings: Vec<u8>, number: u64) -> DiskStore<F>
@@ -98,16 +98,19 @@ impl<F: Folder + Drop> DiskStore<F> {
         ensures spare { IfSome result (λ files. IsTrue (F.File.is_usable files.1)) }
         ensures backed { IfSome result (λ files. IsTrue (F.File.is_clean files.0) →
             IsTrue (F.File.is_clean files.1) →
-            IsBacked (F.File.seen files.0) (F.File.seen files.1)) }
+            StaysBacked (F.File.may_leave files.0) (F.File.seen files.1)) }
+        ensures older { IfSome result (λ files. IsTrue (F.File.is_clean files.0) →
+            AreOlder (F.File.may_leave files.0) self.old.number) }
         ensures settings { self.new.settings ≡ self.old.settings }
         ensures number { self.new.number ≡ self.old.number }
     {
+        let number = self.number;
         let opened = mem::replace(&mut self.opened, Opened::Neither);
-        if let Some(files) = files_of(self.alloc, opened) {
+        if let Some(files) = files_of(self.alloc, opened, number) {
             return Some(files);
         }
         match self.folder.open() {
-            Ok(Files { log, db }) => in_order(self.alloc, log, db),
+            Ok(Files { log, db }) => in_order(self.alloc, log, db, number),
             Err(_) => None,
         }
     }
@@ -116,7 +119,9 @@ impl<F: Folder + Drop> DiskStore<F> {
     fn begin_in(&mut self, newest: F::File, spare: F::File, gateway: &Gateway) -> bool
         requires usable { IsTrue (F.File.is_usable spare) }
         requires backed { IsTrue (F.File.is_clean newest) → IsTrue (F.File.is_clean spare) →
-            IsBacked (F.File.seen newest) (F.File.seen spare) }
+            StaysBacked (F.File.may_leave newest) (F.File.seen spare) }
+        requires older { IsTrue (F.File.is_clean newest) →
+            AreOlder (F.File.may_leave newest) self.old.number }
         ensures begun { result ≡ true → stored_in self.new.opened ≡ record {
           head = self.old.settings.items ∷ state_lines gateway.now;
           text = [];
@@ -161,6 +166,17 @@ impl<F: Folder + Drop> DiskStore<F> {
         }
     }
 
+    /// Whatever a crash leaves now of the other file, it has segments alone that are older than the
+    /// log's. So a start finds the log ([`crate::a_start_goes_on_behind_a_crash`]).
+    pub fn has_older_beside(&self)
+        ensures { HasOlderBeside self.now.opened }
+    {
+        match &self.opened {
+            Opened::Current(current) => current.segment.survives(),
+            Opened::Neither | Opened::Both(..) => {}
+        }
+    }
+
     /// Takes the mark away, unless none stands.
     fn unmark(&mut self) -> bool
         ensures mark { result ≡ true → F.mark self.new.folder ≡ Some false }
@@ -178,49 +194,53 @@ impl<F: Folder + Drop> DiskStore<F> {
     }
 }
 
-/// Both files that are open, where no write or sync has failed at either.
-fn files_of<D: Disk + Drop>(alloc: Global, opened: Opened<D>) -> Option<(D, D)>
+/// Both files that are open, where no write or sync has failed at either. The next segment has this
+/// number.
+fn files_of<D: Disk + Drop>(alloc: Global, opened: Opened<D>, number: u64) -> Option<(D, D)>
     ensures newest { IfSome result (λ files. IsTrue (D.Disk.is_usable files.0)) }
     ensures spare { IfSome result (λ files. IsTrue (D.Disk.is_usable files.1)) }
     ensures backed { IfSome result (λ files. IsTrue (D.Disk.is_clean files.0) →
         IsTrue (D.Disk.is_clean files.1) →
-        IsBacked (D.Disk.seen files.0) (D.Disk.seen files.1)) }
+        StaysBacked (D.Disk.may_leave files.0) (D.Disk.seen files.1)) }
+    ensures older { IfSome result (λ files. IsTrue (D.Disk.is_clean files.0) →
+        AreOlder (D.Disk.may_leave files.0) number) }
 {
     match opened {
         Opened::Neither => None,
         Opened::Both(newest, spare) => {
             if newest.may_be_used() && spare.may_be_used() {
-                in_order(alloc, newest, spare)
+                in_order(alloc, newest, spare, number)
             } else {
                 None
             }
         }
-        Opened::Current(current) => {
-            let Current {
-                segment,
-                number: _,
-                head: _,
-                spare,
-            } = current;
-            files_behind(alloc, segment, spare)
-        }
+        Opened::Current(current) => files_behind(alloc, current, number),
     }
 }
 
 /// The file of this segment, which this run has written, and the other one, where that may be
 /// written over. So no checkpoint is read in mid-run, when the stations wait.
-fn files_behind<D: Disk + Drop>(alloc: Global, segment: Segment<D>, spare: D) -> Option<(D, D)>
+fn files_behind<D: Disk + Drop>(alloc: Global, current: Current<D>, number: u64) -> Option<(D, D)>
     ensures newest { IfSome result (λ files. IsTrue (D.Disk.is_usable files.0)) }
     ensures spare { IfSome result (λ files. IsTrue (D.Disk.is_usable files.1)) }
     ensures backed { IfSome result (λ files. IsTrue (D.Disk.is_clean files.0) →
         IsTrue (D.Disk.is_clean files.1) →
-        IsBacked (D.Disk.seen files.0) (D.Disk.seen files.1)) }
-    ensures same { IfSome result (λ files. (files.0 ≡ file_of segment)
-        × (D.Disk.seen files.1 ≡ D.Disk.seen spare)) }
+        StaysBacked (D.Disk.may_leave files.0) (D.Disk.seen files.1)) }
+    ensures older { IfSome result (λ files. IsTrue (D.Disk.is_clean files.0) →
+        AreOlder (D.Disk.may_leave files.0) number) }
+    ensures same { IfSome result (λ files. (files.0 ≡ file_of current.segment)
+        × (D.Disk.seen files.1 ≡ D.Disk.seen current.spare)) }
 {
-    if !segment.is_open() || !spare.may_be_used() {
+    let Current {
+        segment,
+        number: own,
+        head: _,
+        spare,
+    } = current;
+    if own >= number || !segment.is_open() || !spare.may_be_used() {
         return None;
     }
+    segment.survives();
     let mut spare = spare;
     match segment.backs(alloc, &mut spare) {
         Ok(true) => {}
@@ -235,20 +255,49 @@ fn files_behind<D: Disk + Drop>(alloc: Global, segment: Segment<D>, spare: D) ->
 }
 
 /// Both files: that of the newest segment that is whole, and the other one. `None`: one couldn't be
-/// read.
-fn in_order<D: Disk + Drop>(alloc: Global, log: D, db: D) -> Option<(D, D)>
+/// read, or synced.
+fn in_order<D: Disk + Drop>(alloc: Global, log: D, db: D, number: u64) -> Option<(D, D)>
     requires log { IsTrue (D.Disk.is_usable log) }
     requires db { IsTrue (D.Disk.is_usable db) }
     ensures newest { IfSome result (λ files. IsTrue (D.Disk.is_usable files.0)) }
     ensures spare { IfSome result (λ files. IsTrue (D.Disk.is_usable files.1)) }
     ensures backed { IfSome result (λ files. IsTrue (D.Disk.is_clean files.0) →
         IsTrue (D.Disk.is_clean files.1) →
-        IsBacked (D.Disk.seen files.0) (D.Disk.seen files.1)) }
+        StaysBacked (D.Disk.may_leave files.0) (D.Disk.seen files.1)) }
+    ensures older { IfSome result (λ files. IsTrue (D.Disk.is_clean files.0) →
+        AreOlder (D.Disk.may_leave files.0) number) }
 {
     let (mut log, mut db) = (log, db);
     match newest_side(alloc, &mut log, &mut db) {
-        Ok(Side::Log) => Some((log, db)),
-        Ok(Side::Db) => Some((db, log)),
+        Ok(Side::Log) => settled(alloc, log, db, number),
+        Ok(Side::Db) => settled(alloc, db, log, number),
+        Err(_) => None,
+    }
+}
+
+/// Both files, where the newest segment is older than the next one, and stands on the disk as it
+/// reads. Else a crash could take it while the other file is written over: a process that was
+/// killed, or a sync that failed, may have left it in the system's memory alone.
+fn settled<D: Disk + Drop>(alloc: Global, newest: D, spare: D, number: u64) -> Option<(D, D)>
+    requires first { IsTrue (D.Disk.is_usable newest) }
+    requires other { IsTrue (D.Disk.is_usable spare) }
+    requires behind { IsTrue (D.Disk.is_clean newest) → IsTrue (D.Disk.is_clean spare) →
+        IsBacked (D.Disk.seen newest) (D.Disk.seen spare) }
+    ensures newest { IfSome result (λ files. IsTrue (D.Disk.is_usable files.0)) }
+    ensures spare { IfSome result (λ files. IsTrue (D.Disk.is_usable files.1)) }
+    ensures backed { IfSome result (λ files. IsTrue (D.Disk.is_clean files.0) →
+        IsTrue (D.Disk.is_clean files.1) →
+        StaysBacked (D.Disk.may_leave files.0) (D.Disk.seen files.1)) }
+    ensures older { IfSome result (λ files. IsTrue (D.Disk.is_clean files.0) →
+        AreOlder (D.Disk.may_leave files.0) number) }
+{
+    let mut newest = newest;
+    match is_below(alloc, &mut newest, number) {
+        Ok(true) => {}
+        Ok(false) | Err(_) => return None,
+    }
+    match newest.sync() {
+        Ok(()) => Some((newest, spare)),
         Err(_) => None,
     }
 }
@@ -299,7 +348,7 @@ fn write_segment<D: Disk + Drop>(
 ) -> Option<Segment<D>>
     requires usable { IsTrue (D.Disk.is_usable spare) }
     requires backed { IsTrue (D.Disk.is_clean newest.now) → IsTrue (D.Disk.is_clean spare) →
-        IsBacked (D.Disk.seen newest.now) (D.Disk.seen spare) }
+        StaysBacked (D.Disk.may_leave newest.now) (D.Disk.seen spare) }
     ensures head { IfSome result
         (λ s. IsHeaded settings.now (state_lines gateway.now) (text_of s)) }
     ensures synced { IfSome result (λ s. durable_of s ≡ length (text_of s)) }

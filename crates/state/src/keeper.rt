@@ -169,17 +169,19 @@ impl<P: Watched + Drop, F: Folder + Drop> Keeper<Pair<P, DiskStore<F>>> {
     ghost use Rattle.segments.specs.Crash.{AreMixing};
     ghost use Rattle.state.specs.Crashed.{IsKeptIn};
     ghost use Rattle.state.specs.Deeds.{is_kept};
-    ghost use Rattle.state.specs.Logs.{leaves_in};
+    ghost use Rattle.state.specs.Logs.{HasOlderBeside, leaves_in};
     ghost use Rattle.state.specs.Returns.{IsBegunOver};
     ghost use Rattle.state.specs.declared.beginning.Origin.{Origin};
 
     /// At any moment between two calls, while the state is kept: whatever a crash leaves then of
     /// the log's file, a start reads there the state with which the log was begun, all events that
-    /// are synced, the oldest of those that wait, and no other line. So it goes on with each link.
+    /// are synced, the oldest of those that wait, and no other line. What a crash leaves of the
+    /// other file has older segments alone. So a start goes on with each link.
     pub fn survives(&self)
         ensures kept { is_kept self.now.ends.deeds ≡ true → AreMixing F.File.Disk →
             (file : List ℕ) → leaves_in self.now.ends.store.opened file →
             IsKeptIn self.now.ends.store.settings.items self.now.ends.deeds file }
+        ensures older { HasOlderBeside self.now.ends.store.opened }
         ensures goes_on { is_kept self.now.ends.deeds ≡ true → AreMixing F.File.Disk →
             (file : List ℕ) → leaves_in self.now.ends.store.opened file →
             (c : Settings) (text : List ℕ) (log : Log) (o : Origin) →

@@ -78,16 +78,20 @@ impl<P: Watched + Drop, F: Folder + Drop> Pair<P, DiskStore<F>> {
     ghost use Rattle.segments.specs.Crash.{AreMixing};
     ghost use Rattle.state.specs.Crashed.{IsKeptIn};
     ghost use Rattle.state.specs.Deeds.{is_kept};
-    ghost use Rattle.state.specs.Logs.{leaves_in};
+    ghost use Rattle.state.specs.Logs.{HasOlderBeside, leaves_in};
 
     /// While the state is kept a start finds it, whatever a crash leaves now of the log's file:
     /// with all events that are synced, with the oldest of those that wait, and with no other line.
+    /// What a crash leaves of the other file has older segments alone.
     pub fn survives(&self)
-        ensures { is_kept self.now.deeds ≡ true → AreMixing F.File.Disk → (file : List ℕ) →
+        ensures kept { is_kept self.now.deeds ≡ true → AreMixing F.File.Disk → (file : List ℕ) →
             leaves_in self.now.store.opened file →
             IsKeptIn self.now.store.settings.items self.now.deeds file }
+        ensures older { HasOlderBeside self.now.store.opened }
     {
-        self.store().survives();
+        let store = self.store();
+        store.survives();
+        store.has_older_beside();
     }
 }
 

@@ -23,4 +23,5 @@ invariant_of-t-23 g c = record {
       (sym (all_taken (text_of c.in-Some.segment) c.octets-head.result c.octets-head.ensures))
       c.in-Some.ensures.whole;
   room = omega (arith, c.octets-head.ensures, c.in-Some.ensures.room, c.blocks-blocks.ensures.room);
+  older = c.requires.older;
 }

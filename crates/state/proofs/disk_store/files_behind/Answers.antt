@@ -1,0 +1,14 @@
+use Rattle.std.proofs.Common.{subst, sym}
+use Rattle.segments.specs.Crashes.{AreOlder}
+use Rattle.segments.specs.Segment.{file_of}
+use Rattle.state.proofs.Surviving.{stands_older}
+use Rattle.state.proofs.disk_store.files_behind.Goals as goal
+
+pub returns-then-may_be_used-clause-older : goal.returns-then-may_be_used-clause-older
+returns-then-may_be_used-clause-older g c _ =
+    let current = c.args.current in
+    subst (λ file. AreOlder (g.D.Disk.may_leave file) c.args.number)
+    (sym c.into_file-newest.ensures)
+    (stands_older (g.D.Disk.may_leave (file_of current.segment)) current.number c.args.number
+    (c.survives.ensures.stands current.number current.head current.within current.whole)
+    c.if-own-number.false)
