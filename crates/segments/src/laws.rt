@@ -1,7 +1,7 @@
 //! What holds of both files over a crash.
 ghost use Rattle.std.specs.Prelude.{◌≡◌, ◌<◌, ◌≤◌, ℕ, List, [], ◌∷◌, ◌++◌, codes, length, take};
 ghost use Rattle.segments.specs.Crash.{HasNoOther, IsOldIfOpen, IsShut, IsTextIfOpen};
-ghost use Rattle.segments.specs.Crashes.{AreBoth, AreOlder, IsThatOf, Survives};
+ghost use Rattle.segments.specs.Crashes.{AreBoth, AreOlder, IsThatOf, StaysBacked, Survives};
 ghost use Rattle.segments.specs.Crashes.{lines_behind};
 ghost use Rattle.segments.specs.Head.{Fits, head_for, head_of, whole_text};
 ghost use Rattle.segments.specs.Starts.{IsBacked, IsFoundIn, IsNewest};
@@ -65,6 +65,18 @@ pub fn no_file_is_written_over_but_beside_one_as_new()
         IsFoundIn other head text → IsBacked newest other →
         (own : SegmentHead) × (body : List ℕ) × Fits own × Holds newest 0 (head_of own) ×
         (0 < length body → Holds newest 87 body) × (length body ≡ own.octets) ×
+        (sum_of body ≡ own.sum) × (head.number ≤ own.number) }
+{}
+
+/// No crash takes the newest segment while the other file is written over. That is begun only where
+/// whatever a crash leaves of the newest file has a segment as new as the other file's: its
+/// checkpoint has the length and the sum that its first line says, and its number isn't lower.
+pub fn no_crash_takes_both_files<D: Disk>()
+    ensures { (newest other : D) (c : List ℕ) (head : SegmentHead) (text : List ℕ) → Fits head →
+        IsFoundIn (D.Disk.seen other) head text →
+        StaysBacked (D.Disk.may_leave newest) (D.Disk.seen other) → D.Disk.may_leave newest c →
+        (own : SegmentHead) × (body : List ℕ) × Fits own × Holds c 0 (head_of own) ×
+        (0 < length body → Holds c 87 body) × (length body ≡ own.octets) ×
         (sum_of body ≡ own.sum) × (head.number ≤ own.number) }
 {}
 

@@ -29,7 +29,7 @@ mod writer;
 pub use fault::SegmentFault;
 pub use head::SegmentHead;
 pub use laws::{
-    a_start_finds_what_was_synced, first_lines_by_example,
+    a_start_finds_what_was_synced, first_lines_by_example, no_crash_takes_both_files,
     no_file_is_written_over_but_beside_one_as_new, the_other_file_has_older_segments,
 };
 pub use segment::Segment;
