@@ -46,9 +46,9 @@ pub fn other_keys_are_refused()
         IsLiveReadOfText text (Ok (c, ends)) → HasNoOtherKeys text }
 {}
 
-/// A file that can't be used is refused with the dotted path of the first key of docs/SETTINGS.md, in
-/// the order of that page, that is missing, of another type or out of its range: all that stands
-/// before it is right. Of the stations it is the first that isn't right, whose place
+/// A file that can't be used is refused with the dotted path of a key. It is the first one of
+/// docs/SETTINGS.md, in the order of that page, that is missing, of another type or out of its
+/// range. Of the stations it is the first that isn't right, whose place
 /// [`wrong_station`](crate::wrong_station) finds. An unknown key is named only where all of these
 /// are right.
 pub fn faults_name_the_first_wrong_key()
