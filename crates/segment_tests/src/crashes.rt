@@ -64,13 +64,13 @@ fn segment_behind<D: Disk + Drop>(
 }
 
 /// Writes the next one: the run knows in which file the newest one stands.
-fn next_segment(
+fn next_segment<D: Disk + Drop>(
     alloc: Global,
-    segment: Segment<File>,
-    spare: File,
+    segment: Segment<D>,
+    spare: D,
     number: u64,
     number_written: u64,
-) -> Next {
+) -> Result<(Segment<D>, D), (D, D)> {
     if !segment.is_open() || !spare.may_be_used() {
         return Err((segment.into_file(), spare));
     }
