@@ -1,63 +1,46 @@
 //! Visitors over streams in memory.
-ghost use Rattle.std.specs.Prelude.{◌≡◌, ◌∷◌, ◌++◌, [], ℕ, Bool, List, Some, take};
-ghost use Rattle.std.specs.Borrow.{ftrue};
-ghost use Rattle.status.specs.Streams.{FitsBuffer, Finished, Handed, Looked, StreamCall};
-ghost use Rattle.status.specs.Streams.{got_of, took_count};
+ghost use Rattle.std.specs.Prelude.{◌≡◌, ◌∷◌, ◌++◌, take};
+ghost use Rattle.gateway_tests.specs.Visits.{arrivals_in, calls_in, given_in, taken_in};
+ghost use Rattle.status.specs.Streams.{FitsBuffer, Finished, Handed, Looked, got_of, took_count};
 
+use gateway::{Action, History, Next};
 use status::{
     CentreView, Keeping, LineView, Queue, Snapshot, Stream, StreamLook, StreamSource, Took,
     Visitors,
 };
-use std::marker::Model;
 use std::test::Fail;
 
-/// What has passed at a stream, which only proofs read.
-#[derive(Drop)]
-struct Passage {
-    ghost given: { List ℕ },
-    ghost taken: { List ℕ },
-    /// The newest first.
-    ghost calls: { List StreamCall },
+/// What a call that brings no octets is noted with.
+const NO_OCTETS: [u8; 1024] = [0; 1024];
+
+/// What has been given, with what a look found.
+fn with_given(log: &History, look: StreamLook, buf: &[u8; 1024]) -> History
+    ensures { given_in result.entries ≡ given_in log.now.entries ++ got_of look buf.now }
+{
+    match look {
+        StreamLook::Octets(len) => log.came(&Next::Line(0, len), buf),
+        StreamLook::Quiet | StreamLook::Gone => log.came(&Next::Tick(0), buf),
+    }
 }
 
-impl Model for Passage {
-    ghost also_owns = { λ _. ftrue };
+/// The calls, with a look that found this.
+fn with_look(log: &History, look: StreamLook) -> History
+    ensures { calls_in result.entries ≡ Looked look ∷ calls_in log.now.entries }
+{
+    match look {
+        StreamLook::Octets(len) => log.came(&Next::Wall(0, len as u64), &NO_OCTETS),
+        StreamLook::Quiet => log.came(&Next::Tick(0), &NO_OCTETS),
+        StreamLook::Gone => log.came(&Next::Cut(0), &NO_OCTETS),
+    }
 }
 
-impl Passage {
-    fn new() -> Passage
-        ensures given { result.given ≡ [] }
-        ensures taken { result.taken ≡ [] }
-        ensures calls { result.calls ≡ [] }
-    {
-        Passage {}
-    }
-
-    /// With a look that found this.
-    fn looked(&self, _look: StreamLook, _buf: &[u8; 1024]) -> Passage
-        ensures given { result.given ≡ self.now.given ++ got_of _look _buf.now }
-        ensures taken { result.taken ≡ self.now.taken }
-        ensures calls { result.calls ≡ Looked _look ∷ self.now.calls }
-    {
-        Passage {}
-    }
-
-    /// With octets that were handed to it, and what it did with them.
-    fn handed(&self, _octets: &[u8], _took: Took) -> Passage
-        ensures given { result.given ≡ self.now.given }
-        ensures taken { result.taken ≡ self.now.taken ++ take (took_count _took) _octets.now }
-        ensures calls { result.calls ≡ Handed _took ∷ self.now.calls }
-    {
-        Passage {}
-    }
-
-    /// With its end, behind which nothing is written.
-    fn finished(&self) -> Passage
-        ensures given { result.given ≡ self.now.given }
-        ensures taken { result.taken ≡ self.now.taken }
-        ensures calls { result.calls ≡ Finished ∷ self.now.calls }
-    {
-        Passage {}
+/// The calls, with octets that were handed over.
+fn with_write(log: &History, took: Took) -> History
+    ensures { calls_in result.entries ≡ Handed took ∷ calls_in log.now.entries }
+{
+    match took {
+        Took::Octets(count) => log.went(&(count as u64), &Action::Line(&[])),
+        Took::Nothing => log.came(&Next::Open(0), &NO_OCTETS),
     }
 }
 
@@ -67,14 +50,28 @@ struct NotedStream<'a> {
     /// What is left of the request.
     request: &'static [u8],
     answer: &'a mut Vec<u8>,
-    passed: Passage,
+    given: History,
+    taken: History,
+    calls: History,
+}
+
+/// How many octets were taken.
+fn count_of(took: Took) -> usize
+    ensures { result ≡ took_count took }
+{
+    match took {
+        Took::Octets(count) => count,
+        Took::Nothing => 0,
+    }
 }
 
 impl NotedStream<'_> {
     /// What a look finds: eight octets at the most.
     fn look(&mut self, buf: &mut [u8; 1024]) -> StreamLook
         ensures fits { FitsBuffer result }
-        ensures passed { self.new.passed ≡ self.old.passed }
+        ensures given { self.new.given ≡ self.old.given }
+        ensures taken { self.new.taken ≡ self.old.taken }
+        ensures calls { self.new.calls ≡ self.old.calls }
     {
         let Some((octets, rest)) = self.request.split_at_checked(8.min(self.request.len())) else {
             return StreamLook::Gone;
@@ -93,15 +90,16 @@ impl NotedStream<'_> {
 impl Stream for NotedStream<'_> {
     ghost use Rattle.std.specs.Prelude.{Some};
 
-    ghost given = { λ stream. Some stream.passed.given };
+    ghost given = { λ stream. Some (given_in stream.given.entries) };
 
-    ghost taken = { λ stream. Some stream.passed.taken };
+    ghost taken = { λ stream. Some (taken_in stream.taken.entries) };
 
-    ghost calls = { λ stream. Some stream.passed.calls };
+    ghost calls = { λ stream. Some (calls_in stream.calls.entries) };
 
     fn read(&mut self, buf: &mut [u8; 1024]) -> StreamLook {
         let look = self.look(buf);
-        self.passed = self.passed.looked(look, buf);
+        self.given = with_given(&self.given, look, buf);
+        self.calls = with_look(&self.calls, look);
         look
     }
 
@@ -111,36 +109,15 @@ impl Stream for NotedStream<'_> {
             Ok(()) => Took::Octets(len),
             Err(_) => Took::Nothing,
         };
-        self.passed = self.passed.handed(octets, took);
+        self.taken = self
+            .taken
+            .went(&0, &Action::Line(&octets[..count_of(took)]));
+        self.calls = with_write(&self.calls, took);
         took
     }
 
     fn finish(&mut self) {
-        self.passed = self.passed.finished();
-    }
-}
-
-/// Whether somebody had come at each look, which only proofs read.
-#[derive(Drop)]
-struct Arrivals {
-    /// The newest first.
-    ghost looks: { List Bool },
-}
-
-impl Model for Arrivals {
-    ghost also_owns = { λ _. ftrue };
-}
-
-impl Arrivals {
-    fn new() -> Arrivals {
-        Arrivals {}
-    }
-
-    /// With one more look.
-    fn looked(&self, _is_there: bool) -> Arrivals
-        ensures { result.looks ≡ _is_there ∷ self.now.looks }
-    {
-        Arrivals {}
+        self.calls = self.calls.restarted(&0);
     }
 }
 
@@ -150,24 +127,33 @@ struct OneVisitor<'a> {
     request: &'static [u8],
     /// Where the answer goes; none once he has come.
     answer: Option<&'a mut Vec<u8>>,
-    arrivals: Arrivals,
+    arrivals: History,
 }
 
 impl<'a> StreamSource for OneVisitor<'a> {
+    ghost use Rattle.std.specs.Prelude.{Some};
+
     type Stream = NotedStream<'a>;
 
-    ghost arrivals = { λ source. Some source.arrivals.looks };
+    ghost arrivals = { λ source. Some (arrivals_in source.arrivals.entries) };
 
     fn accept(&mut self) -> Option<NotedStream<'a>> {
         let answer = self.answer.take();
-        self.arrivals = self.arrivals.looked(answer.is_some());
         match answer {
-            Some(answer) => Some(NotedStream {
-                request: self.request,
-                answer,
-                passed: Passage::new(),
-            }),
-            None => None,
+            Some(answer) => {
+                self.arrivals = self.arrivals.came(&Next::Open(0), &NO_OCTETS);
+                Some(NotedStream {
+                    request: self.request,
+                    answer,
+                    given: History::new(),
+                    taken: History::new(),
+                    calls: History::new(),
+                })
+            }
+            None => {
+                self.arrivals = self.arrivals.came(&Next::Tick(0), &NO_OCTETS);
+                None
+            }
         }
     }
 }
@@ -207,7 +193,7 @@ fn a_visitor_gets_the_page_piece_by_piece(rt: HostRuntime) -> Result<(), Fail> {
     let source = OneVisitor {
         request: b"GET /metrics HTTP/1.1\r\nHost: gateway\r\n\r\n",
         answer: Some(&mut answer),
-        arrivals: Arrivals::new(),
+        arrivals: History::new(),
     };
     let mut visitors = Visitors::new(rt.alloc(), source)?;
     for _ in 0..1_000 {
