@@ -9,7 +9,7 @@ use Rattle.live.specs.Ends.{LiveEnds}
 use Rattle.live.specs.declared.allow_list.AllowList.{AllowList}
 use Rattle.record.specs.Recording.{Recording}
 use Rattle.state.specs.declared.beginning.Origin.{Origin}
-use Rattle.telegate.specs.Living.{HasLived, IsPortOf}
+use Rattle.telegate.specs.Living.{HasLived, IsPortOfRun}
 use Rattle.telegate.specs.declared.fault.Fault.{Fault}
 use Rattle.telegate.specs.declared.fault.Fault.TheVariants.{Device, NoMemory, StateInUse}
 use Rattle.telegate.specs.declared.fault.Fault.TheVariants.{StateUnusable}
@@ -31,13 +31,13 @@ IsKeptFault StateInUse = Unit {0}
 IsKeptFault StateUnusable = Unit {0}
 IsKeptFault fault = IsEndFault fault
 
--- A run with this beginning is over. The port is that of these settings and this allow list, and of
--- a run that goes on where the beginning has a moment. Where the gateway began with the state that
--- the lives before lead to, all lives together keep every promise of a gateway with these settings.
+-- A run with this beginning is over. The port is that of these settings and this allow list, and
+-- began with the cut where it goes on. Where the gateway began with the state that the lives before
+-- lead to, all lives together keep every promise of a gateway with these settings.
 pub record HasLivedOn {E : Type 0} (settings : Settings) (allow_list : AllowList) (origin : Origin)
     (before : Log) (port : LiveEnds) (pen : Recording) (ended : Result (Unit {0}) E) : Type 0 where
   pub behind : before ≡ origin.before.entries
-  pub port_is : IsPortOf settings allow_list (is_some origin.moment) port
+  pub port_is : IsPortOfRun settings allow_list (is_some origin.moment) port
   pub lived : Follows (setup_of settings) origin.gateway (Some before) →
       Rests (setup_of settings) (Some before) →
       HasLived settings allow_list (is_some origin.moment) before port pen ended

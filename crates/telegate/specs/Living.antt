@@ -4,14 +4,14 @@ use Rattle.gateway.specs.Config.{Settings}
 use Rattle.gateway.specs.Log.{Log}
 use Rattle.gateway.specs.Setups.{setup_of}
 use Rattle.live.specs.Ends.{LiveEnds, fixed_of}
+use Rattle.live.specs.Runs.{BeginsSo, IsInRun}
 use Rattle.live.specs.declared.allow_list.AllowList.{AllowList}
 use Rattle.record.specs.Recording.{Recording}
 use Rattle.telegate.specs.Lives.{all_passed}
 use Rattle.telegate.specs.Running.{HasEnded, HasRunFaithfully, IsRecorded}
 
 -- The port is that of a run with these settings and this allow list, which goes on after a restart
--- or not. That the log of one that goes on begins with the cut of the connection of then is said of
--- each call of the port (laws of `live`), not here: `port_between` makes the cut due at first.
+-- or not.
 abbrev pub IsPortOf : Settings → AllowList → (goes_on : Bool) → LiveEnds → Type 0
 IsPortOf settings allow_list goes_on port = fixed_of port ≡ record {
   allow_list = allow_list;
@@ -19,12 +19,20 @@ IsPortOf settings allow_list goes_on port = fixed_of port ≡ record {
   goes_on = goes_on;
 }
 
+-- Nothing has happened at it but by its events and actions since the run began. Its log begins with
+-- the wall clock, and where the run goes on then with the cut of the connection of then.
+pub record IsPortOfRun (settings : Settings) (allow_list : AllowList) (goes_on : Bool)
+    (port : LiveEnds) : Type 0 where
+  pub fixed : IsPortOf settings allow_list goes_on port
+  pub run : IsInRun port
+  pub begins : BeginsSo port
+
 -- A live run is over. What passed at its port, behind the lives before, keeps every promise of a
 -- gateway with these settings, and so does what is written of it. A port between real ends has
 -- always another event, so it ended well only once all turns that can be counted were used up.
 pub record HasLived {E : Type 0} (settings : Settings) (allow_list : AllowList) (goes_on : Bool)
     (before : Log) (port : LiveEnds) (pen : Recording) (ended : Result (Unit {0}) E) : Type 0 where
-  pub port_is : IsPortOf settings allow_list goes_on port
+  pub port_is : IsPortOfRun settings allow_list goes_on port
   pub over : OnOk ended (HasEnded false (Some before) (all_passed before pen (Some port.log)))
   pub faithful : HasRunFaithfully (setup_of settings) (all_passed before pen (Some port.log)) ended
   pub recorded : IsRecorded (setup_of settings) before pen ended

@@ -3,7 +3,7 @@ ghost use Rattle.std.specs.Prelude.{◌≡◌, ◌||◌};
 ghost use Rattle.std.specs.Option.{option_or};
 ghost use Rattle.sitefile.specs.Site.{SiteValues};
 ghost use Rattle.live.specs.Redial.{Redial};
-ghost use Rattle.live.specs.Sights.{ShowsEnds};
+ghost use Rattle.live.specs.Runs.{ShowsRun};
 ghost use Rattle.live.specs.Streams.{Calls};
 ghost use Rattle.live.specs.declared.watched.EndsSight.{EndsSight};
 ghost use Rattle.telegate.specs.Wishes.{Said, said_in, said_of};
@@ -12,7 +12,7 @@ ghost use Rattle.telegate.specs.declared.site.ProcessLine.TheVariants.{Once, Aga
 use crate::life::Life;
 use crate::living::Kept;
 use crate::site::{ProcessLine, RunSite};
-use live::{LineDialler, LineSocket, Live, OctetStream, Redialled, SystemClock, Watched};
+use live::{LineDialler, LineSocket, OctetStream, Redialled, RunPort, SystemClock, Watched};
 use record::Recorder;
 
 /// The line of the program.
@@ -27,7 +27,7 @@ type ReturningLine = Redialled<
 /// The port of a run that keeps no state, behind the lives before it.
 type PortAnew<T> = Life<
     Recorder<
-        Live<<T as RunSite>::Line, <T as RunSite>::Listener, <T as RunSite>::Clock>,
+        RunPort<<T as RunSite>::Line, <T as RunSite>::Listener, <T as RunSite>::Clock>,
         <T as RunSite>::Sheet,
     >,
 >;
@@ -49,9 +49,9 @@ pub fn the_line_is_there_as_its_stream_is()
 /// lives before it are, and with a state on the disk as without one.
 pub fn sights_show_the_ends<T: RunSite>()
     ensures anew { (run : _) (sight : EndsSight) →
-        ⟦<PortAnew<T> as Watched>⟧.shows run sight → ShowsEnds run.port.port sight }
+        ⟦<PortAnew<T> as Watched>⟧.shows run sight → ShowsRun run.port.port sight }
     ensures kept { (run : _) (sight : EndsSight) →
-        ⟦<PortKept<T> as Watched>⟧.shows run sight → ShowsEnds run.port.port.ends.port sight }
+        ⟦<PortKept<T> as Watched>⟧.shows run sight → ShowsRun run.port.port.ends.port sight }
 {}
 
 /// Each value of a site's file reaches the run under its own name: flags, the state's directory,

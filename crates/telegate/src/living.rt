@@ -20,7 +20,7 @@ use crate::host::Wishes;
 use crate::running::{DeviceFailed, Lived, Scribes, live};
 use crate::site::{EndRefusal, RunSite};
 use gateway::{Action, Config, Gateway, History};
-use live::{AllowList, Listener, Live, OctetStream};
+use live::{AllowList, Listener, Live, OctetStream, RunPort};
 use lookout::Lookout;
 use record::{Pen, RecordSheet};
 use runlog::{LogSink, Logger, Note, Trouble, Watch};
@@ -186,19 +186,20 @@ fn refused<S: LogSink + Drop>(refusal: EndRefusal, logger: &mut Logger<S>) -> Fa
 
 /// The port of a run between these ends. In one that goes on after a restart the connection of then
 /// is cut first.
+#[tactic(auto, using(crate::proofs::RunPorts::start_anew, crate::proofs::RunPorts::start_on))]
 fn port_between<S: OctetStream, L: Listener + Drop, C: live::RunClock + Drop>(
     config: &Config,
     ends: RunEnds<S, L, C>,
     allow_list: AllowList,
     goes_on: bool,
-) -> Live<S, L, C>
+) -> RunPort<S, L, C>
     ensures port { IsPortOf config.now allow_list goes_on result }
     ensures cut { result.is_cut_due ≡ goes_on }
     ensures log { result.log ≡ [] }
     ensures failed { result.failed ≡ 0 }
 {
     let port = Live::new(ends.line, ends.listener, ends.clock, allow_list, config);
-    if goes_on { port.cut_first() } else { port }
+    RunPort::new(if goes_on { port.cut_first() } else { port })
 }
 
 /// Runs the gateway live with these settings, which were read from this text, and answers how that
@@ -228,7 +229,7 @@ fn run_anew<T: RunSite>(
     site: &T,
     config: &Config,
     wishes: Wishes<'_>,
-) -> Result<Lived<Live<T::Line, T::Listener, T::Clock>, T::Sheet, T::Sink>, Fault>
+) -> Result<Lived<RunPort<T::Line, T::Listener, T::Clock>, T::Sheet, T::Sink>, Fault>
     ensures lived { IfOk result (λ lived. HasLived config.now wishes.entry.allow_list false []
         lived.run_log.port.port.port lived.run_log.port.port.pen lived.ended) }
     ensures fault { IfErr result IsEndFault }
@@ -240,6 +241,7 @@ fn run_anew<T: RunSite>(
 }
 
 /// Runs a new gateway between these ends, whose clock begins at 0.
+#[tactic(auto, using(crate::proofs::RunPorts::port_of_run))]
 fn run_new<T: RunSite>(
     _site: &T,
     config: &Config,
@@ -247,7 +249,7 @@ fn run_new<T: RunSite>(
     ends: RunEnds<T::Line, T::Listener, T::Clock>,
     allow_list: AllowList,
     scribes: Scribes<T::Sink, T::Sheet, T::Glass>,
-) -> Lived<Live<T::Line, T::Listener, T::Clock>, T::Sheet, T::Sink>
+) -> Lived<RunPort<T::Line, T::Listener, T::Clock>, T::Sheet, T::Sink>
     requires new { logged_first (log_of scribes.pen) (Some []) ≡ Some [] }
     requires begins { Follows (setup_of config.now) gateway (Some []) }
     requires clock { T.begins_at ends.clock 0 }
@@ -261,7 +263,7 @@ fn run_new<T: RunSite>(
 /// A port between the ends of a site, whose events are kept in a directory of it.
 pub(crate) type Kept<T> = Keeper<
     Pair<
-        Live<<T as RunSite>::Line, <T as RunSite>::Listener, <T as RunSite>::Clock>,
+        RunPort<<T as RunSite>::Line, <T as RunSite>::Listener, <T as RunSite>::Clock>,
         DiskStore<<T as RunSite>::Folder>,
     >,
 >;
@@ -298,6 +300,7 @@ fn first_moment(moment: Option<u64>) -> u64
 
 /// Runs the gateway between these ends from where a run begins, and keeps its state. Their clock
 /// goes on where the gateway does.
+#[tactic(auto, using(crate::proofs::RunPorts::port_of_run))]
 fn run_from<T: RunSite>(
     site: &T,
     config: &Config,

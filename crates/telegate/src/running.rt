@@ -7,7 +7,7 @@ ghost use Rattle.telegate.specs.Running.{HasEnded, HasRun, HasRunFaithfully, IsR
 
 use crate::life::Life;
 use gateway::{End, Gateway, History, drive_on};
-use live::Watched;
+use live::{EndsSight, Watched};
 use lookout::Lookout;
 use record::{Pen, RecordSheet, Recorder};
 use runlog::{LogSink, Logger, RunLog};
@@ -31,6 +31,8 @@ pub(crate) struct Scribes<S: LogSink + Drop, W: RecordSheet + Drop, D: StreamSou
 pub(crate) struct Lived<P: Watched + Drop, W: RecordSheet + Drop, S: LogSink + Drop> {
     pub(crate) run_log: RunLog<Life<Recorder<P, W>>, S>,
     pub(crate) ended: Result<(), DeviceFailed>,
+    /// How its ends stood then.
+    pub(crate) sight: EndsSight,
 }
 
 /// Runs the gateway over a port until its device fails, or has no more events, or all turns that
@@ -90,6 +92,7 @@ pub(crate) fn live<
         (P.log result.run_log.port.port.port))) }
     ensures script { P.script result.run_log.port.port.port ≡ P.script port }
     ensures before { result.run_log.port.before.entries ≡ before.entries }
+    ensures shown { P.shows result.run_log.port.port.port result.sight }
     // Where the gateway begins with the state that all that passed before leads to, what has passed
     // then keeps every promise of a gateway with these settings.
     ensures faithful { (p : Setup) →
@@ -107,5 +110,10 @@ pub(crate) fn live<
     let mut run_log = RunLog::new(Life::new(recorder, before), scribes.logger);
     let ended = serve(gateway, &mut run_log, scribes.lookout);
     let _is_over = run_log.port().port().is_over();
-    Lived { run_log, ended }
+    let sight = run_log.port().port().sight();
+    Lived {
+        run_log,
+        ended,
+        sight,
+    }
 }
