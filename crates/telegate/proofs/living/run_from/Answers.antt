@@ -1,0 +1,26 @@
+use Rattle.std.proofs.Common.{rules, ◌≡◌, Some, is_some}
+use Rattle.gateway.specs.Agrees.{Follows, Rests}
+use Rattle.gateway.specs.Setups.{setup_of}
+use Rattle.telegate.specs.Kept.{HasLivedOn}
+use Rattle.telegate.specs.Living.{HasLived, IsPortOf, IsPortOfRun}
+use Rattle.telegate.proofs.RunPorts.{port_of_run}
+use Rattle.telegate.proofs.living.run_from.Goals as goal
+
+pub returns : goal.returns
+returns g c =
+    let fixed : IsPortOf c.args.config.now c.args.wishes.allow_list
+    (is_some c.args.begun.origin.moment) c.live.result.run_log.port.port.port.ends.port =
+    search rules in
+    let port = port_of_run c.args.config.now c.args.wishes.allow_list
+    (is_some c.args.begun.origin.moment) c.live.result.run_log.port.port.port.ends.port
+    _ fixed c.live.ensures.shown in
+    record {
+      behind = search rules;
+      port_is = port;
+      lived = λ follows rests. record {
+        port_is = port;
+        over = search rules;
+        faithful = search rules;
+        recorded = search rules;
+      };
+    }
