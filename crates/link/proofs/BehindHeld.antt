@@ -24,8 +24,8 @@ use Rattle.link.specs.Carried.{station_given_up, given_up}
 use Rattle.link.specs.Runs.{Call, Octets, Due, GivesUp, called}
 use Rattle.link.specs.Runs as runs
 use Rattle.link.specs.Bursts.{is_answered, poll_by, IsSent}
-use Rattle.link.specs.AtOnce.{is_spent, began_by, began_out, began_after, first_service}
-use Rattle.link.specs.AtOnce.{TurnIsNext, TurnsGoOn}
+use Rattle.link.specs.AtOnce.{is_spent, began_by, began_out, began_after, first_of_turn}
+use Rattle.link.specs.AtOnce.{first_service, may_go, TurnIsNext, TurnsGoOn}
 use Rattle.link.proofs.Leaving.{set_none}
 use Rattle.link.proofs.Preceding.{IsChosen, here, there, is_chosen}
 use Rattle.link.proofs.Bursting.{not_both, silent_down, held_is, turn_sends, first_poll}
@@ -356,50 +356,58 @@ call_matches p began (GivesUp station) matches = give_up_matches p station began
 
 -- ---- what goes out behind it
 
--- what a turn has first
-commands_wanted : (burst : ℕ) (fcb : Bool) (s : StationState) (command : Option (List ℕ))
-    → (following : Phase) × (commands_from burst true fcb s command
-    ≡ wants (Counted fcb (first_service command s)) following)
-commands_wanted burst fcb s None = first_poll burst fcb s
-commands_wanted burst fcb s (Some asdu) = go s.dfc
-  where
-    go : (b : Bool) → (following : Phase)
-        × ((if b then polls_from burst true fcb s Polling else wanted_command fcb asdu)
-        ≡ wants (Counted fcb (if b then poll_by s.acd else Command asdu)) following)
-    go true = first_poll burst fcb s
-    go false = (Polling, refl)
+-- No poll goes out without leave.
+polls_wait : (acd : Bool) → may_go false (poll_by acd) ≡ true → ⊥
+polls_wait true may = cc
+polls_wait false may = cc
 
-first_wanted : (burst : ℕ) (again : Bool) (s : StationState) (command : Option (List ℕ))
-    (link : Link) → is_answered link ≡ true
-    → (fcb : Bool) × (following : Phase) × (wanted_by burst true again s command link Commanding
+-- what a turn has first, where that may go
+commands_wanted : (burst : ℕ) (may_poll fcb : Bool) (s : StationState) (command : Option (List ℕ))
+    → may_go may_poll (first_service command s) ≡ true
+    → (following : Phase) × (commands_from burst may_poll fcb s command
     ≡ wants (Counted fcb (first_service command s)) following)
-first_wanted burst again s command (Next fcb) up =
-    let first = commands_wanted burst fcb s command in (fcb, first.0, first.1)
-first_wanted burst again s command Down up = let no : ⊥ = cc in absurd no
-first_wanted burst again s command Available up = let no : ⊥ = cc in absurd no
-first_wanted burst again s command (Held fcb service missed) up = let no : ⊥ = cc in absurd no
+commands_wanted burst true fcb s None may = first_poll burst fcb s
+commands_wanted burst false fcb s None may = absurd (polls_wait s.acd may)
+commands_wanted burst may_poll fcb s (Some asdu) may = go s.dfc may_poll may
+  where
+    go : (b leave : Bool) → may_go leave (if b then poll_by s.acd else Command asdu) ≡ true
+        → (following : Phase)
+        × ((if b then polls_from burst leave fcb s Polling else wanted_command fcb asdu)
+        ≡ wants (Counted fcb (if b then poll_by s.acd else Command asdu)) following)
+    go true true given = first_poll burst fcb s
+    go true false given = absurd (polls_wait s.acd given)
+    go false leave given = (Polling, refl)
+
+first_wanted : (burst : ℕ) (may_poll again : Bool) (s : StationState) (command : Option (List ℕ))
+    (link : Link) → is_answered link ≡ true → may_go may_poll (first_service command s) ≡ true
+    → (fcb : Bool) × (following : Phase) × (wanted_by burst may_poll again s command link Commanding
+    ≡ wants (Counted fcb (first_service command s)) following)
+first_wanted burst may_poll again s command (Next fcb) up may =
+    let first = commands_wanted burst may_poll fcb s command may in (fcb, first.0, first.1)
+first_wanted burst may_poll again s command Down up may = let no : ⊥ = cc in absurd no
+first_wanted burst may_poll again s command Available up may = let no : ⊥ = cc in absurd no
+first_wanted burst may_poll again s command (Held fcb service missed) up may =
+    let no : ⊥ = cc in absurd no
 
 goes_behind : (p : Primary) (began : Option ℕ) (call : Call) → Matches p began
     → TurnIsNext p began call
-goes_behind p (Some station) (runs.Next now true waiting)
+goes_behind p (Some station) (runs.Next now may_poll waiting)
     (has, (turn, waits o awaited service phase)) =
-    λ out is. absurd (none_out p.outstanding o out awaited)
-goes_behind p (Some station) (runs.Next now true waiting) (has, (turn, ended free phase)) =
-    λ out is.
+    λ out is may. absurd (none_out p.outstanding o out awaited)
+goes_behind p (Some station) (runs.Next now may_poll waiting) (has, (turn, ended free phase)) =
+    λ out is may.
     let up : is_answered (station_at p.stations p.turn).link ≡ true =
     subst (λ (i : ℕ). is_answered (station_at p.stations i).link ≡ true) (sym turn) is in
-    let first = first_wanted p.settings.burst p.again (station_at p.stations p.turn)
-    (waiting p.turn) (station_at p.stations p.turn).link up in
-    subst (λ (i : ℕ). IsSent p waiting i (first_service (waiting i) (station_at p.stations i))) turn (
+    let first = first_wanted p.settings.burst may_poll p.again (station_at p.stations p.turn)
+    (waiting p.turn) (station_at p.stations p.turn).link up
+    (subst (λ (i : ℕ). may_go may_poll (first_of_turn p waiting i) ≡ true) (sym turn) may) in
+    subst (λ (i : ℕ). IsSent p may_poll waiting i (first_of_turn p waiting i)) turn (
       first.0,
-      turn_sends p true waiting
-          (Counted first.0 (first_service (waiting p.turn) (station_at p.stations p.turn))) first.1
-          out
-          (ap (λ (f : Phase). wanted_by p.settings.burst true p.again
+      turn_sends p may_poll waiting (Counted first.0 (first_of_turn p waiting p.turn)) first.1 out
+          (ap (λ (f : Phase). wanted_by p.settings.burst may_poll p.again
           (station_at p.stations p.turn) (waiting p.turn) (station_at p.stations p.turn).link f)
           (phase up) ∙ first.2),
     )
-goes_behind p (Some station) (runs.Next now false waiting) matches = tt
 goes_behind p (Some station) (Octets octets) matches = tt
 goes_behind p (Some station) (Due now) matches = tt
 goes_behind p (Some station) (GivesUp other) matches = tt

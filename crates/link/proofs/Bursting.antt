@@ -881,7 +881,7 @@ goes_on p (Polls k n) (runs.Next now true waiting) (turn, going (so_far, le, is)
     (ap (λ (i : ℕ). is_answered (station_at p.stations i).link) turn ∙ up)
     (ap (λ (i : ℕ). (station_at p.stations i).acd) turn ∙ acd)
     (omega (arith, le, less)) in
-    subst (λ (i : ℕ). IsSent p waiting i Class1) turn (
+    subst (λ (i : ℕ). IsSent p true waiting i Class1) turn (
       one.0,
       turn_sends p true waiting (Counted one.0 Class1) (Class1Polling (suc so_far)) out
           (ap (λ (f : Phase). wanted p.settings.burst true p.again (station_at p.stations p.turn)
@@ -894,7 +894,7 @@ goes_on p (Commanded k) (runs.Next now true waiting) (turn, going is stays) =
     let poll = poll_wanted p.settings.burst p.again (station_at p.stations p.turn)
     (waiting p.turn) (turn_link p)
     (ap (λ (i : ℕ). is_answered (station_at p.stations i).link) turn ∙ up) in
-    subst (λ (i : ℕ). IsSent p waiting i (poll_by (station_at p.stations i).acd)) turn (
+    subst (λ (i : ℕ). IsSent p true waiting i (poll_by (station_at p.stations i).acd)) turn (
       poll.0,
       turn_sends p true waiting
           (Counted poll.0 (poll_by (station_at p.stations p.turn).acd)) poll.1 out

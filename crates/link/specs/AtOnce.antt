@@ -1,12 +1,12 @@
 -- What goes out at once, before any other request (this gateway's own profile; the services, their
 -- repeats and ACD are those of IEC 60870-5-2's unbalanced transmission procedures).
-use Rattle.std.specs.Prelude.{◌≡◌, ◌&&◌, not, ℕ, Bool, true, List, [], ◌∷◌, Option, Some, None}
-use Rattle.std.specs.Prelude.{if◌then◌else◌}
+use Rattle.std.specs.Prelude.{◌≡◌, ◌&&◌, ◌||◌, not, ℕ, Bool, true, List, [], ◌∷◌, Option, Some}
+use Rattle.std.specs.Prelude.{None, if◌then◌else◌}
 use Rattle.link.specs.Answers.{Service, Command}
 use Rattle.link.specs.Bursts.{is_answered, poll_by, IsSent}
 use Rattle.link.specs.Exchanges.{Sending}
 use Rattle.link.specs.Procedure.{is_held, has_repeats}
-use Rattle.link.specs.Turns.{StationState, CommandsWaiting, station_at}
+use Rattle.link.specs.Turns.{StationState, CommandsWaiting, is_poll, station_at}
 use Rattle.link.specs.Primary.{Outstanding, Primary, sending}
 use Rattle.link.specs.Runs.{Call, Next, called}
 
@@ -66,12 +66,21 @@ began_after p (Next now may_poll waiting) began =
     began_out p p.outstanding may_poll waiting began
 began_after p call began = began
 
+-- what the turn of this station has first, by what waits there
+abbrev pub first_of_turn : Primary → CommandsWaiting → (station : ℕ) → Service
+first_of_turn p waiting station = first_service (waiting station) (station_at p.stations station)
+
+-- A poll goes out only where there is leave, and a command without it.
+abbrev pub may_go : (may_poll : Bool) → Service → Bool
+may_go may_poll service = may_poll || not (is_poll service)
+
 -- Where the latest request is a held service with which a turn began, and it was answered, and the
--- link is up, the next request is what the turn has first, if there is leave.
+-- link is up, the next request is what the turn has first, if that may go.
 abbrev pub TurnIsNext : Primary → Option ℕ → Call → Type 0
-TurnIsNext p (Some station) (Next now true waiting) =
+TurnIsNext p (Some station) (Next now may_poll waiting) =
     p.outstanding ≡ None → is_answered (station_at p.stations station).link ≡ true →
-    IsSent p waiting station (first_service (waiting station) (station_at p.stations station))
+    may_go may_poll (first_of_turn p waiting station) ≡ true →
+    IsSent p may_poll waiting station (first_of_turn p waiting station)
 TurnIsNext p began call = Unit {0}
 
 -- at each of these calls

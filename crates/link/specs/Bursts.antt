@@ -66,9 +66,9 @@ abbrev pub poll_by : (acd : Bool) → Service
 poll_by acd = if acd then Class1 else Class2
 
 -- this service goes out to the station
-abbrev pub IsSent : Primary → CommandsWaiting → (station : ℕ) → Service → Type 0
-IsSent p waiting station service =
-    (fcb : Bool) × (sending p true waiting ≡ Some (record {
+abbrev pub IsSent : Primary → (may_poll : Bool) → CommandsWaiting → (station : ℕ) → Service → Type 0
+IsSent p may_poll waiting station service =
+    (fcb : Bool) × (sending p may_poll waiting ≡ Some (record {
       station = station;
       request = Counted fcb service;
     }))
@@ -80,10 +80,10 @@ abbrev pub PollsGoOn : Primary → Row → Call → Type 0
 PollsGoOn p (Polls station many) (Next now true waiting) =
     p.outstanding ≡ None → is_answered (station_at p.stations station).link ≡ true →
     (station_at p.stations station).acd ≡ true → many < p.settings.burst →
-    IsSent p waiting station Class1
+    IsSent p true waiting station Class1
 PollsGoOn p (Commanded station) (Next now true waiting) =
     p.outstanding ≡ None → is_answered (station_at p.stations station).link ≡ true →
-    IsSent p waiting station (poll_by (station_at p.stations station).acd)
+    IsSent p true waiting station (poll_by (station_at p.stations station).acd)
 PollsGoOn p row call = Unit {0}
 
 -- at each of these calls
