@@ -14,7 +14,7 @@ mostly counts right, and mostly isn't always. These are drawn at random:
 - each setting, also at its ends or left out;
 - 1 to 32 stations with any addresses;
 - all types, causes, sizes, cuts, selects with their executes, and tags;
-- own answers of any length, mirrors of several pieces, full queues;
+- own answers of any length, reports and mirrors of up to three pieces, full queues;
 - moments near the end of a time, moments that go back, and the greatest moment.
 
 Not drawn is what 250 events can't reach: numbers that run over at 32,768, a full queue of 65,535
@@ -109,6 +109,8 @@ class Setup:
         for station, ca in zip(self.stations, self.cas):
             lines += ["[[station]]", f"address = {station}", f"ca = {ca}", f"select = {draw.choice(('true', 'false'))}"]
         self.text = "\n".join(lines) + "\n"
+        # What a frame of the line has for objects: 255 octets, less its control octet and address, and the head of an ASDU.
+        self.room = 255 - 1 - self.link - 2 - self.cause - self.ca
 
     def fixed(self, control, address):
         octets = bytes([control]) + low_first(address, self.link)
@@ -261,7 +263,7 @@ class Run:
         kind = draw.choice(sorted(CONTENTS) + [2, 50])
         size = CONTENTS.get(kind, 1) + (7 if kind in range(30, 38) or kind in range(58, 63) else 0)
         count = draw.choice((1, 1, 1, 2, 5, 20, 60, 127))
-        count = max(1, min(count, 240 // (size + self.setup.ioa)))
+        count = max(1, min(count, self.setup.room // (size + self.setup.ioa)))
         content = lambda: bytes(draw.randrange(256) for _ in range(size - 7)) + TAG if size > 7 else bytes(draw.randrange(256) for _ in range(size))
         objects = [(draw.choice((0, 1, 10, 200, 65535)) + n, content()) for n in range(count)]
         octets = self.setup.asdu(kind, draw.choice((1, 3, 3, 20, 0x83, 0x6C, 0xEC, 0x43)), draw.choice([1, 2, *self.setup.cas]), objects, draw.random() < 0.4)
@@ -269,11 +271,11 @@ class Run:
 
     def long_mirror(self):
         """An answer to commands with as many objects as a frame takes: several pieces on the connection."""
-        draw, ioa = self.draw, self.setup.ioa
+        draw, ioa, room = self.draw, self.setup.ioa, self.setup.room
         kind = draw.choice((45, 46, 49, 100))
         size = COMMANDS[kind]
-        count = min(127, (240 - ioa) // (size + draw.choice((0, ioa))) if draw.random() < 0.7 else 3)
-        is_sequence = count * (size + ioa) > 240
+        count = min(127, (room - ioa) // (size + draw.choice((0, ioa))) if draw.random() < 0.7 else 3)
+        is_sequence = count * (size + ioa) > room
         objects = [(1 + n, bytes(size)) for n in range(count)]
         return self.setup.asdu(kind, draw.choice((7, 0x47, 10)), draw.choice(self.setup.cas), objects, is_sequence)
 

@@ -5,6 +5,7 @@ pub mod Walls
 pub mod Ends
 pub mod Looks
 pub mod Streams
+pub mod Sockets
 pub mod Redial
 pub mod InTurn
 pub mod Law

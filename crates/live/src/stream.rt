@@ -87,17 +87,17 @@ impl SystemStream for UnixStream {
 
 /// A stream by TCP or by a Unix socket.
 #[derive(Drop)]
-pub enum SocketStream {
+pub enum SocketStream<T: SystemStream + Drop = TcpStream, U: SystemStream + Drop = UnixStream> {
     /// By TCP.
-    Tcp(TcpStream),
+    Tcp(T),
     /// By a Unix socket.
-    Unix(UnixStream),
+    Unix(U),
 }
 
-impl SystemStream for SocketStream {
-    ghost use Rattle.std.specs.Prelude.{None};
+impl<T: SystemStream + Drop, U: SystemStream + Drop> SystemStream for SocketStream<T, U> {
+    ghost use Rattle.live.specs.Sockets.{calls_by};
 
-    ghost calls = { λ _. None };
+    ghost calls = { λ stream. calls_by T.calls U.calls stream };
 
     fn receive(&mut self, buf: &mut [u8]) -> io::Result<usize> {
         match self {

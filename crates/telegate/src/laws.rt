@@ -11,18 +11,12 @@ ghost use Rattle.telegate.specs.declared.site.ProcessLine.TheVariants.{Once, Aga
 
 use crate::life::Life;
 use crate::living::Kept;
-use crate::site::{ProcessLine, RunSite};
-use live::{LineDialler, LineSocket, OctetStream, Redialled, RunPort, SystemClock, Watched};
+use crate::site::{ReturningLine, RunSite, SystemLine};
+use live::{LineSocket, OctetStream, RunPort, Watched};
 use record::Recorder;
 
 /// The line of the program.
-type ProgramLine = ProcessLine<'static, HostRuntime>;
-
-/// One that is reached again where it ends.
-type ReturningLine = Redialled<
-    LineDialler<'static, HostRuntime>,
-    SystemClock<'static, HostRuntime>,
->;
+type ProgramLine = SystemLine<'static, HostRuntime>;
 
 /// The port of a run that keeps no state, behind the lives before it.
 type PortAnew<T> = Life<
@@ -42,7 +36,7 @@ pub fn the_line_is_there_as_its_stream_is()
         ≡ ⟦<LineSocket as OctetStream>⟧.presence line }
     ensures again { (line : Redial) →
         ⟦<ProgramLine as OctetStream>⟧.presence (Again line)
-        ≡ ⟦<ReturningLine as OctetStream>⟧.presence line }
+        ≡ ⟦<ReturningLine<'static, HostRuntime> as OctetStream>⟧.presence line }
 {}
 
 /// A sight that shows the port of a run shows the live ends inside it, whatever its record and the

@@ -1,5 +1,5 @@
 //! The command that runs the gateway between a line and a control centre.
-ghost use Rattle.std.specs.Prelude.{◌≡◌, IfOk, IfErr, Some, Option, [], false};
+ghost use Rattle.std.specs.Prelude.{◌≡◌, ◌+◌, IfOk, IfErr, Some, Option, is_some, [], false, not};
 ghost use Rattle.std.specs.declared.net.socket_addr.SocketAddr.{SocketAddr};
 ghost use Rattle.gateway.specs.Agrees.{Follows};
 ghost use Rattle.gateway.specs.Setups.{setup_of};
@@ -51,6 +51,10 @@ fn scribes_of<T: RunSite>(
 ) -> Result<Scribes<T::Sink, T::Sheet, T::Glass>, Fault>
     ensures new { IfOk result (λ scribes.
         logged_first (log_of scribes.pen) (Some []) ≡ Some []) }
+    ensures logs { IfOk result (λ scribes. scribes.logger.is_over ≡ not wishes.now.log) }
+    ensures records { IfOk result (λ scribes. scribes.pen.is_over ≡ not wishes.now.record) }
+    ensures shows { IfOk result (λ scribes.
+        is_some scribes.lookout ≡ is_some wishes.now.status) }
     ensures fault { IfErr result IsEndFault }
 {
     let watch = Watch::new(site.alloc(), config)?;
@@ -73,6 +77,8 @@ fn lookout_of<T: RunSite>(
     wishes: &Wishes<'_>,
     logger: &mut Logger<T::Sink>,
 ) -> Result<Option<Lookout<T::Glass>>, Fault>
+    ensures shows { IfOk result (λ lookout. is_some lookout ≡ is_some wishes.now.status) }
+    ensures quiet { IfOk result (λ _. logger.new ≡ logger.old) }
     ensures fault { IfErr result IsEndFault }
 {
     let Some(place) = wishes.status else {
@@ -90,7 +96,8 @@ fn lookout_of<T: RunSite>(
 /// What writes the record of a run, if it is to have one.
 #[tactic(auto, using(crate::proofs::Begins::new_is_written, crate::proofs::Begins::added_nothing, crate::proofs::Begins::new_has_nothing))]
 fn pen_of<T: RunSite>(site: &T, record: bool) -> Pen<T::Sheet>
-    ensures { logged_first (log_of result) (Some []) ≡ Some [] }
+    ensures new { logged_first (log_of result) (Some []) ≡ Some [] }
+    ensures records { result.is_over ≡ not record }
 {
     if record {
         // Anew behind a restart too: a run goes on from its state, which is synced, and a record
@@ -109,23 +116,23 @@ struct RunEnds<S: OctetStream, L: Listener + Drop, C: live::RunClock + Drop> {
     clock: C,
 }
 
-/// The ends, opened in this order: the listener, the line, and the clock, which begins at this
-/// moment, in ms. A second process that is started by mistake ends at the listener, and leaves the
-/// line of the first alone.
+/// The ends that are wished, opened in this order: the listener, the line, and the clock, which
+/// begins at this moment, in ms. A second process that is started by mistake ends at the listener,
+/// and leaves the line of the first alone.
 fn opened<T: RunSite>(
     site: &T,
-    redial: bool,
+    wishes: &Wishes<'_>,
     moment: u64,
     logger: &mut Logger<T::Sink>,
 ) -> Result<RunEnds<T::Line, T::Listener, T::Clock>, Fault>
     ensures clock { IfOk result (λ ends. T.begins_at ends.clock moment) }
-    ensures line { IfOk result (λ ends. T.comes_back ends.line ≡ redial) }
+    ensures line { IfOk result (λ ends. T.comes_back ends.line ≡ wishes.now.redial) }
     ensures fault { IfErr result IsEndFault }
 {
     // First, so that a second run by mistake takes nothing from the first (docs/DECISIONS.md, "The
     // listener before the line").
     let listener = listener_of(site, logger)?;
-    let line = match site.line(redial) {
+    let line = match site.line(wishes.redial) {
         Ok(line) => line,
         Err(refusal) => return Err(refused(refusal, logger)),
     };
@@ -236,7 +243,7 @@ fn run_anew<T: RunSite>(
 {
     let gateway = Gateway::new(site.alloc(), config)?;
     let mut scribes = scribes_of(site, config, &wishes)?;
-    let ends = opened(site, wishes.redial, 0, &mut scribes.logger)?;
+    let ends = opened(site, &wishes, 0, &mut scribes.logger)?;
     Ok(run_new(site, config, gateway, ends, wishes.allow_list, scribes))
 }
 
@@ -268,6 +275,30 @@ pub(crate) type Kept<T> = Keeper<
     >,
 >;
 
+/// The port of a run between these ends, whose events are kept in this store. A loss is borne as
+/// wished.
+fn keeper_between<T: RunSite>(
+    site: &T,
+    config: &Config,
+    ends: RunEnds<T::Line, T::Listener, T::Clock>,
+    goes_on: bool,
+    store: DiskStore<T::Folder>,
+    gateway: &Gateway,
+    wishes: Wishes<'_>,
+) -> Kept<T>
+    ensures bears { result.bears_loss ≡ wishes.entry.bears_loss }
+    ensures port { IsPortOf config.now wishes.entry.allow_list goes_on result.ends.port }
+    ensures log { result.ends.port.log ≡ [] }
+    ensures failed { result.ends.port.failed + result.stops ≡ 0 }
+{
+    let port = port_between(config, ends, wishes.allow_list, goes_on);
+    Keeper::new(
+        Pair::new(site.alloc(), port, store),
+        gateway,
+        wishes.bears_loss,
+    )
+}
+
 /// Runs the gateway with the state that this directory has, or anew, and keeps it there.
 #[tactic(auto, using(crate::proofs::KeptLemmas::end_is_kept, crate::proofs::KeptLemmas::unkept_is_kept))]
 fn run_kept<T: RunSite>(
@@ -287,7 +318,7 @@ fn run_kept<T: RunSite>(
     let mut scribes = scribes_of(site, config, &wishes)?;
     let begun = begun_in(site, config, text, directory, &mut scribes.logger)?;
     let moment = first_moment(begun.origin.moment);
-    let ends = opened(site, wishes.redial, moment, &mut scribes.logger)?;
+    let ends = opened(site, &wishes, moment, &mut scribes.logger)?;
     Ok(run_from(site, config, begun, ends, wishes, scribes))
 }
 
@@ -322,12 +353,8 @@ fn run_from<T: RunSite>(
         before,
         ..
     } = origin;
-    let port = port_between(config, ends, wishes.allow_list, moment.is_some());
-    let keeper = Keeper::new(
-        Pair::new(site.alloc(), port, store),
-        &gateway,
-        wishes.bears_loss,
-    );
+    let goes_on = moment.is_some();
+    let keeper = keeper_between(site, config, ends, goes_on, store, &gateway, wishes);
     live(gateway, keeper, before, scribes)
 }
 

@@ -108,20 +108,25 @@ pub(crate) struct Process<'r> {
 
 /// The line of a process.
 #[derive(Drop)]
-pub(crate) enum ProcessLine<'r, R: Net<Stream = TcpStream> + Clock> {
+pub(crate) enum ProcessLine<L: Reached, A: Reached> {
     /// One that is reached once.
-    Once(LineSocket),
+    Once(L),
     /// One that is reached again where it ends.
-    Again(Redialled<LineDialler<'r, R>, SystemClock<'r, R>>),
+    Again(A),
 }
 
-impl<R: Net<Stream = TcpStream> + Clock> OctetStream for ProcessLine<'_, R> {
-    ghost use Rattle.std.specs.Prelude.{None, Some};
-    ghost use Rattle.telegate.specs.Lines.{presence_of};
+/// One that is reached again where it ends, at a place of the network.
+pub(crate) type ReturningLine<'r, R> = Redialled<LineDialler<'r, R>, SystemClock<'r, R>>;
 
-    ghost history = { λ _. None };
+/// The line of a process at a place of the network.
+pub(crate) type SystemLine<'r, R> = ProcessLine<LineSocket, ReturningLine<'r, R>>;
 
-    ghost presence = { λ line. Some (presence_of line) };
+impl<L: Reached, A: Reached> OctetStream for ProcessLine<L, A> {
+    ghost use Rattle.telegate.specs.Lines.{of_line};
+
+    ghost history = { λ line. of_line L.history A.history line };
+
+    ghost presence = { λ line. of_line L.presence A.presence line };
 
     fn read(&mut self, buf: &mut [u8; 1024]) -> Got {
         match self {
@@ -145,7 +150,7 @@ impl<R: Net<Stream = TcpStream> + Clock> OctetStream for ProcessLine<'_, R> {
     }
 }
 
-impl<R: Net<Stream = TcpStream> + Clock> Reached for ProcessLine<'_, R> {
+impl<L: Reached, A: Reached> Reached for ProcessLine<L, A> {
     fn presence(&self) -> Presence {
         match self {
             ProcessLine::Once(line) => line.presence(),
@@ -155,7 +160,7 @@ impl<R: Net<Stream = TcpStream> + Clock> Reached for ProcessLine<'_, R> {
 }
 
 impl<'r> RunSite for Process<'r> {
-    type Line = ProcessLine<'r, HostRuntime>;
+    type Line = SystemLine<'r, HostRuntime>;
 
     type Listener = CentreListener<'r, HostRuntime>;
 
@@ -215,7 +220,7 @@ impl<'r> RunSite for Process<'r> {
         }
     }
 
-    fn line(&self, redial: bool) -> Result<ProcessLine<'r, HostRuntime>, EndRefusal> {
+    fn line(&self, redial: bool) -> Result<SystemLine<'r, HostRuntime>, EndRefusal> {
         match reached(self.rt, self.places.line.as_str(), redial) {
             Ok(line) => Ok(line),
             Err(fault) => Err(refusal_by(line_trouble(&fault), &fault)),
@@ -240,7 +245,7 @@ fn reached<'r, R: Net<Stream = TcpStream> + Clock>(
     rt: &'r R,
     place: &'r str,
     redial: bool,
-) -> io::Result<ProcessLine<'r, R>>
+) -> io::Result<SystemLine<'r, R>>
     ensures { IfOk result (λ line. is_again line ≡ redial) }
 {
     if !redial {
