@@ -201,6 +201,7 @@ past_put p log earlier now f e settled on fits talk b = record {
     record {
       moment = e;
       replaced = sym settled;
+      early = tt;
       may =
           (on, record { frame = f; fits = fits; spelled_so = refl });
     },

@@ -22,6 +22,7 @@ use Rattle.gateway.specs.Connections.{IsBehind, BeginsWithFault, IsConnection, A
 use Rattle.gateway.specs.Reports.{Setup, taken_objects, taken_pieces, reports_in}
 use Rattle.gateway.specs.Reports.{parts_of_all}
 use Rattle.gateway.specs.Traffic.{replaces}
+use Rattle.gateway.specs.Behind.{GoesBehindFrames}
 use Rattle.gateway.specs.Serial as serial
 use Rattle.gateway.specs.Serial.{Serial}
 use Rattle.gateway.specs.Centre.{Centre}
@@ -367,6 +368,17 @@ closed_phase Judged log now cause timely h = absurd (not_judged cause timely)
 closed_phase Timed log now cause timely h = h
 closed_phase Asked log now cause timely h = tt
 
+-- what went to TCP so far went out behind frames of the event
+closing_early : (phase : Phase) (log : Log) (cause : Close) → IsCloseAt cause phase
+    → IsPhase phase log → GoesBehindFrames log
+closing_early Fresh log cause timely h = absurd (not_fresh cause timely)
+closing_early Taking log cause timely h = h.1
+closing_early Idle log cause timely h = h
+closing_early Crowded log cause timely h = h
+closing_early Judged log cause timely h = absurd (not_judged cause timely)
+closing_early Timed log cause timely h = h
+closing_early Asked log cause timely h = absurd (not_asked cause timely)
+
 closed_is : (p : Setup) (cause : Close) (is_open : Bool) (at : ℕ) (c : Course) → ends cause ≡ true
     → closed_course p cause is_open at c ≡ ended_course is_open (works_at cause at c.works) c
 closed_is p Grammar is_open at c h = refl
@@ -449,6 +461,7 @@ after_close p s log unjudged cause phase fault a on last timely stands why =
           record {
             moment = a.clock;
             replaced = no_replaced cause last ∙ sym a.settled;
+            early = closing_early phase log cause timely a.stands.phase_is;
             may =
                 λ h. (sym a.here.link ∙ on, (a.course, a.talk.course_runs, why));
           },

@@ -448,7 +448,10 @@ module _ (p : Setup) (s t : State) (log : Log) (now : ℕ) (fits : Bool)
           are = (over_ended p s t log now Opened fits rest a h).are;
           orders = over_orders p s t log now Opened fits rest a h;
           times = (kept_talk p _ _ _ talk, (kept_talk p _ _ _ opened_talk, a.before.times));
-          acts = (record { moment = h.clock; replaced = sym was; may = λ no'. cc }, a.before.acts);
+          acts = (
+            record { moment = h.clock; replaced = sym was; early = tt; may = λ no'. cc },
+            a.before.acts,
+          );
           rests = (rest, a.before.rests);
         };
       }

@@ -173,8 +173,15 @@ module _ (p : Setup) (s : State) (log : Log) (a : Agrees p s log [] Idle) (gap :
       are = a.before.are;
       orders = a.before.orders;
       times = (kept_talk p _ _ _ gap_talk, a.before.times);
-      acts =
-          (record { moment = a.clock; replaced = sym a.settled; may = reports_gap }, a.before.acts);
+      acts = (
+        record {
+          moment = a.clock;
+          replaced = sym a.settled;
+          early = a.stands.phase_is;
+          may = reports_gap;
+        },
+        a.before.acts,
+      );
       rests = a.before.rests;
     };
   }

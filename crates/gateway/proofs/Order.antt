@@ -397,7 +397,7 @@ may_follow p log now (LineOut octets) some long k g acts order = (
   not_true (list_any is_request (step_actions log)) (λ h.
       let no : false ≡ true = sym (none_due p log k.runs.0 k.runs.1 h) ∙ k.runs.2.due in
       absurd (cc)),
-  g.may.early,
+  g.early,
 )
 may_follow p log now (GapOut station session) some long k g acts order = (
   not_true (list_any is_late (step_actions log)) (λ h.
@@ -405,6 +405,7 @@ may_follow p log now (GapOut station session) some long k g acts order = (
   not_true (list_any is_request (step_actions log)) (λ h.
       let no : false ≡ true = sym (none_due p log k.runs.0 k.runs.1 h) ∙ k.runs.2.due in
       absurd (cc)),
+  g.early,
 )
 may_follow p log now (TcpOut octets) some long k g acts order =
     not_true (list_any is_close (step_actions log)) (λ h. no_octets p log now octets some long
@@ -415,6 +416,7 @@ may_follow p log now (Closed cause) some long k g acts order = (
       (after_close p log acts order h) g),
   not_true (list_any is_request (step_actions log)) (λ h.
       let no : false ≡ true = sym (none_due p log k.runs.0 k.runs.1 h) ∙ k.runs.4 in absurd (cc)),
+  g.early,
 )
 
 pub keeps_order : (p : Setup) → 0 < p.session.w → 0 < p.session.t3 → (log : Log)

@@ -193,13 +193,13 @@ module _ (laws : LineLaws) (p : Setup) (s : State) (log : Log) (a : Agrees p s l
             record {
               moment = a.clock;
               replaced = sym a.settled;
+              early = a.stands.phase_is;
               may = record {
                 station = x.station;
                 within = fits.station;
                 request = x.request;
                 spelled = refl;
                 logged = all_logged;
-                early = a.stands.phase_is;
                 alone = λ z. laws.alone p.link p.addresses q
                     (exchanges_of p log) may waiting x z.exchange a.line next z.latest_is z.waits;
                 room = λ polls. record {

@@ -1,9 +1,8 @@
--- What goes to TCP before a step's request (profile): all that a frame which came makes due goes
--- out
--- behind it, before the next one is taken.
+-- What goes to TCP before a step's gap, close or request (profile): all that a frame which came
+-- makes due goes out behind it, before the next one is taken.
 use Rattle.std.specs.Prelude.{◌≡◌, ◌<◌, ℕ, List, [], ◌∷◌, ◌++◌, length}
 use Rattle.apci.specs.declared.apdu.Apdu.{Apdu}
-use Rattle.gateway.specs.Log.{Log, Came, Went, TcpOut}
+use Rattle.gateway.specs.Log.{Log, Came, Went, Output, TcpOut}
 use Rattle.gateway.specs.Streams.{spelled, AllFit}
 use Rattle.gateway.specs.Connections.{present, received_before}
 
@@ -21,3 +20,8 @@ GoesBehindFrames [] = Unit {0}
 GoesBehindFrames (Came now event ∷ log) = Unit {0}
 GoesBehindFrames (Went now (TcpOut octets) ∷ log) = EndsFrame log × GoesBehindFrames log
 GoesBehindFrames (Went now action ∷ log) = GoesBehindFrames log
+
+-- A gap, a close and a request go out before the octets to TCP that no such frame brought.
+abbrev pub IsEarly : Log → Output → Type 0
+IsEarly log (TcpOut octets) = Unit {0}
+IsEarly log action = GoesBehindFrames log

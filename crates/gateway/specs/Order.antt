@@ -27,18 +27,19 @@ is_late action = false
 
 -- What follows from the event comes first, then what the timers bring, then the request, then
 -- octets to TCP: a gap only where the step's timers have closed no connection yet, and a gap, a
--- close and a request only where it has put out no request yet. Octets to TCP go out before a
--- request only behind a frame that ends in the event's octets. And octets to TCP, and a close, only
--- where it has closed no connection yet (profile).
+-- close and a request only where it has put out no request yet. Octets to TCP go out before a gap,
+-- a close or a request only behind a frame that ends in the event's octets. And octets to TCP, and
+-- a close, only where it has closed no connection yet (profile).
 abbrev pub MayFollow : Log → Output → Type 0
 MayFollow log (LineOut octets) =
     (list_any is_request (step_actions log) ≡ false) × GoesBehindFrames log
 MayFollow log (TcpOut octets) = list_any is_close (step_actions log) ≡ false
 MayFollow log (Closed cause) =
     (list_any is_close (step_actions log) ≡ false)
-    × (list_any is_request (step_actions log) ≡ false)
+    × (list_any is_request (step_actions log) ≡ false) × GoesBehindFrames log
 MayFollow log (GapOut station session) =
-    (list_any is_late (step_actions log) ≡ false) × (list_any is_request (step_actions log) ≡ false)
+    (list_any is_late (step_actions log) ≡ false)
+    × (list_any is_request (step_actions log) ≡ false) × GoesBehindFrames log
 
 -- each action of the log, after those of its step (profile)
 abbrev pub KeepsOrder : Log → Type 0

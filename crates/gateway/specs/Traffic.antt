@@ -9,7 +9,7 @@ use Rattle.gateway.specs.Log.{Log, Restarted, Came, Went, Output, LineOut, TcpOu
 use Rattle.gateway.specs.Log.{latest}
 use Rattle.gateway.specs.Gaps.{gaps_of, gaps_reported, ReportsGaps}
 use Rattle.gateway.specs.Streams.{IsOneFrame}
-use Rattle.gateway.specs.Behind.{GoesBehindFrames}
+use Rattle.gateway.specs.Behind.{IsEarly}
 use Rattle.gateway.specs.Frames.{transfers, acknowledged_count, AreInOrder}
 use Rattle.gateway.specs.Connections.{present, past, ends, is_replaced, AreConnections, IsBegun}
 use Rattle.gateway.specs.Reports.{Setup, address_at, taken_objects, KeepsLinks}
@@ -20,9 +20,8 @@ use Rattle.gateway.specs.Course.{Course, here_of, HasSentAll, HasAsked, IsCause,
 use Rattle.gateway.specs.Conversation.{KeepsRulesThroughout, IsTalkAtRest}
 use Rattle.gateway.specs.Line.{IsWaiting, IsLineAtRest}
 
--- The octets are a request to a station, while no exchange is outstanding and each gap is reported,
--- and before octets to TCP, but for those behind a frame of the event; and a poll only where there
--- is room.
+-- The octets are a request to a station, while no exchange is outstanding and each gap is reported;
+-- and a poll only where there is room.
 pub record IsRequest (p : Setup) (log : Log) (octets : List ℕ) : Type 0 where
   pub station : ℕ
   pub within : station < length p.addresses
@@ -31,7 +30,6 @@ pub record IsRequest (p : Setup) (log : Log) (octets : List ℕ) : Type 0 where
       ≡ spelling p.link.size (request_frame (address_at p.addresses station) request)
   pub alone : IsWaiting p log → ⊥
   pub logged : ReportsGaps p log
-  pub early : GoesBehindFrames log
   pub room : is_poll_request request ≡ true → HasRoom p log
 
 -- The connection is open, and its course gives the cause, the first that stands.
@@ -59,10 +57,12 @@ replaces (Closed Replaced) = true
 replaces action = false
 
 -- An action goes out at its step's moment, with its reason; and the close of a connection that was
--- replaced, and nothing else, comes right after the `Open`.
+-- replaced, and nothing else, comes right after the `Open`. A gap, a close and a request go out
+-- before octets to TCP, but for those behind a frame of the event.
 pub record GoesOut (p : Setup) (log : Log) (now : ℕ) (action : Output) : Type 0 where
   pub moment : now ≡ latest log
   pub replaced : replaces action ≡ is_replaced log
+  pub early : IsEarly log action
   pub may : MayGo p log action
 
 -- each action of the log

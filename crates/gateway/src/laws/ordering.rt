@@ -10,13 +10,13 @@ ghost use Rattle.gateway.specs.Moments.{IsGreatest, BearGreatest, IsSaidInSteps}
 ghost use Rattle.gateway.specs.Setups.{setup_of};
 
 /// A step puts out at most one request to the line and at most one close, and nothing goes to TCP
-/// after a close. A request goes out before octets to TCP, but for those that a frame of the event
-/// brings about: they go out behind it, before the next one is taken. The premises, that neither w
-/// nor t3 is 0, hold of all settings: with a 0 an S frame or a test would be due at once on a
-/// connection that has just replaced another.
+/// after a close. A gap, a close and a request go out before octets to TCP, but for those that a
+/// frame of the event brings about: they go out behind it, before the next one is taken. The
+/// premises, that neither w nor t3 is 0, hold of all settings: with a 0 an S frame or a test would
+/// be due at once on a connection that has just replaced another.
 pub fn steps_keep_their_order()
-    // A law, and no field of `IsFaithful`: it follows from what a request, a close and a frame need
-    // (docs/DECISIONS.md, "The order of actions in a step").
+    // A law, and no field of `IsFaithful`: it follows from what a gap, a request, a close and a
+    // frame need (docs/DECISIONS.md, "The order of actions in a step").
     ensures setups { (p : Setup) (log : Log) → 0 < p.session.w → 0 < p.session.t3 →
         IsFaithful p log → KeepsOrder log }
     ensures settings { (c : Settings) (log : Log) → IsFaithful (setup_of c) log → KeepsOrder log }
