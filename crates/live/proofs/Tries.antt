@@ -133,12 +133,18 @@ settled_tries (Reached stream) r = refl
 settled_tries Pending r = refl
 settled_tries Failed r = refl
 
+settled_calls : (d : Dialled StreamHistory) (r : Redial) → (settled d r).calls ≡ r.calls
+settled_calls (Reached stream) r = refl
+settled_calls Pending r = refl
+settled_calls Failed r = refl
+
 pub first_try : (old new : Redial) (got : Got) (buf : List ℕ) → old.tries ≡ Some []
-    → old.clock ≡ Some [] → old.stream ≡ None → old.is_trying ≡ false → old.tried ≡ None
-    → IsRedialled old got buf new
+    → old.calls ≡ Some [] → old.clock ≡ Some [] → old.stream ≡ None → old.is_trying ≡ false
+    → old.tried ≡ None → IsRedialled old got buf new
     → (got ≡ Quiet) × (now : ℕ) × (new.clock ≡ Some (now ∷ [])) × (new.tried ≡ Some now)
     × (tries : List Bool) × (new.tries ≡ Some tries) × (length tries ≤ 1)
-first_try old new got buf none dark away idle untried l =
+    × (reached : Bool) × (new.calls ≡ Some (Dialed reached ∷ []))
+first_try old new got buf none uncalled dark away idle untried l =
     let now = l.now in
     let seen = clock_read_at now old in
     let begun : Redial = record seen { tried = Some now } in
@@ -163,6 +169,9 @@ first_try old new got buf none dark away idle untried l =
       ap (λ (r : Redial). r.tries) done ∙ (settled_tries l.answer asked
           ∙ (ap (λ t. ended t l.answer) none ∙ once.1)),
       once.2,
+      is_reached l.answer,
+      ap (λ (r : Redial). r.calls) done ∙ (settled_calls l.answer asked
+          ∙ ap (λ c. dial_noted c (Dialed (is_reached l.answer))) uncalled),
     )
 
 -- a look at a stream that is away, by the try that it makes

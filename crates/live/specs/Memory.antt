@@ -3,6 +3,7 @@ use Rattle.std.specs.Prelude.{ℕ, List, [], ◌∷◌, Bool, true, false, ◌==
 use Rattle.gateway.specs.Log.{Log, Came, Went, LineIn, LineOut, TcpOut, Opened, CutOff, Ticked}
 use Rattle.gateway.specs.Log.{WallIs}
 use Rattle.live.specs.OctetStreams.{Happening, Gave, WasQuiet, WasGone, Dropped, Wrote}
+use Rattle.live.specs.Redial.{DialCall, Dialed, Asked}
 use Rattle.live.specs.Streams.{Received, Sent, SystemCall, Waits}
 use Rattle.std.specs.declared.io.Error.{Error}
 
@@ -23,6 +24,14 @@ attempts_in [] = []
 attempts_in (Came now Opened ∷ log) = true ∷ attempts_in log
 attempts_in (Came now Ticked ∷ log) = false ∷ attempts_in log
 attempts_in (entry ∷ log) = attempts_in log
+
+-- at a dialler: a try was begun, with the number 1 where that reached a stream, or it was asked
+-- about one
+abbrev pub dial_calls_in : Log → List DialCall
+dial_calls_in [] = []
+dial_calls_in (Went reached (LineOut octets) ∷ log) = Dialed (reached == 1) ∷ dial_calls_in log
+dial_calls_in (Went reached (TcpOut octets) ∷ log) = Asked (reached == 1) ∷ dial_calls_in log
+dial_calls_in (entry ∷ log) = dial_calls_in log
 
 -- at a clock: the moments that it gave
 abbrev pub moments_in : Log → List ℕ

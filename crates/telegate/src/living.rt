@@ -95,11 +95,11 @@ fn lookout_of<T: RunSite>(
 
 /// What writes the record of a run, if it is to have one.
 #[tactic(auto, using(crate::proofs::Begins::new_is_written, crate::proofs::Begins::added_nothing, crate::proofs::Begins::new_has_nothing))]
-fn pen_of<T: RunSite>(site: &T, record: bool) -> Pen<T::Sheet>
+fn pen_of<T: RunSite>(site: &T, is_recorded: bool) -> Pen<T::Sheet>
     ensures new { logged_first (log_of result) (Some []) ≡ Some [] }
-    ensures records { result.is_over ≡ not record }
+    ensures records { result.is_over ≡ not is_recorded }
 {
-    if record {
+    if is_recorded {
         // Anew behind a restart too: a run goes on from its state, which is synced, and a record
         // isn't (docs/DECISIONS.md, "A record isn't gone on with").
         Pen::new(site.alloc(), site.sheet(), Vec::new(site.alloc()))

@@ -1,13 +1,15 @@
 //! A stream in memory that goes and comes back, and notes the tries to reach it.
 ghost use Rattle.std.specs.Prelude.{◌≡◌, ◌≤◌, ℕ, Bool, List, [], ◌∷◌, length, Some, None, false};
-ghost use Rattle.live.specs.Memory.{attempts_in};
+ghost use Rattle.live.specs.Memory.{attempts_in, dial_calls_in};
+ghost use Rattle.live.specs.OctetStreams.{IsNew};
+ghost use Rattle.live.specs.Redial.{Asked, Dialed, IfReached, ended};
 ghost use Rattle.live.specs.declared.ends.Got.TheVariants.{Quiet};
 
 use super::{Dialled, Dialler, Redialled};
 use crate::ends::{Got, OctetStream, Presence, Reached, RunClock};
 use crate::memory::{MemoryClock, MemoryStream, with_attempt};
 use crate::timed::{Time, TimedClock};
-use gateway::History;
+use gateway::{Action, History};
 use std::process::Abort;
 
 /// Reaches a stream, but for the tries that fail first, each once it was asked so often.
@@ -23,11 +25,36 @@ struct MemoryDialler<'a> {
     failing_read: u32,
     /// Whether each try that ended reached a stream.
     log: History,
+    /// The calls of it.
+    calls: History,
+}
+
+/// The calls of a dialler, with one that begins a try.
+fn with_dial(log: &History, reached: bool) -> History
+    ensures { dial_calls_in result.entries ≡ Dialed reached ∷ dial_calls_in log.now.entries }
+{
+    if reached {
+        log.went(&1, &Action::Line(&[]))
+    } else {
+        log.went(&0, &Action::Line(&[]))
+    }
+}
+
+/// The calls of a dialler, with one that asks about a try.
+fn with_ask(log: &History, reached: bool) -> History
+    ensures { dial_calls_in result.entries ≡ Asked reached ∷ dial_calls_in log.now.entries }
+{
+    if reached {
+        log.went(&1, &Action::Tcp(&[]))
+    } else {
+        log.went(&0, &Action::Tcp(&[]))
+    }
 }
 
 impl<'a> MemoryDialler<'a> {
     fn new(time: &'a Time, failing_tries: u32, asks: u32, failing_read: u32) -> MemoryDialler<'a>
-        ensures { result.log.entries ≡ [] }
+        ensures tries { result.log.entries ≡ [] }
+        ensures calls { result.calls.entries ≡ [] }
     {
         MemoryDialler {
             time,
@@ -37,22 +64,18 @@ impl<'a> MemoryDialler<'a> {
             asked: 0,
             failing_read,
             log: History::new(),
+            calls: History::new(),
         }
     }
-}
 
-impl<'a> Dialler for MemoryDialler<'a> {
-    type Stream = MemoryStream;
-
-    ghost tries = { λ dialler. Some (attempts_in dialler.log.entries) };
-
-    fn dial(&mut self) -> Dialled<MemoryStream> {
-        self.tries = self.tries.saturating_add(1);
-        self.asked = 0;
-        self.ask()
-    }
-
-    fn ask(&mut self) -> Dialled<MemoryStream> {
+    /// What has become of the latest try.
+    fn answer(&mut self) -> Dialled<MemoryStream>
+        ensures fresh { IfReached result (λ stream.
+            IsNew (⟦<MemoryStream as OctetStream>⟧.history stream)) }
+        ensures noted { Some (attempts_in self.new.log.entries)
+            ≡ ended (Some (attempts_in self.old.log.entries)) result }
+        ensures calls { self.new.calls ≡ self.old.calls }
+    {
         if self.asked < self.asks {
             self.asked = self.asked.saturating_add(1);
             return Dialled::Pending;
@@ -66,6 +89,28 @@ impl<'a> Dialler for MemoryDialler<'a> {
         stream.failing_read = self.failing_read;
         Dialled::Reached(stream)
     }
+}
+
+impl<'a> Dialler for MemoryDialler<'a> {
+    type Stream = MemoryStream;
+
+    ghost tries = { λ dialler. Some (attempts_in dialler.log.entries) };
+
+    ghost calls = { λ dialler. Some (dial_calls_in dialler.calls.entries) };
+
+    fn dial(&mut self) -> Dialled<MemoryStream> {
+        self.tries = self.tries.saturating_add(1);
+        self.asked = 0;
+        let answer = self.answer();
+        self.calls = with_dial(&self.calls, matches!(answer, Dialled::Reached(_)));
+        answer
+    }
+
+    fn ask(&mut self) -> Dialled<MemoryStream> {
+        let answer = self.answer();
+        self.calls = with_ask(&self.calls, matches!(answer, Dialled::Reached(_)));
+        answer
+    }
 
     fn pause(&mut self) {
         self.time.pass(1);
@@ -73,19 +118,21 @@ impl<'a> Dialler for MemoryDialler<'a> {
 }
 
 /// A first look at a stream, which has not been tried. The try begins at the moment that the clock
-/// gives, and it is the only one.
+/// gives, and its beginning is the only call.
 fn first_look<D: Dialler + Drop, C: RunClock + Drop>(
     stream: &mut Redialled<D, C>,
     buf: &mut [u8; 1024],
 ) -> Got
     requires tries { stream.old.tries ≡ Some [] }
+    requires calls { stream.old.calls ≡ Some [] }
     requires clock { stream.old.clock ≡ Some [] }
     requires away { stream.old.stream ≡ None }
     requires idle { stream.old.is_trying ≡ false }
     requires untried { stream.old.tried ≡ None }
     ensures { (result ≡ Quiet) × (now : ℕ) × (stream.new.clock ≡ Some (now ∷ []))
         × (stream.new.tried ≡ Some now) × (tries : List Bool) × (stream.new.tries ≡ Some tries)
-        × (length tries ≤ 1) }
+        × (length tries ≤ 1)
+        × (reached : Bool) × (stream.new.calls ≡ Some (Dialed reached ∷ [])) }
 {
     stream.read(buf)
 }
