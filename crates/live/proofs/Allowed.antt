@@ -12,6 +12,7 @@ use Rattle.live.specs.Ends.{LooksOn}
 use Rattle.live.specs.Ends.{Turns, LogsTurn, as_logged, looking, event_at, taken_by, clock_read_at}
 use Rattle.live.specs.Ends.{turn_by, sources_by, held_by, round, look, unless_found, next_round}
 use Rattle.live.specs.Ends.{looked_at, after, nothing_more, accepted, of_peer, of_open, of_line}
+use Rattle.live.specs.Ends.{turned_away}
 use Rattle.live.specs.Ends.{read_from, peer_read, written_open, LogsPut}
 use Rattle.live.specs.Cuts.{shuts_nothing}
 use Rattle.live.specs.Law.{IsOfAllowedPeer, peer_of, KeepsOut}
@@ -88,7 +89,8 @@ look_out : (g : AllowList) (b : Option IpAddr) (s : EventSource) (t : ℕ) (a : 
     → IfSome a.peer (IsAllowedPeer g) → KeepsOn g b others
     → KeepsOn g b (λ e. look s t a buf e others)
 unfolding KeepsOn
-look_out g b Listener t a buf others allowed on e h = at_listener g b a.peer e others on allowed h
+look_out g b Listener t a buf others allowed on e h =
+    at_listener g b a.peer (turned_away a.refused e) others on allowed h
 look_out g b Connection t a buf others allowed on e h = at_connection g b e.connection a.connection
     buf e others on h
 look_out g b Line t a buf others allowed on e h = at_line g b a.line (looked_at Line t a buf e)

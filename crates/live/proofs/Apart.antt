@@ -6,7 +6,7 @@ use Rattle.gateway.specs.Log.{Log}
 use Rattle.live.specs.Timing.{Moments, is_behind}
 use Rattle.live.specs.Ends.{LiveEnds, Peer, Answers, taken_by, turn_by, sources_by, held_by, round}
 use Rattle.live.specs.Ends.{look, unless_found, next_round, looked_at, found_at, after}
-use Rattle.live.specs.Ends.{nothing_more, accepted, Fixture, fixed_of}
+use Rattle.live.specs.Ends.{nothing_more, accepted, turned_away, Fixture, fixed_of}
 use Rattle.live.specs.declared.found.SourceEvent.{SourceEvent}
 use Rattle.live.specs.declared.found.SourceEvent.TheVariants as found
 use Rattle.live.specs.declared.source.EventSource.{EventSource}
@@ -121,7 +121,7 @@ at_listener (Some peer) e = refl
 
 untouched_looked : (s : EventSource) (t : ℕ) (a : Answers) (buf : List ℕ) (e : LiveEnds)
     → untouched (looked_at s t a buf e) ≡ untouched e
-untouched_looked Listener t a buf e = at_listener a.peer e
+untouched_looked Listener t a buf e = at_listener a.peer (turned_away a.refused e)
 untouched_looked Connection t a buf e = refl
 untouched_looked Line t a buf e = refl
 

@@ -6,6 +6,7 @@ use Rattle.std.specs.Prelude.{option_map}
 use Rattle.gateway.specs.Log.{Output, LineOut, TcpOut, Closed, GapOut}
 use Rattle.live.specs.OctetStreams.{Dropped, Happening, Wrote, StreamHistory, IsNew, looked, noted}
 use Rattle.live.specs.Ends.{LiveEnds, Peer, Answers, PutsOut, as_logged, looked_at, accepted}
+use Rattle.live.specs.Ends.{turned_away}
 use Rattle.live.specs.Ends.{failed_by, written_open, closed_by, after_action}
 use Rattle.live.specs.Late.{gone_of}
 use Rattle.live.specs.Passed.{LiveRun, Begun, Turned, Put}
@@ -52,7 +53,7 @@ apart_at_listener (Some peer) e = refl
 
 apart_looked : (s : EventSource) (t : ℕ) (a : Answers) (buf : List ℕ) (e : LiveEnds)
     → apart_of (looked_at s t a buf e) ≡ apart_of e
-apart_looked Listener t a buf e = apart_at_listener a.peer e
+apart_looked Listener t a buf e = apart_at_listener a.peer (turned_away a.refused e)
 apart_looked Connection t a buf e = refl
 apart_looked Line t a buf e = got_apart e.failed e.line a.line buf
 

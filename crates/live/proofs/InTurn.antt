@@ -9,6 +9,7 @@ use Rattle.live.specs.Walls.{is_wall}
 use Rattle.live.specs.Law.{AtRounds}
 use Rattle.live.specs.OctetStreams.{Happening, StreamHistory, WasGone, WasQuiet, looked, noted}
 use Rattle.live.specs.OctetStreams.{Attempts, attempted}
+use Rattle.std.specs.declared.net.ip_addr.IpAddr.{IpAddr}
 use Rattle.live.specs.Ends.{LiveEnds, Peer, Answers, Turns, LogsTurn, LogsPut, as_logged, IsTurn}
 use Rattle.live.specs.Ends.{QuietRounds, NoRound, OneRound, TurnsToEnds, event_at, taken_by}
 use Rattle.live.specs.Ends.{looking, clock_read_at, turn_by, sources_by, held_by, round, look}
@@ -71,22 +72,23 @@ ends_with e s k = record e { first = s; connection = k }
 line_more : (e : LiveEnds) (x : Happening) (t : ℕ) → IsMore e.line (noted e.line x) × (t ≡ t)
 line_more e x t = (noted_more e.line x, refl)
 
-by_answers : (s : EventSource) (v k : Option Peer) (c l : Got) (m : Option Presence) (t : ℕ)
-    (buf : List ℕ) (e : LiveEnds)
+by_answers : (s : EventSource) (v k : Option Peer) (r : List IpAddr) (c l : Got)
+    (m : Option Presence) (t : ℕ) (buf : List ℕ) (e : LiveEnds)
     → InRound t s (ends_with e s k)
-    (round_from s t (record { peer = v; connection = c; line = l; presence = m }) buf
+    (round_from s t
+    (record { peer = v; refused = r; connection = c; line = l; presence = m }) buf
     (ends_with e s k))
 unfolding InRound Looked
-by_answers Listener (Some p) k c l m t buf e = (refl, tt)
-by_answers Listener None None c (Octets len) m t buf e =
+by_answers Listener (Some p) k r c l m t buf e = (refl, tt)
+by_answers Listener None None r c (Octets len) m t buf e =
     (refl, (attempted_more e.listener false, tt, line_more e (looked (Octets len) buf) t))
-by_answers Listener None None c Quiet m t buf e =
+by_answers Listener None None r c Quiet m t buf e =
     (refl, attempted_more e.listener false, tt, line_more e WasQuiet t, refl, refl)
-by_answers Listener None None c Gone m t buf e =
+by_answers Listener None None r c Gone m t buf e =
     (refl, (attempted_more e.listener false, tt, line_more e WasGone t))
-by_answers Listener None (Some p) (Octets n) l m t buf e = (refl, attempted_more e.listener false)
-by_answers Listener None (Some p) Gone l m t buf e = (refl, attempted_more e.listener false)
-by_answers Listener None (Some p) Quiet (Octets len) m t buf e = (
+by_answers Listener None (Some p) r (Octets n) l m t buf e = (refl, attempted_more e.listener false)
+by_answers Listener None (Some p) r Gone l m t buf e = (refl, attempted_more e.listener false)
+by_answers Listener None (Some p) r Quiet (Octets len) m t buf e = (
   refl,
   (
     attempted_more e.listener false,
@@ -94,7 +96,7 @@ by_answers Listener None (Some p) Quiet (Octets len) m t buf e = (
     line_more e (looked (Octets len) buf) t,
   ),
 )
-by_answers Listener None (Some p) Quiet Quiet m t buf e = (
+by_answers Listener None (Some p) r Quiet Quiet m t buf e = (
   refl,
   attempted_more e.listener false,
   noted_more p.stream WasQuiet,
@@ -102,24 +104,24 @@ by_answers Listener None (Some p) Quiet Quiet m t buf e = (
   refl,
   refl,
 )
-by_answers Listener None (Some p) Quiet Gone m t buf e = (
+by_answers Listener None (Some p) r Quiet Gone m t buf e = (
   refl,
   (attempted_more e.listener false, noted_more p.stream WasQuiet, line_more e WasGone t),
 )
-by_answers Connection v None c (Octets len) m t buf e =
+by_answers Connection v None r c (Octets len) m t buf e =
     (refl, (tt, line_more e (looked (Octets len) buf) t))
-by_answers Connection v None c Gone m t buf e = (refl, (tt, line_more e WasGone t))
-by_answers Connection (Some q) None c Quiet m t buf e = (refl, line_more e WasQuiet t)
-by_answers Connection None None c Quiet m t buf e =
+by_answers Connection v None r c Gone m t buf e = (refl, (tt, line_more e WasGone t))
+by_answers Connection (Some q) None r c Quiet m t buf e = (refl, line_more e WasQuiet t)
+by_answers Connection None None r c Quiet m t buf e =
     (refl, attempted_more e.listener false, tt, line_more e WasQuiet t, refl, refl)
-by_answers Connection v (Some p) (Octets n) l m t buf e = (refl, tt)
-by_answers Connection v (Some p) Gone l m t buf e = (refl, tt)
-by_answers Connection v (Some p) Quiet (Octets len) m t buf e =
+by_answers Connection v (Some p) r (Octets n) l m t buf e = (refl, tt)
+by_answers Connection v (Some p) r Gone l m t buf e = (refl, tt)
+by_answers Connection v (Some p) r Quiet (Octets len) m t buf e =
     (refl, (noted_more p.stream WasQuiet, line_more e (looked (Octets len) buf) t))
-by_answers Connection v (Some p) Quiet Gone m t buf e =
+by_answers Connection v (Some p) r Quiet Gone m t buf e =
     (refl, (noted_more p.stream WasQuiet, line_more e WasGone t))
-by_answers Connection (Some q) (Some p) Quiet Quiet m t buf e = (refl, line_more e WasQuiet t)
-by_answers Connection None (Some p) Quiet Quiet m t buf e = (
+by_answers Connection (Some q) (Some p) r Quiet Quiet m t buf e = (refl, line_more e WasQuiet t)
+by_answers Connection None (Some p) r Quiet Quiet m t buf e = (
   refl,
   attempted_more e.listener false,
   noted_more p.stream WasQuiet,
@@ -127,16 +129,16 @@ by_answers Connection None (Some p) Quiet Quiet m t buf e = (
   refl,
   refl,
 )
-by_answers Line v k c (Octets len) m t buf e = (refl, line_more e (looked (Octets len) buf) t)
-by_answers Line v k c Gone m t buf e = (refl, line_more e WasGone t)
-by_answers Line (Some q) k c Quiet m t buf e = (refl, line_more e WasQuiet t)
-by_answers Line None None c Quiet m t buf e =
+by_answers Line v k r c (Octets len) m t buf e = (refl, line_more e (looked (Octets len) buf) t)
+by_answers Line v k r c Gone m t buf e = (refl, line_more e WasGone t)
+by_answers Line (Some q) k r c Quiet m t buf e = (refl, line_more e WasQuiet t)
+by_answers Line None None r c Quiet m t buf e =
     (refl, attempted_more e.listener false, tt, line_more e WasQuiet t, refl, refl)
-by_answers Line None (Some p) (Octets n) Quiet m t buf e =
+by_answers Line None (Some p) r (Octets n) Quiet m t buf e =
     (refl, (line_more e WasQuiet t, attempted_more e.listener false))
-by_answers Line None (Some p) Gone Quiet m t buf e =
+by_answers Line None (Some p) r Gone Quiet m t buf e =
     (refl, (line_more e WasQuiet t, attempted_more e.listener false))
-by_answers Line None (Some p) Quiet Quiet m t buf e = (
+by_answers Line None (Some p) r Quiet Quiet m t buf e = (
   refl,
   attempted_more e.listener false,
   noted_more p.stream WasQuiet,
@@ -147,7 +149,7 @@ by_answers Line None (Some p) Quiet Quiet m t buf e = (
 
 in_round : (t : ℕ) (a : Answers) (buf : List ℕ) (e : LiveEnds)
     → InRound t e.first e (round t a buf e)
-in_round t a buf e = by_answers e.first a.peer e.connection a.connection a.line a.presence t
+in_round t a buf e = by_answers e.first a.peer e.connection a.refused a.connection a.line a.presence t
     buf e
 
 -- where the next round begins, by what was found

@@ -4,6 +4,7 @@ use Rattle.std.specs.Prelude.{option_map}
 use Rattle.gateway.specs.Log.{Output, LineOut, TcpOut, Closed, GapOut}
 use Rattle.live.specs.OctetStreams.{Dropped, Wrote, StreamHistory, IsNew, looked, noted}
 use Rattle.live.specs.Ends.{LiveEnds, Peer, Answers, PutsOut, as_logged, looked_at, accepted, more}
+use Rattle.live.specs.Ends.{turned_away}
 use Rattle.live.specs.Ends.{written_open, closed_by, after_action, LogsPut, LogsTurn}
 use Rattle.live.specs.Law.{AsksNothing}
 use Rattle.gateway.specs.declared.ports.Next.{Next}
@@ -35,7 +36,7 @@ late_at_listener (Some peer) e = refl
 
 late_looked : (s : EventSource) (t : ℕ) (a : Answers) (buf : List ℕ) (e : LiveEnds)
     → late_of (looked_at s t a buf e) ≡ late_of e
-late_looked Listener t a buf e = late_at_listener a.peer e
+late_looked Listener t a buf e = late_at_listener a.peer (turned_away a.refused e)
 late_looked Connection t a buf e = refl
 late_looked Line t a buf e = ap (λ (d : Option ℕ). (e.late, d)) (got_drops e.line a.line buf)
 

@@ -9,7 +9,7 @@ use Rattle.live.specs.Ends.{LiveEnds, Peer, Answers, IsTurn, QuietRounds, NoRoun
 use Rattle.live.specs.Ends.{LooksOn}
 use Rattle.live.specs.Ends.{Turns, LogsTurn, as_logged, looking, event_at, taken_by, clock_read_at}
 use Rattle.live.specs.Ends.{turn_by, sources_by, held_by, round, look, unless_found, next_round}
-use Rattle.live.specs.Ends.{looked_at, found_at, after, nothing_more, accepted}
+use Rattle.live.specs.Ends.{looked_at, found_at, after, nothing_more, accepted, turned_away}
 use Rattle.live.proofs.Apart.{clock_of, clock_apart, taken_same}
 use Rattle.live.specs.declared.source.EventSource.{EventSource}
 use Rattle.live.specs.declared.source.EventSource.TheVariants.{Listener, Connection, Line}
@@ -197,7 +197,7 @@ looked_keeps : (k : Timing) (s : EventSource) (t : ℕ) (a : Answers) (buf : Lis
     → Keeps k e.timing
     → Keeps k (looked_at s t a buf e).timing
 unfolding Keeps
-looked_keeps k Listener t a buf e h = accepted_keeps k a.peer e h
+looked_keeps k Listener t a buf e h = accepted_keeps k a.peer (turned_away a.refused e) h
 looked_keeps k Connection t a buf e h = h
 looked_keeps k Line t a buf e h = h
 

@@ -26,5 +26,7 @@ pub mod Failures
 pub mod Reasons
 pub mod Cuts
 pub mod Runs
+pub mod Refused
+pub mod Sorted
 pub mod CallSums
 pub mod Plain

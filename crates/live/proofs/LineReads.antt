@@ -4,6 +4,7 @@ use Rattle.std.proofs.Common.{refl, subst}
 use Rattle.live.specs.Timing.{is_behind, line_looked_at}
 use Rattle.live.specs.Ends.{LiveEnds, Peer, Answers, IsTurn, turn_by, sources_by, held_by, look}
 use Rattle.live.specs.Ends.{unless_found, next_round, looked_at, after, nothing_more, accepted}
+use Rattle.live.specs.Ends.{turned_away}
 use Rattle.live.specs.Ends.{of_peer, of_open, of_line, read_from, peer_read}
 use Rattle.live.specs.declared.found.SourceEvent.{SourceEvent}
 use Rattle.live.specs.declared.source.EventSource.{EventSource}
@@ -75,7 +76,8 @@ at_listener : (begun : ℕ) (k t : Timing) (a : Answers) (buf : List ℕ) (other
     → IsLineReadOn begun k t others
     → IsLineReadOn begun k t (λ e. look Listener begun a buf e others)
 unfolding IsLineReadOn
-at_listener begun k t a buf others on e same = listener_reads begun k t a.peer e others on same
+at_listener begun k t a buf others on e same =
+    listener_reads begun k t a.peer (turned_away a.refused e) others on same
 
 at_connection : (begun : ℕ) (k t : Timing) (a : Answers) (buf : List ℕ) (others : LiveEnds
     → Option SourceEvent × LiveEnds)

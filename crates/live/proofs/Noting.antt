@@ -6,6 +6,7 @@ use Rattle.live.specs.Timing.{Moments, read_at}
 use Rattle.live.specs.OctetStreams.{Happening, Dropped, StreamHistory, noted, Attempts, attempted}
 use Rattle.live.specs.OctetStreams.{Wrote}
 use Rattle.live.specs.Ends.{LiveEnds, Peer, Answers, PutsOut, as_logged, looked_at, accepted}
+use Rattle.live.specs.Ends.{turned_away}
 use Rattle.live.specs.Ends.{after_action}
 use Rattle.live.specs.Passed.{LiveRun, Begun, Turned, Put, NotesStill}
 use Rattle.live.proofs.Apart.{Apart, apart_by, clock_of, clock_apart}
@@ -45,7 +46,7 @@ line_at_listener (Some peer) e = refl
 
 line_looked : (s : EventSource) (t : ℕ) (a : Answers) (buf : List ℕ) (e : LiveEnds)
     → notes_line (looked_at s t a buf e) ≡ notes_line e
-line_looked Listener t a buf e = line_at_listener a.peer e
+line_looked Listener t a buf e = line_at_listener a.peer (turned_away a.refused e)
 line_looked Connection t a buf e = refl
 line_looked Line t a buf e = noted_still e.line _
 
@@ -67,7 +68,7 @@ listener_at_listener (Some peer) e = attempted_still e.listener true
 
 listener_looked : (s : EventSource) (t : ℕ) (a : Answers) (buf : List ℕ) (e : LiveEnds)
     → notes_listener (looked_at s t a buf e) ≡ notes_listener e
-listener_looked Listener t a buf e = listener_at_listener a.peer e
+listener_looked Listener t a buf e = listener_at_listener a.peer (turned_away a.refused e)
 listener_looked Connection t a buf e = refl
 listener_looked Line t a buf e = refl
 
@@ -92,7 +93,7 @@ walls_at_listener (Some peer) e = refl
 
 walls_looked : (s : EventSource) (t : ℕ) (a : Answers) (buf : List ℕ) (e : LiveEnds)
     → notes_walls (looked_at s t a buf e) ≡ notes_walls e
-walls_looked Listener t a buf e = walls_at_listener a.peer e
+walls_looked Listener t a buf e = walls_at_listener a.peer (turned_away a.refused e)
 walls_looked Connection t a buf e = refl
 walls_looked Line t a buf e = refl
 

@@ -1,8 +1,9 @@
 -- A look at a connection that is open.
-use Rattle.std.proofs.Common.{◌≡◌, ℕ, List, Some, None, sym, ap, ◌∙◌}
+use Rattle.std.proofs.Common.{◌≡◌, ℕ, List, [], Some, None, sym, ap, ◌∙◌}
 use Rattle.live.specs.OctetStreams.{noted, looked}
 use Rattle.live.specs.Ends.{LiveEnds, Peer, of_open, peer_read}
 use Rattle.live.specs.Looks.{LooksAt}
+use Rattle.live.proofs.Plain.{no_strangers}
 use Rattle.live.specs.declared.found.SourceEvent.TheVariants.{Bytes}
 use Rattle.live.specs.declared.source.EventSource.TheVariants.{Connection}
 use Rattle.live.specs.declared.ends.Got.TheVariants.{Octets, Quiet}
@@ -16,6 +17,8 @@ pub octets_came : (old new : LiveEnds) (peer : Peer) (len : ℕ) (buf : List ℕ
     }
     → LooksAt Connection 0 old (Some (Bytes len)) buf new
 octets_came old new peer len buf there done = record {
+  refused = [];
+  strangers = no_strangers old.allow_list;
   peer = tt;
   found = sym (ap (λ c. of_open c (Octets len)) there);
   ends = done ∙ sym (ap (λ c. peer_read c (Octets len) buf old) there);
@@ -27,6 +30,8 @@ pub nothing_came : (old new : LiveEnds) (peer : Peer) (buf : List ℕ) → old.c
     }
     → LooksAt Connection 0 old None buf new
 nothing_came old new peer buf there done = record {
+  refused = [];
+  strangers = no_strangers old.allow_list;
   peer = tt;
   found = sym (ap (λ c. of_open c Quiet) there);
   ends = done ∙ sym (ap (λ c. peer_read c Quiet buf old) there);

@@ -13,6 +13,7 @@ use Rattle.live.specs.Ends.{LiveEnds, Peer, IsAllowedPeer, Answers, QuietRounds,
 use Rattle.live.specs.Ends.{LooksOn, Turns, PutsOut, as_logged, looking, event_at, taken_by}
 use Rattle.live.specs.Ends.{clock_read_at, turn_by, sources_by, held_by, IsFront, round, look}
 use Rattle.live.specs.Ends.{unless_found, next_round, looked_at, after, nothing_more, accepted}
+use Rattle.live.specs.Ends.{turned_away}
 use Rattle.live.specs.Ends.{of_peer, of_open, of_line, read_from, peer_read, written_open}
 use Rattle.live.specs.Ends.{closed_by}
 use Rattle.live.specs.Ends.{after_action}
@@ -234,7 +235,7 @@ look_logs : (n : ℕ) (buf : List ℕ) (log : Log) (g : AllowList) (s : EventSou
     → LogsOn n buf log IsNone (λ e. look s t a buf e others)
 unfolding LogsOn IsNone
 look_logs n buf log g Listener t a others allowed on e none h =
-    at_listener n buf log g a.peer e others on allowed none h
+    at_listener n buf log g a.peer (turned_away a.refused e) others on allowed none h
 look_logs n buf log g Connection t a others allowed on e none h =
     at_connection n buf log e.connection a.connection e others on none h.0 h.1 h.2
 look_logs n buf log g Line t a others allowed on e none h =

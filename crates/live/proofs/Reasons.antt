@@ -7,6 +7,7 @@ use Rattle.live.specs.Ends.{LiveEnds, Peer, Answers, QuietRounds, NoRound, OneRo
 use Rattle.live.specs.Ends.{LogsTurn, as_logged, looking, event_at, taken_by, clock_read_at}
 use Rattle.live.specs.Ends.{turn_by, sources_by, held_by, round, look, unless_found, next_round}
 use Rattle.live.specs.Ends.{looked_at, after, nothing_more, accepted, of_peer, of_open, of_line}
+use Rattle.live.specs.Ends.{turned_away}
 use Rattle.live.specs.Ends.{read_from, peer_read}
 use Rattle.live.specs.Law.{is_cut}
 use Rattle.live.specs.Walls.{is_wall}
@@ -95,7 +96,8 @@ look_reasoned : (w : CutCause) (s : EventSource) (t : ℕ) (a : Answers) (buf : 
     (others : LiveEnds → Option SourceEvent × LiveEnds)
     → KeepsOn w others → KeepsOn w (λ e. look s t a buf e others)
 unfolding KeepsOn
-look_reasoned w Listener t a buf others on e h = at_listener w a.peer e others on h
+look_reasoned w Listener t a buf others on e h =
+    at_listener w a.peer (turned_away a.refused e) others on h
 look_reasoned w Connection t a buf others on e h =
     at_connection w e.connection a.connection buf e others on h
 look_reasoned w Line t a buf others on e h =

@@ -3,9 +3,12 @@
 use Rattle.std.proofs.Common.{◌≡◌, ℕ, ◌+◌, arith, ◌==◌, ◌⊎◌, is_some, true, false, Bool, List, []}
 use Rattle.std.proofs.Common.{◌∷◌, length, take, Option, Some, None, IfSome, refl, sym, ap, subst}
 use Rattle.std.proofs.Common.{◌∙◌, inl, inr}
+use Rattle.std.specs.declared.net.ip_addr.IpAddr.{IpAddr}
+use Rattle.live.specs.AllowLists.{AreStrangers}
 use Rattle.live.specs.declared.allow_list.AllowList.{AllowList}
 use Rattle.live.specs.Timing.{is_behind, moment_at, is_awaited}
 use Rattle.live.specs.Ends.{LiveEnds, Peer, IsAllowedPeer, accepted, Answers, after, found_at}
+use Rattle.live.specs.Ends.{turned_away}
 use Rattle.live.specs.Ends.{looked_at}
 use Rattle.live.specs.Ends.{peer_read, next_round, unless_found, look, nothing_more, round, turn}
 use Rattle.live.specs.Ends.{turn_by, held_by, sources_by, IsFront, taken_by, clock_read_at, looking}
@@ -15,6 +18,7 @@ use Rattle.live.specs.Ends.{faults_in, Turns, TurnsToWall, TurnsToEnds, event_at
 use Rattle.gateway.specs.declared.ports.Next.{Next}
 use Rattle.live.specs.Looks.{LooksInRound, answers_for}
 use Rattle.live.specs.Walls.{is_wall_due}
+use Rattle.live.proofs.Plain.{no_strangers}
 use Rattle.live.specs.declared.found.SourceEvent.{SourceEvent}
 use Rattle.live.specs.declared.found.SourceEvent.TheVariants.{Cut, Bytes}
 use Rattle.live.specs.declared.ends.Got.TheVariants.{Quiet}
@@ -24,11 +28,29 @@ use Rattle.live.specs.declared.source.EventSource.TheVariants.{Listener, Connect
 -- the answers of the three sources of a round that begins here
 joined : EventSource → Answers → Answers → Answers → Answers
 joined Listener a b c =
-    record { peer = a.peer; connection = b.connection; line = c.line; presence = c.presence }
+    record {
+      peer = a.peer;
+      refused = a.refused;
+      connection = b.connection;
+      line = c.line;
+      presence = c.presence;
+    }
 joined Connection a b c =
-    record { peer = c.peer; connection = a.connection; line = b.line; presence = b.presence }
+    record {
+      peer = c.peer;
+      refused = c.refused;
+      connection = a.connection;
+      line = b.line;
+      presence = b.presence;
+    }
 joined Line a b c =
-    record { peer = b.peer; connection = c.connection; line = a.line; presence = a.presence }
+    record {
+      peer = b.peer;
+      refused = b.refused;
+      connection = c.connection;
+      line = a.line;
+      presence = a.presence;
+    }
 
 joined_peer : (g : AllowList) (s : EventSource) (a b c : Answers) → IfSome a.peer (IsAllowedPeer g)
     → IfSome b.peer (IsAllowedPeer g)
@@ -38,6 +60,14 @@ joined_peer g Listener a b c x y z = x
 joined_peer g Connection a b c x y z = z
 joined_peer g Line a b c x y z = y
 
+joined_strangers : (g : AllowList) (s : EventSource) (a b c : Answers) → AreStrangers g a.refused
+    → AreStrangers g b.refused
+    → AreStrangers g c.refused → AreStrangers g (joined s a b c).refused
+unfolding joined
+joined_strangers g Listener a b c x y z = x
+joined_strangers g Connection a b c x y z = z
+joined_strangers g Line a b c x y z = y
+
 -- looks leave who may connect as it was
 accepted_same : (v : Option Peer) (e : LiveEnds) → (accepted v e).allow_list ≡ e.allow_list
 accepted_same None e = refl
@@ -45,7 +75,7 @@ accepted_same (Some peer) e = refl
 
 looked_same : (s : EventSource) (t : ℕ) (a : Answers) (buf : List ℕ) (e : LiveEnds)
     → (looked_at s t a buf e).allow_list ≡ e.allow_list
-looked_same Listener t a buf e = accepted_same a.peer e
+looked_same Listener t a buf e = accepted_same a.peer (turned_away a.refused e)
 looked_same Connection t a buf e = refl
 looked_same Line t a buf e = refl
 
@@ -54,7 +84,7 @@ same_allow_list : (s : EventSource) (t : ℕ) (old new : LiveEnds) (buf : List �
     → LooksInRound s t old None buf new
     → new.allow_list ≡ old.allow_list
 same_allow_list s t old new buf l = ap (λ (e : LiveEnds). e.allow_list) l.ends
-    ∙ looked_same s t (answers_for None new) buf old
+    ∙ looked_same s t (answers_for None l.refused new) buf old
 
 -- and what is in the buffer then is no matter
 quiet_from : (c : Option Peer) (buf other : List ℕ) (e : LiveEnds) → peer_read c Quiet buf e
@@ -62,17 +92,24 @@ quiet_from : (c : Option Peer) (buf other : List ℕ) (e : LiveEnds) → peer_re
 quiet_from None buf other e = refl
 quiet_from (Some peer) buf other e = refl
 
-quiet_at : (s : EventSource) (t : ℕ) (old new : LiveEnds) (buf other : List ℕ)
-    → looked_at s t (answers_for None new) buf old ≡ looked_at s t (answers_for None new) other old
-quiet_at Listener t old new buf other = refl
-quiet_at Connection t old new buf other = quiet_from old.connection buf other old
-quiet_at Line t old new buf other = refl
+quiet_at : (s : EventSource) (t : ℕ) (r : List IpAddr) (old new : LiveEnds) (buf other : List ℕ)
+    → looked_at s t (answers_for None r new) buf old
+    ≡ looked_at s t (answers_for None r new) other old
+quiet_at Listener t r old new buf other = refl
+quiet_at Connection t r old new buf other = quiet_from old.connection buf other old
+quiet_at Line t r old new buf other = refl
 
 quiet : (s : EventSource) (t : ℕ) (old new : LiveEnds) (buf other : List ℕ)
     → LooksInRound s t old None buf new
     → LooksInRound s t old None other new
 quiet s t old new buf other l =
-    record { peer = l.peer; found = l.found; ends = l.ends ∙ quiet_at s t old new buf other }
+    record {
+      refused = l.refused;
+      strangers = l.strangers;
+      peer = l.peer;
+      found = l.found;
+      ends = l.ends ∙ quiet_at s t l.refused old new buf other;
+    }
 
 found_1 : (s : EventSource) (a b c : Answers) (e : LiveEnds) → found_at s (joined s a b c) e
     ≡ found_at s a e
@@ -141,6 +178,16 @@ front_none a b h buf none =
     let P : List ℕ → Type 0 = λ h. take (length h) buf ≡ h in
     front_by a b h buf (subst P (sym none) refl)
 
+-- of no look
+abbrev no_answers : Answers
+no_answers = record {
+  peer = None;
+  refused = [];
+  connection = Quiet;
+  line = Quiet;
+  presence = None;
+}
+
 -- the cut that is due
 pub due_turn : (t : ℕ) (buf : List ℕ) (old new : LiveEnds) → old.is_cut_due ≡ true
     → new ≡ record old {
@@ -152,8 +199,9 @@ pub due_turn : (t : ℕ) (buf : List ℕ) (old new : LiveEnds) → old.is_cut_du
     }
     → IsTurn t old (Some Cut) buf new
 due_turn t buf old new due done = record {
-  answers = record { peer = None; connection = Quiet; line = Quiet; presence = None };
+  answers = no_answers;
   peer = tt;
+  strangers = no_strangers old.allow_list;
   front = let P : Bool → Type 0 = λ d. IsFront d (is_behind old.timing t) old.held buf in
       subst P (sym due) tt;
   turned = rw (due, done) refl;
@@ -213,10 +261,11 @@ pub held_turn : (t : ℕ) (buf : List ℕ) (old new : LiveEnds) (f : SourceEvent
     → new ≡ record old { held = []; first = after Connection }
     → IsTurn t old (Some f) buf new
 held_turn t buf old new f due level some is front done =
-    let a : Answers = record { peer = None; connection = Quiet; line = Quiet; presence = None } in
+    let a = no_answers in
     record {
       answers = a;
       peer = tt;
+      strangers = no_strangers old.allow_list;
       front = front_by old.is_cut_due (is_behind old.timing t) old.held buf front;
       turned = rw (is, done) (held_some old.held t a buf old some
           ∙ sym (ap (λ b. turn_by b t a buf old) due ∙ ap (λ b. sources_by b t a buf old) level));
@@ -231,10 +280,11 @@ pub line_turn : (t : ℕ) (buf : List ℕ) (old new : LiveEnds) (f : Option Sour
     → old.is_cut_due ≡ false
     → is_behind old.timing t ≡ true → LooksInRound Line t old f buf new → IsTurn t old f buf new
 line_turn t buf old new f due behind l =
-    let a = answers_for f new in
+    let a = answers_for f l.refused new in
     record {
       answers = a;
       peer = l.peer;
+      strangers = l.strangers;
       front = let P : Bool → Type 0 = λ d. IsFront d (is_behind old.timing t) old.held buf in
           let Q : Bool → Type 0 = λ b. IsFront false b old.held buf in
           subst P (sym due) (subst Q (sym behind) tt);
@@ -249,10 +299,12 @@ pub first_turn : (t : ℕ) (buf : List ℕ) (old new : LiveEnds) (f : SourceEven
     → LooksInRound old.first t old (Some f) buf new
     → IsTurn t old (Some f) buf new
 first_turn t buf old new f due level none l =
-    let a = answers_for (Some f) new in
+    let a = answers_for (Some f) l.refused new in
     record {
       answers = joined old.first a a a;
       peer = joined_peer old.allow_list old.first a a a l.peer l.peer l.peer;
+      strangers = joined_strangers old.allow_list old.first a a a l.strangers l.strangers
+          l.strangers;
       front = front_none old.is_cut_due (is_behind old.timing t) old.held buf
           (none_of old.held none);
       turned = sym (plain t (joined old.first a a a) buf old due level none
@@ -266,15 +318,20 @@ pub second_turn : (t : ℕ) (before buf : List ℕ) (old mid new : LiveEnds) (f 
     → is_behind old.timing t ≡ false → (length old.held == 0) ≡ true
     → LooksInRound old.first t old None before mid
     → LooksInRound (after old.first) t mid (Some f) buf new → IsTurn t old (Some f) buf new
+unfolding quiet
 second_turn t before buf old mid new f due level none first m =
-    let a = answers_for None mid in
-    let b = answers_for (Some f) new in
+    let a = answers_for None first.refused mid in
+    let b = answers_for (Some f) m.refused new in
     let l = quiet old.first t old mid before buf first in
+    let same = same_allow_list old.first t old mid buf l in
     let P : AllowList → Type 0 = λ g. IfSome b.peer (IsAllowedPeer g) in
-    let second = subst P (same_allow_list old.first t old mid buf l) m.peer in
+    let R : AllowList → Type 0 = λ g. AreStrangers g b.refused in
+    let second = subst P same m.peer in
+    let away = subst R same m.strangers in
     record {
       answers = joined old.first a b b;
       peer = joined_peer old.allow_list old.first a b b l.peer second second;
+      strangers = joined_strangers old.allow_list old.first a b b l.strangers away away;
       front = front_none old.is_cut_due (is_behind old.timing t) old.held buf
           (none_of old.held none);
       turned = sym (plain t (joined old.first a b b) buf old due level none
@@ -290,20 +347,25 @@ pub third_turn : (t : ℕ) (before then buf : List ℕ) (old mid more new : Live
     then more
     → LooksInRound (after (after old.first)) t more f buf new
     → IsTurn t old f buf new
+unfolding quiet
 third_turn t before then buf old mid more new f due level none first second n =
-    let a = answers_for None mid in
-    let b = answers_for None more in
-    let c = answers_for f new in
+    let a = answers_for None first.refused mid in
+    let b = answers_for None second.refused more in
+    let c = answers_for f n.refused new in
     let l = quiet old.first t old mid before buf first in
     let m = quiet (after old.first) t mid more then buf second in
     let same = same_allow_list old.first t old mid buf l in
     let P : AllowList → Type 0 = λ g. IfSome b.peer (IsAllowedPeer g) in
     let Q : AllowList → Type 0 = λ g. IfSome c.peer (IsAllowedPeer g) in
-    let at_second = subst P same m.peer in
-    let at_third = subst Q (same_allow_list (after old.first) t mid more buf m ∙ same) n.peer in
+    let R : AllowList → Type 0 = λ g. AreStrangers g b.refused in
+    let S : AllowList → Type 0 = λ g. AreStrangers g c.refused in
+    let last = same_allow_list (after old.first) t mid more buf m ∙ same in
     record {
       answers = joined old.first a b c;
-      peer = joined_peer old.allow_list old.first a b c l.peer at_second at_third;
+      peer = joined_peer old.allow_list old.first a b c l.peer (subst P same m.peer)
+          (subst Q last n.peer);
+      strangers = joined_strangers old.allow_list old.first a b c l.strangers
+          (subst R same m.strangers) (subst S last n.strangers);
       front = front_none old.is_cut_due (is_behind old.timing t) old.held buf
           (none_of old.held none);
       turned = sym (plain t (joined old.first a b c) buf old due level none

@@ -14,7 +14,7 @@ use Rattle.live.specs.Ends.{LiveEnds, Peer, Answers, IsTurn}
 use Rattle.live.specs.Ends.{Turns, LogsTurn, LogsPut, as_logged}
 use Rattle.live.specs.Ends.{event_at, turn_by, sources_by, held_by, round}
 use Rattle.live.specs.Ends.{look, unless_found, next_round, looked_at, found_at, after}
-use Rattle.live.specs.Ends.{nothing_more, accepted}
+use Rattle.live.specs.Ends.{nothing_more, accepted, turned_away}
 use Rattle.live.proofs.Apart.{walled_of}
 use Rattle.live.proofs.Beside.{action_beside, written_beside, closed_beside}
 use Rattle.live.proofs.Law.{at_moment, at_clock, clock_read}
@@ -208,7 +208,8 @@ accepted_reads k b (Some peer) e h = h
 
 looked_reads : (k : Timing) (s : EventSource) (b : ℕ) (a : Answers) (buf : List ℕ) (e : LiveEnds)
     → Reads k b e.timing → Reads k b (looked_at s b a buf e).timing
-looked_reads k Listener b a buf e h = accepted_reads k b a.peer e h
+looked_reads k Listener b a buf e h =
+    accepted_reads k b a.peer (turned_away a.refused e) h
 looked_reads k Connection b a buf e h = h
 looked_reads k Line b a buf e h = reads_again k b e.timing h
 

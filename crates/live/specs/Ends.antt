@@ -9,7 +9,7 @@ use Rattle.gateway.specs.declared.ports.Next.TheVariants as next
 use Rattle.session.specs.declared.kinds.Close.{Close}
 use Rattle.session.specs.declared.kinds.Close.TheVariants.{Replaced}
 use Rattle.std.specs.declared.net.ip_addr.IpAddr.{IpAddr}
-use Rattle.live.specs.AllowLists.{Allows}
+use Rattle.live.specs.AllowLists.{Allows, AreStrangers, Refusals, refusing}
 use Rattle.live.specs.declared.allow_list.AllowList.{AllowList}
 use Rattle.live.specs.OctetStreams.{looked, Dropped, Wrote, StreamHistory, noted, IsNew, Attempts}
 use Rattle.live.specs.OctetStreams.{attempted}
@@ -41,12 +41,12 @@ pub record IsAllowedPeer (allow_list : AllowList) (peer : Peer) : Type 0 where
   pub allows : Allows allow_list peer.address
 
 -- Who may connect; what happened at the line, and whether it is there, where it says that; what
--- happened at the connection, if there is one, and at the listener; octets of that connection that
--- came and haven't been given; what the clock gave; the source that is looked at first; whether a
--- write to the connection failed, so that a cut is due; whether the run goes on after a restart;
--- why the latest connection that was cut was cut; how often the line was gone; how many of its
--- octets were dropped before requests; what decides the moment of an event; what the wall clock
--- showed, and when it was given last; and the log, the newest entry first.
+-- happened at the connection, if there is one, and at the listener, and whom that refused; octets of
+-- that connection that came and haven't been given; what the clock gave; the source that is looked
+-- at first; whether a write to the connection failed, so that a cut is due; whether the run goes on
+-- after a restart; why the latest connection that was cut was cut; how often the line was gone; how
+-- many of its octets were dropped before requests; what decides the moment of an event; what the
+-- wall clock showed, and when it was given last; and the log, the newest entry first.
 pub record LiveEnds : Type 0 where
   pub allow_list : AllowList
   pub line : StreamHistory
@@ -54,6 +54,7 @@ pub record LiveEnds : Type 0 where
   pub connection : Option Peer
   pub held : List ℕ
   pub listener : Attempts
+  pub refusals : Refusals
   pub clock : Moments
   pub first : EventSource
   pub is_cut_due : Bool
@@ -68,14 +69,15 @@ pub record LiveEnds : Type 0 where
 
 -- the ends where a run begins, before anything has come; an answer is awaited for so long, in ms
 abbrev pub begun_with : AllowList → (line : StreamHistory) → Option Presence
-    → (listener : Attempts) → (clock walls : Moments) → (answer_ms : ℕ) → LiveEnds
-begun_with allow_list line presence listener clock walls answer_ms = record {
+    → (listener : Attempts) → Refusals → (clock walls : Moments) → (answer_ms : ℕ) → LiveEnds
+begun_with allow_list line presence listener refusals clock walls answer_ms = record {
   allow_list = allow_list;
   line = line;
   presence = presence;
   connection = None;
   held = [];
   listener = listener;
+  refusals = refusals;
   clock = clock;
   first = Listener;
   is_cut_due = false;
@@ -111,9 +113,11 @@ after Connection = Line
 after Line = Listener
 
 -- what the ends answer in one round, each if it is looked at: who connects, with what happened at
--- the stream so far; and whether the line is there then, where it says that
+-- the stream so far; who is refused, the newest first; and whether the line is there then, where it
+-- says that
 pub record Answers : Type 0 where
   pub peer : Option Peer
+  pub refused : List IpAddr
   pub connection : Got
   pub line : Got
   pub presence : Option Presence
@@ -151,6 +155,10 @@ accepted None ends = record ends { listener = attempted ends.listener false }
 accepted (Some peer) ends =
     record ends { listener = attempted ends.listener true; connection = Some peer; held = [] }
 
+-- these were refused
+abbrev pub turned_away : (refused : List IpAddr) → LiveEnds → LiveEnds
+turned_away refused ends = record ends { refusals = refusing refused ends.refusals }
+
 -- a connection that is gone is none any more
 abbrev pub read_open : StreamHistory → Got → (buf : List ℕ) → Option StreamHistory
 read_open stream (Octets len) buf = Some (noted stream (looked (Octets len) buf))
@@ -186,7 +194,8 @@ failed_by Gone failed = failed + 1
 -- the ends after a look at a source, before which the clock gave this moment, and after which the
 -- buffer has this
 abbrev pub looked_at : EventSource → ℕ → Answers → (buf : List ℕ) → LiveEnds → LiveEnds
-looked_at Listener begun answers buf ends = accepted answers.peer ends
+looked_at Listener begun answers buf ends =
+    accepted answers.peer (turned_away answers.refused ends)
 looked_at Connection begun answers buf ends =
     peer_read ends.connection answers.connection buf ends
 looked_at Line begun answers buf ends = record ends {
@@ -309,6 +318,7 @@ pub record IsTurn (begun : ℕ) (old : LiveEnds) (f : Option SourceEvent) (buf :
     : Type 0 where
   pub answers : Answers
   pub peer : IfSome answers.peer (IsAllowedPeer old.allow_list)
+  pub strangers : AreStrangers old.allow_list answers.refused
   pub front : IsFront old.is_cut_due (is_behind old.timing begun) old.held buf
   pub turned : (f, new) ≡ turn begun answers buf old
 

@@ -1,4 +1,5 @@
 pub mod AllowLists
+pub mod Arrivals
 pub mod OctetStreams
 pub mod Timing
 pub mod Walls

@@ -1,5 +1,7 @@
 -- One look at one source, by what it found (this gateway's own profile).
 use Rattle.std.specs.Prelude.{◌≡◌, ℕ, List, Option, Some, None, IfSome}
+use Rattle.std.specs.declared.net.ip_addr.IpAddr.{IpAddr}
+use Rattle.live.specs.AllowLists.{AreStrangers}
 use Rattle.live.specs.Ends.{LiveEnds, Peer, IsAllowedPeer, Answers, found_at, looked_at, next_round}
 use Rattle.live.specs.declared.found.SourceEvent.{SourceEvent}
 use Rattle.live.specs.declared.found.SourceEvent.TheVariants as found
@@ -21,9 +23,11 @@ abbrev pub peer_for : Option SourceEvent → Option Peer → Option Peer
 peer_for (Some found.Open) connection = connection
 peer_for _ connection = None
 
-abbrev pub answers_for : Option SourceEvent → LiveEnds → Answers
-answers_for f new = record {
+-- the answers that this was found by, where these were refused
+abbrev pub answers_for : Option SourceEvent → (refused : List IpAddr) → LiveEnds → Answers
+answers_for f refused new = record {
   peer = peer_for f new.connection;
+  refused = refused;
   connection = got_for f;
   line = got_for f;
   presence = new.presence;
@@ -33,14 +37,18 @@ answers_for f new = record {
 pub record LooksAt (source : EventSource) (begun : ℕ) (old : LiveEnds) (f : Option SourceEvent)
     (buf : List ℕ)
     (new : LiveEnds) : Type 0 where
-  pub peer : IfSome (answers_for f new).peer (IsAllowedPeer old.allow_list)
-  pub found : f ≡ found_at source (answers_for f new) old
-  pub ends : new ≡ looked_at source begun (answers_for f new) buf old
+  pub refused : List IpAddr
+  pub strangers : AreStrangers old.allow_list refused
+  pub peer : IfSome (answers_for f refused new).peer (IsAllowedPeer old.allow_list)
+  pub found : f ≡ found_at source (answers_for f refused new) old
+  pub ends : new ≡ looked_at source begun (answers_for f refused new) buf old
 
 -- and the next round begins after the source, where something was found
 pub record LooksInRound (source : EventSource) (begun : ℕ) (old : LiveEnds) (f : Option SourceEvent)
     (buf : List ℕ)
     (new : LiveEnds) : Type 0 where
-  pub peer : IfSome (answers_for f new).peer (IsAllowedPeer old.allow_list)
-  pub found : f ≡ found_at source (answers_for f new) old
-  pub ends : new ≡ next_round source f (looked_at source begun (answers_for f new) buf old)
+  pub refused : List IpAddr
+  pub strangers : AreStrangers old.allow_list refused
+  pub peer : IfSome (answers_for f refused new).peer (IsAllowedPeer old.allow_list)
+  pub found : f ≡ found_at source (answers_for f refused new) old
+  pub ends : new ≡ next_round source f (looked_at source begun (answers_for f refused new) buf old)

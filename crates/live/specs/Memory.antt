@@ -1,11 +1,14 @@
 -- What has happened at ends in memory, which note it as entries of a log (profile).
-use Rattle.std.specs.Prelude.{ℕ, List, [], ◌∷◌, Bool, true, false, ◌==◌, Ok, Err}
+use Rattle.std.specs.Prelude.{ℕ, List, [], ◌∷◌, Bool, true, false, ◌==◌, Some, Ok, Err}
 use Rattle.gateway.specs.Log.{Log, Came, Went, LineIn, LineOut, TcpOut, Opened, CutOff, Ticked}
 use Rattle.gateway.specs.Log.{WallIs}
+use Rattle.live.specs.AllowLists.{Refusals}
+use Rattle.live.specs.declared.ends.RefusedPeers.{RefusedPeers}
 use Rattle.live.specs.OctetStreams.{Happening, Gave, WasQuiet, WasGone, Dropped, Wrote}
 use Rattle.live.specs.Redial.{DialCall, Dialed, Asked}
 use Rattle.live.specs.Streams.{Received, Sent, SystemCall, Waits}
 use Rattle.std.specs.declared.io.Error.{Error}
+use Rattle.std.specs.declared.net.ip_addr.IpAddr.{IpAddr}
 
 -- At a stream: octets came, or a look found nothing, or found it gone; so many that had come were
 -- dropped; or octets were put on it, with the number 1 where it took them.
@@ -24,6 +27,15 @@ attempts_in [] = []
 attempts_in (Came now Opened ∷ log) = true ∷ attempts_in log
 attempts_in (Came now Ticked ∷ log) = false ∷ attempts_in log
 attempts_in (entry ∷ log) = attempts_in log
+
+-- and those who connected from this address and were refused
+abbrev pub refused_in : IpAddr → Log → List IpAddr
+refused_in address [] = []
+refused_in address (Came now CutOff ∷ log) = address ∷ refused_in address log
+refused_in address (entry ∷ log) = refused_in address log
+
+abbrev pub refusals_of : IpAddr → Log → RefusedPeers → Refusals
+refusals_of address log said = record { peers = Some (refused_in address log); said = said }
 
 -- at a dialler: a try was begun, with the number 1 where that reached a stream, or it was asked
 -- about one

@@ -1,5 +1,6 @@
 //! The ends of a live run.
 ghost use Rattle.std.specs.Prelude.{◌≡◌, List, Bool, Option, IfSome};
+ghost use Rattle.live.specs.AllowLists.{nobody, one_more_refused};
 
 use crate::allow_list::AllowList;
 use std::net::IpAddr;
@@ -89,7 +90,7 @@ pub struct Accepted<S: OctetStream> {
 /// Where connections come from.
 pub trait Listener {
     ghost use Rattle.live.specs.OctetStreams.{Attempts, IsNew, attempted};
-    ghost use Rattle.live.specs.AllowLists.{Allows};
+    ghost use Rattle.live.specs.AllowLists.{Allows, Refusals, RefusesStrangers};
     ghost use Rattle.std.specs.Option.{is_some};
 
     type Stream: OctetStream;
@@ -97,16 +98,22 @@ pub trait Listener {
     /// Whether a connection was accepted at each look, the newest first, where it notes that.
     ghost attempts: { Self → Attempts };
 
+    /// Those whom it refused, the newest first, where it notes them; and what it says of them.
+    ghost refusals: { Self → Refusals };
+
     /// Looks once for a new connection, without a wait, and accepts only addresses of this list:
     /// any other is refused at once. Nothing has happened at the stream yet.
     fn accept(&mut self, allow_list: &AllowList) -> Option<Accepted<Self::Stream>>
         ensures allowed { IfSome result (λ accepted. Allows allow_list.now accepted.address) }
         ensures fresh { IfSome result (λ accepted. IsNew (Self.Stream.history accepted.stream)) }
-        ensures noted { attempts self.new ≡ attempted (attempts self.old) (is_some result) };
+        ensures noted { attempts self.new ≡ attempted (attempts self.old) (is_some result) }
+        ensures refused { RefusesStrangers allow_list.now (refusals self.old)
+            (refusals self.new) };
 
     /// How many were refused so far, and the address of the last of them.
     // `run --log` logs this (docs/DECISIONS.md, "`Listener::refused`").
-    fn refused(&self) -> RefusedPeers;
+    fn refused(&self) -> RefusedPeers
+        ensures { result ≡ (refusals self.now).said };
 }
 
 /// Those whom a listener refused.
@@ -116,6 +123,26 @@ pub struct RefusedPeers {
     pub count: u64,
     /// The address of the last one.
     pub last: Option<IpAddr>,
+}
+
+impl RefusedPeers {
+    /// Nobody was refused.
+    pub(crate) fn nobody() -> RefusedPeers
+        ensures { result ≡ nobody }
+    {
+        RefusedPeers {
+            count: 0,
+            last: None,
+        }
+    }
+
+    /// Who has this address is refused.
+    pub(crate) fn add(&mut self, address: IpAddr)
+        ensures { self.new ≡ one_more_refused address self.old }
+    {
+        self.count = self.count.saturating_add(1);
+        self.last = Some(address);
+    }
 }
 
 /// A clock that begins anywhere and never goes back, and the wall clock beside it, which people

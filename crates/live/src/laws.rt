@@ -1,7 +1,8 @@
 //! Laws of the port over live ends, in the terms of the clock, the requests and the looks at the
 //! line.
 ghost use Rattle.std.specs.Prelude.{◌⊎◌, ◌≡◌, ◌≢◌, All, IfSome, None, ◌+◌, ◌-◌, ◌<◌, ◌≤◌, ℕ, List};
-ghost use Rattle.std.specs.Prelude.{[], ◌∷◌, length, Some, Bool, true, false, ◌↔◌, Vec};
+ghost use Rattle.std.specs.Prelude.{[], ◌∷◌, length, min, Option, Some, Ok, Err, Bool, true, false, ◌↔◌, ◌^◌};
+ghost use Rattle.std.specs.Prelude.{Vec};
 ghost use Rattle.std.specs.declared.net.ip_addr.IpAddr.{IpAddr};
 ghost use Rattle.std.specs.declared.alloc.Global.{Global};
 ghost use Rattle.gateway.specs.declared.ports.Next.{Next};
@@ -12,7 +13,14 @@ ghost use Rattle.live.specs.Law.{IsWrittenBehind, AsksNothing, is_cut, peer_of};
 ghost use Rattle.live.specs.Cuts.{CutsFirst, shuts_nothing};
 ghost use Rattle.live.specs.Runs.{IsInRun, WallFirst};
 ghost use Rattle.live.specs.declared.ends.CutCause.TheVariants.{Gone, NotTaken};
-ghost use Rattle.live.specs.AllowLists.{Allows};
+ghost use Rattle.live.specs.AllowLists.{Allows, IsPlain, RefusesStrangers};
+ghost use Rattle.live.specs.Arrivals.{Arrival, Comer, IsPeerOf, Sorts};
+ghost use Rattle.live.specs.declared.allow_list.AllowList.{AllowList};
+ghost use Rattle.std.specs.declared.io.Error.{Error};
+ghost use Rattle.std.specs.declared.net.socket_addr.SocketAddr.{SocketAddr};
+ghost use Rattle.std.specs.declared.net.tcp.TcpStream.{TcpStream};
+ghost use Rattle.live.specs.Sights.{ShowsEnds};
+ghost use Rattle.live.specs.declared.watched.EndsSight.{EndsSight};
 ghost use Rattle.live.specs.declared.allow_list.AllowList.TheVariants.{Anyone, Only};
 ghost use Rattle.gateway.specs.Log.{Closed, LineOut, Output};
 ghost use Rattle.live.specs.InTurn.{BeginsBehind, LooksBefore, IsLookedAt, begins_behind};
@@ -214,6 +222,58 @@ pub fn only_allowed_addresses_connect()
     ensures put { (old new : LiveEnds) (moment : ℕ) (action : Output) →
         LogsPut old moment action new → shuts_nothing action ≡ true →
         peer_of new ≡ peer_of old }
+{}
+
+/// Nobody is refused but those who may not connect, and only looks at the listener refuse them. So
+/// it is at each event, and from the beginning of a run to any moment of it.
+pub fn only_strangers_are_refused()
+    ensures events { (old new : LiveEnds) (event : Next) (buf : List ℕ) →
+        LogsTurn old event buf new →
+        RefusesStrangers old.allow_list old.refusals new.refusals }
+    ensures put { (old new : LiveEnds) (moment : ℕ) (action : Output) →
+        LogsPut old moment action new → new.refusals ≡ old.refusals }
+    ensures run { (start end : LiveEnds) → LiveRun start end →
+        RefusesStrangers start.allow_list start.refusals end.refusals }
+{}
+
+/// What is shown of those who were refused in a run, where the listener notes them: how many they
+/// are, as far as 64 bits count, and which of them came last.
+pub fn who_was_refused_is_shown()
+    ensures nobody { (start end : LiveEnds) (sight : EndsSight) →
+        start.refusals ≡ record { peers = Some []; said = record { count = 0; last = None } } →
+        LiveRun start end → ShowsEnds end sight → end.refusals.peers ≡ Some [] →
+        sight.refused ≡ record { count = 0; last = None } }
+    ensures peers { (start end : LiveEnds) (sight : EndsSight) (peer : IpAddr)
+        (before : List IpAddr) →
+        start.refusals ≡ record { peers = Some []; said = record { count = 0; last = None } } →
+        LiveRun start end → ShowsEnds end sight → end.refusals.peers ≡ Some (peer ∷ before) →
+        (sight.refused.count ≡ min (length (peer ∷ before)) (2 ^ 64 - 1))
+        × (sight.refused.last ≡ Some peer) }
+{}
+
+/// Whoever comes and may not connect is refused, and whoever may is let in, by the answers of the
+/// system alone; of those who may the newest stays. An IPv4 address that is written as an IPv6 one
+/// counts as that IPv4 address.
+pub fn who_comes_is_refused_or_let_in()
+    ensures nobody { (allow_list : AllowList) (refused : List IpAddr) (newest : Option Comer) →
+        Sorts allow_list [] refused newest → (refused ≡ []) × (newest ≡ None) }
+    ensures refused { (allow_list : AllowList) (answers : List Arrival) (refused : List IpAddr)
+        (newest : Option Comer) (stream : TcpStream) (socket : SocketAddr) →
+        Sorts allow_list (Ok (stream, socket) ∷ answers) refused newest →
+        ((peer : IpAddr) → IsPeerOf socket peer → Allows allow_list peer → ⊥) →
+        (peer : IpAddr) × (before : List IpAddr) × IsPeerOf socket peer
+        × (refused ≡ peer ∷ before) × Sorts allow_list answers before newest }
+    ensures let_in { (allow_list : AllowList) (answers : List Arrival) (refused : List IpAddr)
+        (newest : Option Comer) (stream : TcpStream) (socket : SocketAddr) →
+        Sorts allow_list (Ok (stream, socket) ∷ answers) refused newest →
+        ((peer : IpAddr) → IsPeerOf socket peer → Allows allow_list peer) →
+        (peer : IpAddr) × (before : Option Comer) × IsPeerOf socket peer
+        × (newest ≡ Some (peer, stream)) × Sorts allow_list answers refused before }
+    ensures others { (allow_list : AllowList) (answers : List Arrival) (refused : List IpAddr)
+        (newest : Option Comer) (fault : Error) →
+        Sorts allow_list (Err fault ∷ answers) refused newest →
+        Sorts allow_list answers refused newest }
+    ensures plain { (socket : SocketAddr) (peer : IpAddr) → IsPeerOf socket peer → IsPlain peer }
 {}
 
 /// Two events that follow each other never both give the wall clock: whatever the gateway stalls,

@@ -56,6 +56,7 @@
 #![tactic(auto)]
 
 mod allow_list;
+mod arrivals;
 #[cfg(test)]
 mod configured;
 mod ends;
@@ -91,11 +92,13 @@ pub use laws::{
     an_exchange_that_is_over_gives_an_event_at_once, late_octets_are_those_that_were_dropped,
     looks_ask_nothing, looks_at_the_line_are_timed_by_the_clock,
     looks_for_an_event_begin_within_100_ms, no_exchange_ends_unread, no_source_hides_another,
-    only_allowed_addresses_connect, the_ends_are_looked_at_between_wall_moments,
-    the_line_fails_where_its_stream_is_gone, the_log_has_what_passed,
-    the_round_goes_on_behind_the_last_event, the_wall_clock_is_given_each_second,
-    the_wall_clock_is_that_of_its_moment, tries_by_example, what_is_noted_is_noted_to_the_end,
-    what_passed_by_example, what_the_centre_sent_is_given_in_time,
+    only_allowed_addresses_connect, only_strangers_are_refused,
+    the_ends_are_looked_at_between_wall_moments, the_line_fails_where_its_stream_is_gone,
+    the_log_has_what_passed, the_round_goes_on_behind_the_last_event,
+    the_wall_clock_is_given_each_second, the_wall_clock_is_that_of_its_moment, tries_by_example,
+    what_is_noted_is_noted_to_the_end, what_passed_by_example,
+    what_the_centre_sent_is_given_in_time, who_comes_is_refused_or_let_in,
+    who_was_refused_is_shown,
 };
 pub use port::Live;
 pub use redial::{Dialled, Dialler, Redialled};

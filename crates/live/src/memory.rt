@@ -1,9 +1,11 @@
 //! Ends in memory, which note what happens at them, count what is asked of them and fail when they
 //! are to.
 ghost use Rattle.std.specs.Prelude.{◌≡◌, List, [], ◌∷◌, Some, IfSome};
-ghost use Rattle.live.specs.AllowLists.{Allows};
+ghost use Rattle.std.specs.declared.net.ip_addr.IpAddr.{IpAddr};
+ghost use Rattle.live.specs.AllowLists.{Allows, RefusesStrangers, nobody};
 ghost use Rattle.live.specs.OctetStreams.{FitsBuffer, looked, Dropped, Wrote};
 ghost use Rattle.live.specs.Memory.{happenings, attempts_in, moments_in, shown_in};
+ghost use Rattle.live.specs.Memory.{refused_in, refusals_of};
 
 use crate::allow_list::AllowList;
 use crate::ends::{Accepted, Got, Listener, OctetStream, RefusedPeers, RunClock};
@@ -132,7 +134,9 @@ impl OctetStream for MemoryStream {
 /// What has happened at a listener, with a look at it, or the tries of a dialler, with one that
 /// ended.
 pub(crate) fn with_attempt(log: &History, is_here: bool) -> History
-    ensures { attempts_in result.entries ≡ is_here ∷ attempts_in log.now.entries }
+    ensures attempts { attempts_in result.entries ≡ is_here ∷ attempts_in log.now.entries }
+    ensures refused { (address : IpAddr) → refused_in address result.entries
+        ≡ refused_in address log.now.entries }
 {
     if is_here {
         log.came(&Next::Open(0), &NO_OCTETS)
@@ -141,37 +145,59 @@ pub(crate) fn with_attempt(log: &History, is_here: bool) -> History
     }
 }
 
+/// With one more who was refused.
+fn with_refusal(log: &History, address: IpAddr) -> History
+    ensures refused { refused_in address result.entries
+        ≡ address ∷ refused_in address log.now.entries }
+    ensures attempts { attempts_in result.entries ≡ attempts_in log.now.entries }
+{
+    log.came(&Next::Cut(0), &NO_OCTETS)
+}
+
 /// A listener, at which one control centre waits at the most.
 #[derive(Drop)]
 pub(crate) struct MemoryListener {
     pub(crate) centre: Option<MemoryStream>,
-    /// Whether a connection was accepted at each look.
+    /// Where control centres connect from.
+    address: IpAddr,
+    refused: RefusedPeers,
+    /// Whether a connection was accepted at each look, and who was refused.
     log: History,
 }
 
 impl MemoryListener {
     /// One at which this control centre waits, or none.
     pub(crate) fn new(centre: Option<MemoryStream>) -> MemoryListener
-        ensures { result.log.entries ≡ [] }
+        ensures log { result.log.entries ≡ [] }
+        ensures refused { result.refused ≡ nobody }
     {
         MemoryListener {
             centre,
+            address: IpAddr::V4(Ipv4Addr::LOCALHOST),
+            refused: RefusedPeers::nobody(),
             log: History::new(),
         }
     }
 
     /// The control centre, if one waits and is allowed. Nothing has happened at its stream yet.
+    #[tactic(auto, using(crate::proofs::Refused::refuses_nobody, crate::proofs::Refused::refuses_one))]
     fn accept_allowed(&mut self, allow_list: &AllowList) -> Option<Accepted<MemoryStream>>
         ensures allowed { IfSome result (λ accepted. Allows allow_list.now accepted.address) }
         ensures fresh { IfSome result (λ accepted. accepted.stream.log.entries ≡ []) }
-        ensures log { self.new.log ≡ self.old.log }
+        ensures attempts { attempts_in self.new.log.entries ≡ attempts_in self.old.log.entries }
+        ensures address { self.new.address ≡ self.old.address }
+        ensures refused { RefusesStrangers allow_list.now (refusals_of self.old.address
+            self.old.log.entries self.old.refused)
+            (refusals_of self.old.address self.new.log.entries self.new.refused) }
     {
         let mut stream = self.centre.take()?;
         stream.log = History::new();
-        let address = IpAddr::V4(Ipv4Addr::LOCALHOST);
+        let address = self.address;
         if allow_list.allows(address) {
             Some(Accepted { address, stream })
         } else {
+            self.log = with_refusal(&self.log, address);
+            self.refused.add(address);
             None
         }
     }
@@ -182,6 +208,9 @@ impl Listener for MemoryListener {
 
     ghost attempts = { λ listener. Some (attempts_in listener.log.entries) };
 
+    ghost refusals = { λ listener. refusals_of listener.address listener.log.entries
+        listener.refused };
+
     fn accept(&mut self, allow_list: &AllowList) -> Option<Accepted<MemoryStream>> {
         let accepted = self.accept_allowed(allow_list);
         self.log = with_attempt(&self.log, accepted.is_some());
@@ -189,10 +218,7 @@ impl Listener for MemoryListener {
     }
 
     fn refused(&self) -> RefusedPeers {
-        RefusedPeers {
-            count: 0,
-            last: None,
-        }
+        self.refused
     }
 }
 

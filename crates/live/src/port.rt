@@ -81,6 +81,7 @@ impl<S: OctetStream, L: Listener + Drop, C: RunClock + Drop> Model for Live<S, L
       }) a.connection;
       held = a.held;
       listener = L.attempts a.listener;
+      refusals = L.refusals a.listener;
       clock = C.moments a.clock;
       first = a.first;
       is_cut_due = a.is_cut_due;
@@ -109,7 +110,8 @@ impl<S: OctetStream, L: Listener + Drop, C: RunClock + Drop> Live<S, L, C> {
         config: &Config,
     ) -> Live<S, L, C>
         ensures { result ≡ begun_with allow_list (S.history line) (S.presence line)
-            (L.attempts listener) (C.moments clock) (C.walls clock) config.now.line.answer_ms }
+            (L.attempts listener) (L.refusals listener) (C.moments clock) (C.walls clock)
+            config.now.line.answer_ms }
     {
         // Of the settings it needs how long an answer is awaited (docs/DECISIONS.md, "What
         // `Live::new` takes").
@@ -125,7 +127,8 @@ impl<S: OctetStream, L: Listener + Drop, C: RunClock + Drop> Live<S, L, C> {
         answer_ms: u64,
     ) -> Live<S, L, C>
         ensures { result ≡ begun_with allow_list (S.history line) (S.presence line)
-            (L.attempts listener) (C.moments clock) (C.walls clock) answer_ms }
+            (L.attempts listener) (L.refusals listener) (C.moments clock) (C.walls clock)
+            answer_ms }
     {
         Live {
             allow_list,
@@ -197,7 +200,9 @@ impl<S: OctetStream, L: Listener + Drop, C: RunClock + Drop> Live<S, L, C> {
     }
 
     /// Who was refused.
-    pub(crate) fn refused(&self) -> RefusedPeers {
+    pub(crate) fn refused(&self) -> RefusedPeers
+        ensures { result ≡ self.now.refusals.said }
+    {
         self.listener.refused()
     }
 

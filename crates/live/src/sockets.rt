@@ -4,10 +4,11 @@
 //! frame; the listener and a connection are asked without a wait. So a frame of the line is seen at
 //! once, octets of a control centre after one look at a quiet line.
 ghost use Rattle.std.specs.Option.{is_some};
-ghost use Rattle.std.specs.Prelude.{◌≡◌, ◌≤◌, IfOk, IfSome, None, Some, true, false};
+ghost use Rattle.std.specs.Prelude.{◌≡◌, ◌≤◌, IfOk, IfSome, None, Some, true, false, option_map};
 ghost use Rattle.std.specs.Net.Addr.{IsCanonicalOf, MatchIp};
 ghost use Rattle.std.specs.Net.Socket.{socket_ip};
-ghost use Rattle.live.specs.AllowLists.{Allows, IsPlain, one_more_refused};
+ghost use Rattle.live.specs.AllowLists.{Allows, IsPlain, RefusesStrangers, nobody};
+ghost use Rattle.live.specs.Arrivals.{AcceptsNewest, TakesOne, TakesWaiting};
 ghost use Rattle.live.specs.Clocks.{BeginsAt};
 ghost use Rattle.live.specs.OctetStreams.{FitsBuffer, IsNew, attempted, noted, looked, Dropped};
 ghost use Rattle.live.specs.OctetStreams.{Wrote};
@@ -16,6 +17,7 @@ ghost use Rattle.live.specs.Streams.{called, Waits};
 ghost use Rattle.live.specs.declared.ends.Presence.TheVariants.{There};
 
 use crate::allow_list::AllowList;
+use crate::arrivals::{Arrived, SystemListener};
 use crate::ends::{
     Accepted, Got, Listener, OctetStream, Presence, Reached, RefusedPeers, RunClock,
 };
@@ -67,7 +69,7 @@ impl<S: SystemStream + Drop> Model for LineSocket<S> {
 
 impl LineSocket {
     /// Connects to `tcp:HOST:PORT` or `unix:PATH`, within some seconds for each address that HOST
-    /// has.
+    /// has. To whom a stream is connected no clause of the kit's calls says, so none here does.
     ///
     /// # Errors
     ///
@@ -414,24 +416,23 @@ fn peer_of(address: SocketAddr) -> IpAddr
 /// A TCP listener that doesn't wait. It accepts all who wait and are on the allow list, and the
 /// last of them stays; it refuses the others.
 #[derive(Drop)]
-pub struct CentreListener<'a, R> {
+pub struct CentreListener<'a, R, T: SystemListener + Drop = TcpListener> {
     rt: &'a R,
-    listener: TcpListener,
+    listener: T,
     /// That no connection can be accepted was said, and none has been accepted since.
     is_shut: bool,
     refused: RefusedPeers,
 }
 
 impl<'a, R: Net<Listener = TcpListener, Stream = TcpStream> + Eprint> CentreListener<'a, R> {
-    /// Listens at `HOST:PORT`.
+    /// Listens at `HOST:PORT`. Where the system binds it no clause of the kit's calls says.
     ///
     /// # Errors
     ///
     /// Those of the system.
     pub fn listen(rt: &'a R, address: &str) -> io::Result<CentreListener<'a, R>>
         ensures open { IfOk result (λ listener. listener.is_shut ≡ false) }
-        ensures nobody { IfOk result (λ listener.
-            listener.refused ≡ record { count = 0; last = None }) }
+        ensures nobody { IfOk result (λ listener. listener.refused ≡ nobody) }
     {
         let listener = TcpListener::bind(rt, address)?;
         listener.set_nonblocking(true)?;
@@ -439,14 +440,11 @@ impl<'a, R: Net<Listener = TcpListener, Stream = TcpStream> + Eprint> CentreList
             rt,
             listener,
             is_shut: false,
-            refused: RefusedPeers {
-                count: 0,
-                last: None,
-            },
+            refused: RefusedPeers::nobody(),
         })
     }
 
-    /// Where it listens.
+    /// Where it listens, as the system says. No clause of the kit's call says where that is.
     ///
     /// # Errors
     ///
@@ -454,67 +452,90 @@ impl<'a, R: Net<Listener = TcpListener, Stream = TcpStream> + Eprint> CentreList
     pub fn address(&self) -> io::Result<SocketAddr> {
         self.listener.local_addr()
     }
+}
 
-    /// Who has this address is refused.
-    fn note_refused(&mut self, address: IpAddr)
-        ensures { self.new
-            ≡ record self.old { refused = one_more_refused address self.old.refused } }
-    {
-        self.refused.count = self.refused.count.saturating_add(1);
-        self.refused.last = Some(address);
-    }
-
+impl<R: Eprint, T: SystemListener + Drop> CentreListener<'_, R, T> {
     /// Says once that no connection can be accepted, as with too few descriptors.
-    fn say_shut(&mut self, fault: &io::Error) {
+    fn say_shut(&mut self, fault: &io::Error)
+        ensures { self.new ≡ record self.old { is_shut = true } }
+    {
         if !self.is_shut {
             let _ = eprintln!(self.rt; "connections can't be accepted: {fault}");
         }
         self.is_shut = true;
     }
+
+    /// Asks for the next who waits. Who may not connect is refused.
+    fn take_one(&mut self, allow_list: &AllowList) -> Arrived
+        ensures { TakesOne allow_list.now (T.arrivals self.old.listener) self.old.refused result
+            (T.arrivals self.new.listener) self.new.refused }
+    {
+        match self.listener.accept_next() {
+            Ok((stream, address)) => {
+                self.is_shut = false;
+                // Addresses and no names, before the open connection is touched
+                // (docs/DECISIONS.md, "`run --allow` compares addresses").
+                let address = peer_of(address);
+                if allow_list.allows(address) {
+                    return Arrived::Allowed(address, stream);
+                }
+                self.refused.add(address);
+                Arrived::Other
+            }
+            Err(fault) => match fault.kind() {
+                // Who came has gone again.
+                ErrorKind::Interrupted | ErrorKind::ConnectionAborted => Arrived::Other,
+                ErrorKind::WouldBlock => Arrived::Nobody,
+                _ => {
+                    // It counts as no visitor, and is said once until one is accepted
+                    // (docs/DECISIONS.md, "A visitor who can't be accepted").
+                    self.say_shut(&fault);
+                    Arrived::Nobody
+                }
+            },
+        }
+    }
+
+    /// Asks for all who wait, and answers the newest who may connect. Who may not is refused.
+    fn take_waiting(&mut self, allow_list: &AllowList) -> Option<(IpAddr, TcpStream)>
+        ensures { TakesWaiting allow_list.now (T.arrivals self.old.listener) self.old.refused
+            result (T.arrivals self.new.listener) self.new.refused }
+    {
+        let mut newest = None;
+        for _ in 0..MOST_ACCEPTED {
+            match self.take_one(allow_list) {
+                // The newest: a control centre that comes again has left the ones before.
+                Arrived::Allowed(address, stream) => newest = Some((address, stream)),
+                Arrived::Other => {}
+                Arrived::Nobody => return newest,
+            }
+        }
+        newest
+    }
 }
 
-impl<R: Net<Listener = TcpListener, Stream = TcpStream> + Eprint> Listener
-    for CentreListener<'_, R> {
+impl<R: Net<Listener = TcpListener, Stream = TcpStream> + Eprint, T: SystemListener + Drop> Listener
+    for CentreListener<'_, R, T> {
     type Stream = CentreSocket;
 
     ghost attempts = { λ _. None };
+
+    ghost refusals = { λ listener. record { peers = None; said = listener.refused } };
 
     /// An IPv4 address that is written as an IPv6 one counts as that IPv4 address.
     fn accept(&mut self, allow_list: &AllowList) -> Option<Accepted<CentreSocket>>
         ensures allowed { IfSome result (λ accepted. Allows allow_list.now accepted.address) }
         ensures fresh { IfSome result (λ accepted. IsNew None) }
         ensures noted { None ≡ attempted None (is_some result) }
+        ensures refused { RefusesStrangers allow_list.now
+            (record { peers = None; said = self.old.refused })
+            (record { peers = None; said = self.new.refused }) }
         ensures plain { IfSome result (λ accepted. IsPlain accepted.address) }
+        ensures takes { AcceptsNewest allow_list.now (T.arrivals self.old.listener)
+            self.old.refused (option_map (λ accepted. accepted.address) result)
+            (T.arrivals self.new.listener) self.new.refused }
     {
-        let mut newest = None;
-        'taking: for _ in 0..MOST_ACCEPTED {
-            match self.listener.accept() {
-                Ok((stream, address)) => {
-                    self.is_shut = false;
-                    // Addresses and no names, before the open connection is touched
-                    // (docs/DECISIONS.md, "`run --allow` compares addresses").
-                    let address = peer_of(address);
-                    if allow_list.allows(address) {
-                        // The newest: a control centre that comes again has left the ones before.
-                        newest = Some((address, stream));
-                    } else {
-                        self.note_refused(address);
-                    }
-                }
-                Err(fault) => match fault.kind() {
-                    ErrorKind::WouldBlock => break,
-                    // Who came has gone again.
-                    ErrorKind::Interrupted | ErrorKind::ConnectionAborted => {}
-                    _ => {
-                        // It counts as no visitor, and is said once until one is accepted
-                        // (docs/DECISIONS.md, "A visitor who can't be accepted").
-                        self.say_shut(&fault);
-                        break;
-                    }
-                },
-            }
-        }
-        let (address, stream) = newest?;
+        let (address, stream) = self.take_waiting(allow_list)?;
         let stream = CentreSocket::new(stream).ok()?;
         Some(Accepted { address, stream })
     }

@@ -1,5 +1,6 @@
 //! Ends in memory in a time of their own, in which the gateway stalls wherever a test wants it to.
 ghost use Rattle.std.specs.Prelude.{None, ◌≤◌};
+ghost use Rattle.live.specs.AllowLists.{nobody};
 
 use crate::allow_list::AllowList;
 use crate::ends::{Accepted, Got, Listener, OctetStream, RefusedPeers, RunClock};
@@ -199,6 +200,8 @@ impl<'a> Listener for TimedListener<'a> {
 
     ghost attempts = { λ _. None };
 
+    ghost refusals = { λ _. record { peers = None; said = nobody } };
+
     fn accept(&mut self, allow_list: &AllowList) -> Option<Accepted<TimedCentre<'a>>> {
         self.time.begin();
         let address = IpAddr::V4(Ipv4Addr::LOCALHOST);
@@ -215,10 +218,7 @@ impl<'a> Listener for TimedListener<'a> {
     }
 
     fn refused(&self) -> RefusedPeers {
-        RefusedPeers {
-            count: 0,
-            last: None,
-        }
+        RefusedPeers::nobody()
     }
 }
 

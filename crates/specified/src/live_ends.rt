@@ -1,5 +1,6 @@
 //! Live ends: the crate `live`.
 ghost use Rattle.std.specs.Prelude.{None};
+ghost use Rattle.live.specs.AllowLists.{nobody};
 
 use gateway::{Next, Port};
 use live::{Accepted, AllowList, Got, Listener, Live, OctetStream, RefusedPeers, RunClock};
@@ -69,6 +70,9 @@ impl Listener for Hall {
 
     ghost attempts = { λ listener. None };
 
+    ghost refusals = { λ listener. record { peers = None; said = nobody } };
+
+    #[tactic(auto, using(live::proofs::Refused::refuses_nobody))]
     fn accept(&mut self, allow_list: &AllowList) -> Option<Accepted<Stub>> {
         let stream = self.centre.take()?;
         let address = IpAddr::V4(Ipv4Addr::LOCALHOST);

@@ -13,3 +13,4 @@ pub mod Law
 pub mod CuesWritten
 pub mod SpokenOf
 pub mod CueTexts
+pub mod Listeners

@@ -82,11 +82,15 @@ fn accept_local(listener: &UnixListener) -> Option<LocalSocket> {
 impl<R: Net<Listener = TcpListener, Stream = TcpStream> + Eprint + Files> Listener
     for LineListener<'_, R> {
     ghost use Rattle.std.specs.Prelude.{None};
+    ghost use Rattle.stations.specs.Listeners.{refusals_of};
 
     type Stream = GatewaySocket;
 
     ghost attempts = { λ _. None };
 
+    ghost refusals = { λ listener. refusals_of listener };
+
+    #[tactic(auto, using(live::proofs::Refused::refuses_nobody))]
     fn accept(&mut self, allow_list: &AllowList) -> Option<Accepted<GatewaySocket>> {
         match self {
             LineListener::Tcp(listener) => {

@@ -1,0 +1,7 @@
+use Rattle.live.proofs.Sorted.{TakesSo}
+use Rattle.live.proofs.sockets.CentreListener.take_waiting.Given as goal
+
+abbrev pub invariant-loop : goal.invariant-loop
+invariant-loop g l =
+    TakesSo l.allow_list (g.T.SystemListener.arrivals l.fn.self.listener) l.fn.self.refused
+    l.newest l.counter (g.T.SystemListener.arrivals l.self.listener) l.self.refused
