@@ -4,6 +4,7 @@ use Rattle.std.proofs.Common.{Option, Some, None, Result, Ok, Err, refl, sym, ap
 use Rattle.std.proofs.Common.{inl, inr}
 use Rattle.std.proofs.lemmas.Bool.{and_parts}
 use Rattle.std.specs.Prelude.{codes, nat_le, nat_lt, if◌then◌else◌, option_and_then, IsOk}
+use Rattle.std.specs.Prelude.{string_bytes}
 use Rattle.toml.specs.Data.{Data, Items, Members, get_member, as_array, as_str}
 use Rattle.gateway.specs.declared.settings.StationSettings.{StationSettings}
 use Rattle.settings.specs.Faults.{Path, ◌>>=◌}
@@ -34,6 +35,7 @@ use Rattle.settings.proofs.PlaceLemmas.{address_back, host_and_port, line_back, 
 use Rattle.settings.proofs.Refusing.{behind, also, line_first, line_right, more_right, never}
 use Rattle.settings.proofs.Refusing.{no_more, same_err, section_first, stations_first, step}
 use Rattle.settings.proofs.Refusing.{tcp_first, tcp_right}
+use Rattle.settings.proofs.UnknownNamed.{first_unknown}
 
 -- ---- the list of stations
 
@@ -390,7 +392,8 @@ named_by ends known wrong right text NotToml is = is
 named_by ends known wrong right text (Key path) is =
     (is.0, is.1.parsed, wrong is.0 path.now is.2)
 named_by ends known wrong right text (Unknown path) is =
-    let v = is_ok (known is.0) is.2.0 in (is.0, is.1.parsed, right is.0 v.0 v.1)
+    let v = is_ok (known is.0) is.2.0 in
+    (is.0, is.1.parsed, right is.0 v.0 v.1, first_unknown is.0 (string_bytes path) is.2.1)
 named_by ends known wrong right text NoMemory is = tt
 
 with_ends_first : (root : Members) (p : Path) → known_with_ends root ≡ Err p

@@ -62,15 +62,14 @@ among_9 : (a b c d e f g h i : Bool) → (a || b || c || d || e || f || g || h |
 among_9 true b c d e f g h i = refl
 among_9 false b c d e f g h i = among_8 b c d e f g h i
 
-keys_of : SettingsTable → List (List ℕ)
+abbrev pub keys_of : SettingsTable → List (List ℕ)
 keys_of Root = file_keys
 keys_of Line = line_keys
 keys_of Tcp = tcp_keys
 keys_of Station = station_keys
 keys_of Live = live_keys
 
-among : (s : SettingsTable) (k : List ℕ) → knows s k ≡ list_any (bytes_eq k) (keys_of s)
-unfolding keys_of
+pub among : (s : SettingsTable) (k : List ℕ) → knows s k ≡ list_any (bytes_eq k) (keys_of s)
 among Root k =
     among_4 (bytes_eq k (codes "line")) (bytes_eq k (codes "tcp"))
     (bytes_eq k (codes "station")) (bytes_eq k (codes "live"))
@@ -134,7 +133,6 @@ list_known None ds e at = cc
 list_known (Some d) ds e at = items_known ds (sym (ap unknown_array at) ∙ e)
 
 pub all_known : (root : Members) → unknown_paths root ≡ [] → AreAllKnown root
-unfolding keys_of
 all_known root e =
     let own : List (List ℕ) = unknown_in Root (member_keys root) in
     let line : List (List ℕ) = unknown_under Line (get_member (codes "line") root) in
@@ -196,7 +194,6 @@ list_clean (Some d) are = go (as_array d) refl
     go (Some ds) at = items_clean ds (are ds at)
 
 pub all_clean : (root : Members) → AreAllKnown root → unknown_paths root ≡ []
-unfolding keys_of
 all_clean root are =
     let own : List (List ℕ) = unknown_in Root (member_keys root) in
     let line : List (List ℕ) = unknown_under Line (get_member (codes "line") root) in

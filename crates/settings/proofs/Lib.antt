@@ -9,5 +9,6 @@ pub mod PlaceLemmas
 mod Filing
 mod FilingBack
 pub mod Refusing
+mod UnknownNamed
 mod Faulting
 mod Wording

@@ -1,7 +1,7 @@
 -- Which key a fault names: the first of docs/SETTINGS.md that is wrong, in the order of that page
 -- (this gateway's own profile). All of it speaks of the document alone.
 use Rattle.std.specs.Prelude.{◌≡◌, ◌⊎◌, ◌-◌, ◌≤◌, ◌++◌, ◌==◌, ℕ, codes, Bool, false, List, [], ◌∷◌}
-use Rattle.std.specs.Prelude.{length, Option, Some, None, option_and_then, IsUtf8}
+use Rattle.std.specs.Prelude.{length, Option, Some, None, option_and_then, IsUtf8, string_bytes}
 use Rattle.std.specs.Fmt.{decimal}
 use Rattle.std.specs.List.{list_any, AllByRecursion}
 use Rattle.toml.specs.Data.{Items, no_items, item, Members, get_member, as_array, as_str, as_table}
@@ -13,6 +13,7 @@ use Rattle.asdu.specs.Sizes.{ca_len}
 use Rattle.gateway.specs.declared.settings.Silence.{Silence}
 use Rattle.gateway.specs.declared.settings.StationSettings.{StationSettings}
 use Rattle.settings.specs.Files.{IsHostAndPort, IsPlaceOfLine}
+use Rattle.settings.specs.FirstUnknown.{IsFirstUnknown}
 use Rattle.settings.specs.Named.{AreNewAfter, AreStationsOf, IsFlag, IsNumber, IsSilence}
 use Rattle.settings.specs.Named.{IsStationOf, IsTableIfAny, IsTextIfAny, greatest_of, table_at}
 use Rattle.settings.specs.Named.{value_at}
@@ -220,13 +221,14 @@ pub record IsAllRight (ends : List Entry) (root : Members) : Type 0 where
   pub last : AreRight ends root
 
 -- A fault of the octets, where these rows stand behind the stations: no document, or the first key
--- that isn't right, or an unknown key where all others are right.
+-- that isn't right; or, where all are right, the first unknown key.
 abbrev pub IsFaultNamed : (ends : List Entry) → (text : List ℕ) → ConfigFault → Type 0
 IsFaultNamed ends text NotToml = IsUtf8 text → parse_document text ≡ None
 IsFaultNamed ends text (Key path) =
     (root : Members) × (parse_document text ≡ Some root) × IsFirstWrong ends root path.now
 IsFaultNamed ends text (Unknown path) =
     (root : Members) × (parse_document text ≡ Some root) × IsAllRight ends root
+    × IsFirstUnknown root (string_bytes path)
 IsFaultNamed ends text NoMemory = Unit {0}
 
 -- ---- The words

@@ -10,4 +10,5 @@ pub mod Wanted
 pub mod Named
 pub mod Known
 pub mod Files
+pub mod FirstUnknown
 pub mod FirstWrong

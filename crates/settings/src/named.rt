@@ -50,7 +50,7 @@ pub fn other_keys_are_refused()
 /// docs/SETTINGS.md, in the order of that page, that is missing, of another type or out of its
 /// range. Of the stations it is the first that isn't right, whose place
 /// [`wrong_station`](crate::wrong_station) finds. An unknown key is named only where all of these
-/// are right.
+/// are right: of several the one whose dotted path comes first in the order of octets.
 pub fn faults_name_the_first_wrong_key()
     ensures settings { (text : List ℕ) (fault : ConfigFault) →
         IsReadFor false text (Err fault) → IsFaultNamed text_entries text fault }

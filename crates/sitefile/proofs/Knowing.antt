@@ -59,13 +59,12 @@ before_8 : (a b c d e f g h t : Bool) → ((a || b || c || d || e || f || g || h
 before_8 true b c d e f g h t = refl
 before_8 false b c d e f g h t = before_7 b c d e f g h t
 
-keys_of : SiteTable → List (List ℕ)
+abbrev pub keys_of : SiteTable → List (List ℕ)
 keys_of Root = file_keys
 keys_of Line = line_keys
 keys_of Station = station_keys
 
-among : (s : SiteTable) (k : List ℕ) → knows s k ≡ list_any (bytes_eq k) (keys_of s)
-unfolding keys_of
+pub among : (s : SiteTable) (k : List ℕ) → knows s k ≡ list_any (bytes_eq k) (keys_of s)
 among Root k =
     ap (λ (t : Bool). (bytes_eq k (codes "allow") || bytes_eq k (codes "status")
     || bytes_eq k (codes "state") || bytes_eq k (codes "state_or_stop") || bytes_eq k (codes "log")
@@ -86,7 +85,7 @@ neither : (a b : Option (List ℕ)) → or_else a b ≡ None → (a ≡ None) ×
 neither (Some path) b e = cc
 neither None b e = (refl, e)
 
-keys_known : (s : SiteTable) (t : Members) → first_in s (member_keys t) ≡ None
+pub keys_known : (s : SiteTable) (t : Members) → first_in s (member_keys t) ≡ None
     → AreAmong (keys_of s) t
 keys_known s no_members e = tt
 keys_known s (member k d t) e = by (knows s k) refl e (keys_known s t)
@@ -98,12 +97,12 @@ keys_known s (member k d t) e = by (knows s k) refl e (keys_known s t)
     by true is none rest = (sym (among s k) ∙ is, rest none)
     by false is none rest = cc
 
-table_known : (s : SiteTable) (t : Option Members) → first_table s t ≡ None
+pub table_known : (s : SiteTable) (t : Option Members) → first_table s t ≡ None
     → HasOnly (keys_of s) t
 table_known s None e = tt
 table_known s (Some t) e = keys_known s t e
 
-under_known : (s : SiteTable) (o : Option Data) → first_under s o ≡ None
+pub under_known : (s : SiteTable) (o : Option Data) → first_under s o ≡ None
     → HasOnly (keys_of s) (option_and_then as_table o)
 under_known s None e = tt
 under_known s (Some d) e = table_known s (as_table d) e
@@ -120,7 +119,6 @@ list_known None ds e at = cc
 list_known (Some d) ds e at = items_known ds (sym (ap first_array at) ∙ e)
 
 all_known : (root : Members) → unknown_key root ≡ None → AreAllKnown root
-unfolding keys_of
 all_known root e =
     let first = neither (first_in Root (member_keys root))
     (or_else (first_under Line (get_member (codes "line") root))
@@ -179,7 +177,6 @@ list_clean (Some d) are = go (as_array d) refl
     go (Some ds) at = items_clean ds (are ds at)
 
 pub all_clean : (root : Members) → AreAllKnown root → unknown_key root ≡ None
-unfolding keys_of
 all_clean root are =
     both_none _ _ (none_unknown Root root are.file)
     (both_none _ _ (under_clean Line (get_member (codes "line") root) are.line)

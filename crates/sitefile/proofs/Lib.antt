@@ -6,5 +6,6 @@ pub mod Naming
 mod Knowing
 mod TextLemmas
 mod NamingBack
+mod UnknownNamed
 mod Refusing
 mod Wording

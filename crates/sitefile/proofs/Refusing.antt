@@ -3,7 +3,7 @@ use Rattle.std.proofs.Common.{◌≡◌, ℕ, ◌+◌, ◌==◌, Bool, true, fal
 use Rattle.std.proofs.Common.{length, Option, Some, None, Result, Ok, Err, refl, sym, ap, subst}
 use Rattle.std.proofs.Common.{◌∙◌}
 use Rattle.std.proofs.Common.{arith, inl, inr, length-append}
-use Rattle.std.specs.Prelude.{codes, if◌then◌else◌, option_and_then, IfSome, IsOk}
+use Rattle.std.specs.Prelude.{codes, if◌then◌else◌, option_and_then, IfSome, IsOk, string_bytes}
 use Rattle.std.specs.List.{list_any}
 use Rattle.toml.specs.Data.{Data, Items, no_items, item, Members, get_member, as_array, as_str}
 use Rattle.toml.specs.Data.{as_table}
@@ -36,6 +36,7 @@ use Rattle.sitefile.specs.declared.site.Flags.{Flags}
 use Rattle.sitefile.proofs.Naming.{allow_is, flags_are, link_is, link_new, name_good}
 use Rattle.sitefile.proofs.Naming.{name_is, text_good, text_is}
 use Rattle.sitefile.proofs.NamingBack.{allow_back, text_back}
+use Rattle.sitefile.proofs.UnknownNamed.{first_unknown}
 
 -- ---- lists of rows
 
@@ -560,5 +561,6 @@ site_fault_named text NotToml is = is
 site_fault_named text (Key path) is =
     (is.0, is.1.parsed, known_first is.0 path.now is.2)
 site_fault_named text (Unknown path) is =
-    let v = is_ok (known_site is.0) is.2.0 in (is.0, is.1.parsed, known_right is.0 v.0 v.1)
+    let v = is_ok (known_site is.0) is.2.0 in
+    (is.0, is.1.parsed, known_right is.0 v.0 v.1, first_unknown is.0 (string_bytes path) is.2.1)
 site_fault_named text NoMemory is = tt

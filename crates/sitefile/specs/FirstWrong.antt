@@ -1,14 +1,14 @@
 -- Which key a fault of a site's file names: the first of docs/SITE.md that is wrong, in the order
--- of
--- that page (this gateway's own profile). All of it speaks of the document alone.
+-- of that page (this gateway's own profile). All of it speaks of the document alone.
 use Rattle.std.specs.Prelude.{◌≡◌, ◌⊎◌, ◌++◌, ◌==◌, ℕ, codes, Bool, false, List, [], ◌∷◌, length}
-use Rattle.std.specs.Prelude.{Option, Some, None, option_and_then, IfSome, IsUtf8}
+use Rattle.std.specs.Prelude.{Option, Some, None, option_and_then, IfSome, IsUtf8, string_bytes}
 use Rattle.std.specs.Fmt.{decimal}
 use Rattle.std.specs.List.{list_any, AllByRecursion}
 use Rattle.toml.specs.Data.{Data, Items, no_items, item, Members, get_member, as_array, as_table}
 use Rattle.toml.specs.Parse.{parse_document}
 use Rattle.settings.specs.Files.{IsHostAndPort}
 use Rattle.settings.specs.Named.{IsFlag, IsNumber, IsTableIfAny, table_at}
+use Rattle.sitefile.specs.FirstUnknown.{IsFirstUnknown}
 use Rattle.sitefile.specs.Named.{IsAllowList, IsDirectoryName, IsNameText, IsText}
 use Rattle.sitefile.specs.Names.{wrong_station}
 use Rattle.sitefile.specs.Wanted.{site_values}
@@ -168,14 +168,15 @@ pub record IsAllRight (root : Members) : Type 0 where
   pub list : IsListIfAny root
   pub stations : (items : Items) → AreItems root items → AreAllRight [] items
 
--- A fault of the octets: no document, or the first key that isn't right, or an unknown key where
--- all others are right.
+-- A fault of the octets: no document, or the first key that isn't right; or, where all are right,
+-- the first unknown key.
 abbrev pub IsFaultNamed : (text : List ℕ) → SiteFault → Type 0
 IsFaultNamed text NotToml = IsUtf8 text → parse_document text ≡ None
 IsFaultNamed text (Key path) =
     (root : Members) × (parse_document text ≡ Some root) × IsFirstWrong root path.now
 IsFaultNamed text (Unknown path) =
     (root : Members) × (parse_document text ≡ Some root) × IsAllRight root
+    × IsFirstUnknown root (string_bytes path)
 IsFaultNamed text NoMemory = Unit {0}
 
 -- ---- The words

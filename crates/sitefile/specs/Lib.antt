@@ -6,4 +6,5 @@ pub mod Unknown
 pub mod Wanted
 pub mod Named
 pub mod Known
+pub mod FirstUnknown
 pub mod FirstWrong

@@ -34,7 +34,7 @@ pub fn other_site_keys_are_refused()
 /// docs/SITE.md, in the order of that page, that is of another type or isn't as it has to be: all
 /// that stands before it is right. Of the stations it is the first that isn't right, whose place
 /// [`wrong_station`](crate::wrong_station) finds. An unknown key is named only where all of these
-/// are right.
+/// are right: of several the first of the file itself, of `line`, then of a station.
 pub fn site_faults_name_the_first_wrong_key()
     ensures { (text : List ℕ) (fault : SiteFault) → IsSiteRead text (Err fault) →
         IsFaultNamed text fault }

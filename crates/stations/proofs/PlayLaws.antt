@@ -8,13 +8,16 @@ use Rattle.std.proofs.lemmas.Bool.{ltb-true}
 use Rattle.std.specs.Option.{is_some}
 use Rattle.std.specs.Prelude.{if◌then◌else◌, slice_get}
 use Rattle.live.specs.OctetStreams.{StreamHistory}
+use Rattle.live.specs.declared.ends.Got.{Got}
+use Rattle.live.specs.declared.ends.Got.TheVariants.{Octets, Quiet, Gone}
 use Rattle.link.specs.Secondary.{Secondary}
 use Rattle.sim.specs.declared.directive.Class.{Class}
 use Rattle.sim.specs.declared.directive.Class.TheVariants.{One, Two}
 use Rattle.stations.specs.Exchanges.{OutstationsState}
 use Rattle.stations.specs.Late.{LateAnswer}
-use Rattle.stations.specs.Law.{CouldReply, HadItsTurn, HasOneMore}
-use Rattle.stations.specs.Places.{AllLinesReport, IsNewStream, IsReceivedAt, LooksOnce}
+use Rattle.stations.specs.Law.{BringsRequests, CouldReply, HadItsTurn, HasOneMore}
+use Rattle.stations.specs.Places.{AllLinesReport, IsAnsweredAt, IsNewStream, IsReceivedAt}
+use Rattle.stations.specs.Places.{LooksOnce}
 use Rattle.stations.specs.Places.{OutstationServer, after_accept}
 use Rattle.stations.specs.Replying.{GivesReply, Replies, RepliesBy, RepliesEach, RepliesFrom}
 use Rattle.stations.specs.Replying.{RepliesTo, advanced, command_at, manner_of}
@@ -34,6 +37,62 @@ begins_anew old new look stream so_far late is = record {
   received = subst (λ (a : Option StreamHistory).
       IsReceivedAt (after_accept old a).stream (after_accept old a) new) is look.received;
 }
+
+-- ---- What a look changes at the outstations
+
+received_brings : (s : Option StreamHistory) (old new : OutstationServer)
+    → IsReceivedAt s old new
+    → BringsRequests old.standing.late old.standing.so_far old.standing new.standing
+received_brings s old new is = by s is
+  where
+    nothing : new.standing ≡ old.standing
+        → BringsRequests old.standing.late old.standing.so_far old.standing new.standing
+    nothing e = record {
+      exchanges = [];
+      mid = old.standing;
+      answered = refl;
+      new_is = e ∙ ap (λ (z : OutstationsState). record old.standing { so_far = z.so_far }) (sym e);
+    }
+
+    answered_at : (before : StreamHistory) (got : Got) (buf : List ℕ)
+        → IsAnsweredAt before old got buf new
+        → BringsRequests old.standing.late old.standing.so_far old.standing new.standing
+    answered_at before (Octets len) buf h = record {
+      exchanges = h.2.exchanges;
+      mid = h.2.mid;
+      answered = h.2.answered;
+      new_is = h.2.new_is;
+    }
+    answered_at before Quiet buf h = nothing (ap (λ (z : OutstationServer). z.standing) h)
+    answered_at before Gone buf h = nothing (ap (λ (z : OutstationServer). z.standing) h)
+
+    by : (s : Option StreamHistory) → IsReceivedAt s old new
+        → BringsRequests old.standing.late old.standing.so_far old.standing new.standing
+    by None h = nothing (ap (λ (z : OutstationServer). z.standing) h)
+    by (Some before) h = answered_at before h.0 h.1 h.2
+
+pub look_brings : (old new : OutstationServer) (look : LooksOnce old new) → look.accepted ≡ None
+    → BringsRequests old.standing.late old.standing.so_far old.standing new.standing
+look_brings old new look is =
+    let now : OutstationServer = after_accept old None in
+    received_brings now.stream now new
+    (subst (λ (a : Option StreamHistory).
+    IsReceivedAt (after_accept old a).stream (after_accept old a) new) is look.received)
+
+pub accepting_brings : (old new : OutstationServer) (look : LooksOnce old new)
+    (stream : StreamHistory) → look.accepted ≡ Some stream
+    → BringsRequests None [] old.standing new.standing
+accepting_brings old new look stream is =
+    let now : OutstationServer = after_accept old (Some stream) in
+    let all = received_brings now.stream now new
+    (subst (λ (a : Option StreamHistory).
+    IsReceivedAt (after_accept old a).stream (after_accept old a) new) is look.received) in
+    record {
+      exchanges = all.exchanges;
+      mid = all.mid;
+      answered = all.answered;
+      new_is = all.new_is;
+    }
 
 -- ---- Time
 

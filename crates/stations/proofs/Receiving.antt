@@ -2,6 +2,7 @@
 use Rattle.std.proofs.Common.{◌&&◌, ◌||◌, ◌≡◌, ℕ, ◌+◌, Bool, true, false, List, [], ◌∷◌, ◌++◌, ◌∙◌}
 use Rattle.std.proofs.Common.{drop, length, Option, Some, None, ap, refl, sym, subst, inl, inr}
 use Rattle.std.specs.Prelude.{IfSome, unwrap_or, ◌⊎◌}
+use Rattle.std.proofs.lemmas.Bool.{and_parts}
 use Rattle.std.proofs.lemmas.List.Folds.{list_all-append}
 use Rattle.std.specs.List.{list_all}
 use Rattle.std.specs.Option.{is_none}
@@ -17,11 +18,12 @@ use Rattle.live.specs.OctetStreams.{StreamHistory}
 use Rattle.stations.specs.Exchanges.{Brings, ComesBack, RequestExchange, Exchanged, HasReceived}
 use Rattle.stations.specs.Exchanges.{IsRequestAnswered}
 use Rattle.stations.specs.Exchanges.{IsFrameReceived, IsKeptRest, NoneLeft, Begun, Spoilt}
-use Rattle.stations.specs.Exchanges.{IsRestKept}
+use Rattle.stations.specs.Exchanges.{IsRestKept, StopsAtUntaken}
 use Rattle.stations.specs.Exchanges.{OutstationsState, answer_written, latest_delay, next_number}
 use Rattle.stations.specs.Exchanges.{took}
 use Rattle.stations.specs.Exchanges.{written}
-use Rattle.stations.specs.Late.{at_once, delay_of, late_behind}
+use Rattle.stations.specs.Late.{LateAnswer, at_once, delay_of, late_behind}
+use Rattle.stations.specs.Law.{WaitsBehind}
 use Rattle.stations.specs.declared.cue.Cue.{Cue}
 
 -- what was received so far, while only whole frames were
@@ -33,6 +35,7 @@ pub record IsReceiving (old : OutstationsState) (octets left : List ℕ) (before
   pub answered : Exchanged old exchanges mid
   pub wrote : now ≡ written before exchanges
   pub taken : list_all took exchanges ≡ are_taken
+  pub stops : StopsAtUntaken exchanges
   pub new_is : new ≡ record mid { so_far = new.so_far }
 
 pub none_received : (old : OutstationsState) (octets : List ℕ) (before : StreamHistory) →
@@ -44,8 +47,17 @@ none_received old octets before = record {
   answered = refl;
   wrote = refl;
   taken = refl;
+  stops = tt;
   new_is = refl;
 }
+
+-- where it took all before the last
+stops_with : (xs : List RequestExchange) (x : RequestExchange) → list_all took xs ≡ true
+    → StopsAtUntaken (xs ++ x ∷ [])
+stops_with [] x e = (λ untaken. refl, tt)
+stops_with (y ∷ ys) x e =
+    let all = and_parts (took y) (list_all took ys) e in
+    (λ untaken. let both : true ≡ false = sym all.0 ∙ untaken in cc, stops_with ys x all.1)
 
 brings_more : (size : LinkSize) (so_far octets : List ℕ) (xs : List RequestExchange)
     (last left : List ℕ)
@@ -126,23 +138,36 @@ goes_at_once old new request answer none a =
     subst (λ (s : OutstationsState). ComesBack old request answer s) (sym same)
     (subst (λ (o : Option (List ℕ)). ComesBack old request o a.received) (sym back) a.comes)
 
+waits : (ms : ℕ) (back : Option (List ℕ)) (before : Option LateAnswer)
+    → WaitsBehind ms back before (late_behind (Some ms) back before)
+waits ms None before = refl
+waits ms (Some octets) before = refl
+
 -- where one does, it waits as it came back
 pub goes_late : (old new : OutstationsState) (request : Frame) (answer : Option (List ℕ)) (ms : ℕ) →
     delay_of (next_number old) old.cues ≡ Some ms → IsRequestAnswered old request answer new →
     (answer ≡ None) × (back : Option (List ℕ)) × (received : OutstationsState)
-    × ComesBack old request back received
-    × (new ≡ record received { late = late_behind (Some ms) back received.late })
+    × ComesBack old request back received × WaitsBehind ms back old.late new.late
+    × (new ≡ record received { late = new.late })
 goes_late old new request answer ms late a =
     let received : latest_delay a.received ≡ Some ms =
-    ap (λ (s : OutstationsState). delay_of s.requests s.cues) a.comes.new_is ∙ late in (
+    ap (λ (s : OutstationsState). delay_of s.requests s.cues) a.comes.new_is ∙ late in
+    let whole : new ≡ record a.received {
+      late = late_behind (Some ms) a.back a.received.late;
+    } = a.new_is
+    ∙ ap (λ (d : Option ℕ). record a.received { late = late_behind d a.back a.received.late })
+    received in
+    let waiting : new.late ≡ late_behind (Some ms) a.back old.late =
+    ap (λ (s : OutstationsState). s.late) whole
+    ∙ ap (λ (s : OutstationsState). late_behind (Some ms) a.back s.late) a.comes.new_is in (
       a.answered ∙ ap (λ (d : Option ℕ). at_once d a.back) received,
       a.back,
       a.received,
       a.comes,
-      a.new_is
-          ∙ ap (λ (d : Option ℕ). record a.received {
-            late = late_behind d a.back a.received.late;
-          }) received,
+      subst (λ (l : Option LateAnswer). WaitsBehind ms a.back old.late l) (sym waiting)
+          (waits ms a.back old.late),
+      whole
+          ∙ ap (λ (s : OutstationsState). record a.received { late = s.late }) (sym whole),
     )
 
 pub answered_late : (old new : OutstationsState) (request : Frame) (answer : Option (List ℕ)) →
@@ -212,6 +237,7 @@ more_received old octets left before mid now after n is_taken new so f =
       taken = list_all-append took so.exchanges (x ∷ [])
           ∙ (ap (λ (b : Bool). b && (took x && true)) so.taken
           ∙ (and_true (took x) ∙ sym f.taken));
+      stops = stops_with so.exchanges x so.taken;
       new_is = f.new_is ∙ ap (λ (l : List ℕ). record f.mid { so_far = l }) (sym kept);
     }
 
@@ -232,7 +258,9 @@ untaken_received old octets left before mid now after new so f =
       answered = more.answered;
       wrote = more.wrote;
       taken = sym more.taken;
+      stops = more.stops;
       whole = λ (e : false ≡ true). absurd (let no : ⊥ = cc in no);
+      cut = λ (e : false ≡ false). ap (λ (s : OutstationsState). s.so_far) f.1.new_is;
       new_is = more.new_is;
     }
 
@@ -253,6 +281,8 @@ rest_received old octets left before mid now after new so r =
       answered = so.answered;
       wrote = r.nothing_wrote ∙ so.wrote;
       taken = sym so.taken;
+      stops = so.stops;
+      cut = λ (e : true ≡ false). absurd (let none : ⊥ = cc in none);
       whole = λ (e : true ≡ true). subst (λ (l : List ℕ). IsKeptRest old.size now.so_far left l)
           (sym kept) (subst (λ (z : LinkSize). IsKeptRest z now.so_far left r.kept)
           (receiving_size old octets left before mid now so) r.is_kept);
@@ -275,7 +305,9 @@ all_received old octets left before mid now so none = record {
   answered = so.answered;
   wrote = so.wrote;
   taken = sym so.taken;
+  stops = so.stops;
   whole = λ (e : true ≡ true). NoneLeft none;
+  cut = λ (e : true ≡ false). absurd (let never : ⊥ = cc in never);
   new_is = so.new_is;
 }
 

@@ -172,9 +172,14 @@ IsFrontReceived old octets before after NotTaken new =
     (n : ℕ) × IsFrameReceived old octets before after n false new
 IsFrontReceived old octets before after Rest new = IsRestKept old octets before after new
 
+-- behind one that the stream didn't take there is none
+abbrev pub StopsAtUntaken : List RequestExchange → Type 0
+StopsAtUntaken [] = Unit {0}
+StopsAtUntaken (x ∷ xs) = (took x ≡ false → xs ≡ []) × StopsAtUntaken xs
+
 -- Octets came: the stations answered each whole frame among them, and each answer was written,
 -- once, in their order, up to the first that the stream didn't take. Where it took all, what is
--- kept begins the next frame.
+-- kept begins the next frame; where it didn't, nothing is kept.
 pub record HasReceived (old : OutstationsState) (octets : List ℕ) (before after : StreamHistory)
     (is_taken : Bool) (new : OutstationsState) : Type 0 where
   pub exchanges : List RequestExchange
@@ -185,5 +190,7 @@ pub record HasReceived (old : OutstationsState) (octets : List ℕ) (before afte
   pub answered : Exchanged old exchanges mid
   pub wrote : after ≡ written before exchanges
   pub taken : is_taken ≡ list_all took exchanges
+  pub stops : StopsAtUntaken exchanges
   pub whole : is_taken ≡ true → IsKeptRest old.size last left new.so_far
+  pub cut : is_taken ≡ false → new.so_far ≡ []
   pub new_is : new ≡ record mid { so_far = new.so_far }

@@ -5,7 +5,8 @@ use Rattle.asdu.specs.Asdu.{AsduValue}
 use Rattle.link.specs.Secondary.{Secondary}
 use Rattle.sim.specs.declared.directive.Class.{Class}
 use Rattle.sim.specs.declared.directive.Class.TheVariants.{One, Two}
-use Rattle.stations.specs.Exchanges.{OutstationsState}
+use Rattle.stations.specs.Exchanges.{Exchanged, OutstationsState, RequestExchange}
+use Rattle.stations.specs.Late.{LateAnswer}
 use Rattle.stations.specs.Replies.{is_select}
 use Rattle.stations.specs.Replying.{Replies, RepliesEach}
 use Rattle.stations.specs.Reporting.{LineReports, LinesReport}
@@ -57,3 +58,20 @@ HadItsTurn passed i old =
 abbrev pub CouldReply : (station : ℕ) → (old : OutstationsState) → Type 0
 CouldReply i old =
     (before after : OutstationsState) × RepliesEach i old before × Replies i before after
+
+-- From these outstations on, with this answer that waits and these octets so far, the stations
+-- received requests, one after another, and nothing else changed.
+pub record BringsRequests (late : Option LateAnswer) (so_far : List ℕ)
+    (old new : OutstationsState) : Type 0 where
+  pub exchanges : List RequestExchange
+  pub mid : OutstationsState
+  pub answered : Exchanged (record old { late = late; so_far = so_far }) exchanges mid
+  pub new_is : new ≡ record mid { so_far = new.so_far }
+
+-- What waits behind an answer that goes out so many ms late: what came back, in the place of one
+-- that waited before; or that one, where nothing came back.
+abbrev pub WaitsBehind : (ms : ℕ) → (back : Option (List ℕ)) → (before after : Option LateAnswer)
+    → Type 0
+WaitsBehind ms None before after = after ≡ before
+WaitsBehind ms (Some octets) before after =
+    after ≡ Some (record { octets = octets; ms = ms; since = None })

@@ -17,8 +17,9 @@ ghost use Rattle.stations.specs.Cues.{AreInPeriods, IsOneFrom, given_moments};
 ghost use Rattle.stations.specs.Exchanges.{Brings, ComesBack, RequestExchange, IsRequestAnswered};
 ghost use Rattle.stations.specs.Exchanges.{OutstationsState, first_standing};
 ghost use Rattle.stations.specs.Exchanges.{next_number, requests_joined};
-ghost use Rattle.stations.specs.Late.{LateAnswer, delay_of, late_behind, late_now};
-ghost use Rattle.stations.specs.Law.{CouldReply, HadItsTurn, HasOneMore, IsAnswering};
+ghost use Rattle.stations.specs.Late.{LateAnswer, delay_of, late_now};
+ghost use Rattle.stations.specs.Law.{BringsRequests, CouldReply, HadItsTurn, HasOneMore};
+ghost use Rattle.stations.specs.Law.{IsAnswering, WaitsBehind};
 ghost use Rattle.stations.specs.Places.{LooksOn, LooksOnce, OutstationServer};
 ghost use Rattle.stations.specs.Replies.{IsReply, fits_line, is_command, is_select};
 ghost use Rattle.stations.specs.Replying.{Replies};
@@ -61,7 +62,7 @@ pub fn reports_come_at_their_moments()
 {}
 
 /// An answer of which no line speaks goes out at once. Of one that a line delays nothing does, and
-/// what came back waits as it is. Octets go out late in a round only if they were the answer to a
+/// what came back waits as it is, in the place of one that waited before. Octets go out late in a round only if they were the answer to a
 /// request of an earlier round, which a line delays. So many ms have passed since that round, and
 /// hadn't at any round between. This holds for all rounds behind a beginning, whatever the clock
 /// gives, and whoever comes and goes.
@@ -73,8 +74,8 @@ pub fn late_answers_go_out_when_due()
         (ms : ℕ) →
         delay_of (next_number old) old.cues ≡ Some ms → IsRequestAnswered old request answer new →
         (answer ≡ None) × (back : Option (List ℕ)) × (received : OutstationsState)
-        × ComesBack old request back received
-        × (new ≡ record received { late = late_behind (Some ms) back received.late }) }
+        × ComesBack old request back received × WaitsBehind ms back old.late new.late
+        × (new ≡ record received { late = new.late }) }
     ensures late { (moments : List ℕ) (now : ℕ) (old mid new : TimedServer) (octets : List ℕ)
         (rounds : RoundsAt moments old mid) (round : IsRound now mid new) →
         old.place.standing.late ≡ None →
@@ -99,6 +100,19 @@ pub fn a_connection_begins_anew()
         LooksOnce (record old {
           standing = record old.standing { late = late; so_far = so_far };
         }) new }
+{}
+
+/// A look changes nothing at the outstations but by the requests that it receives, one after
+/// another: no count of requests or reports, no reply, and nothing of what the script says. This
+/// holds whether the gateway stays, goes, or another takes its place; then an answer that would
+/// have gone out late, and the octets so far, are forgotten too.
+pub fn a_look_brings_requests_alone()
+    ensures same { (old new : OutstationServer) (look : LooksOnce old new) →
+        look.accepted ≡ None →
+        BringsRequests old.standing.late old.standing.so_far old.standing new.standing }
+    ensures other { (old new : OutstationServer) (look : LooksOnce old new)
+        (stream : StreamHistory) → look.accepted ≡ Some stream →
+        BringsRequests None [] old.standing new.standing }
 {}
 
 /// The time of a play begins in the first round in which a gateway is there, at that round's
