@@ -5,7 +5,8 @@
 //! body, since they hold of definitions. Upwards: [`nothing_is_lost`], and
 //! [`each_session_is_known`] for links that are reset on the way, where [`losses_are_reported`] as
 //! gaps and [`losses_have_gaps`] says how many gaps there are at most. What comes of it to the
-//! control centre is one run, over closes and new connections: [`what_has_come_is_one_run`].
+//! control centre is one run, over closes and new connections: [`what_has_come_is_one_run`]. What it
+//! acknowledges has its place until then: [`pieces_are_acknowledged_with_their_frames`].
 //! Downwards: [`each_command_is_given_once`]. Between them: [`the_course_is_the_logs`], that what
 //! the gateway's course logs of the line and of commands is what the octets of the log show; and
 //! [`selections_end_in_time`], by the log's moments.
@@ -34,4 +35,4 @@ pub use laws::{
     each_session_is_known, losses_are_reported, losses_have_gaps, nothing_is_lost,
     silence_is_no_reset,
 };
-pub use received::what_has_come_is_one_run;
+pub use received::{pieces_are_acknowledged_with_their_frames, what_has_come_is_one_run};

@@ -1,8 +1,11 @@
 //! What the control centre has received, over closes and new connections.
-ghost use Rattle.std.specs.Prelude.{List, ◌∷◌};
+ghost use Rattle.std.specs.Prelude.{◌≡◌, ◌+◌, List, ◌∷◌, length, take};
+ghost use Rattle.session.specs.History as talk;
+ghost use Rattle.gateway.specs.Agrees.{pieces_of};
 ghost use Rattle.gateway.specs.Connections.{present, past};
-ghost use Rattle.gateway.specs.Course.{here_of};
-ghost use Rattle.gateway.specs.Frames.{Sent};
+ghost use Rattle.gateway.specs.Course.{came_frames, here_of};
+ghost use Rattle.gateway.specs.Frames.{Connection, Sent, acknowledged_count, acknowledged_reports};
+ghost use Rattle.gateway.specs.Frames.{first_unacknowledged, objects_of_frames};
 ghost use Rattle.gateway.specs.Log.{Log};
 ghost use Rattle.gateway.specs.Reports.{Setup, taken_objects};
 ghost use Rattle.delivery.specs.Delivery.{Delivers};
@@ -28,3 +31,21 @@ pub fn what_has_come_is_one_run()
 {
     spellings_cancel();
 }
+
+/// A piece is acknowledged with the frame that bears it, and no sooner. Of the I frames of a
+/// connection the first are acknowledged, as many as the N(R) that came say: that is the number
+/// that the session's history has. Each of these frames that has monitor objects counts as one
+/// piece, and its objects count. An own answer counts as none. So a piece has its place until then,
+/// and the next connection begins right behind it.
+pub fn pieces_are_acknowledged_with_their_frames()
+    ensures numbers { (h : talk.History) →
+        acknowledged_count (came_frames h) ≡ talk.acknowledged_count h }
+    ensures pieces { (c : Connection) (before : List Connection) →
+        acknowledged_reports (c ∷ before)
+        ≡ length (pieces_of (take (acknowledged_count c.received_frames) c.sent_frames))
+        + acknowledged_reports before }
+    ensures objects { (c : Connection) (before : List Connection) →
+        first_unacknowledged (c ∷ before)
+        ≡ length (objects_of_frames (take (acknowledged_count c.received_frames) c.sent_frames))
+        + first_unacknowledged before }
+{}
