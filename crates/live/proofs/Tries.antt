@@ -254,11 +254,6 @@ waits_undue old new got buf l away idle =
     ∙ ap (λ x. begun_by x l.now l.answer (clock_read_at l.now old)) undue))
 
 -- the dialler is asked about a try that goes on, and begins one that is due
-settled_calls : (d : Dialled StreamHistory) (r : Redial) → (settled d r).calls ≡ r.calls
-settled_calls (Reached stream) r = refl
-settled_calls Pending r = refl
-settled_calls Failed r = refl
-
 called_by : (call : Bool → DialCall) (answer : Dialled StreamHistory) (r : Redial)
     → (answered call answer r).calls ≡ dial_noted r.calls (call (is_reached answer))
 called_by call answer r = settled_calls answer (record r {
