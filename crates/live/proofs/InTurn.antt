@@ -149,8 +149,8 @@ by_answers Line None (Some p) r Quiet Quiet m t buf e = (
 
 in_round : (t : ℕ) (a : Answers) (buf : List ℕ) (e : LiveEnds)
     → InRound t e.first e (round t a buf e)
-in_round t a buf e = by_answers e.first a.peer e.connection a.refused a.connection a.line a.presence t
-    buf e
+in_round t a buf e = by_answers e.first a.peer e.connection a.refused a.connection a.line
+    a.presence t buf e
 
 -- where the next round begins, by what was found
 Begins : Option SourceEvent → EventSource → Type 0

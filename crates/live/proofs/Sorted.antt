@@ -1,6 +1,6 @@
 -- Those who come to a listener, one after another: who is let in, who is refused, and who stays.
-use Rattle.std.proofs.Common.{◌≡◌, ℕ, ◌+◌, arith, List, [], ◌∷◌, length, Option, Some, None, Ok, Err}
-use Rattle.std.proofs.Common.{Bool, true, false}
+use Rattle.std.proofs.Common.{◌≡◌, ℕ, ◌+◌, arith, List, [], ◌∷◌, length, Option, Some, None, Ok}
+use Rattle.std.proofs.Common.{Err, Bool, true, false}
 use Rattle.std.proofs.Common.{refl, sym, ap, subst, ◌∙◌, IfSome}
 use Rattle.std.specs.Prelude.{All, MatchResult, option_map}
 use Rattle.std.specs.Net.Socket.{socket_ip}

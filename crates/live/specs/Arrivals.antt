@@ -56,8 +56,8 @@ pub data Sorts (allow_list : AllowList) : List Arrival → (refused : List IpAdd
       → Sorts allow_list answers refused newest
       → Sorts allow_list (Err fault ∷ answers) refused newest
 
--- Behind this answer the next is asked for: somebody came, or has gone again, or the call was broken
--- off by a signal.
+-- Behind this answer the next is asked for: somebody came, or has gone again, or a signal broke the
+-- call off.
 abbrev pub GoesOn : Arrival → Type 0
 GoesOn (Ok comer) = Unit {0}
 GoesOn (Err fault) = (error_kind fault ≡ Interrupted) ⊎ (error_kind fault ≡ ConnectionAborted)

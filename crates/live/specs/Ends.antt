@@ -41,7 +41,7 @@ pub record IsAllowedPeer (allow_list : AllowList) (peer : Peer) : Type 0 where
   pub allows : Allows allow_list peer.address
 
 -- Who may connect; what happened at the line, and whether it is there, where it says that; what
--- happened at the connection, if there is one, and at the listener, and whom that refused; octets of
+-- happened at the connection, if there is one, and at the listener, and whom it refused; octets of
 -- that connection that came and haven't been given; what the clock gave; the source that is looked
 -- at first; whether a write to the connection failed, so that a cut is due; whether the run goes on
 -- after a restart; why the latest connection that was cut was cut; how often the line was gone; how

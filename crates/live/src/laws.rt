@@ -1,8 +1,8 @@
 //! Laws of the port over live ends, in the terms of the clock, the requests and the looks at the
 //! line.
 ghost use Rattle.std.specs.Prelude.{◌⊎◌, ◌≡◌, ◌≢◌, All, IfSome, None, ◌+◌, ◌-◌, ◌<◌, ◌≤◌, ℕ, List};
-ghost use Rattle.std.specs.Prelude.{[], ◌∷◌, length, min, Option, Some, Ok, Err, Bool, true, false, ◌↔◌, ◌^◌};
-ghost use Rattle.std.specs.Prelude.{Vec};
+ghost use Rattle.std.specs.Prelude.{[], ◌∷◌, length, min, Option, Some, Ok, Err, Bool, true, false};
+ghost use Rattle.std.specs.Prelude.{◌↔◌, ◌^◌, Vec};
 ghost use Rattle.std.specs.declared.net.ip_addr.IpAddr.{IpAddr};
 ghost use Rattle.std.specs.declared.alloc.Global.{Global};
 ghost use Rattle.gateway.specs.declared.ports.Next.{Next};
