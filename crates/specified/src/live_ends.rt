@@ -72,7 +72,6 @@ impl Listener for Hall {
 
     ghost refusals = { λ listener. record { peers = None; said = nobody } };
 
-    #[tactic(auto, using(live::proofs::Refused::refuses_nobody))]
     fn accept(&mut self, allow_list: &AllowList) -> Option<Accepted<Stub>> {
         let stream = self.centre.take()?;
         let address = IpAddr::V4(Ipv4Addr::LOCALHOST);
