@@ -1,1 +1,2 @@
+pub mod StationLemmas
 pub mod TwinLemmas

@@ -1,11 +1,11 @@
 -- What is said of a fault of settings or of a site's file (texts of this gateway's own profile).
-use Rattle.std.specs.Prelude.{◌≡◌, ◌≤◌, ◌<◌, ◌==◌, ◌||◌, ◌⊎◌, ℕ, Bool, IsTrue, codes, List, [], ◌∷◌}
-use Rattle.std.specs.Prelude.{◌++◌, length, take}
-use Rattle.std.specs.Prelude.{slice_range, fold, Option, Some, None, string_bytes, ℤ, IsSome}
-use Rattle.std.specs.Prelude.{option_and_then}
+use Rattle.std.specs.Prelude.{◌≡◌, ◌≤◌, ◌==◌, ◌&&◌, ◌||◌, ◌⊎◌, ℕ, Bool, true, false, not, IsTrue}
+use Rattle.std.specs.Prelude.{codes, List, [], ◌∷◌, ◌++◌, length, take, slice_range, fold}
+use Rattle.std.specs.Prelude.{Option, Some, None, string_bytes}
 use Rattle.std.specs.Borrow.{Bor}
 use Rattle.std.specs.Fmt.{decimal}
-use Rattle.std.specs.List.{after_first, before_first}
+use Rattle.std.specs.List.{after_first, before_first, position_or_len}
+use Rattle.std.specs.Option.{is_some}
 use Rattle.std.specs.Str.{bytes_eq}
 use Rattle.settings.specs.declared.fault.ConfigFault.{ConfigFault}
 use Rattle.settings.specs.declared.fault.ConfigFault.TheVariants.{NotToml, Key, Unknown, NoMemory}
@@ -16,13 +16,13 @@ use Rattle.sitefile.specs.Names as sites
 use Rattle.sitefile.specs.Wanted.{site_values}
 use Rattle.sitefile.specs.declared.fault.SiteFault.{SiteFault}
 use Rattle.sitefile.specs.declared.fault.SiteFault.TheVariants as site
-use Rattle.toml.specs.Data.{Data, Items, no_items, Members, as_array, as_integer, get, get_item}
-use Rattle.toml.specs.Data.{get_member}
+use Rattle.toml.specs.Data.{Data, Members, as_array, as_table, get_member}
 use Rattle.toml_places.specs.Changes.{IsGapFound, IsValueFound}
 use Rattle.toml_places.specs.Lines.{first_place, next_place}
 use Rattle.toml_places.specs.declared.changes.Spot.{Spot}
 use Rattle.toml_places.specs.declared.place.Place.{Place}
 use Rattle.toml_places.specs.declared.spans.Span.{Span}
+use Rattle.hints.specs.Stations.{IsStationOf, IsTakenBy, stations_in}
 use Rattle.hints.specs.declared.file.File.{File}
 use Rattle.hints.specs.declared.file.File.TheVariants.{Settings, Site}
 use Rattle.hints.specs.declared.finding.KeyPlace.{KeyPlace}
@@ -86,17 +86,39 @@ IsInside text (Value s) = (s.from ≤ s.to) × (s.to ≤ length text)
 IsInside text (Gap s) = (s.from ≤ s.to) × (s.to ≤ length text)
 IsInside text Nowhere = Unit {0}
 
--- the key under a table, if any
-abbrev pub IsKeyOf : (path : List ℕ) → Option (Bor (List ℕ)) → (key : List ℕ) → Type 0
-IsKeyOf path None key = (key ≡ path) ⊎ (key ≡ before_first (λ b. b == 46) path)
-IsKeyOf path (Some table) key = (table.now ≡ before_first (λ b. b == 46) path)
-    × (key ≡ after_first (λ b. b == 46) path)
+-- a value that is neither a table nor an array
+abbrev pub is_single : Data → Bool
+is_single d = not (is_some (as_table d)) && not (is_some (as_array d))
 
--- The key of a dotted path: what stands behind its first dot, 46, under the table that stands
--- before it; a path without one names a key of the document, and where that table is none the table
--- itself is meant.
-abbrev pub IsSpotOf : List ℕ → Spot → Type 0
-IsSpotOf path spot = IsKeyOf path spot.table spot.key.now
+abbrev pub is_scalar : Option Data → Bool
+is_scalar None = false
+is_scalar (Some d) = is_single d
+
+-- what stands before the first dot of a path, 46, and what behind it
+abbrev pub front_of : (path : List ℕ) → List ℕ
+front_of path = before_first (λ b. b == 46) path
+
+abbrev pub rest_of : (path : List ℕ) → List ℕ
+rest_of path = after_first (λ b. b == 46) path
+
+abbrev pub HasNoDot : (path : List ℕ) → Type 0
+HasNoDot path = position_or_len (λ b. b == 46) path ≡ length path
+
+-- the key is the rest, under the table that the front names; or the front, where that is a scalar
+abbrev pub IsKeyOf : (path : List ℕ) → (scalar : Bool) → Option (Bor (List ℕ)) → (key : List ℕ)
+    → Type 0
+IsKeyOf path scalar (Some table) key =
+    (scalar ≡ false) × (table.now ≡ front_of path) × (key ≡ rest_of path)
+IsKeyOf path scalar None key = (scalar ≡ true) × (key ≡ front_of path)
+
+-- The key of a dotted path: what stands behind its first dot, under the table that stands before
+-- it. A path without one names a key of the document, and where that table is none the table itself
+-- is meant.
+abbrev pub IsSpotOf : Members → (path : List ℕ) → Spot → Type 0
+IsSpotOf root path spot =
+    (HasNoDot path × (spot.table ≡ None) × (spot.key.now ≡ path))
+    ⊎ ((HasNoDot path → ⊥)
+    × IsKeyOf path (is_scalar (get_member (front_of path) root)) spot.table spot.key.now)
 
 -- the keys that a station of a file may have
 abbrev pub names_station : File → (path : List ℕ) → Bool
@@ -111,49 +133,30 @@ abbrev pub wrong_in : File → Members → Option ℕ
 wrong_in Settings root = settings.wrong_station root
 wrong_in Site root = sites.wrong_station root
 
--- Which station is meant, where a key of a station is wrong: the first station that is wrong.
-abbrev pub IsItemOf : File → (path : List ℕ) → Members → Option ℕ → Type 0
-IsItemOf file path root item = IsTrue (names_station file path) → item ≡ wrong_in file root
+-- Which station is meant: where a key of a station is wrong, the first station that is wrong; else
+-- the first that has the key.
+pub record IsItemOf (file : File) (path : List ℕ) (root : Members) (item : Option ℕ) : Type 0 where
+  pub wrong : IsTrue (names_station file path) → item ≡ wrong_in file root
+  pub other : (IsTrue (names_station file path) → ⊥) → IsStationOf (stations_in root) path item
 
--- the stations of a file
-abbrev pub items_or_none : Option Items → Items
-items_or_none None = no_items
-items_or_none (Some items) = items
+-- the octets of the other station's number, if there is such a station: of the same key
+abbrev pub IsTwinFound : Spot → (other : Option ℕ) → List ℕ → Option Span → Type 0
+IsTwinFound spot None text twin = twin ≡ None
+IsTwinFound spot (Some other) text twin =
+    IsValueFound (record spot { item = Some other }) text twin
 
-abbrev pub stations_in : Members → Items
-stations_in root = items_or_none (option_and_then as_array (get_member (codes "station") root))
-
--- the number that a station has under a key
-abbrev pub number_of : Data → (key : List ℕ) → Option ℤ
-number_of station key = option_and_then as_integer (get key station)
-
--- both have the same number under it
-pub record AreSame (one other : Data) (key : List ℕ) : Type 0 where
-  pub some : IsSome (number_of one key)
-  pub same : number_of one key ≡ number_of other key
-
--- the other station stands before this one, and has its number under the key
-pub record IsTaken (items : Items) (item other : ℕ) (key : List ℕ) : Type 0 where
-  pub before : other < item
-  pub one : Data
-  pub is : get_item item items ≡ Some one
-  pub twin : Data
-  pub stands : get_item other items ≡ Some twin
-  pub are : AreSame one twin key
-
--- the same key of such a station, which may be none
-abbrev pub IsTwin : Members → Spot → List ℕ → Option Span → Type 0
-IsTwin root spot text None = Unit {0}
-IsTwin root spot text (Some s) =
-    (item other : ℕ) × (spot.item ≡ Some item) × IsTaken (stations_in root) item other spot.key.now
-    × IsValueFound (record spot { item = Some other }) text (Some s)
+-- Where the first station stands that has the number of the one that is meant.
+pub record IsTwin (root : Members) (spot : Spot) (text : List ℕ) (twin : Option Span) : Type 0 where
+  pub other : Option ℕ
+  pub taken : IsTakenBy (stations_in root) spot.item spot.key.now other
+  pub found : IsTwinFound spot other text twin
 
 -- the lines of a fault of this key
 pub record AreKeyLines (file : File) (text path lines : List ℕ) : Type 0 where
-  pub spot : Spot
-  pub of : IsSpotOf path spot
   pub root : Members
   pub document : IsDocument text root
+  pub spot : Spot
+  pub of : IsSpotOf root path spot
   pub item : IsItemOf file path root spot.item
   pub found : KeyPlace
   pub place : IsPlace spot text found

@@ -1,19 +1,20 @@
 //! A fault of settings, or of a site's file, explained.
 ghost use Rattle.std.specs.Prelude.{◌≡◌, IfOk};
-ghost use Rattle.toml.specs.View.{table_view};
+ghost use Rattle.toml.specs.Data.{get_member};
+ghost use Rattle.toml.specs.View.{table_view, view};
 ghost use Rattle.settings.specs.Settings.{IsDocument};
 ghost use Rattle.hints.specs.Explained.{IsExplained, IsKeyExplained, IsSpotOf, IsTextExplained};
-ghost use Rattle.hints.specs.Explained.{IsItemOf, IsSiteExplained, IsTwin};
+ghost use Rattle.hints.specs.Explained.{IsItemOf, IsSiteExplained, IsTwin, is_scalar, is_single};
 ghost use Rattle.toml_places.specs.Changes.{IsWithin};
 
 use crate::file::File;
 use crate::finding::find;
 use crate::lines::{found_line, place_words, twin_line, wanted_line};
 use crate::stations::{station_with, twin_station};
-use settings::ConfigFault;
+use settings::{ConfigFault, given};
 use sitefile::SiteFault;
 use std::alloc::{AllocError, Global};
-use toml::Table;
+use toml::{Table, Value};
 use toml_places::{Span, Spot, find_value};
 
 /// The lines behind a fault of the settings that these octets are: where the value stands, or the
@@ -112,7 +113,7 @@ fn item_of(alloc: Global, file: File, root: &Table, path: &str) -> Result<Option
 
 /// The key of a dotted path, of this station. Where its table is none, the key of that.
 fn spot_of<'a>(root: &Table, path: &'a str, item: Option<usize>) -> Spot<'a>
-    ensures of { IsSpotOf path.entry.now result }
+    ensures of { IsSpotOf (table_view root.now) path.entry.now result }
     ensures item { result.item ≡ item }
 {
     let Some((table, key)) = path.split_once('.') else {
@@ -137,11 +138,19 @@ fn spot_of<'a>(root: &Table, path: &'a str, item: Option<usize>) -> Spot<'a>
 }
 
 /// Whether there is such a key, whose value is neither a table nor an array.
-fn is_scalar(root: &Table, key: &str) -> bool {
-    match root.get(key) {
-        Some(value) => !value.is_table() && !value.is_array(),
+fn is_scalar(root: &Table, key: &str) -> bool
+    ensures { result ≡ is_scalar (get_member key.now (table_view root.now)) }
+{
+    match given(Some(root), key) {
+        Some(value) => is_single(value),
         None => false,
     }
+}
+
+fn is_single(value: &Value) -> bool
+    ensures { result ≡ is_single (view value.now) }
+{
+    !value.is_table() && !value.is_array()
 }
 
 /// Where another station has the number of this one, if one has.

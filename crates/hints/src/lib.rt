@@ -5,8 +5,8 @@
 //! [`explain`] gives these lines for the fault that `settings` found, and [`explain_site`] for that
 //! of `sitefile`. Proved: where a place is given, the value of that key stands there, or the key
 //! belongs there (`toml_places`); the words are those of `specs/Explained.antt`; of the stations of
-//! either file the first that is wrong is meant; the other station that has its number is one
-//! before it, and has that number. Which station is meant that has an unknown key is tested.
+//! either file the first that is wrong is meant, or the first that has an unknown key; the other
+//! station that has its number is the first before it that has (`specs/Stations.antt`).
 #![tactic(auto)]
 
 mod explaining;

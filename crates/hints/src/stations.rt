@@ -1,7 +1,8 @@
 //! Which station a fault means.
-ghost use Rattle.std.specs.Prelude.{◌≡◌, ◌<◌, length, IfSome, IsTrue};
+ghost use Rattle.std.specs.Prelude.{◌≡◌, ◌<◌, ◌↔◌, length, IsTrue};
 ghost use Rattle.toml.specs.View.{items_view, table_view, view};
-ghost use Rattle.hints.specs.Explained.{AreSame, IsTaken, number_of, stations_in};
+ghost use Rattle.hints.specs.Stations.{AreSame, HasKeyAt, IsFirst, IsStationOf, IsTaken, IsTakenBy};
+ghost use Rattle.hints.specs.Stations.{has_key, number_of, stations_in};
 
 use settings::given;
 use toml::{Table, Value};
@@ -10,17 +11,17 @@ use toml::{Table, Value};
 const STATION: &str = "station.";
 
 /// The first station that has the key with this path, counted from 0.
-pub(crate) fn station_with(root: &Table, path: &str) -> Option<usize> {
+#[tactic(auto, using(crate::proofs::StationLemmas::of_none, crate::proofs::StationLemmas::first_of))]
+pub(crate) fn station_with(root: &Table, path: &str) -> Option<usize>
+    ensures { IsStationOf (stations_in (table_view root.now)) path.now result }
+{
     let key = path.strip_prefix(STATION)?;
-    stations(root)
-        .iter()
-        .position(|station| station.get(key).is_some())
+    first_with(stations(root), key)
 }
 
 /// The first station before this one with the same number under this key.
 pub(crate) fn twin_station(root: &Table, item: usize, key: &str) -> Option<usize>
-    ensures { IfSome result (λ other.
-        IsTaken (stations_in (table_view root.now)) item other key.now) }
+    ensures { IsTakenBy (stations_in (table_view root.now)) (Some item) key.now result }
 {
     let stations = stations(root);
     if item < stations.len() {
@@ -42,6 +43,24 @@ fn stations(root: &Table) -> &[Value]
     }
 }
 
+/// The first of these stations that has this key.
+fn first_with(stations: &[Value], key: &str) -> Option<usize>
+    ensures { IsFirst (HasKeyAt (items_view stations.now) key.now) result }
+{
+    for place in 0..stations.len() {
+        if has_key(&stations[place], key) {
+            return Some(place);
+        }
+    }
+    None
+}
+
+fn has_key(station: &Value, key: &str) -> bool
+    ensures { result ≡ has_key (view station.now) key.now }
+{
+    station.get(key).is_some()
+}
+
 fn number(table: &Value, key: &str) -> Option<i64>
     ensures { result ≡ number_of (view table.now) key.now }
 {
@@ -52,10 +71,9 @@ fn number(table: &Value, key: &str) -> Option<i64>
 }
 
 /// The first station before this one with the same number under this key.
-#[tactic(auto, using(crate::proofs::TwinLemmas::is_taken))]
 fn twin(stations: &[Value], item: usize, key: &str) -> Option<usize>
     requires { item < length stations.now }
-    ensures { IfSome result (λ other. IsTaken (items_view stations.now) item other key.now) }
+    ensures { IsFirst (IsTaken (items_view stations.now) item key.now) result }
 {
     for other in 0..item {
         if are_same(&stations[item], &stations[other], key) {
@@ -67,7 +85,7 @@ fn twin(stations: &[Value], item: usize, key: &str) -> Option<usize>
 
 /// Whether both stations have the same number under this key.
 fn are_same(one: &Value, other: &Value, key: &str) -> bool
-    ensures { IsTrue result → AreSame (view one.now) (view other.now) key.now }
+    ensures { IsTrue result ↔ AreSame (view one.now) (view other.now) key.now }
 {
     match (number(one, key), number(other, key)) {
         (Some(own), Some(number)) => own == number,
