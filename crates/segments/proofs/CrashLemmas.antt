@@ -7,7 +7,8 @@ use Rattle.std.proofs.lemmas.List.{append-nil, ext_get_or, get_or-take, get_or_a
 use Rattle.std.proofs.lemmas.List.{get_or-append_right, length-take-le, length-append, get_or_past}
 use Rattle.sqlite_disk.specs.Disk.{Holds, Torn, Mixed, Cut, Follows, Only}
 use Rattle.segments.specs.Crash.{HasLength, BeginsWith, HasNoOther, IsBlankFrom, IsShut, IsLong}
-use Rattle.segments.specs.Crash.{IsOldIfOpen, IsWholeIfOpen}
+use Rattle.segments.specs.Crash.{IsWholeIfOpen}
+use Rattle.segments.specs.Crashes.{AreShutOr}
 use Rattle.segments.specs.Written.{text_in}
 
 -- Octets of a text, of which a part is held
@@ -171,9 +172,14 @@ synced_no_other file new stored only le blank c left i some = elim (cases_lt i s
 -- A file that is shut
 
 pub shut_old : (old new : List ℕ → Type 0) → Follows (Mixed 0 (0 ∷ [])) old new
-    → IsOldIfOpen old new
-shut_old old new follows c is long first =
-    subst old (ext_get_or 0 w.0 c len same) w.1
+    → AreShutOr new old
+shut_old old new follows c is = elim (cases_lt 1 (length c)) [
+  | inl long ↦ elim (w.2.each 0 (lit< tt) (some long)) [
+    | inl kept ↦ inr (subst old (ext_get_or 0 w.0 c (len long) (same long (sym kept))) w.1)
+    | inr zero ↦ inl (inr zero)
+  ]
+  | inr short ↦ inl (inl (omega (arith, short)))
+]
   where
     w : (d : List ℕ) × old d × Mixed 0 (0 ∷ []) d c
     w = follows c is
@@ -181,27 +187,25 @@ shut_old old new follows c is long first =
     torn : Torn 0 1 w.0 c
     torn = w.2.torn
 
-    some : 0 < length w.0
-    some = elim (cases_lt 0 (length w.0)) [
+    some : 1 < length c → 0 < length w.0
+    some long = elim (cases_lt 0 (length w.0)) [
       | inl lt ↦ lt
       | inr none ↦ absurd (omega (arith, torn.no_longer, none, long))
     ]
 
-    len : length w.0 ≡ length c
-    len = omega (arith, torn.no_shorter, torn.no_longer, some)
+    len : 1 < length c → length w.0 ≡ length c
+    len long = omega (arith, torn.no_shorter, torn.no_longer, some long)
 
-    at_first : get_or w.0 0 0 ≡ get_or c 0 0
-    at_first = elim (w.2.each 0 (lit< tt) some) [
-      | inl kept ↦ sym kept
-      | inr zero ↦ let never : 0 ≡ 116 = sym zero ∙ first in absurd (omega (arith, never))
-    ]
-
-    same : (i : ℕ) → i < length w.0 → get_or w.0 i 0 ≡ get_or c i 0
-    same i lt = elim (cases_lt i 1) [
+    same : 1 < length c → get_or w.0 0 0 ≡ get_or c 0 0 → (i : ℕ) → i < length w.0
+        → get_or w.0 i 0 ≡ get_or c i 0
+    same long at_first i lt = elim (cases_lt i 1) [
       | inl zero ↦ let e : 0 ≡ i = omega (arith, zero) in
           subst (λ (j : ℕ). get_or w.0 j 0 ≡ get_or c j 0) e at_first
       | inr more ↦ sym (torn.above i lt more)
     ]
+
+pub all_shut : (outcomes these : List ℕ → Type 0) → IsShut outcomes → AreShutOr outcomes these
+all_shut outcomes these shut c is = inl (inr (shut c is))
 
 pub cut_long : (n : ℕ) (file : List ℕ) (old new : List ℕ → Type 0) → Only file old → 0 < length file
     → 0 < n

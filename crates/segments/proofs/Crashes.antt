@@ -13,9 +13,10 @@ use Rattle.hex.specs.Hex.{decode_sized, encode_lower}
 use Rattle.hex.proofs.HexLemmas.{decode_sized-encode_lower}
 use Rattle.sqlite_disk.specs.Disk.{Holds}
 use Rattle.statetext.specs.Sum.{remainder_after, sum_of}
-use Rattle.segments.specs.Crash.{BeginsWith, HasLength, HasNoOther, IsOldIfOpen, IsShut}
+use Rattle.segments.specs.Crash.{BeginsWith, HasLength, HasNoOther, IsShut}
 use Rattle.segments.specs.Crash.{IsTextIfOpen}
-use Rattle.segments.specs.Crashes.{AreBoth, AreOlder, HasNoZero, IsThatOf, StandsIn, StaysBacked}
+use Rattle.segments.specs.Crashes.{AreBoth, AreOlder, AreShutOr, HasNoZero, IsThatOf, StandsIn}
+use Rattle.segments.specs.Crashes.{StaysBacked}
 use Rattle.segments.specs.Crashes.{Survives, lines_behind}
 use Rattle.segments.specs.Head.{Fits, IsWholeText, head_for, head_of, whole_text}
 use Rattle.segments.specs.Starts.{BeginsNewer, FitsIn, IsBelow, IsFoundIn, IsHeadIn, IsNewest}
@@ -24,7 +25,7 @@ use Rattle.segments.specs.Written.{text_in}
 use Rattle.segments.specs.declared.head.SegmentHead.{SegmentHead}
 use Rattle.segments.specs.declared.start.FileFront.{FileFront}
 use Rattle.segments.specs.declared.start.FileFront.TheVariants as fronts
-use Rattle.segments.proofs.Fronts.{head_letter, head_within, not_shut, same_octets}
+use Rattle.segments.proofs.Fronts.{head_letter, not_shut, same_octets}
 use Rattle.segments.proofs.HeadLemmas.{eight_bytes, four_bytes, head_length, number_at, octets_at}
 use Rattle.segments.proofs.HeadLemmas.{same_head, sum_at, whole_behind}
 use Rattle.segments.proofs.Zeros.{kept_before_zero, others_before_zero}
@@ -249,11 +250,12 @@ pub shut_older : (outcomes : List ℕ → Type 0) (number : ℕ) → IsShut outc
 shut_older outcomes number shut c is head text fits found =
     absurd (not_shut c head found.first (inr (shut c is)))
 
-pub unshut_older : (old new : List ℕ → Type 0) (number : ℕ) → IsOldIfOpen old new
+pub unshut_older : (old new : List ℕ → Type 0) (number : ℕ) → AreShutOr new old
     → AreOlder old number → AreOlder new number
-unshut_older old new number open_only older c is head text fits found =
-    let long : 1 < length c = omega (arith, head_within c head found.first) in
-    older c (open_only c is long (head_letter c head found.first)) head text fits found
+unshut_older old new number kept older c is head text fits found = elim (kept c is) [
+  | inl shut ↦ absurd (not_shut c head found.first shut)
+  | inr was ↦ older c was head text fits found
+]
 
 -- a file that begins with the text of a segment has that one
 pub found_front : (file : List ℕ) (number : ℕ) (body : List ℕ)

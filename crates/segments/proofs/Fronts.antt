@@ -193,6 +193,16 @@ pub sound_shut : (file : List ℕ) (front : FileFront) → IsHeadIn file front �
 sound_shut file front begins none (inl shut) = shut_front file front begins shut
 sound_shut file front begins none (inr found) = absurd (none found.0 found.1 found.2 found.3)
 
+pub not_sound : (file : List ℕ) (front : FileFront) → IsHeadIn file front → is_shut front ≡ false
+    → HasNone file → IsSound file → ⊥
+not_sound file front begins isnt none sound =
+    let is = sound_shut file front begins none sound in absurd (cc)
+
+pub whole_sound : (file : List ℕ) (front : FileFront) → FitsIn front → IsWholeIn file front
+    → IsSound file
+whole_sound file front fits whole =
+    inr (whole.0, whole.1, subst FitsIn whole.2 fits, whole.3)
+
 pub by_shut : (file : List ℕ) (front : FileFront) → IsHeadIn file front → is_shut front ≡ true
     → IsShut file
 by_shut file fronts.Shut begins is = begins.begins

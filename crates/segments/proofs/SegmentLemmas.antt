@@ -8,12 +8,14 @@ use Rattle.std.proofs.lemmas.List.{get_or-append_right, length-take-le, length-a
 use Rattle.std.proofs.lemmas.List.{take-append-le, get_or-drop, length-drop, take_rest, drop-take}
 use Rattle.std.proofs.lemmas.List.{take_all}
 use Rattle.std.proofs.Math.Seq.{take-append-add}
-use Rattle.sqlite_disk.specs.Disk.{Holds, Torn, Follows, Only}
+use Rattle.sqlite_disk.specs.Disk.{Holds, Mixed, Torn, Follows, Only}
 use Rattle.segments.specs.Crash.{HasLength, BeginsWith, HasNoOther, IsBlankFrom, IsShut, IsLong}
-use Rattle.segments.specs.Crash.{IsWholeIfOpen, IsTextIfOpen}
+use Rattle.segments.specs.Crash.{HasText, IsWholeIfOpen, IsTextIfOpen}
+use Rattle.segments.specs.Crashes.{AreShutOr}
 use Rattle.segments.specs.Written.{text_in}
 use Rattle.segments.specs.Zeroed.{IsZeroed}
 use Rattle.segments.proofs.CrashLemmas.{written_length, synced_begins, synced_no_other}
+use Rattle.segments.proofs.CrashLemmas.{behind_long, behind_shut}
 
 -- What a segment holds after a write and after a sync
 
@@ -215,7 +217,7 @@ one_octet head first old new count follows = subst (λ (n : ℕ). Follows (Torn 
 tail_some : (head : List ℕ) → length head ≡ 87 → 0 < length (take (length head - 1) (drop 1 head))
 tail_some head count = omega (arith, (tail_of head count).count)
 
-first_one : (head : List ℕ) → length head ≡ 87 → length (take 1 head) ≡ 1
+pub first_one : (head : List ℕ) → length head ≡ 87 → length (take 1 head) ≡ 1
 first_one head count = length-take-le 1 head (omega (arith, count))
 
 pub publish_crash : (head seen0 seen1 : List ℕ) (old new : List ℕ → Type 0) → length head ≡ 87
@@ -229,6 +231,28 @@ publish_crash head seen0 seen1 old new count first within torn holds only follow
     (tail_of head count) torn
     (holds (tail_some head count)) only (one_octet head (take 1 head) old new (first_one head count)
     follows)
+
+-- a file that is synced behind a write that left its first octet
+pub record IsStillShut (outcomes : List ℕ → Type 0) : Type 0 where
+  pub long : IsLong outcomes
+  pub shut : IsShut outcomes
+
+pub still_shut : (at n : ℕ) (old between new : List ℕ → Type 0) → Follows (Torn at n) old between
+    → ((c : List ℕ) → new c → between c) → 0 < at → IsLong old → IsShut old → IsStillShut new
+still_shut at n old between new follows fewer later long shut = record {
+  long = λ c is. behind_long at n old between follows long c (fewer c is);
+  shut = λ c is. behind_shut at n old between follows later long shut c (fewer c is);
+}
+
+pub publish_mixed : (head text : List ℕ) (old new : List ℕ → Type 0) → length head ≡ 87
+    → slice_index head 0 ≡ 116 → IsLong old → IsShut old → Follows (Mixed 0 (take 1 head)) old new
+    → IsWholeIfOpen new text → AreShutOr new (λ c. c ≡ text)
+publish_mixed head text old new count first long shut follows whole c is =
+    let w = follows c is in
+    elim (w.2.each 0 (omega (arith, first_one head count)) (long w.0 w.1)) [
+      | inl kept ↦ inl (inr (kept ∙ shut w.0 w.1))
+      | inr put ↦ inr (whole c is (put ∙ get_or-take 1 head 0 0 (lit< tt) ∙ first))
+    ]
 
 pub publish_seen : (head seen0 seen1 seen1' seen2 : List ℕ) → length head ≡ 87 → slice_index head 0
     ≡ 116
@@ -278,20 +302,23 @@ pub shut_text : (outcomes : List ℕ → Type 0) (text : List ℕ) → IsShut ou
 shut_text outcomes text shut c left opened =
     let never : 0 ≡ 116 = sym (shut c left) ∙ opened in absurd (omega (arith, never))
 
-pub whole_open : (outcomes : List ℕ → Type 0) (end : ℕ) (head seen text : List ℕ) → length head ≡ 87
-    → 87 ≤ end → end ≤ length seen
-    → IsBlankFrom end seen → head ++ drop 87 (text_in end seen []) ≡ text
-    → IsWholeIfOpen outcomes (head ++ drop 87 seen)
-    → IsTextIfOpen outcomes text
-whole_open outcomes end head seen text count some within blank is whole c left opened =
-    subst (λ (f : List ℕ). (take (length text) f ≡ text) × IsBlankFrom (length text) f)
-    (sym (whole c left opened)) (
-      ap (λ (n : ℕ). take n (head ++ drop 87 seen)) long
-          ∙ sym (append-nil (take end (head ++ drop 87 seen)))
-          ∙ whole_text_is end head seen count some within ∙ is,
-      subst (λ (n : ℕ). IsBlankFrom n (head ++ drop 87 seen)) (sym long)
-          (whole_blank end head seen count some blank),
-    )
+pub text_or_shut : (outcomes : List ℕ → Type 0) (seen text : List ℕ) → HasText text seen
+    → AreShutOr outcomes (λ c. c ≡ seen) → AreShutOr outcomes (HasText text)
+text_or_shut outcomes seen text has kept c left = elim (kept c left) [
+  | inl shut ↦ inl shut
+  | inr is ↦ inr (subst (HasText text) (sym is) has)
+]
+
+pub has_text : (end : ℕ) (head seen text : List ℕ) → length head ≡ 87 → 87 ≤ end
+    → end ≤ length seen → IsBlankFrom end seen → head ++ drop 87 (text_in end seen []) ≡ text
+    → HasText text (head ++ drop 87 seen)
+has_text end head seen text count some within blank is = (
+  ap (λ (n : ℕ). take n (head ++ drop 87 seen)) long
+      ∙ sym (append-nil (take end (head ++ drop 87 seen)))
+      ∙ whole_text_is end head seen count some within ∙ is,
+  subst (λ (n : ℕ). IsBlankFrom n (head ++ drop 87 seen)) (sym long)
+      (whole_blank end head seen count some blank),
+)
   where
     long : length text ≡ end
     long =
@@ -299,6 +326,15 @@ whole_open outcomes end head seen text count some within blank is whole c left o
         ∙ append-nil (take end (head ++ drop 87 seen)))
         ∙ length-take-le end (head ++ drop 87 seen)
         (omega (arith, length-append head (drop 87 seen), length-drop 87 seen, count, some, within))
+
+pub whole_open : (outcomes : List ℕ → Type 0) (end : ℕ) (head seen text : List ℕ) → length head ≡ 87
+    → 87 ≤ end → end ≤ length seen
+    → IsBlankFrom end seen → head ++ drop 87 (text_in end seen []) ≡ text
+    → IsWholeIfOpen outcomes (head ++ drop 87 seen)
+    → IsTextIfOpen outcomes text
+whole_open outcomes end head seen text count some within blank is whole c left opened =
+    subst (HasText text) (sym (whole c left opened))
+    (has_text end head seen text count some within blank is)
 
 -- what was held and then written
 

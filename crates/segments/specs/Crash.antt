@@ -32,16 +32,15 @@ IsShut outcomes = (c : List ℕ) → outcomes c → slice_index c 0 ≡ 0
 abbrev pub IsLong : (List ℕ → Type 0) → Type 0
 IsLong outcomes = (c : List ℕ) → outcomes c → 0 < length c
 
--- each outcome that may be a segment, since it begins with `t` (116) and has more octets, is one of
--- the older ones
-abbrev pub IsOldIfOpen : (List ℕ → Type 0) → (List ℕ → Type 0) → Type 0
-IsOldIfOpen old new = (c : List ℕ) → new c → 1 < length c → slice_index c 0 ≡ 116 → old c
-
--- each outcome that may be a segment is this text
+-- each outcome that may be a segment, since it begins with `t` (116), is this text
 abbrev pub IsWholeIfOpen : (List ℕ → Type 0) → List ℕ → Type 0
 IsWholeIfOpen outcomes text = (c : List ℕ) → outcomes c → slice_index c 0 ≡ 116 → c ≡ text
 
--- each outcome that may be a segment begins with this text, and there are zeros alone behind it
+-- a file has this text, and zeros alone behind it
+abbrev pub HasText : (text file : List ℕ) → Type 0
+HasText text file = (take (length text) file ≡ text) × IsBlankFrom (length text) file
+
+-- each outcome that may be a segment has this text
 abbrev pub IsTextIfOpen : (List ℕ → Type 0) → List ℕ → Type 0
-IsTextIfOpen outcomes text = (c : List ℕ) → outcomes c → slice_index c 0 ≡ 116
-    → (take (length text) c ≡ text) × IsBlankFrom (length text) c
+IsTextIfOpen outcomes text =
+    (c : List ℕ) → outcomes c → slice_index c 0 ≡ 116 → HasText text c

@@ -3,7 +3,7 @@ use Rattle.std.specs.Prelude.{◌≡◌, ◌⊎◌, ℕ, ◌+◌, ◌<◌, ◌�
 use Rattle.std.specs.Prelude.{slice_index}
 use Rattle.segments.specs.Crash.{BeginsWith, HasLength}
 use Rattle.segments.specs.Head.{Fits, head_for, whole_text}
-use Rattle.segments.specs.Starts.{IsBacked, IsFoundIn, before_zero}
+use Rattle.segments.specs.Starts.{IsBacked, IsFoundIn, IsShut, before_zero}
 use Rattle.segments.specs.declared.head.SegmentHead.{SegmentHead}
 
 -- no octet of these lines is 0
@@ -28,6 +28,10 @@ abbrev pub AreOlder : (List ℕ → Type 0) → ℕ → Type 0
 AreOlder outcomes number = (c : List ℕ) → outcomes c → (head : SegmentHead) (text : List ℕ)
     → Fits head →
     IsFoundIn c head text → head.number < number
+
+-- each outcome is shut, or one of these
+abbrev pub AreShutOr : (outcomes : List ℕ → Type 0) → (List ℕ → Type 0) → Type 0
+AreShutOr outcomes these = (c : List ℕ) → outcomes c → IsShut c ⊎ these c
 
 -- whatever a crash leaves of a file has the segment with this number, whole
 abbrev pub StandsIn : (List ℕ → Type 0) → ℕ → Type 0

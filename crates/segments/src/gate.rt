@@ -2,7 +2,8 @@
 ghost use Rattle.std.specs.Prelude.{◌≡◌, ◌+◌, ◌*◌, ◌<◌, ◌≤◌, ◌^◌, ◌++◌, ℕ, List, [], drop, length};
 ghost use Rattle.std.specs.Prelude.{slice_index, IsTrue, OnOk, is_ok};
 ghost use Rattle.sqlite_disk.specs.Disk.{Only};
-ghost use Rattle.segments.specs.Crash.{IsShut, IsLong, IsBlankFrom, IsOldIfOpen, IsWholeIfOpen};
+ghost use Rattle.segments.specs.Crash.{AreMixing, IsShut, IsLong, IsBlankFrom, IsWholeIfOpen};
+ghost use Rattle.segments.specs.Crashes.{AreShutOr};
 ghost use Rattle.segments.specs.Written.{text_in};
 
 use crate::SegmentFault;
@@ -25,14 +26,14 @@ fn done(answer: std::io::Result<()>) -> Result<(), SegmentFault>
 }
 
 /// Makes a file one that no start takes for a segment, on the disk too.
-pub(crate) fn shut<D: Disk>(file: &mut D) -> Result<(), SegmentFault>
+pub fn shut<D: Disk>(file: &mut D) -> Result<(), SegmentFault>
     requires { IsTrue (D.Disk.is_usable file.old) }
     ensures usable { OnOk result (IsTrue (D.Disk.is_usable file.new)) }
     ensures long { OnOk result (IsLong (D.Disk.may_leave file.new)) }
     ensures shut { OnOk result (IsShut (D.Disk.may_leave file.new)) }
     ensures sized { OnOk result (length (D.Disk.seen file.new) ≡ 87) }
     ensures crash { IsTrue (D.Disk.is_mixing file.old)
-        → IsOldIfOpen (D.Disk.may_leave file.old) (D.Disk.may_leave file.new) }
+        → AreShutOr (D.Disk.may_leave file.new) (D.Disk.may_leave file.old) }
 {
     // The first octet goes first, and is synced: a crash behind it leaves nothing that a start
     // takes for a segment.
@@ -106,6 +107,8 @@ pub(crate) fn publish<D: Disk>(file: &mut D, head: &[u8]) -> Result<(), SegmentF
     ensures usable { OnOk result (IsTrue (D.Disk.is_usable file.new)) }
     ensures crash { IsWholeIfOpen (D.Disk.may_leave file.new)
         (head.now ++ drop 87 (D.Disk.seen file.old)) }
+    ensures mixed { AreMixing D.Disk → AreShutOr (D.Disk.may_leave file.new)
+        (λ c. c ≡ head.now ++ drop 87 (D.Disk.seen file.old)) }
 {
     // The first octet last: until all else is on the disk, no start takes the file for a segment
     // (docs/DECISIONS.md, "Two files, written in turn").

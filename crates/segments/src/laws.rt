@@ -1,7 +1,8 @@
 //! What holds of both files over a crash.
 ghost use Rattle.std.specs.Prelude.{◌≡◌, ◌<◌, ◌≤◌, ℕ, List, [], ◌∷◌, ◌++◌, codes, length, take};
-ghost use Rattle.segments.specs.Crash.{HasNoOther, IsOldIfOpen, IsShut, IsTextIfOpen};
-ghost use Rattle.segments.specs.Crashes.{AreBoth, AreOlder, IsThatOf, StaysBacked, Survives};
+ghost use Rattle.segments.specs.Crash.{HasNoOther, IsShut, IsTextIfOpen};
+ghost use Rattle.segments.specs.Crashes.{AreBoth, AreOlder, AreShutOr, IsThatOf, StaysBacked};
+ghost use Rattle.segments.specs.Crashes.{Survives};
 ghost use Rattle.segments.specs.Crashes.{lines_behind};
 ghost use Rattle.segments.specs.Head.{Fits, head_for, head_of, whole_text};
 ghost use Rattle.segments.specs.Starts.{IsBacked, IsFoundIn, IsNewest};
@@ -49,7 +50,7 @@ pub fn the_other_file_has_older_segments<D: Disk>()
     ensures shut { (spare : D) (number : ℕ) → IsShut (D.Disk.may_leave spare) →
         AreOlder (D.Disk.may_leave spare) number }
     ensures unshut { (old new : D) (number : ℕ) →
-        IsOldIfOpen (D.Disk.may_leave old) (D.Disk.may_leave new) →
+        AreShutOr (D.Disk.may_leave new) (D.Disk.may_leave old) →
         AreOlder (D.Disk.may_leave old) number → AreOlder (D.Disk.may_leave new) number }
     ensures finished { (spare : D) (number : ℕ) (body c : List ℕ) (head : SegmentHead)
         (text : List ℕ) → Fits (head_for number body) → Fits head →

@@ -361,6 +361,24 @@ fn is_whole<D: Disk>(alloc: Global, file: &mut D, front: FileFront) -> Result<bo
     Ok(sum == head.sum)
 }
 
+/// Whether a start doubts nothing of a file: it is shut, or has a segment that is whole.
+pub fn is_sound<D: Disk>(alloc: Global, file: &mut D) -> Result<bool, SegmentFault>
+    requires { IsTrue (D.Disk.is_usable file.old) }
+    ensures sound { IfOk result (λ is. is ≡ true → IsTrue (D.Disk.is_clean file.new) →
+        IsSound (D.Disk.seen file.new)) }
+    ensures others { IfOk result (λ is. is ≡ false → IsTrue (D.Disk.is_clean file.new) →
+        IsSound (D.Disk.seen file.new) → ⊥) }
+    ensures usable { IsTrue (D.Disk.is_usable file.new) }
+    ensures clean { IsTrue (D.Disk.is_clean file.new) → IsTrue (D.Disk.is_clean file.old) }
+    ensures seen { D.Disk.seen file.new ≡ D.Disk.seen file.old }
+{
+    let front = front_at(alloc, file)?;
+    if is_shut(front) {
+        return Ok(true);
+    }
+    is_whole(alloc, file, front)
+}
+
 /// In which of two files the newest segment stands. The other one may be written over: where it has
 /// a segment, this one has one that isn't older. An `Err` says that a file couldn't be read.
 pub fn newest_side<D: Disk>(alloc: Global, log: &mut D, db: &mut D) -> Result<Side, SegmentFault>

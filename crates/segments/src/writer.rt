@@ -3,9 +3,10 @@ ghost use Rattle.std.specs.Prelude.{◌≡◌, ◌+◌, ◌*◌, ◌<◌, ◌≤
 ghost use Rattle.std.specs.Prelude.{length, slice_index, bit_xor, IsTrue, IfOk, IfErr, OnOk, OnErr};
 ghost use Rattle.std.specs.Prelude.{true, false};
 ghost use Rattle.sqlite_disk.specs.Disk.{Only};
-ghost use Rattle.segments.specs.Crash.{IsShut, IsLong, IsBlankFrom, IsOldIfOpen, IsTextIfOpen};
+ghost use Rattle.segments.specs.Crash.{AreMixing, HasText, IsShut, IsLong, IsBlankFrom};
+ghost use Rattle.segments.specs.Crash.{IsTextIfOpen};
 ghost use Rattle.segments.specs.Head.{IsWholeText, whole_text};
-ghost use Rattle.segments.specs.Crashes.{StaysBacked};
+ghost use Rattle.segments.specs.Crashes.{AreShutOr, StaysBacked};
 ghost use Rattle.segments.specs.Written.{text_in};
 ghost use Rattle.statetext.specs.Sum.{remainder_after};
 
@@ -55,15 +56,14 @@ impl<D: Disk> Writer<D> {
 
     /// Begins a segment in a file: first of all the file is shut, on the disk too. What stood there
     /// may go: where it had a segment, the newest file has one that isn't older, whatever a crash
-    /// leaves of that file. An `Err` gives the file back; then a start finds the segment that stood
-    /// there, if it finds one there.
+    /// leaves of that file. An `Err` gives the file back; then it is shut, or what it was.
     pub fn begin(alloc: Global, file: D, _newest: &D) -> Result<Writer<D>, Failed<D>>
         requires usable { IsTrue (D.Disk.is_usable file) }
         requires backed { IsTrue (D.Disk.is_clean _newest.now) → IsTrue (D.Disk.is_clean file) →
             StaysBacked (D.Disk.may_leave _newest.now) (D.Disk.seen file) }
         ensures empty { IfOk result (λ w. appended_to w ≡ []) }
         ensures crash { IfErr result (λ failed. IsTrue (D.Disk.is_mixing file)
-            → IsOldIfOpen (D.Disk.may_leave file) (D.Disk.may_leave failed.file)) }
+            → AreShutOr (D.Disk.may_leave failed.file) (D.Disk.may_leave file)) }
     {
         let mut file = file;
         match shut(&mut file) {
@@ -87,8 +87,8 @@ impl<D: Disk> Writer<D> {
     }
 
     /// Finishes the segment: behind the text come so many blocks of 4,096 zeros, the room for the
-    /// lines to come. All is synced. An `Err` gives the file back; then a start finds no segment in
-    /// it, or the whole one.
+    /// lines to come. All is synced. An `Err` gives the file back; then it is shut, or it has the
+    /// whole segment.
     pub fn finish(self, alloc: Global, number: u64, blocks: usize) -> Result<Segment<D>, Failed<D>>
         ensures text { IfOk result (λ s. text_of s ≡ whole_text number (appended_to self)) }
         ensures whole { IfOk result (λ s. IsWholeText number (text_of s)) }
@@ -97,6 +97,9 @@ impl<D: Disk> Writer<D> {
         ensures open { IfOk result (λ s. IsTrue (is_open s)) }
         ensures crash { IfErr result (λ failed. IsTextIfOpen (D.Disk.may_leave failed.file)
             (whole_text number (appended_to self))) }
+        ensures mixed { IfErr result (λ failed. AreMixing D.Disk →
+            AreShutOr (D.Disk.may_leave failed.file)
+            (HasText (whole_text number (appended_to self)))) }
     {
         let Writer {
             mut file,
@@ -185,6 +188,8 @@ fn fill<D: Disk>(
     ensures usable { OnOk result (IsTrue (D.Disk.is_usable file.new)) }
     ensures crash { OnErr result (IsTextIfOpen (D.Disk.may_leave file.new)
         (whole_text number (drop 87 (text_in stored (D.Disk.seen file.old) page.now)))) }
+    ensures mixed { OnErr result (AreMixing D.Disk → AreShutOr (D.Disk.may_leave file.new)
+        (HasText (whole_text number (drop 87 (text_in stored (D.Disk.seen file.old) page.now))))) }
 {
     let (end, size, head) = prepare(alloc, file, stored, page, number, sum, blocks)?;
     match publish(file, &head) {

@@ -1,9 +1,11 @@
 -- What a log says as it is begun, appended to and synced.
 use Rattle.std.proofs.Common.{◌≡◌, ◌∙◌, ℕ, ◌≤◌, List, [], ◌∷◌, ◌++◌, length, take, drop, ap, refl}
-use Rattle.std.proofs.Common.{arith}
+use Rattle.std.proofs.Common.{arith, Err, Ok, OnErr, OnOk, Result, ◌+◌, subst, sym}
 use Rattle.std.proofs.lemmas.List.{drop-append-le, take-append-le, take_all}
 use Rattle.std.proofs.Math.ListN.{drop_of_length-le}
-use Rattle.segments.specs.Head.{whole_text}
+use Rattle.segments.specs.Head.{IsWholeText, whole_text}
+use Rattle.segments.specs.Written.{text_in}
+use Rattle.segments.proofs.CrashLemmas.{length_text}
 use Rattle.segments.proofs.HeadLemmas.{whole_behind}
 use Rattle.statetext.specs.Text.{lines_in}
 use Rattle.statetext.proofs.TextLemmas.{no_text}
@@ -59,3 +61,23 @@ pub headed : (settings : List ℕ) (lines : List (List ℕ)) (number : ℕ) (bod
     → IsHeaded settings lines text
 headed settings lines number body text is says =
     record { number = number; body = body; is = is; says = says }
+
+-- The head of a log that is appended to
+
+pub text_within : (durable stored size : ℕ) (seen page : List ℕ) → durable ≤ stored
+    → stored + length page ≤ size → length seen ≡ size
+    → durable ≤ length (text_in stored seen page)
+text_within durable stored size seen page ordered within sized =
+    let count = length_text stored seen page (omega (arith, within, sized)) in
+    omega (arith, ordered, count)
+
+pub whole_stays : {T E : Type 0} (r : Result T E) (number head durable : ℕ)
+    (text new lines : List ℕ) → head ≤ durable → durable ≤ length text
+    → OnOk r (new ≡ text ++ lines) → OnErr r (new ≡ text)
+    → IsWholeText number (take head text) → IsWholeText number (take head new)
+whole_stays (Ok x) number head durable text new lines le within grown none whole =
+    let same : take head new ≡ take head text = ap (take head) grown
+    ∙ take-append-le head text lines (omega (arith, le, within)) in
+    subst (IsWholeText number) (sym same) whole
+whole_stays (Err e) number head durable text new lines le within grown none whole =
+    subst (λ (l : List ℕ). IsWholeText number (take head l)) (sym none) whole

@@ -23,7 +23,8 @@ use Rattle.state.specs.Crashed.{IsKeptIn}
 use Rattle.state.specs.Deeds.{Deeds}
 use Rattle.state.specs.Origins.{IsMarkedBy}
 use Rattle.state.specs.Replays.{ReportedGap, events_in_front, whole_lines}
-use Rattle.state.specs.Returns.{HasReturned, IsBegunOver}
+use Rattle.state.specs.Logs.{IsOlderBeside}
+use Rattle.state.specs.Returns.{GoesOnOver, HasReturned, IsBegunOver}
 use Rattle.state.specs.Stores.{head, safe}
 use Rattle.state.specs.declared.beginning.Origin.{Origin}
 use Rattle.state.specs.declared.start.Beginning.{Beginning}
@@ -63,30 +64,30 @@ went : (is_moved : Bool) (c : Settings) (written text : List ℕ) (log : Log)
 went true c written text log lines events gap whole s moved same goes = absurd (moved same)
 went false c written text log lines events gap whole s moved same goes = goes
 
-module _ {D : Type 0} (g : Ghosts D) (settings : List ℕ) (deeds : Deeds) (file : List ℕ)
+module _ {D : Type 0} (g : Ghosts D) (settings : List ℕ) (deeds : Deeds) (file other : List ℕ)
     (c : Settings) (text : List ℕ) (log : Log) (o : Origin) (kept : IsKeptIn settings deeds file)
-    (b : IsBegunOver g file c text log o) where
+    (beside : IsOlderBeside file other) (b : IsBegunOver g file other c text log o) where
   -- the newest file is that of the log, where the start has found a segment there
   newest_is : (trusted : Bool) → GoesOnFrom trusted c text log (g.seen b.newest) o.is_moved o.gap
       o.before.entries o.gateway
       → IsNewest (g.seen b.newest) (g.seen b.spare)
-      → AreBoth file b.other (g.seen b.newest) (g.seen b.spare)
-      → (g.seen b.newest ≡ file) × (g.seen b.spare ≡ b.other)
+      → AreBoth file other (g.seen b.newest) (g.seen b.spare)
+      → (g.seen b.newest ≡ file) × (g.seen b.spare ≡ other)
   newest_is trusted goes wins (inl both) = both
   newest_is trusted goes wins (inr both) =
       let own = kept.opening in
       let head = goes.head in
-      let below = b.older own.head head.head own.body head.body own.fits head.fits own.found
+      let below = beside.older own.head head.head own.body head.body own.fits head.fits own.found
       (subst (λ (f : List ℕ). IsFoundIn f head.head head.body) both.0 head.found) in
       let above = wins head.head own.head head.body own.body head.fits own.fits head.found
       (subst (λ (f : List ℕ). IsFoundIn f own.head own.body) (sym both.1) own.found) in
       absurd (omega (arith, below, above))
 
-  is_there : has_past o.beginning ≡ true → (g.seen b.newest ≡ file) × (g.seen b.spare ≡ b.other)
+  is_there : has_past o.beginning ≡ true → (g.seen b.newest ≡ file) × (g.seen b.spare ≡ other)
   is_there past = newest_is (is_trusted o.beginning) (b.begun.goes_on past b.clean.0)
       (b.begun.newest past b.clean.0 b.clean.1) b.found
 
-  not_both_shut : AreBoth file b.other (g.seen b.newest) (g.seen b.spare)
+  not_both_shut : AreBoth file other (g.seen b.newest) (g.seen b.spare)
       → IsShut (g.seen b.newest) × IsShut (g.seen b.spare) → ⊥
   not_both_shut (inl both) shut =
       not_shut file kept.opening.head kept.opening.found.first (subst IsShut both.0 shut.0)
@@ -106,8 +107,9 @@ module _ {D : Type 0} (g : Ghosts D) (settings : List ℕ) (deeds : Deeds) (file
     | inl stale ↦ unmarked stale
     | inr rotten ↦
         let there = is_there (ap has_past is) in
-        absurd (rotten b.clean.0 b.clean.1 (subst IsSound (sym there.0) is_sound)
-        (subst IsSound (sym there.1) b.sound) (subst AreLinesRead (sym there.0) kept.read))
+        absurd (beside.sound (λ sound. rotten b.clean.0 b.clean.1
+        (subst IsSound (sym there.0) is_sound) (subst IsSound (sym there.1) sound)
+        (subst AreLinesRead (sym there.0) kept.read)))
   ]
   begins_so beginnings.GoesOn is = is
 
@@ -141,15 +143,20 @@ module _ {D : Type 0} (g : Ghosts D) (settings : List ℕ) (deeds : Deeds) (file
       ≡ reverse (kept.left.left ++ safe deeds) =
       ap (λ (n : ℕ). events_in_front (whole_lines (before_zero (drop n file)))) same.place
       ∙ kept.left.with_news.logged in
+      let restarted : o.before.entries ≡ Came o.gateway.moment Restarted ∷ on.arrived =
+      on.restarted ∙ ap (λ (n : ℕ). Came n Restarted ∷ on.arrived)
+      (sym (ap (λ (s : State). s.moment) on.given)) in
       record {
         lost = kept.left.lost;
         left = kept.left.left;
         split = kept.left.split;
-        moment = on.left.moment;
         arrived =
-            ap events_of on.restarted
-            ∙ ap (λ (l : List LogEntry). l ++ Came on.left.moment Restarted ∷ [])
+            ap events_of restarted
+            ∙ ap (λ (l : List LogEntry). l ++ Came o.gateway.moment Restarted ∷ [])
             (replayed.arrived ∙ ap (λ (l : List LogEntry). events_of log ++ l) logged);
+        news = replayed.news;
+        behind = restarted ∙ ap (λ (l : Log). Came o.gateway.moment Restarted ∷ l) replayed.behind;
+        gap = replayed.last;
         follows = (on.follows kept.state [] lines savable follows rests).0;
         clock =
             b.begun.moment ∙ ap (λ (x : Beginning). moment_at x o.gateway.moment) goes_on;
@@ -163,3 +170,28 @@ module _ {D : Type 0} (g : Ghosts D) (settings : List ℕ) (deeds : Deeds) (file
       let same : kept.state ≡ state = cc in
       returned_from unchanged (subst IsSavable (sym same) savable)
       (subst (λ (s : State). Follows (setup_of c) s (Some log)) (sym same) follows)
+
+pub goes_on_over : {D : Type 0} (g : Ghosts D) (settings : List ℕ) (deeds : Deeds)
+    (file other : List ℕ) → IsKeptIn settings deeds file → IsOlderBeside file other
+    → GoesOnOver g settings deeds file other
+goes_on_over g settings deeds file other kept beside c text log o b = (
+  goes_on g settings deeds file other c text log o kept beside b,
+  λ same state begun savable follows rests. returned g settings deeds file other c text log o kept
+      beside b same state begun savable follows rests,
+)
+
+swapped : (one two newest other : List ℕ) → AreBoth one two newest other
+    → AreBoth two one newest other
+swapped one two newest other (inl both) = inr both
+swapped one two newest other (inr both) = inl both
+
+pub in_either_place : {D : Type 0} (g : Ghosts D) (settings : List ℕ) (deeds : Deeds)
+    (file other : List ℕ) → GoesOnOver g settings deeds other file
+    → GoesOnOver g settings deeds file other
+in_either_place g settings deeds file other over c text log o b = over c text log o (record {
+  newest = b.newest;
+  spare = b.spare;
+  found = swapped file other (g.seen b.newest) (g.seen b.spare) b.found;
+  clean = b.clean;
+  begun = b.begun;
+})

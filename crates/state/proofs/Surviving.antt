@@ -1,11 +1,16 @@
 -- What outlives a crash of what a store has.
-use Rattle.std.proofs.Common.{◌≡◌, ◌∙◌, ℕ, ◌+◌, ◌-◌, ◌<◌, ◌≤◌, ◌^◌, true, List, []}
+use Rattle.std.proofs.Common.{◌≡◌, ◌∙◌, inl, inr, ℕ, ◌+◌, ◌-◌, ◌<◌, ◌≤◌, ◌^◌, true, List, []}
 use Rattle.std.proofs.Common.{◌∷◌}
 use Rattle.std.proofs.Common.{◌++◌, length, take, drop, map, Some, refl, sym, ap}
 use Rattle.std.proofs.Common.{subst}
 use Rattle.std.proofs.Common.{arith}
 use Rattle.std.specs.List.{AllByRecursion}
-use Rattle.std.proofs.lemmas.List.{length-drop, length-take-le, take-append-drop}
+use Rattle.std.proofs.Common.{slice_index}
+use Rattle.std.specs.Prelude.{◌⊎◌}
+use Rattle.std.proofs.lemmas.Bool.{cases_lt}
+use Rattle.std.proofs.lemmas.List.{append-nil, get_or-take, length-append, length-drop, length-take}
+use Rattle.std.proofs.lemmas.List.{length-take-le, take-append-drop}
+use Rattle.sqlite_disk.specs.Disk.{Only}
 use Rattle.sqlite_disk.specs.declared.Disk.{Ghosts}
 use Rattle.gateway.specs.Log.{Log}
 use Rattle.gateway.specs.Ports.{FitsBuffer, logged_by}
@@ -13,12 +18,15 @@ use Rattle.gateway.specs.Restored.{state_lines}
 use Rattle.gateway.specs.State.{State}
 use Rattle.gateway.specs.declared.ports.Next.{Next}
 use Rattle.gateway.specs.declared.ports.Next.TheVariants as answers
-use Rattle.segments.specs.Crash.{AreMixing, HasNoOther}
+use Rattle.segments.specs.Crash.{AreMixing, HasNoOther, IsShut}
 use Rattle.segments.specs.Crashes.{AreOlder, HasNoZero, StandsIn, Survives}
 use Rattle.segments.specs.Head.{Fits, IsWholeText, head_for, whole_text}
 use Rattle.segments.specs.Segment.{durable_of, outcomes_of, text_of}
+use Rattle.segments.specs.Starts as starts
+use Rattle.segments.specs.Starts.{IsFoundIn, IsSound}
 use Rattle.segments.specs.declared.head.SegmentHead.{SegmentHead}
-use Rattle.segments.proofs.Crashes.{same_first, whole_left}
+use Rattle.segments.proofs.Crashes.{found_front, same_first, whole_left}
+use Rattle.segments.proofs.Fronts.{not_shut}
 use Rattle.traces.specs.Event as events
 use Rattle.traces.specs.Event.{Event}
 use Rattle.traces.specs.Printed.{FitsTrace, IsPrintable, lines_of_log}
@@ -28,7 +36,10 @@ use Rattle.state.specs.Crashed.{HasLog, IsKeptIn}
 use Rattle.state.specs.Deeds.{Deeds, Received, Appended, Synced, Begun, GivenUp, PutOut, is_kept}
 use Rattle.state.specs.Deeds.{waiting, written}
 use Rattle.state.specs.Lines.{FitsLine, IsWritable}
-use Rattle.state.specs.Logs.{HasOlderBeside, SurvivesAsLogged, leaves_in, stored_in}
+use Rattle.state.specs.Doubts.{AreUndoubted}
+use Rattle.state.specs.Logs.{HasFreshLog, HasOlder, IsOlderBeside, SurvivesAsLogged}
+use Rattle.state.specs.Logs.{leaves_amid}
+use Rattle.state.specs.Logs.{leaves_both, leaves_in, stored_in}
 use Rattle.state.specs.Stores.{IsStored, Stored, head, lines_of_head, safe}
 use Rattle.state.specs.declared.opened.Current.{Current}
 use Rattle.state.specs.declared.opened.Opened.{Opened}
@@ -127,6 +138,123 @@ stands_older outcomes own number stands less c left head text fits found =
     (same_first c head (head_for own body) fits whole found.first there.first) in
     omega (arith, same, less)
 
+-- What no start doubts
+
+pub stands_sound : (outcomes : List ℕ → Type 0) (own : ℕ) → StandsIn outcomes own
+    → AreUndoubted outcomes
+stands_sound outcomes own stands c left doubted =
+    let (body, whole, there) = stands c left in
+    doubted (inr (head_for own body, body, whole, there))
+
+pub shut_sound : (outcomes : List ℕ → Type 0) → IsShut outcomes → AreUndoubted outcomes
+shut_sound outcomes shut c left doubted = doubted (inl (inr (shut c left)))
+
+pub only_sound : (file : List ℕ) (outcomes : List ℕ → Type 0) → Only file outcomes → IsSound file
+    → AreUndoubted outcomes
+only_sound file outcomes only sound c left doubted =
+    doubted (subst IsSound (sym (only c left)) sound)
+
+-- Two files beside one another
+
+older_than : (outcomes : List ℕ → Type 0) (own : ℕ) → StandsIn outcomes own
+    → (file other : List ℕ) → outcomes file
+    → ((head : SegmentHead) (text : List ℕ) → Fits head → IsFoundIn other head text
+    → head.number < own)
+    → HasOlder file other
+older_than outcomes own stands file other left below mine head text others fits fits' found
+    found' =
+    let (body, whole, there) = stands file left in
+    let same : mine.number ≡ own = ap (λ (h : SegmentHead). h.number)
+    (same_first file mine (head_for own body) fits whole found.first there.first) in
+    omega (arith, same, below head others fits' found')
+
+shut_beside : (file other : List ℕ) → starts.IsShut other → IsOlderBeside file other
+shut_beside file other shut = record {
+  sound = λ doubted. doubted (inl shut);
+  older = λ own head text others fits fits' found found'.
+      absurd (not_shut other head found'.first shut);
+}
+
+fresh_found : (number : ℕ) (settings : List ℕ) (lines : List (List ℕ)) (file : List ℕ)
+    → (new : HasFreshLog number settings lines file)
+    → IsFoundIn file (head_for number new.body) new.body
+fresh_found number settings lines file new = found_front file number new.body new.text.0
+
+behind_fresh : (outcomes : List ℕ → Type 0) (own : ℕ) → StandsIn outcomes own → (number : ℕ)
+    (settings : List ℕ) (lines : List (List ℕ)) (file other : List ℕ) → outcomes file
+    → own < number → HasFreshLog number settings lines other → IsOlderBeside other file
+behind_fresh outcomes own stands number settings lines file other left less new = record {
+  sound = stands_sound outcomes own stands file left;
+  older = λ mine head text others fits fits' found found'.
+      let (body, whole, there) = stands file left in
+      let above : mine.number ≡ number = ap (λ (h : SegmentHead). h.number)
+      (same_first other mine (head_for number new.body) fits new.fits found.first
+      (fresh_found number settings lines other new).first) in
+      let below : head.number ≡ own = ap (λ (h : SegmentHead). h.number)
+      (same_first file head (head_for own body) fits' whole found'.first there.first) in
+      omega (arith, above, below, less);
+}
+
+-- The next log, which has no events yet
+
+module _ (number : ℕ) (settings : List ℕ) (lines : List (List ℕ)) (file : List ℕ)
+    (new : HasFreshLog number settings lines file) where
+  fresh_octet : (i : ℕ) → i < length (whole_text number new.body)
+      → slice_index file i ≡ slice_index (whole_text number new.body ++ []) i
+  fresh_octet i lt =
+      sym (get_or-take (length (whole_text number new.body)) file i 0 lt)
+      ∙ ap (λ (l : List ℕ). slice_index l i)
+      (new.text.0 ∙ sym (append-nil (whole_text number new.body)))
+
+  fresh_room : length (whole_text number new.body ++ []) ≤ length file
+  fresh_room = omega (
+    arith,
+    length-append (whole_text number new.body) [],
+    ap (λ (l : List ℕ). length l) new.text.0,
+    length-take (length (whole_text number new.body)) file,
+  )
+
+  pub fresh_log : HasLog (λ c. c ≡ file) number new.body [] []
+  fresh_log = record {
+    writable = tt;
+    survives = record {
+      fits = new.fits;
+      within = omega arith;
+      some = λ i lt zero. absurd (omega (arith, lt));
+      size = length file;
+      long = λ c is. ap (λ (l : List ℕ). length l) is;
+      room = fresh_room;
+      kept = λ c is i lt. ap (λ (l : List ℕ). slice_index l i) is
+          ∙ fresh_octet i (omega (arith, lt));
+    };
+    mixed = λ c is i some. elim (cases_lt i (length (whole_text number new.body))) [
+      | inl lt ↦ ap (λ (l : List ℕ). slice_index l i) is ∙ fresh_octet i lt
+      | inr le ↦
+          absurd (some (ap (λ (l : List ℕ). slice_index l i) is ∙ new.text.1 i le))
+    ];
+  }
+
+pub fresh_kept : (number : ℕ) (settings : List ℕ) (state : State) (deeds : Deeds) (file : List ℕ)
+    → HasFreshLog number settings (state_lines state) file
+    → IsKeptIn settings (Begun state ∷ deeds) file
+fresh_kept number settings state deeds file new = record {
+  state = state;
+  begun = refl;
+  begins = 87 + length new.body;
+  opening = record {
+    head = head_for number new.body;
+    body = new.body;
+    fits = new.fits;
+    found = fresh_found number settings (state_lines state) file new;
+    says = new.says;
+    behind = refl;
+  };
+  left = lines_left (λ c. c ≡ file) number new.body [] [] file
+      (fresh_log number settings (state_lines state) file new) refl;
+  read = all_read (λ c. c ≡ file) number new.body [] [] file
+      (fresh_log number settings (state_lines state) file new) refl;
+}
+
 module _ {D : Type 0} {g : Ghosts D} where
   pub current_survives : (current : Current D g)
       → durable_of current.segment ≤ length (text_of current.segment)
@@ -170,24 +298,70 @@ module _ {D : Type 0} {g : Ghosts D} where
       }
 
   -- the other file has older segments
-  pub older_beside : (current : Current D g)
+  pub current_beside : (current : Current D g)
       → ((number begins : ℕ) → begins ≤ durable_of current.segment
       → IsWholeText number (take begins (text_of current.segment))
       → StandsIn (outcomes_of current.segment) number)
-      → HasOlderBeside (opens.Current current)
-  older_beside current stands clean file other left left' own head text others fits fits' found
-      found' =
-      let (body, whole, there) =
-      stands current.number current.head current.within current.whole file left in
-      let same : own.number ≡ current.number = ap (λ (h : SegmentHead). h.number)
-      (same_first file own (head_for current.number body) fits whole found.first there.first) in
-      let below = current.older clean other left' head others fits' found' in
-      omega (arith, same, below)
+      → (file other : List ℕ) → leaves_both (opens.Current current) file other
+      → IsOlderBeside file other
+  current_beside current stands file other (clean, left, left') = record {
+    sound = current.sound clean other left';
+    older = older_than (outcomes_of current.segment) current.number
+        (stands current.number current.head current.within current.whole) file other left
+        (current.older clean other left');
+  }
+
+  -- and amid a renewal it may have a newer one
+  pub current_amid : (current : Current D g)
+      → ((number begins : ℕ) → begins ≤ durable_of current.segment
+      → IsWholeText number (take begins (text_of current.segment))
+      → StandsIn (outcomes_of current.segment) number)
+      → (number : ℕ) (settings : List ℕ) (lines : List (List ℕ)) (file other : List ℕ)
+      → leaves_amid (opens.Current current) number settings lines file other
+      → IsOlderBeside file other
+      ⊎ (HasFreshLog number settings lines other × IsOlderBeside other file)
+  current_amid current stands number settings lines file other (clean, less, left, inl shut) =
+      inl (shut_beside file other shut)
+  current_amid current stands number settings lines file other (clean, less, left, inr (inl was)) =
+      inl (current_beside current stands file other (clean, left, was))
+  current_amid current stands number settings lines file other (clean, less, left, inr (inr new)) =
+      inr (
+        new,
+        behind_fresh (outcomes_of current.segment) current.number
+            (stands current.number current.head current.within current.whole) number settings lines file
+            other left less new,
+      )
+
+  pub both_left : (opened : Opened D g) (file other : List ℕ) → leaves_both opened file other
+      → leaves_in opened file
+  both_left opens.Neither file other left = tt
+  both_left (opens.Both newest spare) file other left = tt
+  both_left (opens.Current c) file other left = left.1
+
+  pub amid_left : (opened : Opened D g) (number : ℕ) (settings : List ℕ) (lines : List (List ℕ))
+      (file other : List ℕ) → leaves_amid opened number settings lines file other
+      → leaves_in opened file
+  amid_left opens.Neither number settings lines file other left = tt
+  amid_left (opens.Both newest spare) number settings lines file other left = tt
+  amid_left (opens.Current c) number settings lines file other left = left.2
 
   -- a log that takes no lines has no head
   pub none_survives : (opened : Opened D g) → (stored_in opened).head ≡ []
       → ((stored_in opened).head ≡ [] → ⊥) → SurvivesAsLogged opened
   none_survives opened none some = absurd (some none)
+
+  pub none_beside : (opened : Opened D g) → (stored_in opened).head ≡ []
+      → ((stored_in opened).head ≡ [] → ⊥) → (file other : List ℕ)
+      → leaves_both opened file other → IsOlderBeside file other
+  none_beside opened none some = absurd (some none)
+
+  pub no_amid : (opened : Opened D g) → (stored_in opened).head ≡ []
+      → ((stored_in opened).head ≡ [] → ⊥) → (number : ℕ) (settings : List ℕ)
+      (lines : List (List ℕ)) (file other : List ℕ)
+      → leaves_amid opened number settings lines file other
+      → IsOlderBeside file other
+      ⊎ (HasFreshLog number settings lines other × IsOlderBeside other file)
+  no_amid opened none some = absurd (some none)
 
   -- What a start reads there
 
@@ -248,3 +422,11 @@ module _ {D : Type 0} {g : Ghosts D} where
       (subst (AllByRecursion IsWritable) (all_written deeds) all) mixing
       (survives (some_head settings (state_lines state) (stored_in opened).head opening)
       (subst HasNoZero (sym text) (no_zero (written deeds) all))) left
+
+  pub kept_head : (opened : Opened D g) (settings : List ℕ) (deeds : Deeds)
+      → IsStored settings deeds (stored_in opened) → is_kept deeds ≡ true
+      → (stored_in opened).head ≡ [] → ⊥
+  kept_head opened settings deeds stored kept =
+      let (state, begun) = has_head deeds kept in
+      some_head settings (state_lines state) (stored_in opened).head
+      (ap (λ (s : Stored). s.head) (stored kept) ∙ ap (lines_of_head settings) begun)

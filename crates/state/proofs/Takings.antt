@@ -8,13 +8,19 @@ use Rattle.std.proofs.lemmas.List.{append-nil}
 use Rattle.sqlite_disk.specs.Disk.{Holds}
 use Rattle.sqlite_disk.specs.declared.Disk.{Ghosts}
 use Rattle.checkpoint.specs.Octets.{IsOctetLine}
+use Rattle.gateway.specs.Carried.{carried}
 use Rattle.gateway.specs.Config.{Settings}
 use Rattle.gateway.specs.Log.{Log, LogEntry}
 use Rattle.gateway.specs.Restored.{HasSettings, IsSavable, state_lines}
 use Rattle.gateway.specs.State.{State}
+use Rattle.gateway.specs.Unchanged.{MayGoOn}
+use Rattle.gateway.specs.declared.settings.StationSettings.{StationSettings}
+use Rattle.link.specs.Procedure.{is_up}
+use Rattle.link.specs.Turns.{station_at}
 use Rattle.segments.specs.Crashes.{lines_behind}
 use Rattle.segments.specs.Head.{Fits, head_of}
-use Rattle.segments.specs.Starts.{HasNoNewer, IsFoundIn, IsShut, IsSound}
+use Rattle.segments.specs.Starts.{HasNoNewer, IsFoundIn, IsShut, IsSound, before_zero}
+use Rattle.std.specs.Prelude.{drop, slice_get}
 use Rattle.segments.specs.declared.head.SegmentHead.{SegmentHead}
 use Rattle.segments.proofs.Crashes.{same_first}
 use Rattle.segments.proofs.Fronts.{not_shut}
@@ -24,7 +30,7 @@ use Rattle.statetext.specs.Text.{lines_in}
 use Rattle.traces.specs.Event.{Event}
 use Rattle.traces.specs.Progress.{came}
 use Rattle.traces.specs.Trace.{logged}
-use Rattle.state.specs.Beginnings.{AreLinesRead, GoesOnFrom, has_past, is_trusted}
+use Rattle.state.specs.Beginnings.{AreLinesRead, GoesOnFrom, MovedOn, has_past, is_trusted}
 use Rattle.state.specs.Directories.{BeginsOver}
 use Rattle.state.specs.Origins.{IsMarkedBy}
 use Rattle.state.specs.Replays.{AreRead, before_those, events_in_front, whole_lines}
@@ -133,6 +139,38 @@ module _ {D : Type 0} {g : Ghosts D} where
   newer_wins c text log mark newest other o over past own head body others fits fits' found
       found' =
       over.begun.newest past over.first over.second own head body others fits fits' found found'
+
+  -- behind a reset no link is up, by the gateway's law on states that aren't trusted
+  pub reset_down : ((before now : Settings) (s : State) (i : ℕ) (station : StationSettings)
+      → length s.serial.line.stations ≡ length before.stations
+      → slice_get now.stations i ≡ Some station
+      → is_up (station_at (carried false before now s).serial.line.stations i).link ≡ true
+      → MayGoOn false before now station.address)
+      → (c : Settings) (text : List ℕ) (log : Log) (mark : Option Bool) (newest other : D)
+      (o : Origin) → BeginsOver g c text log mark newest other o
+      → o.beginning ≡ beginnings.LinksReset → (wrote : Settings) × (left : State)
+      × (o.gateway ≡ carried false wrote c left)
+      × (length left.serial.line.stations ≡ length wrote.stations → (place : ℕ)
+      (station : StationSettings) → slice_get c.stations place ≡ Some station
+      → is_up (station_at o.gateway.serial.line.stations place).link ≡ true → ⊥)
+  reset_down law c text log mark newest other o b is =
+      let goes : GoesOnFrom false c text log (g.seen newest) o.is_moved o.gap o.before.entries
+      o.gateway =
+      subst (λ (t : Bool). GoesOnFrom t c text log (g.seen newest) o.is_moved o.gap
+      o.before.entries o.gateway) (ap is_trusted is) (b.begun.goes_on (ap has_past is) b.first) in
+      let moved : MovedOn false c goes.written log goes.lines
+      (before_zero (drop goes.begins (g.seen newest))) o.gap o.before.entries o.gateway =
+      goes.goes in (
+        moved.wrote,
+        moved.left,
+        moved.moved,
+        λ count place station there up.
+            let may = law moved.wrote c moved.left place station count there
+            (subst (λ (s : State). is_up (station_at s.serial.line.stations place).link ≡ true)
+            moved.moved up) in
+            let never : false ≡ true = may.trusted in
+            absurd (cc),
+      )
 
 -- What isn't put aside
 

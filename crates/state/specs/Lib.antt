@@ -3,6 +3,7 @@ pub mod Deeds
 pub mod Standings
 pub mod Keeping
 pub mod Stores
+pub mod Doubts
 pub mod Logs
 pub mod Both
 pub mod Replays

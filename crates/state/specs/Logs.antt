@@ -1,13 +1,14 @@
 -- What a log in two files has (profile).
-use Rattle.std.specs.Prelude.{◌≡◌, ℕ, ◌<◌, List, [], ◌∷◌, ◌++◌, length, take, drop, IsTrue}
+use Rattle.std.specs.Prelude.{◌≡◌, ◌⊎◌, ℕ, ◌<◌, List, [], ◌∷◌, ◌++◌, length, take, drop, IsTrue}
 use Rattle.sqlite_disk.specs.declared.Disk.{Ghosts}
-use Rattle.segments.specs.Crash.{AreMixing, HasNoOther}
+use Rattle.segments.specs.Crash.{AreMixing, HasNoOther, HasText}
 use Rattle.segments.specs.Crashes.{Survives}
-use Rattle.segments.specs.Head.{Fits, whole_text}
+use Rattle.segments.specs.Head.{Fits, head_for, whole_text}
 use Rattle.segments.specs.Segment.{durable_of, outcomes_of, text_of}
-use Rattle.segments.specs.Starts.{IsFoundIn}
+use Rattle.segments.specs.Starts.{IsFoundIn, IsShut}
 use Rattle.segments.specs.declared.head.SegmentHead.{SegmentHead}
 use Rattle.statetext.specs.Text.{lines_in}
+use Rattle.state.specs.Doubts.{IsUndoubted}
 use Rattle.state.specs.Stores.{Stored}
 use Rattle.state.specs.declared.opened.Opened.{Opened}
 use Rattle.state.specs.declared.opened.Opened.TheVariants as opens
@@ -16,6 +17,20 @@ use Rattle.state.specs.declared.opened.Opened.TheVariants as opens
 abbrev pub HasOlder : (file other : List ℕ) → Type 0
 HasOlder file other = (own head : SegmentHead) (text others : List ℕ) → Fits own → Fits head
     → IsFoundIn file own text → IsFoundIn other head others → head.number < own.number
+
+-- a file beside that of the log: no start doubts it, and each segment of it is older
+pub record IsOlderBeside (file other : List ℕ) : Type 0 where
+  pub sound : IsUndoubted other
+  pub older : HasOlder file other
+
+-- a file has the log with this number, which begins with these settings and these lines, and has no
+-- events yet
+pub record HasFreshLog (number : ℕ) (settings : List ℕ) (lines : List (List ℕ)) (file : List ℕ) :
+    Type 0 where
+  pub body : List ℕ
+  pub fits : Fits (head_for number body)
+  pub says : lines_in body ≡ settings ∷ lines
+  pub text : HasText (whole_text number body) file
 
 -- the text of a segment that begins with these settings and these lines, and has no events yet
 pub record IsHeaded (settings : List ℕ) (lines : List (List ℕ)) (text : List ℕ) : Type 0 where
@@ -64,13 +79,23 @@ module _ {D : Type 0} {g : Ghosts D} where
   leaves_in (opens.Both newest spare) = λ file. Unit {0}
   leaves_in (opens.Current c) = outcomes_of c.segment
 
-  -- Whatever a crash leaves of that file and of the other one, each segment of the other is older,
-  -- where each read of that one has gone well. Where no log takes lines, this says nothing.
-  abbrev pub HasOlderBeside : Opened D g → Type 0
-  HasOlderBeside opens.Neither = Unit {0}
-  HasOlderBeside (opens.Both newest spare) = Unit {0}
-  HasOlderBeside (opens.Current c) = IsTrue (g.is_clean c.spare) → (file other : List ℕ)
-      → outcomes_of c.segment file → g.may_leave c.spare other → HasOlder file other
+  -- What a crash may leave of that file and of the other one, where each read of the other has gone
+  -- well. Where no log takes lines, that is anything.
+  abbrev pub leaves_both : Opened D g → (file other : List ℕ) → Type 0
+  leaves_both opens.Neither = λ file other. Unit {0}
+  leaves_both (opens.Both newest spare) = λ file other. Unit {0}
+  leaves_both (opens.Current c) = λ file other.
+      IsTrue (g.is_clean c.spare) × outcomes_of c.segment file × g.may_leave c.spare other
+
+  -- The same while the next log is begun in the other file, with this number and this head: there
+  -- that file is shut, or as it was, or has the next log.
+  abbrev pub leaves_amid : Opened D g → (number : ℕ) → (settings : List ℕ)
+      → (lines : List (List ℕ)) → (file other : List ℕ) → Type 0
+  leaves_amid opens.Neither number settings lines = λ file other. Unit {0}
+  leaves_amid (opens.Both newest spare) number settings lines = λ file other. Unit {0}
+  leaves_amid (opens.Current c) number settings lines = λ file other.
+      IsTrue (g.is_clean c.spare) × (c.number < number) × outcomes_of c.segment file
+      × (IsShut other ⊎ (g.may_leave c.spare other ⊎ HasFreshLog number settings lines other))
 
   -- Whatever a crash leaves of that file: the segment with the head that the log says, and behind
   -- it the log's lines, as far as they are synced. Where a crash leaves each octet old or new, each

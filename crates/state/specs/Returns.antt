@@ -1,28 +1,25 @@
 -- What a start makes of a log that a crash left (profile).
 use Rattle.std.specs.Prelude.{◌≡◌, ℕ, false, List, [], ◌∷◌, ◌++◌, reverse, Some, IsTrue}
-use Rattle.gateway.specs.Agrees.{Follows}
+use Rattle.gateway.specs.Agrees.{Follows, Rests}
 use Rattle.gateway.specs.Config.{Settings}
 use Rattle.gateway.specs.Log.{Came, Log, Restarted, events_of}
+use Rattle.gateway.specs.Restored.{IsSavable}
 use Rattle.gateway.specs.Setups.{setup_of}
+use Rattle.gateway.specs.State.{State}
 use Rattle.segments.specs.Crashes.{AreBoth}
-use Rattle.segments.specs.Starts.{IsSound}
 use Rattle.sqlite_disk.specs.declared.Disk.{Ghosts}
 use Rattle.state.specs.Deeds.{Deeds, waiting}
-use Rattle.state.specs.Logs.{HasOlder}
 use Rattle.state.specs.Origins.{IsBegun}
-use Rattle.state.specs.Stores.{safe}
+use Rattle.state.specs.Replays.{last_gap}
+use Rattle.state.specs.Stores.{head, safe}
 use Rattle.state.specs.declared.beginning.Origin.{Origin}
 use Rattle.state.specs.declared.opened.Opened.TheVariants as opens
+use Rattle.state.specs.declared.start.Beginning.TheVariants as beginnings
 
--- With these settings, which this text says, a run begins so where it finds this file as it is, and
--- another one beside it: each segment there is older, and nothing stands there that no crash
--- leaves.
--- The directory isn't marked as stale.
-pub record IsBegunOver {D : Type 0} (g : Ghosts D) (file : List ℕ) (c : Settings) (text : List ℕ)
-    (log : Log) (o : Origin) : Type 0 where
-  pub other : List ℕ
-  pub sound : IsSound other
-  pub older : HasOlder file other
+-- With these settings, which this text says, a run begins so where it finds these two files as they
+-- are, in either place, and the directory isn't marked as stale.
+pub record IsBegunOver {D : Type 0} (g : Ghosts D) (file other : List ℕ) (c : Settings)
+    (text : List ℕ) (log : Log) (o : Origin) : Type 0 where
   pub newest : D
   pub spare : D
   pub found : AreBoth file other (g.seen newest) (g.seen spare)
@@ -30,13 +27,31 @@ pub record IsBegunOver {D : Type 0} (g : Ghosts D) (file : List ℕ) (c : Settin
   pub begun : IsBegun {D = D} {g = g} c text log (Some false) (opens.Both newest spare) o
 
 -- The gateway follows a log that goes on from this one, with all events that were synced, with the
--- oldest of those that waited, and with a restart at its end. The clock goes on where it stands.
+-- oldest of those that waited, and with a restart at its end. The clock goes on where it stands. The
+-- gap of the last step before is reported again.
 pub record HasReturned (c : Settings) (log : Log) (deeds : Deeds) (o : Origin) : Type 0 where
   pub lost : Log
   pub left : Log
   pub split : waiting deeds ≡ lost ++ left
-  pub moment : ℕ
   pub arrived : events_of o.before.entries
-      ≡ (events_of log ++ reverse (left ++ safe deeds)) ++ Came moment Restarted ∷ []
+      ≡ (events_of log ++ reverse (left ++ safe deeds)) ++ Came o.gateway.moment Restarted ∷ []
+  pub news : Log
+  pub behind : o.before.entries ≡ Came o.gateway.moment Restarted ∷ (news ++ log)
+  pub gap : o.gap ≡ last_gap news
   pub follows : Follows (setup_of c) o.gateway (Some o.before.entries)
   pub clock : o.moment ≡ Some o.gateway.moment
+
+-- It goes on with the log of these deeds: if the state with which that was begun has followed this
+-- log, the gateway has returned to where they led.
+abbrev pub Returns : Settings → Log → Deeds → Origin → Type 0
+Returns c log deeds o = (state : State) → head deeds ≡ Some state → IsSavable state
+    → Follows (setup_of c) state (Some log) → Rests (setup_of c) (Some log)
+    → HasReturned c log deeds o
+
+-- A run that finds these two files, in either place, goes on with each link. Where its settings are
+-- these too, it goes on with the log of these deeds.
+abbrev pub GoesOnOver : {D : Type 0} → Ghosts D → (settings : List ℕ) → Deeds
+    → (file other : List ℕ) → Type 0
+GoesOnOver g settings deeds file other = (c : Settings) (text : List ℕ) (log : Log) (o : Origin)
+    → IsBegunOver g file other c text log o
+    → (o.beginning ≡ beginnings.GoesOn) × (settings ≡ text → Returns c log deeds o)

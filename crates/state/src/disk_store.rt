@@ -1,6 +1,7 @@
 //! The log of a run in two files of a directory.
 ghost use Rattle.std.specs.Io.Iter.{u64_saturate};
-ghost use Rattle.std.specs.Prelude.{◌≡◌, ◌+◌, ◌*◌, ◌++◌, ◌∷◌, [], List, ℕ, IfOk, IfSome, IsTrue};
+ghost use Rattle.std.specs.Prelude.{◌≡◌, ◌⊎◌, ◌+◌, ◌*◌, ◌++◌, ◌∷◌, [], List, ℕ, IfOk, IfSome};
+ghost use Rattle.std.specs.Prelude.{IsTrue};
 ghost use Rattle.std.specs.Prelude.{OnOk};
 ghost use Rattle.std.specs.Prelude.{Some, length, true, false};
 ghost use Rattle.gateway.specs.Restored.{state_lines};
@@ -9,6 +10,7 @@ ghost use Rattle.segments.specs.Segment.{durable_of, file_of, size_of, text_of};
 ghost use Rattle.segments.specs.Crashes.{AreOlder, StaysBacked};
 ghost use Rattle.segments.specs.Starts.{IsBacked};
 ghost use Rattle.segments.specs.Writer.{appended_to};
+ghost use Rattle.state.specs.Doubts.{AreUndoubted};
 ghost use Rattle.state.specs.Logs.{IsHeaded};
 ghost use Rattle.statetext.specs.Text.{lines_in};
 
@@ -18,7 +20,7 @@ use crate::opened::{Current, Opened};
 use crate::store::Store;
 use checkpoint::{Sheet, StateFault};
 use gateway::Gateway;
-use segments::{Segment, SegmentFault, Side, Writer, is_below, newest_side};
+use segments::{Segment, SegmentFault, Side, Writer, is_below, is_sound, newest_side, shut};
 use sqlite_disk::{Disk, Files};
 use statetext::TextSheet;
 use std::alloc::Global;
@@ -46,7 +48,9 @@ pub struct DiskStore<F: Folder + Drop> {
 
 impl<F: Folder + Drop> DiskStore<F> {
     ghost use Rattle.segments.specs.Crashes.{AreOlder, HasNoZero, StaysBacked};
-    ghost use Rattle.state.specs.Logs.{Bears, HasOlderBeside, SpareIs, SurvivesAsLogged, stored_in};
+    ghost use Rattle.state.specs.Doubts.{AreUndoubted};
+    ghost use Rattle.state.specs.Logs.{Bears, HasFreshLog, IsOlderBeside, SpareIs};
+    ghost use Rattle.state.specs.Logs.{SurvivesAsLogged, leaves_amid, leaves_both, stored_in};
 
     /// One over a directory whose files aren't open. The next segment has this number.
     pub(crate) fn new(alloc: Global, folder: F, settings: Vec<u8>, number: u64) -> DiskStore<F>
@@ -91,9 +95,10 @@ impl<F: Folder + Drop> DiskStore<F> {
         }
     }
 
-    /// Both files, usable: that of the newest segment, and the one for the next. Where none is open
-    /// they are opened anew, and looked at as at a start.
-    fn take_files(&mut self) -> Option<(F::File, F::File)>
+    /// Both files, usable: that of the newest segment, and the one for the next. The third says that
+    /// no start doubts the first. Where none is open they are opened anew, and looked at as at a
+    /// start.
+    fn take_files(&mut self) -> Option<(F::File, F::File, bool)>
         ensures newest { IfSome result (λ files. IsTrue (F.File.is_usable files.0)) }
         ensures spare { IfSome result (λ files. IsTrue (F.File.is_usable files.1)) }
         ensures backed { IfSome result (λ files. IsTrue (F.File.is_clean files.0) →
@@ -101,6 +106,8 @@ impl<F: Folder + Drop> DiskStore<F> {
             StaysBacked (F.File.may_leave files.0) (F.File.seen files.1)) }
         ensures older { IfSome result (λ files. IsTrue (F.File.is_clean files.0) →
             AreOlder (F.File.may_leave files.0) self.old.number) }
+        ensures sound { IfSome result (λ files. files.2 ≡ true →
+            IsTrue (F.File.is_clean files.0) → AreUndoubted (F.File.may_leave files.0)) }
         ensures settings { self.new.settings ≡ self.old.settings }
         ensures number { self.new.number ≡ self.old.number }
     {
@@ -115,9 +122,19 @@ impl<F: Folder + Drop> DiskStore<F> {
         }
     }
 
-    /// Begins a segment in the one file, while the newest one stands in the other as it is.
-    fn begin_in(&mut self, newest: F::File, spare: F::File, gateway: &Gateway) -> bool
+    /// Begins a segment in the one file, while the newest one stands in the other as it is. What
+    /// no crash leaves there is shut once the new segment stands.
+    fn begin_in(
+        &mut self,
+        newest: F::File,
+        spare: F::File,
+        is_sound: bool,
+        gateway: &Gateway,
+    ) -> bool
         requires usable { IsTrue (F.File.is_usable spare) }
+        requires newest { IsTrue (F.File.is_usable newest) }
+        requires sound { is_sound ≡ true → IsTrue (F.File.is_clean newest) →
+            AreUndoubted (F.File.may_leave newest) }
         requires backed { IsTrue (F.File.is_clean newest) → IsTrue (F.File.is_clean spare) →
             StaysBacked (F.File.may_leave newest) (F.File.seen spare) }
         requires older { IsTrue (F.File.is_clean newest) →
@@ -127,7 +144,7 @@ impl<F: Folder + Drop> DiskStore<F> {
           text = [];
           safe = [];
         } }
-        ensures newest { result ≡ true → SpareIs newest self.new.opened }
+        ensures newest { is_sound ≡ true → result ≡ true → SpareIs newest self.new.opened }
         ensures mark { result ≡ true → F.mark self.new.folder ≡ Some false }
         ensures bears { result ≡ true → Bears self.old.number self.new.opened }
         ensures number { self.new.number ≡ u64_saturate (self.old.number + 1) }
@@ -143,12 +160,15 @@ impl<F: Folder + Drop> DiskStore<F> {
         let Some(segment) = segment else {
             return false;
         };
+        let Some(spare) = mended(newest, is_sound, number) else {
+            return false;
+        };
         let head = segment.octets();
         self.opened = Opened::Current(Current {
             segment,
             number,
             head,
-            spare: newest,
+            spare,
         });
         self.unmark()
     }
@@ -166,14 +186,22 @@ impl<F: Folder + Drop> DiskStore<F> {
         }
     }
 
-    /// Whatever a crash leaves now of the other file, it has segments alone that are older than the
-    /// log's. So a start finds the log ([`crate::a_start_goes_on_behind_a_crash`]).
+    /// Whatever a crash leaves now of the other file, no start doubts it, and it has segments alone
+    /// that are older than the log's. So a start finds the log
+    /// ([`crate::a_start_goes_on_behind_a_crash`]). While the next log is begun in the other file,
+    /// either that is so, or it has that log whole, and the file of this one is the older.
+    #[tactic(auto, using(crate::proofs::Surviving::none_beside, crate::proofs::Surviving::no_amid))]
     pub fn has_older_beside(&self)
-        ensures { HasOlderBeside self.now.opened }
+        ensures older { ((stored_in self.now.opened).head ≡ [] → ⊥) → (file other : List ℕ) →
+            leaves_both self.now.opened file other → IsOlderBeside file other }
+        ensures amid { ((stored_in self.now.opened).head ≡ [] → ⊥) → (number : ℕ)
+            (settings : List ℕ) (lines : List (List ℕ)) (file other : List ℕ) →
+            leaves_amid self.now.opened number settings lines file other →
+            IsOlderBeside file other
+            ⊎ (HasFreshLog number settings lines other × IsOlderBeside other file) }
     {
-        match &self.opened {
-            Opened::Current(current) => current.segment.survives(),
-            Opened::Neither | Opened::Both(..) => {}
+        if let Opened::Current(current) = &self.opened {
+            current.segment.survives();
         }
     }
 
@@ -196,7 +224,7 @@ impl<F: Folder + Drop> DiskStore<F> {
 
 /// Both files that are open, where no write or sync has failed at either. The next segment has this
 /// number.
-fn files_of<D: Disk + Drop>(alloc: Global, opened: Opened<D>, number: u64) -> Option<(D, D)>
+fn files_of<D: Disk + Drop>(alloc: Global, opened: Opened<D>, number: u64) -> Option<(D, D, bool)>
     ensures newest { IfSome result (λ files. IsTrue (D.Disk.is_usable files.0)) }
     ensures spare { IfSome result (λ files. IsTrue (D.Disk.is_usable files.1)) }
     ensures backed { IfSome result (λ files. IsTrue (D.Disk.is_clean files.0) →
@@ -204,6 +232,8 @@ fn files_of<D: Disk + Drop>(alloc: Global, opened: Opened<D>, number: u64) -> Op
         StaysBacked (D.Disk.may_leave files.0) (D.Disk.seen files.1)) }
     ensures older { IfSome result (λ files. IsTrue (D.Disk.is_clean files.0) →
         AreOlder (D.Disk.may_leave files.0) number) }
+    ensures sound { IfSome result (λ files. files.2 ≡ true → IsTrue (D.Disk.is_clean files.0) →
+        AreUndoubted (D.Disk.may_leave files.0)) }
 {
     match opened {
         Opened::Neither => None,
@@ -220,7 +250,11 @@ fn files_of<D: Disk + Drop>(alloc: Global, opened: Opened<D>, number: u64) -> Op
 
 /// The file of this segment, which this run has written, and the other one, where that may be
 /// written over. So no checkpoint is read in mid-run, when the stations wait.
-fn files_behind<D: Disk + Drop>(alloc: Global, current: Current<D>, number: u64) -> Option<(D, D)>
+fn files_behind<D: Disk + Drop>(
+    alloc: Global,
+    current: Current<D>,
+    number: u64,
+) -> Option<(D, D, bool)>
     ensures newest { IfSome result (λ files. IsTrue (D.Disk.is_usable files.0)) }
     ensures spare { IfSome result (λ files. IsTrue (D.Disk.is_usable files.1)) }
     ensures backed { IfSome result (λ files. IsTrue (D.Disk.is_clean files.0) →
@@ -228,6 +262,8 @@ fn files_behind<D: Disk + Drop>(alloc: Global, current: Current<D>, number: u64)
         StaysBacked (D.Disk.may_leave files.0) (D.Disk.seen files.1)) }
     ensures older { IfSome result (λ files. IsTrue (D.Disk.is_clean files.0) →
         AreOlder (D.Disk.may_leave files.0) number) }
+    ensures sound { IfSome result (λ files. files.2 ≡ true → IsTrue (D.Disk.is_clean files.0) →
+        AreUndoubted (D.Disk.may_leave files.0)) }
     ensures same { IfSome result (λ files. (files.0 ≡ file_of current.segment)
         × (D.Disk.seen files.1 ≡ D.Disk.seen current.spare)) }
 {
@@ -248,7 +284,7 @@ fn files_behind<D: Disk + Drop>(alloc: Global, current: Current<D>, number: u64)
     }
     let newest = segment.into_file();
     if newest.may_be_used() {
-        Some((newest, spare))
+        Some((newest, spare, true))
     } else {
         None
     }
@@ -256,7 +292,7 @@ fn files_behind<D: Disk + Drop>(alloc: Global, current: Current<D>, number: u64)
 
 /// Both files: that of the newest segment that is whole, and the other one. `None`: one couldn't be
 /// read, or synced.
-fn in_order<D: Disk + Drop>(alloc: Global, log: D, db: D, number: u64) -> Option<(D, D)>
+fn in_order<D: Disk + Drop>(alloc: Global, log: D, db: D, number: u64) -> Option<(D, D, bool)>
     requires log { IsTrue (D.Disk.is_usable log) }
     requires db { IsTrue (D.Disk.is_usable db) }
     ensures newest { IfSome result (λ files. IsTrue (D.Disk.is_usable files.0)) }
@@ -266,6 +302,8 @@ fn in_order<D: Disk + Drop>(alloc: Global, log: D, db: D, number: u64) -> Option
         StaysBacked (D.Disk.may_leave files.0) (D.Disk.seen files.1)) }
     ensures older { IfSome result (λ files. IsTrue (D.Disk.is_clean files.0) →
         AreOlder (D.Disk.may_leave files.0) number) }
+    ensures sound { IfSome result (λ files. files.2 ≡ true → IsTrue (D.Disk.is_clean files.0) →
+        AreUndoubted (D.Disk.may_leave files.0)) }
 {
     let (mut log, mut db) = (log, db);
     match newest_side(alloc, &mut log, &mut db) {
@@ -278,7 +316,7 @@ fn in_order<D: Disk + Drop>(alloc: Global, log: D, db: D, number: u64) -> Option
 /// Both files, where the newest segment is older than the next one, and stands on the disk as it
 /// reads. Else a crash could take it while the other file is written over: a process that was
 /// killed, or a sync that failed, may have left it in the system's memory alone.
-fn settled<D: Disk + Drop>(alloc: Global, newest: D, spare: D, number: u64) -> Option<(D, D)>
+fn settled<D: Disk + Drop>(alloc: Global, newest: D, spare: D, number: u64) -> Option<(D, D, bool)>
     requires first { IsTrue (D.Disk.is_usable newest) }
     requires other { IsTrue (D.Disk.is_usable spare) }
     requires behind { IsTrue (D.Disk.is_clean newest) → IsTrue (D.Disk.is_clean spare) →
@@ -290,14 +328,43 @@ fn settled<D: Disk + Drop>(alloc: Global, newest: D, spare: D, number: u64) -> O
         StaysBacked (D.Disk.may_leave files.0) (D.Disk.seen files.1)) }
     ensures older { IfSome result (λ files. IsTrue (D.Disk.is_clean files.0) →
         AreOlder (D.Disk.may_leave files.0) number) }
+    ensures sound { IfSome result (λ files. files.2 ≡ true → IsTrue (D.Disk.is_clean files.0) →
+        AreUndoubted (D.Disk.may_leave files.0)) }
 {
     let mut newest = newest;
     match is_below(alloc, &mut newest, number) {
         Ok(true) => {}
         Ok(false) | Err(_) => return None,
     }
+    let Ok(is_sound) = is_sound(alloc, &mut newest) else {
+        return None;
+    };
     match newest.sync() {
-        Ok(()) => Some((newest, spare)),
+        Ok(()) => Some((newest, spare, is_sound)),
+        Err(_) => None,
+    }
+}
+
+/// The file of the segment before the new one, which a start looks at beside that. What no crash
+/// leaves there is shut, on the disk too: else a start would reset each link. `None`: it couldn't
+/// be done.
+fn mended<D: Disk + Drop>(newest: D, is_sound: bool, number: u64) -> Option<D>
+    requires usable { IsTrue (D.Disk.is_usable newest) }
+    requires sound { is_sound ≡ true → IsTrue (D.Disk.is_clean newest) →
+        AreUndoubted (D.Disk.may_leave newest) }
+    requires older { IsTrue (D.Disk.is_clean newest) → AreOlder (D.Disk.may_leave newest) number }
+    ensures same { is_sound ≡ true → result ≡ Some newest }
+    ensures sound { IfSome result (λ file. IsTrue (D.Disk.is_clean file) →
+        AreUndoubted (D.Disk.may_leave file)) }
+    ensures older { IfSome result (λ file. IsTrue (D.Disk.is_clean file) →
+        AreOlder (D.Disk.may_leave file) number) }
+{
+    if is_sound {
+        return Some(newest);
+    }
+    let mut file = newest;
+    match shut(&mut file) {
+        Ok(()) => Some(file),
         Err(_) => None,
     }
 }
@@ -412,7 +479,7 @@ impl<F: Folder + Drop> Store for DiskStore<F> {
 
     fn begin(&mut self, gateway: &Gateway) -> bool {
         match self.take_files() {
-            Some((newest, spare)) => self.begin_in(newest, spare, gateway),
+            Some((newest, spare, is_sound)) => self.begin_in(newest, spare, is_sound, gateway),
             None => false,
         }
     }

@@ -1,10 +1,10 @@
 //! A port whose events are kept on a disk before anything goes out on them.
 ghost use Rattle.std.specs.Prelude.{◌≡◌, ◌+◌, ◌<◌, ◌≤◌, ◌∷◌, [], ◌++◌, ◌⊎◌, true, false};
-ghost use Rattle.std.specs.Prelude.{if◌then◌else◌, nat_lt};
+ghost use Rattle.std.specs.Prelude.{None, if◌then◌else◌, nat_lt};
 ghost use Rattle.std.specs.Option.{is_some};
 ghost use Rattle.gateway.specs.Log.{Went, with_news};
 ghost use Rattle.gateway.specs.Ports.{FitsBuffer, faults_of, output_of, logged_by};
-ghost use Rattle.gateway.specs.declared.ports.Next.TheVariants.{Done};
+ghost use Rattle.gateway.specs.declared.ports.Next.TheVariants.{Done, Fault};
 ghost use Rattle.state.specs.Deeds.{grown, passed};
 ghost use Rattle.state.specs.Keeping.{IsOrderly, failure_of};
 ghost use Rattle.state.specs.Lines.{is_renewal_due};
@@ -19,7 +19,6 @@ use crate::keeping::{is_stopped, keep, settle};
 use crate::pair::Pair;
 use crate::renewal::Patience;
 use crate::standing::Standing;
-use crate::start::Beginning;
 use gateway::{Action, Gateway, Next, Port};
 use live::{EndsSight, Failure, Notice, Watched};
 use std::marker::Model;
@@ -67,6 +66,7 @@ impl<E: Ends + Drop> Keeper<E> {
         ensures script { E.script result.ends ≡ E.script ends }
         ensures bears { result.bears_loss ≡ bears_loss }
         ensures begun { Renews [] gateway.now (E.deeds result.ends) }
+        ensures patience { result.patience ≡ record { moment = 0; tried = None; logged = None } }
     {
         let standing = match ends.begin(gateway) {
             Ok(()) => Standing::Synced,
@@ -164,28 +164,38 @@ impl<E: Ends + Drop> Keeper<E> {
 
 impl<P: Watched + Drop, F: Folder + Drop> Keeper<Pair<P, DiskStore<F>>> {
     ghost use Rattle.std.specs.Prelude.{ℕ, List};
-    ghost use Rattle.gateway.specs.Config.{Settings};
-    ghost use Rattle.gateway.specs.Log.{Log};
+    ghost use Rattle.gateway.specs.Restored.{state_lines};
+    ghost use Rattle.gateway.specs.State.{State};
     ghost use Rattle.segments.specs.Crash.{AreMixing};
     ghost use Rattle.state.specs.Crashed.{IsKeptIn};
-    ghost use Rattle.state.specs.Deeds.{is_kept};
-    ghost use Rattle.state.specs.Logs.{HasOlderBeside, leaves_in};
-    ghost use Rattle.state.specs.Returns.{IsBegunOver};
-    ghost use Rattle.state.specs.declared.beginning.Origin.{Origin};
+    ghost use Rattle.state.specs.Deeds.{Begun, is_kept};
+    ghost use Rattle.state.specs.Logs.{IsOlderBeside, leaves_amid, leaves_both, leaves_in};
+    ghost use Rattle.state.specs.Returns.{GoesOnOver};
 
     /// At any moment between two calls, while the state is kept: whatever a crash leaves then of
     /// the log's file, a start reads there the state with which the log was begun, all events that
     /// are synced, the oldest of those that wait, and no other line. What a crash leaves of the
-    /// other file has older segments alone. So a start goes on with each link.
+    /// other file has older segments alone, and no start doubts it. So a start over both goes on
+    /// with each link, and with this log.
     pub fn survives(&self)
         ensures kept { is_kept self.now.ends.deeds ≡ true → AreMixing F.File.Disk →
             (file : List ℕ) → leaves_in self.now.ends.store.opened file →
             IsKeptIn self.now.ends.store.settings.items self.now.ends.deeds file }
-        ensures older { HasOlderBeside self.now.ends.store.opened }
+        ensures older { is_kept self.now.ends.deeds ≡ true → (file other : List ℕ) →
+            leaves_both self.now.ends.store.opened file other → IsOlderBeside file other }
         ensures goes_on { is_kept self.now.ends.deeds ≡ true → AreMixing F.File.Disk →
-            (file : List ℕ) → leaves_in self.now.ends.store.opened file →
-            (c : Settings) (text : List ℕ) (log : Log) (o : Origin) →
-            IsBegunOver F.File.Disk file c text log o → o.beginning ≡ Beginning.GoesOn }
+            (file other : List ℕ) → leaves_both self.now.ends.store.opened file other →
+            GoesOnOver F.File.Disk self.now.ends.store.settings.items self.now.ends.deeds
+            file other }
+        // Amid a renewal too, whichever part of the next log stands in the other file: a start goes
+        // on with this log, or with the next one if that is whole.
+        ensures amid { is_kept self.now.ends.deeds ≡ true → AreMixing F.File.Disk →
+            (state : State) (number : ℕ) (file other : List ℕ) →
+            leaves_amid self.now.ends.store.opened number self.now.ends.store.settings.items
+            (state_lines state) file other →
+            GoesOnOver F.File.Disk self.now.ends.store.settings.items self.now.ends.deeds
+            file other ⊎ GoesOnOver F.File.Disk self.now.ends.store.settings.items
+            (Begun state ∷ self.now.ends.deeds) file other }
     {
         self.ends.survives();
     }
@@ -221,6 +231,9 @@ impl<E: Ends + Drop> Port for Keeper<E> {
         // The port is asked unless the store has failed, and that isn't borne.
         ensures asks { is_stopped self.old.standing self.old.bears_loss ≡ false →
             self.new.stops ≡ self.old.stops }
+        ensures stops { is_stopped self.old.standing self.old.bears_loss ≡ true →
+            (result ≡ Fault) × (self.new ≡ record self.old { stops = self.old.stops + 1 }) }
+        ensures left { self.new.bears_loss ≡ self.old.bears_loss }
     {
         if is_stopped(self.standing, self.bears_loss) {
             self.stops += 1;
@@ -246,6 +259,8 @@ impl<E: Ends + Drop> Port for Keeper<E> {
             ≡ E.failed self.old.ends + self.old.stops + (if result then 0 else 1) }
         ensures asks { is_stopped self.new.standing self.old.bears_loss ≡ false →
             self.new.stops ≡ self.old.stops }
+        ensures left { (self.new.bears_loss ≡ self.old.bears_loss)
+            × (self.new.patience ≡ self.old.patience) }
     {
         // Else a restart could repeat a command under a bit that is new to the station
         // (docs/DECISIONS.md, "Nothing goes out before the disk").

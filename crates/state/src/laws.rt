@@ -1,15 +1,17 @@
 //! What holds of each history.
 ghost use Rattle.std.specs.Prelude.{◌≡◌, ◌++◌, ◌∷◌, [], ℕ, ◌+◌, ◌<◌, ◌≤◌, ◌⊎◌, Bool, true, false};
-ghost use Rattle.std.specs.Prelude.{List, Option, Ok, Some, None, length, slice_index};
+ghost use Rattle.std.specs.Prelude.{List, Option, Ok, Some, None, length, slice_get, slice_index};
 ghost use Rattle.std.specs.List.{AllByRecursion};
 ghost use Rattle.std.specs.Option.{is_some};
 ghost use Rattle.checkpoint.specs.Octets.{IsOctetLine};
-ghost use Rattle.gateway.specs.Agrees.{Follows, Rests};
+ghost use Rattle.gateway.specs.Carried.{carried};
 ghost use Rattle.gateway.specs.Config.{Settings};
 ghost use Rattle.gateway.specs.Log.{Log, LogEntry, Came, Went, Ticked, LineIn, LineOut, GapOut};
 ghost use Rattle.gateway.specs.Restored.{HasSettings, IsSavable, state_lines};
-ghost use Rattle.gateway.specs.Setups.{setup_of};
 ghost use Rattle.gateway.specs.State.{State};
+ghost use Rattle.gateway.specs.declared.settings.StationSettings.{StationSettings};
+ghost use Rattle.link.specs.Procedure.{is_up};
+ghost use Rattle.link.specs.Turns.{station_at};
 ghost use Rattle.segments.specs.Crashes.{lines_behind};
 ghost use Rattle.segments.specs.Head.{Fits, head_of};
 ghost use Rattle.segments.specs.Starts.{IsFoundIn, IsShut, IsSound};
@@ -28,12 +30,13 @@ ghost use Rattle.state.specs.Deeds.{waiting, written};
 ghost use Rattle.state.specs.Directories.{BeginsOver};
 ghost use Rattle.state.specs.Keeping.{failure_of};
 ghost use Rattle.state.specs.Lines.{IsWritable, is_renewal_due};
+ghost use Rattle.state.specs.Logs.{IsOlderBeside};
 ghost use Rattle.state.specs.Origins.{IsBegun};
 ghost use Rattle.state.specs.Renewals.{after_notice, after_try, is_try_due, notice_of};
 ghost use Rattle.state.specs.Replays.{last_gap, whole_lines};
-ghost use Rattle.state.specs.Returns.{HasReturned, IsBegunOver};
+ghost use Rattle.state.specs.Returns.{GoesOnOver};
 ghost use Rattle.state.specs.Standings.{is_stopped};
-ghost use Rattle.state.specs.Stores.{head, led_to_head, safe};
+ghost use Rattle.state.specs.Stores.{led_to_head, safe};
 ghost use Rattle.state.specs.Unread.{IsUnread};
 ghost use Rattle.state.specs.declared.beginning.Origin.{Origin};
 ghost use Rattle.state.specs.declared.loss.Loss.{Loss};
@@ -46,6 +49,7 @@ ghost use Rattle.traces.specs.Trace.{logged};
 
 use crate::standing::Standing;
 use crate::start::Beginning;
+use gateway::no_link_goes_on_but_of_a_station_as_it_was;
 use live::Failure;
 use sqlite_disk::Disk;
 
@@ -168,20 +172,16 @@ pub fn no_crash_leaves_another_line<D: Disk>()
         AreLinesRead c }
 {}
 
-/// A start behind a crash goes on. It finds the file of a log that was kept, as a crash left it
-/// ([`crate::Keeper::survives`]); in the other file each segment is older, and nothing stands there
-/// that no crash leaves. So if the settings are the same, and the state with which that log was
-/// begun has followed the log of all lives, the gateway follows it further: with all events that
-/// were synced, the oldest of those that waited, and the restart.
+/// A start behind a crash goes on. It finds the file of a log that was kept, as a crash left it.
+/// Beside it stands a file that it doesn't doubt, in which each segment is older. So does
+/// [`crate::Keeper::survives`] say it of both files at any moment between two calls. Suppose that
+/// the settings are the same, and that the state with which that log was begun has followed the log
+/// of all lives. Then the gateway follows it further: with all events that were synced, the oldest
+/// of those that waited, and the restart.
 pub fn a_start_goes_on_behind_a_crash<D: Disk + Drop>()
-    ensures begins { (settings : List ℕ) (deeds : Deeds) (file : List ℕ) (c : Settings)
-        (text : List ℕ) (log : Log) (o : Origin) → IsKeptIn settings deeds file →
-        IsBegunOver D.Disk file c text log o → o.beginning ≡ Beginning.GoesOn }
-    ensures goes_on { (text : List ℕ) (deeds : Deeds) (file : List ℕ) (state : State)
-        (c : Settings) (log : Log) (o : Origin) → IsKeptIn text deeds file →
-        IsBegunOver D.Disk file c text log o → head deeds ≡ Some state → IsSavable state →
-        Follows (setup_of c) state (Some log) → Rests (setup_of c) (Some log) →
-        HasReturned c log deeds o }
+    ensures { (settings : List ℕ) (deeds : Deeds) (file other : List ℕ) →
+        IsKeptIn settings deeds file → IsOlderBeside file other →
+        GoesOnOver D.Disk settings deeds file other }
 {}
 
 /// A state that is damaged is never gone on with as if it was whole. What is gone on with has a
@@ -230,6 +230,22 @@ pub fn what_stands_is_not_passed_over<D: Disk + Drop>()
         Fits head → IsFoundIn (D.Disk.seen newest) own body →
         IsFoundIn (D.Disk.seen other) head others → head.number ≤ own.number }
 {}
+
+/// Where each link is to be reset, none is up: the gateway is what a state leads to that isn't
+/// trusted, under the settings that wrote it and then under these. (Suppose that the state has a
+/// link for each station of the settings that wrote it.) So no frame count bit and no held service
+/// goes on, though the settings are the same.
+pub fn no_link_is_up_behind_a_reset<D: Disk + Drop>()
+    ensures { (c : Settings) (text : List ℕ) (log : Log) (mark : Option Bool) (newest other : D)
+        (o : Origin) → BeginsOver D.Disk c text log mark newest other o →
+        o.beginning ≡ Beginning.LinksReset → (wrote : Settings) × (left : State) ×
+        (o.gateway ≡ carried false wrote c left) ×
+        (length left.serial.line.stations ≡ length wrote.stations → (place : ℕ)
+        (station : StationSettings) → slice_get c.stations place ≡ Some station →
+        is_up (station_at o.gateway.serial.line.stations place).link ≡ true → ⊥) }
+{
+    no_link_goes_on_but_of_a_station_as_it_was();
+}
 
 /// A state that a run has written is never put aside by one with the same settings: a checkpoint
 /// that is whole and says the settings, a file of settings that can be read, and the state of a

@@ -3,6 +3,7 @@ ghost use Rattle.std.specs.Prelude.{◌+◌, ◌≤◌, take, IsTrue};
 ghost use Rattle.segments.specs.Crashes.{AreOlder};
 ghost use Rattle.segments.specs.Head.{IsWholeText};
 ghost use Rattle.segments.specs.Segment.{durable_of, size_of, text_of};
+ghost use Rattle.state.specs.Doubts.{AreUndoubted};
 ghost use Rattle.state.specs.Lines.{longest_line, most_octets};
 
 use segments::Segment;
@@ -20,7 +21,9 @@ pub(crate) struct Current<D: Disk + Drop> {
     pub(crate) ghost within: { head ≤ durable_of segment },
     pub(crate) ghost whole: { IsWholeText number (take head (text_of segment)) },
     pub(crate) ghost room: { head + most_octets + longest_line ≤ size_of segment },
-    // Whatever a crash leaves of the other file, it has no segment as new.
+    // Whatever a crash leaves of the other file, no start doubts it, and it has no segment as new.
+    pub(crate) ghost sound: { IsTrue (D.Disk.is_clean spare) →
+        AreUndoubted (D.Disk.may_leave spare) },
     pub(crate) ghost older: { IsTrue (D.Disk.is_clean spare) →
         AreOlder (D.Disk.may_leave spare) number },
 }

@@ -1,5 +1,6 @@
 //! A port, and a store beside it.
-ghost use Rattle.std.specs.Prelude.{◌≡◌, ◌++◌, ℕ, List, true, false, [], length, IfErr, OnOk};
+ghost use Rattle.std.specs.Prelude.{◌≡◌, ◌⊎◌, ◌++◌, ℕ, List, true, false, [], length, IfErr};
+ghost use Rattle.std.specs.Prelude.{OnOk};
 ghost use Rattle.std.specs.List.{AllByRecursion};
 ghost use Rattle.gateway.specs.Ports.{FitsBuffer, logged_by};
 ghost use Rattle.state.specs.Lines.{FitsLine, IsRefusedBy, IsWritable};
@@ -78,16 +79,24 @@ impl<P: Watched + Drop, F: Folder + Drop> Pair<P, DiskStore<F>> {
     ghost use Rattle.segments.specs.Crash.{AreMixing};
     ghost use Rattle.state.specs.Crashed.{IsKeptIn};
     ghost use Rattle.state.specs.Deeds.{is_kept};
-    ghost use Rattle.state.specs.Logs.{HasOlderBeside, leaves_in};
+    ghost use Rattle.state.specs.Logs.{HasFreshLog, IsOlderBeside, leaves_amid, leaves_both};
+    ghost use Rattle.state.specs.Logs.{leaves_in};
 
     /// While the state is kept a start finds it, whatever a crash leaves now of the log's file:
     /// with all events that are synced, with the oldest of those that wait, and with no other line.
-    /// What a crash leaves of the other file has older segments alone.
+    /// What a crash leaves of the other file has older segments alone. Amid a renewal it may have
+    /// the next log, and this file is the older one then.
     pub fn survives(&self)
         ensures kept { is_kept self.now.deeds ≡ true → AreMixing F.File.Disk → (file : List ℕ) →
             leaves_in self.now.store.opened file →
             IsKeptIn self.now.store.settings.items self.now.deeds file }
-        ensures older { HasOlderBeside self.now.store.opened }
+        ensures older { is_kept self.now.deeds ≡ true → (file other : List ℕ) →
+            leaves_both self.now.store.opened file other → IsOlderBeside file other }
+        ensures amid { is_kept self.now.deeds ≡ true → (number : ℕ) (settings : List ℕ)
+            (lines : List (List ℕ)) (file other : List ℕ) →
+            leaves_amid self.now.store.opened number settings lines file other →
+            IsOlderBeside file other
+            ⊎ (HasFreshLog number settings lines other × IsOlderBeside other file) }
     {
         let store = self.store();
         store.survives();

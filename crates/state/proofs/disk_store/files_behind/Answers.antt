@@ -1,7 +1,8 @@
 use Rattle.std.proofs.Common.{subst, sym}
 use Rattle.segments.specs.Crashes.{AreOlder}
 use Rattle.segments.specs.Segment.{file_of}
-use Rattle.state.proofs.Surviving.{stands_older}
+use Rattle.state.specs.Doubts.{AreUndoubted}
+use Rattle.state.proofs.Surviving.{stands_older, stands_sound}
 use Rattle.state.proofs.disk_store.files_behind.Goals as goal
 
 pub returns-then-may_be_used-clause-older : goal.returns-then-may_be_used-clause-older
@@ -12,3 +13,10 @@ returns-then-may_be_used-clause-older g c _ =
     (stands_older (g.D.Disk.may_leave (file_of current.segment)) current.number c.args.number
     (c.survives.ensures.stands current.number current.head current.within current.whole)
     c.if-own-number.false)
+
+pub returns-then-may_be_used-clause-sound : goal.returns-then-may_be_used-clause-sound
+returns-then-may_be_used-clause-sound g c _ _ =
+    let current = c.args.current in
+    subst (λ file. AreUndoubted (g.D.Disk.may_leave file)) (sym c.into_file-newest.ensures)
+    (stands_sound (g.D.Disk.may_leave (file_of current.segment)) current.number
+    (c.survives.ensures.stands current.number current.head current.within current.whole))

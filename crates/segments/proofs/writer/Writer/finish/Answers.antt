@@ -1,5 +1,6 @@
 use Rattle.std.proofs.Common.{◌≡◌, ◌<◌, ◌^◌, [], subst, List, ℕ, drop, arith}
-use Rattle.segments.specs.Crash.{IsTextIfOpen}
+use Rattle.segments.specs.Crash.{HasText, IsTextIfOpen}
+use Rattle.segments.specs.Crashes.{AreShutOr}
 use Rattle.segments.specs.Head.{whole_text}
 use Rattle.segments.specs.Written.{text_in}
 use Rattle.segments.proofs.Crashes.{summed_front, whole_front}
@@ -18,6 +19,13 @@ returns-clause-crash g c =
     subst (λ (h : List ℕ). IsTextIfOpen (g.D.Disk.may_leave c.fill.new.file)
     (whole_text c.args.number (drop 87 (text_in s.stored (g.D.Disk.seen s.file) h))))
     c.deref.ensures.value c.in-Err.ensures.crash
+
+pub returns-clause-mixed : goal.returns-clause-mixed
+returns-clause-mixed g c mixing =
+    let s = c.args.self in
+    subst (λ (h : List ℕ). AreShutOr (g.D.Disk.may_leave c.fill.new.file)
+    (HasText (whole_text c.args.number (drop 87 (text_in s.stored (g.D.Disk.seen s.file) h)))))
+    c.deref.ensures.value (c.in-Err.ensures.mixed mixing)
 
 pub begun-requires-clause-whole : goal.begun-requires-clause-whole
 begun-requires-clause-whole g c =

@@ -16,12 +16,13 @@ returns-clause-begun g c _ =
     same c.in-Some.ensures.head)
     c.octets-head.ensures c.in-Some.ensures.synced
 
-pub invariant_of-t-23 : goal.invariant_of-t-23
-invariant_of-t-23 g c = record {
+pub invariant_of-t-27 : goal.invariant_of-t-27
+invariant_of-t-27 g c = record {
   within = omega (arith, c.octets-head.ensures, c.in-Some.ensures.synced);
   whole = subst (IsWholeText c.args.self.now.number)
       (sym (all_taken (text_of c.in-Some.segment) c.octets-head.result c.octets-head.ensures))
       c.in-Some.ensures.whole;
   room = omega (arith, c.octets-head.ensures, c.in-Some.ensures.room, c.blocks-blocks.ensures.room);
-  older = c.requires.older;
+  sound = c.in-Some-mended.ensures.sound;
+  older = c.in-Some-mended.ensures.older;
 }
