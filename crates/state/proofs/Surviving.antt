@@ -328,8 +328,8 @@ module _ {D : Type 0} {g : Ghosts D} where
       inr (
         new,
         behind_fresh (outcomes_of current.segment) current.number
-            (stands current.number current.head current.within current.whole) number settings lines file
-            other left less new,
+            (stands current.number current.head current.within current.whole) number settings
+            lines file other left less new,
       )
 
   pub both_left : (opened : Opened D g) (file other : List ℕ) → leaves_both opened file other

@@ -27,8 +27,8 @@ pub record IsBegunOver {D : Type 0} (g : Ghosts D) (file other : List ℕ) (c : 
   pub begun : IsBegun {D = D} {g = g} c text log (Some false) (opens.Both newest spare) o
 
 -- The gateway follows a log that goes on from this one, with all events that were synced, with the
--- oldest of those that waited, and with a restart at its end. The clock goes on where it stands. The
--- gap of the last step before is reported again.
+-- oldest of those that waited, and with a restart at its end. The clock goes on where it stands.
+-- The gap of the last step before is reported again.
 pub record HasReturned (c : Settings) (log : Log) (deeds : Deeds) (o : Origin) : Type 0 where
   pub lost : Log
   pub left : Log

@@ -95,9 +95,9 @@ impl<F: Folder + Drop> DiskStore<F> {
         }
     }
 
-    /// Both files, usable: that of the newest segment, and the one for the next. The third says that
-    /// no start doubts the first. Where none is open they are opened anew, and looked at as at a
-    /// start.
+    /// Both files, usable: that of the newest segment, and the one for the next. The third says
+    /// that no start doubts the first. Where none is open they are opened anew, and looked at as at
+    /// a start.
     fn take_files(&mut self) -> Option<(F::File, F::File, bool)>
         ensures newest { IfSome result (λ files. IsTrue (F.File.is_usable files.0)) }
         ensures spare { IfSome result (λ files. IsTrue (F.File.is_usable files.1)) }
