@@ -1,6 +1,7 @@
 -- The port of a live run at its start and at its end.
 use Rattle.std.proofs.Common.{◌≡◌, ℕ, Bool, true, Option, refl, sym, subst}
 use Rattle.gateway.specs.Config.{Settings}
+use Rattle.live.specs.AllowLists.{Refusals}
 use Rattle.live.specs.Ends.{LiveEnds, begun_with}
 use Rattle.live.specs.OctetStreams.{Attempts, StreamHistory}
 use Rattle.live.specs.Runs.{IsStart, ShowsRun}
@@ -12,9 +13,11 @@ use Rattle.live.specs.declared.watched.EndsSight.{EndsSight}
 use Rattle.telegate.specs.Living.{IsPortOf, IsPortOfRun}
 
 pub start_anew : (port : LiveEnds) (allow_list : AllowList) (line : StreamHistory)
-    (presence : Option Presence) (listener : Attempts) (clock walls : Moments) (answer_ms : ℕ)
-    → port ≡ begun_with allow_list line presence listener clock walls answer_ms → IsStart port
-start_anew port allow_list line presence listener clock walls answer_ms is =
+    (presence : Option Presence) (listener : Attempts) (refusals : Refusals)
+    (clock walls : Moments) (answer_ms : ℕ)
+    → port ≡ begun_with allow_list line presence listener refusals clock walls answer_ms
+    → IsStart port
+start_anew port allow_list line presence listener refusals clock walls answer_ms is =
     subst (λ (e : LiveEnds). IsStart e) (sym is) (record {
       log = refl;
       connection = refl;
