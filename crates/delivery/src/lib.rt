@@ -5,8 +5,8 @@
 //! body, since they hold of definitions. Upwards: [`nothing_is_lost`], and
 //! [`each_session_is_known`] for links that are reset on the way, where [`losses_are_reported`] as
 //! gaps and [`losses_have_gaps`] says how many gaps there are at most. What comes of it to the
-//! control centre is one run, over closes and new connections: [`what_has_come_is_one_run`]. A piece
-//! is acknowledged with its frame: [`pieces_are_acknowledged_with_their_frames`].
+//! control centre is one run, over closes and new connections: [`what_has_come_is_one_run`]. A
+//! piece is acknowledged with its frame: [`pieces_are_acknowledged_with_their_frames`].
 //! Downwards: [`each_command_is_given_once`]. Between them: [`the_course_is_the_logs`], that what
 //! the gateway's course logs of the line and of commands is what the octets of the log show; and
 //! [`selections_end_in_time`], by the log's moments.

@@ -63,8 +63,8 @@ pub fn reports_come_at_their_moments()
 
 /// An answer of which no line speaks goes out at once. Of one that a line delays nothing does, and
 /// what came back waits as it is, in the place of one that waited before. Octets go out late in a
-/// round only if they were the answer to a request of an earlier round, which a line delays. So many
-/// ms have passed since that round, and hadn't at any round between. This holds for all rounds
+/// round only if they were the answer to a request of an earlier round, which a line delays. So
+/// many ms have passed since that round, and hadn't at any round between. This holds for all rounds
 /// behind a beginning, whatever the clock gives, and whoever comes and goes.
 pub fn late_answers_go_out_when_due()
     ensures others { (old new : OutstationsState) (request : Frame) (answer : Option (List ℕ)) →

@@ -46,8 +46,8 @@ pub fn repeats_are_as_many_as_set()
 /// Whatever is called: where a turn began with a service that was held, its repeats being used up,
 /// and that was answered, and the station's link is up, the next request goes to the same station.
 /// It is the command that waits there, if DFC is clear, whether there is leave to poll or not. Else
-/// it is the poll that ACD asks for, if there is leave. So a held service takes the place of none of
-/// the turn's requests.
+/// it is the poll that ACD asks for, if there is leave. So a held service takes the place of none
+/// of the turn's requests.
 pub fn turns_go_on_behind_held_services()
     ensures { (settings : LinkSettings) (addresses : List ℕ) (calls : List Call) →
         TurnsGoOn (start settings addresses) None calls }
