@@ -1,5 +1,6 @@
-pub mod TimeTagChecks
 pub mod TypeCodes
 pub mod Moments
 mod StandardTables
 mod NameTables
+mod ElementBits
+mod Faults

@@ -60,10 +60,10 @@ fields_are m is =
     ((m.day + 32 * m.weekday) % 32) ((m.day + 32 * m.weekday) / 32) (m.month % 16) (m.year % 128)
     (nat_le 128 m.minute) m ms minute invalid hour day weekday month year
 
-not_over : (most n : ℕ) → n ≤ most → nat_lt most n ≡ false
+pub not_over : (most n : ℕ) → n ≤ most → nat_lt most n ≡ false
 not_over most n le = grind arith
 
-not_none : (n : ℕ) → 1 ≤ n → (n == 0) ≡ false
+pub not_none : (n : ℕ) → 1 ≤ n → (n == 0) ≡ false
 not_none n some = grind arith
 
 in_range : (m : Moment) → Exists m → is_out_of_range (fields m) ≡ false
@@ -80,7 +80,7 @@ in_range m is =
 exists : (m : Moment) → Exists m → day_exists (fields m) ≡ true
 exists m is = (let last = is.last_day in grind arith)
 
-right_day : (m : Moment) → (m.weekday ≡ 0) ⊎ (m.weekday ≡ weekday_number (days m) + 1)
+pub right_day : (m : Moment) → (m.weekday ≡ 0) ⊎ (m.weekday ≡ weekday_number (days m) + 1)
     → is_weekday_wrong (fields m) ≡ false
 right_day m (inl none) = ap (λ (b : Bool). not b && not (m.weekday == weekday_number (days m) + 1))
     (eq-eqb m.weekday 0 none)

@@ -11,8 +11,8 @@ use Rattle.elements.specs.declared.types.TypeId.TheVariants.{MItTb1, MEiNa1, CSc
 use Rattle.elements.specs.declared.types.TypeId.TheVariants.{CSeNa1, CSeNb1, CIcNa1, CScTa1, CDcTa1}
 use Rattle.elements.specs.declared.types.TypeId.TheVariants.{CRcTa1, CSeTa1, CSeTb1}
 use Rattle.elements.specs.Types.{row, type_of}
-use Rattle.elements.specs.Standard.{TypesAreTheStandards, LayoutExamples, IsShownSo, IsJudgedSo}
-use Rattle.elements.specs.Standard.{is_monitor_type, is_type_with_tag, value_examples, tag_examples}
+use Rattle.elements.specs.Standard.{TypesAreTheStandards, IsJudgedSo, is_monitor_type}
+use Rattle.elements.specs.Standard.{is_type_with_tag, tag_examples}
 
 monitor : (t : TypeId) → (row t).monitor ≡ is_monitor_type (row t).code
 monitor MSpNa1 = refl
@@ -90,39 +90,6 @@ types_hold = record {
   of_five_octets = refl;
 }
 
-pub layouts_hold : LayoutExamples
-layouts_hold = record { short = refl; word = refl; long = refl }
-
-pub values_hold : AllByRecursion IsShownSo value_examples
-values_hold = (
-  refl,
-  (
-    refl,
-    (
-      refl,
-      (refl, (refl, (refl, (refl, (refl, (refl, (refl, (refl, (refl, (refl, (refl, tt))))))))))),
-    ),
-  ),
-)
-
 pub tags_hold : AllByRecursion IsJudgedSo tag_examples
 unfolding days_from_civil day_count days_of_years days_of_months weekday_number
-tags_hold = (
-  refl,
-  (
-    refl,
-    (
-      refl,
-      (
-        refl,
-        (
-          refl,
-          (
-            refl,
-            (refl, (refl, (refl, (refl, (refl, (refl, (refl, (refl, (refl, (refl, tt)))))))))),
-          ),
-        ),
-      ),
-    ),
-  ),
-)
+tags_hold = (refl, (refl, (refl, (refl, (refl, tt)))))

@@ -66,3 +66,25 @@ pub record Names (m : Moment) (octets : List ℕ) : Type 0 where
 -- there is a moment that the tag names, so many milliseconds since 1970-01-01
 abbrev pub IsOfMoment : List ℕ → ℕ → Type 0
 IsOfMoment octets since = (m : Moment) × Exists m × Names m octets × (since ≡ instant m)
+
+-- A number is over what a tag may say: a minute has 60 seconds and an hour 60 minutes, hours go
+-- from 0 to 23, days from 1 on, months from 1 to 12 and years from 0 to 99.
+abbrev pub IsOverRange : Moment → Type 0
+IsOverRange m =
+    (60_000 ≤ m.millisecond) ⊎ (60 ≤ m.minute) ⊎ (24 ≤ m.hour) ⊎ (m.day ≡ 0) ⊎ (m.month ≡ 0)
+    ⊎ (13 ≤ m.month)
+    ⊎ (100 ≤ m.year)
+
+-- none is, though the month may have no such day and the day of the week be another's
+pub record IsWithinRange (m : Moment) : Type 0 where
+  pub millisecond : m.millisecond < 60_000
+  pub minute : m.minute < 60
+  pub hour : m.hour < 24
+  pub first_day : 1 ≤ m.day
+  pub first_month : 1 ≤ m.month
+  pub last_month : m.month ≤ 12
+  pub year : m.year < 100
+
+-- the days of its month
+abbrev pub month_days : Moment → ℕ
+month_days m = days_in_month (pos (2000 + m.year)) m.month

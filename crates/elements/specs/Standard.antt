@@ -1,10 +1,11 @@
 -- What the standard's own tables say of the types and their names (IEC 60870-5-101, 7.2.1 and 7.3),
--- and elements and time tags worked by hand (7.2.6).
+-- what elements show (7.2.6), and time tags worked by hand.
 use Rattle.std.specs.Prelude.{◌≡◌, ℕ, zero, suc, ℤ, pos, ◌-ℤ◌, ◌%◌, Bool, true, false, ◌&&◌, ◌||◌}
-use Rattle.std.specs.Prelude.{◌==◌, nat_le, nat_lt, if◌then◌else◌, List, [], ◌∷◌, ◌++◌, codes}
+use Rattle.std.specs.Prelude.{◌==◌, nat_le, nat_lt, if◌then◌else◌, List, [], ◌∷◌, ◌++◌, codes, ◌<◌}
+use Rattle.std.specs.Prelude.{◌+◌, ◌*◌}
+use Rattle.std.specs.List.{AllByRecursion}
 use Rattle.std.specs.Prelude.{Option, Some, None, is_some, filter, map, slice_range}
 use Rattle.elements.specs.Names.{cause_name, type_name}
-use Rattle.elements.specs.Layouts.{short, word, long}
 use Rattle.elements.specs.Types.{row, type_of, value_shown}
 use Rattle.elements.specs.TimeTag.{verdict_of}
 use Rattle.elements.specs.declared.types.TypeId.{TypeId}
@@ -15,8 +16,7 @@ use Rattle.elements.specs.declared.types.TypeId.TheVariants.{MItTb1, MEiNa1, CSc
 use Rattle.elements.specs.declared.types.TypeId.TheVariants.{CSeNa1, CSeNb1, CIcNa1, CScTa1, CDcTa1}
 use Rattle.elements.specs.declared.types.TypeId.TheVariants.{CRcTa1, CSeTa1, CSeTb1}
 use Rattle.elements.specs.declared.tag.Verdict.{Verdict}
-use Rattle.elements.specs.declared.tag.Verdict.TheVariants.{Good, MarkedInvalid, OutOfRange}
-use Rattle.elements.specs.declared.tag.Verdict.TheVariants.{NoSuchDay, WrongWeekday}
+use Rattle.elements.specs.declared.tag.Verdict.TheVariants.{Good, NoSuchDay, WrongWeekday}
 
 -- ---- Types
 
@@ -130,52 +130,60 @@ pub record NamesAreTheStandards : Type 0 where
 
 -- ---- Elements
 
--- numbers stand low octet first, in two's complement, before their qualifier
-pub record LayoutExamples : Type 0 where
-  pub short : short (pos 258 -ℤ pos 32768) 0x0E ≡ 0x02 ∷ 0x81 ∷ 0x0E ∷ []
-  pub word : word 0xF2345678 0x81 ≡ 0x78 ∷ 0x56 ∷ 0x34 ∷ 0xF2 ∷ 0x81 ∷ []
-  pub long : long (pos 0 -ℤ pos 2147483647) 0xFF ≡ 0x01 ∷ 0x00 ∷ 0x00 ∷ 0x80 ∷ 0xFF ∷ []
+-- a number of four octets, the low one first (IEC 60870-5-4, 5)
+abbrev pub of_four : (a b c d : ℕ) → ℕ
+of_four a b c d = a + 256 * b + 65_536 * c + 16_777_216 * d
 
-pub record Shown : Type 0 where
-  pub kinds : List TypeId
-  pub octets : List ℕ
-  pub value : ℤ
+-- What so many bits are in two's complement: from half their range on, the number is negative.
+abbrev pub twos : (half bits : ℕ) → ℤ
+twos half bits = if nat_lt bits half then pos bits else pos bits -ℤ pos (2 * half)
 
-abbrev pub shows : List TypeId → List ℕ → ℤ → Shown
-shows kinds octets value = record { kinds = kinds; octets = octets; value = value }
+-- What octets of the standard's layout show. Qualities, S/E, qualifiers and reserved bits are
+-- whatever they are, and show nothing.
+abbrev pub ShowsBit0 : TypeId → Type 0
+ShowsBit0 t = (state others : ℕ) → state < 2 →
+    value_shown t ((state + 2 * others) ∷ []) ≡ pos state
 
-abbrev pub IsShownSo : Shown → Type 0
-IsShownSo e = map (λ t. value_shown t e.octets) e.kinds ≡ map (λ t. e.value) e.kinds
+abbrev pub ShowsBits1To0 : TypeId → Type 0
+ShowsBits1To0 t = (state others : ℕ) → state < 4 →
+    value_shown t ((state + 4 * others) ∷ []) ≡ pos state
 
--- the values of elements in the standard's bits; quality, select and reserved bits are set and show
--- nothing
-abbrev pub value_examples : List Shown
-value_examples =
-    -- SPI in bit 0, DPI in bits 1 and 0
-    shows (MSpNa1 ∷ MSpTb1 ∷ []) (0xF1 ∷ []) (pos 1)
-    ∷ shows (MSpNa1 ∷ MSpTb1 ∷ []) (0xFE ∷ []) (pos 0)
-    ∷ shows (MDpNa1 ∷ MDpTb1 ∷ []) (0xF2 ∷ []) (pos 2)
-    ∷ shows (MDpNa1 ∷ MDpTb1 ∷ []) (0xFD ∷ []) (pos 1)
-    -- a step position of 7 bits, from -64 to 63, with the transient bit beside it
-    ∷ shows (MStNa1 ∷ MStTb1 ∷ []) (0xBF ∷ 0xFF ∷ []) (pos 63)
-    ∷ shows (MStNa1 ∷ MStTb1 ∷ []) (0x40 ∷ 0x00 ∷ []) (pos 0 -ℤ pos 64)
-    -- bits, also those of a float
-    ∷ shows (MBoNa1 ∷ MBoTb1 ∷ MMeNc1 ∷ MMeTf1 ∷ []) (0x78 ∷ 0x56 ∷ 0x34 ∷ 0xF2 ∷ 0xFF ∷ [])
-    (pos 0xF2345678)
-    -- NVA and SVA of 16 bits, BCR of 32
-    ∷ shows (MMeNa1 ∷ MMeTd1 ∷ MMeNb1 ∷ MMeTe1 ∷ CSeNa1 ∷ CSeNb1 ∷ CSeTa1 ∷ CSeTb1 ∷ [])
-    (0x02 ∷ 0x01 ∷ 0xFF ∷ []) (pos 258)
-    ∷ shows (MMeNa1 ∷ MMeTd1 ∷ MMeNb1 ∷ MMeTe1 ∷ CSeNa1 ∷ CSeNb1 ∷ CSeTa1 ∷ CSeTb1 ∷ [])
-    (0x00 ∷ 0x80 ∷ 0x00 ∷ [])
-    (pos 0 -ℤ pos 32768)
-    ∷ shows (MItNa1 ∷ MItTb1 ∷ []) (0xFE ∷ 0xFF ∷ 0xFF ∷ 0xFF ∷ 0x1F ∷ []) (pos 0 -ℤ pos 2)
-    -- a cause of initialisation in bits 6 to 0
-    ∷ shows (MEiNa1 ∷ []) (0xC2 ∷ []) (pos 66)
-    -- SCS in bit 0, DCS and RCS in bits 1 and 0, QOI in all
-    ∷ shows (CScNa1 ∷ CScTa1 ∷ []) (0x81 ∷ []) (pos 1)
-    ∷ shows (CDcNa1 ∷ CDcTa1 ∷ CRcNa1 ∷ CRcTa1 ∷ []) (0xFE ∷ []) (pos 2)
-    ∷ shows (CIcNa1 ∷ []) (0xA4 ∷ []) (pos 164)
-    ∷ []
+abbrev pub ShowsBits6To0 : TypeId → Type 0
+ShowsBits6To0 t = (bits transient quality : ℕ) → bits < 128 →
+    value_shown t ((bits + 128 * transient) ∷ quality ∷ []) ≡ twos 64 bits
+
+abbrev pub ShowsTwoOctets : TypeId → Type 0
+ShowsTwoOctets t = (low high qualifier : ℕ) → low < 256 → high < 256 →
+    value_shown t (low ∷ high ∷ qualifier ∷ []) ≡ twos 32_768 (low + 256 * high)
+
+abbrev pub ShowsFourOctets : TypeId → Type 0
+ShowsFourOctets t = (a b c d quality : ℕ) →
+    value_shown t (a ∷ b ∷ c ∷ d ∷ quality ∷ []) ≡ pos (of_four a b c d)
+
+abbrev pub ShowsCounter : TypeId → Type 0
+ShowsCounter t = (a b c d sequence : ℕ) → a < 256 → b < 256 → c < 256 → d < 256 →
+    value_shown t (a ∷ b ∷ c ∷ d ∷ sequence ∷ []) ≡ twos 2_147_483_648 (of_four a b c d)
+
+-- Each type shows the bits that 7.2.6 has for its value, whatever they are.
+pub record ValuesStandInTheirBits : Type 0 where
+  -- SPI and SCS
+  pub single : AllByRecursion ShowsBit0 (MSpNa1 ∷ MSpTb1 ∷ CScNa1 ∷ CScTa1 ∷ [])
+  -- DPI, DCS and RCS
+  pub double : AllByRecursion ShowsBits1To0
+      (MDpNa1 ∷ MDpTb1 ∷ CDcNa1 ∷ CDcTa1 ∷ CRcNa1 ∷ CRcTa1 ∷ [])
+  -- VTI, a position from -64 to 63; bit 7 is the transient state
+  pub step : AllByRecursion ShowsBits6To0 (MStNa1 ∷ MStTb1 ∷ [])
+  -- BSI, and the bits of R32-IEEE STD 754
+  pub bits : AllByRecursion ShowsFourOctets (MBoNa1 ∷ MBoTb1 ∷ MMeNc1 ∷ MMeTf1 ∷ [])
+  -- NVA and SVA
+  pub measured : AllByRecursion ShowsTwoOctets
+      (MMeNa1 ∷ MMeTd1 ∷ MMeNb1 ∷ MMeTe1 ∷ CSeNa1 ∷ CSeNb1 ∷ CSeTa1 ∷ CSeTb1 ∷ [])
+  -- BCR
+  pub counter : AllByRecursion ShowsCounter (MItNa1 ∷ MItTb1 ∷ [])
+  -- COI in bits 6 to 0, QOI in all
+  pub initialised : (cause changed : ℕ) → cause < 128 →
+      value_shown MEiNa1 ((cause + 128 * changed) ∷ []) ≡ pos cause
+  pub interrogation : (qualifier : ℕ) → value_shown CIcNa1 (qualifier ∷ []) ≡ pos qualifier
 
 -- ---- Time tags
 
@@ -191,27 +199,12 @@ IsJudgedSo e = verdict_of e.octets ≡ e.verdict
 
 abbrev pub tag_examples : List Judged
 tag_examples =
-    -- Thursday 2024-02-29 12:34:56.789 UTC; without a day of the week; with SU and all reserved
-    -- bits set
+    -- Thursday 2024-02-29 12:34:56.789 UTC
     is_judged (0xD5 ∷ 0xDD ∷ 0x22 ∷ 0x0C ∷ 0x9D ∷ 0x02 ∷ 0x18 ∷ []) (Good 1709210096789)
-    ∷ is_judged (0xD5 ∷ 0xDD ∷ 0x22 ∷ 0x0C ∷ 0x1D ∷ 0x02 ∷ 0x18 ∷ []) (Good 1709210096789)
-    ∷ is_judged (0xD5 ∷ 0xDD ∷ 0x62 ∷ 0xEC ∷ 0x9D ∷ 0xF2 ∷ 0x98 ∷ []) (Good 1709210096789)
     -- Saturday 2000-01-01 00:00, and the last millisecond of Thursday 2099-12-31
     ∷ is_judged (0x00 ∷ 0x00 ∷ 0x00 ∷ 0x00 ∷ 0xC1 ∷ 0x01 ∷ 0x00 ∷ []) (Good 946684800000)
     ∷ is_judged (0x5F ∷ 0xEA ∷ 0x3B ∷ 0x17 ∷ 0x9F ∷ 0x0C ∷ 0x63 ∷ []) (Good 4102444799999)
-    -- marked invalid
-    ∷ is_judged (0xD5 ∷ 0xDD ∷ 0xA2 ∷ 0x0C ∷ 0x9D ∷ 0x02 ∷ 0x18 ∷ []) MarkedInvalid
     -- no 29th of February in 2023, a Friday; in 2024 it was no Friday
     ∷ is_judged (0xD5 ∷ 0xDD ∷ 0xA2 ∷ 0x0C ∷ 0xBD ∷ 0x02 ∷ 0x17 ∷ []) NoSuchDay
-    ∷ is_judged (0x00 ∷ 0x00 ∷ 0x00 ∷ 0x00 ∷ 0x1F ∷ 0x04 ∷ 0x18 ∷ []) NoSuchDay
     ∷ is_judged (0xD5 ∷ 0xDD ∷ 0xA2 ∷ 0x0C ∷ 0xBD ∷ 0x02 ∷ 0x18 ∷ []) WrongWeekday
-    -- 60000 ms, minute 60, hour 24, day 0, months 0 and 13, year 100, also where it is marked
-    -- invalid
-    ∷ is_judged (0x60 ∷ 0xEA ∷ 0xA2 ∷ 0x0C ∷ 0x9D ∷ 0x02 ∷ 0x18 ∷ []) OutOfRange
-    ∷ is_judged (0xD5 ∷ 0xDD ∷ 0x3C ∷ 0x0C ∷ 0x9D ∷ 0x02 ∷ 0x18 ∷ []) OutOfRange
-    ∷ is_judged (0xD5 ∷ 0xDD ∷ 0x22 ∷ 0x18 ∷ 0x9D ∷ 0x02 ∷ 0x18 ∷ []) OutOfRange
-    ∷ is_judged (0xD5 ∷ 0xDD ∷ 0x22 ∷ 0x0C ∷ 0x80 ∷ 0x02 ∷ 0x18 ∷ []) OutOfRange
-    ∷ is_judged (0xD5 ∷ 0xDD ∷ 0x22 ∷ 0x0C ∷ 0x9D ∷ 0x00 ∷ 0x18 ∷ []) OutOfRange
-    ∷ is_judged (0xD5 ∷ 0xDD ∷ 0x22 ∷ 0x0C ∷ 0x9D ∷ 0x0D ∷ 0x18 ∷ []) OutOfRange
-    ∷ is_judged (0xD5 ∷ 0xDD ∷ 0x22 ∷ 0x0C ∷ 0x9D ∷ 0x02 ∷ 0x64 ∷ []) OutOfRange
     ∷ []
