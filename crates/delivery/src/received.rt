@@ -1,5 +1,5 @@
 //! What the control centre has received, over closes and new connections.
-ghost use Rattle.std.specs.Prelude.{◌≡◌, ◌+◌, List, ◌∷◌, length, take};
+ghost use Rattle.std.specs.Prelude.{◌≡◌, ◌+◌, List, [], ◌∷◌, length, take};
 ghost use Rattle.session.specs.History as talk;
 ghost use Rattle.gateway.specs.Agrees.{pieces_of};
 ghost use Rattle.gateway.specs.Connections.{present, past};
@@ -36,8 +36,10 @@ pub fn what_has_come_is_one_run()
 /// connection the first are acknowledged, as many as the N(R) that came say: that is the number
 /// that the session's history has. Each of these frames that has monitor objects counts as one
 /// piece, and its objects count. An own answer counts as none. So a piece has its place until then,
-/// and the next connection begins right behind it.
+/// and the next connection begins right behind it. Before the first connection nothing is
+/// acknowledged: it begins at the first object taken.
 pub fn pieces_are_acknowledged_with_their_frames()
+    ensures none { (acknowledged_reports [] ≡ 0) × (first_unacknowledged [] ≡ 0) }
     ensures numbers { (h : talk.History) →
         acknowledged_count (came_frames h) ≡ talk.acknowledged_count h }
     ensures pieces { (c : Connection) (before : List Connection) →

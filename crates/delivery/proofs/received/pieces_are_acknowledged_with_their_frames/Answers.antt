@@ -6,6 +6,7 @@ use Rattle.delivery.proofs.received.pieces_are_acknowledged_with_their_frames.Go
 
 pub returns : goal.returns
 returns c = record {
+  none = (refl, refl);
   numbers = came_acknowledged;
   pieces = λ c before. ap (λ n. n + acknowledged_reports before)
       (sym (length-pieces_of (take (acknowledged_count c.received_frames) c.sent_frames)));
