@@ -8,3 +8,5 @@ mod ReadBack
 pub mod Examples
 pub mod Origins
 pub mod Timers
+pub mod Saying
+pub mod Sequences
