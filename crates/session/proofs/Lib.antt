@@ -10,3 +10,4 @@ pub mod Origins
 pub mod Timers
 pub mod Saying
 pub mod Sequences
+pub mod Stops

@@ -211,6 +211,20 @@ pub fn a_stop_is_pending_until_its_confirmation()
     ensures at_first { (h : History) → HasNo is_about_a_stop h → is_stop_pending h ≡ false }
 {}
 
+/// A STOPDT con goes out once each I frame that went out is acknowledged, own answers too, and each
+/// that came, and not before; then it does where no other confirmation is owed. The S frame for
+/// what came goes out before it (5.3).
+pub fn a_stop_is_confirmed_once_all_is_acknowledged()
+    ensures not_before { (h : History) → confirmation_of h ≡ Some (U StopCon) →
+        (is_stop_pending h ≡ true) × (length (sent_frames h) ≤ acknowledged_count h)
+        × (unconfirmed_moments h ≡ []) }
+    ensures then { (h : History) → is_stop_pending h ≡ true →
+        length (sent_frames h) ≤ acknowledged_count h → unconfirmed_moments h ≡ [] →
+        confirmation_owed h ≡ None → confirmation_of h ≡ Some (U StopCon) }
+    ensures supervisory { (h : History) → is_stop_pending h ≡ true →
+        0 < length (unconfirmed_moments h) → confirmation_of h ≡ Some (acknowledgement_of h) }
+{}
+
 /// A TESTFR act that went out waits from that moment on until a TESTFR con comes: no other frame is
 /// its answer, and none that goes out ends it (5.2).
 pub fn a_test_waits_for_its_confirmation()

@@ -26,6 +26,7 @@ mod saving;
 pub use connection::{NoMemory, Session};
 pub use kinds::{Close, FrameOrigin, Taken, Transfer, Unacknowledged};
 pub use laws::{
+    a_stop_is_confirmed_once_all_is_acknowledged,
     a_stop_is_pending_until_its_confirmation, a_test_waits_for_its_confirmation,
     data_transfer_runs_from_start_to_stop, each_act_is_confirmed, each_data_frame_counts,
     frames_are_taken_in_sequence, silence_counts_from_the_latest_frame,
