@@ -1,6 +1,8 @@
 -- What each thing that is said does of itself.
-use Rattle.std.proofs.Common.{◌≡◌, ℕ, suc, ◌+◌, ◌%◌, ◌≤◌, ◌==◌, Bool, true, false, not, cond, nat_le}
-use Rattle.std.proofs.Common.{List, [], ◌∷◌, ◌++◌, reverse, length, Option, Some, None, refl, ap, sym}
+use Rattle.std.proofs.Common.{◌≡◌, ℕ, suc, ◌+◌, ◌%◌, ◌≤◌, ◌==◌, Bool, true, false, not, cond}
+use Rattle.std.proofs.Common.{nat_le}
+use Rattle.std.proofs.Common.{List, [], ◌∷◌, ◌++◌, reverse, length, Option, Some, None, refl, ap}
+use Rattle.std.proofs.Common.{sym}
 use Rattle.std.proofs.Common.{◌∙◌, arith}
 use Rattle.std.specs.List.{AllByRecursion, filter_map}
 use mathlib.Core.List.{reverse-cons}

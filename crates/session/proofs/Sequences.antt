@@ -1,6 +1,8 @@
 -- What the latest N(R) counts, and which frames are taken.
-use Rattle.std.proofs.Common.{◌≡◌, ℕ, ◌+◌, ◌%◌, ◌≤◌, ◌==◌, ◌&&◌, Bool, true, false, not, cond, nat_le}
-use Rattle.std.proofs.Common.{nat_lt, List, [], ◌∷◌, ◌++◌, length, Option, Some, None, refl, ap, sym}
+use Rattle.std.proofs.Common.{◌≡◌, ℕ, ◌+◌, ◌%◌, ◌≤◌, ◌==◌, ◌&&◌, Bool, true, false, not, cond}
+use Rattle.std.proofs.Common.{nat_le}
+use Rattle.std.proofs.Common.{nat_lt, List, [], ◌∷◌, ◌++◌, length, Option, Some, None, refl, ap}
+use Rattle.std.proofs.Common.{sym}
 use Rattle.std.proofs.Common.{◌∙◌, arith}
 use Rattle.std.proofs.lemmas.Bool.{le-leb, leb-true, eqb-true, eq-eqb}
 use Rattle.arrayvec.specs.ArrayVec.{ArrayVec}
@@ -12,7 +14,8 @@ use Rattle.session.specs.declared.kinds.Transfer.TheVariants as Transfer
 use Rattle.session.specs.declared.kinds.Taken.{Taken}
 use Rattle.session.specs.declared.kinds.Taken.TheVariants.{Nothing, Asdu, Close}
 use Rattle.session.specs.declared.kinds.Close.TheVariants.{SendNumber, ReceiveNumber, Stopped}
-use Rattle.session.specs.Session.{Session, Due, is_open, is_stopping, opens, stops, turned_to, taken}
+use Rattle.session.specs.Session.{Session, Due, is_open, is_stopping, opens, stops, turned_to}
+use Rattle.session.specs.Session.{taken}
 use Rattle.session.specs.Session.{confirmed, replied, nothing_due, acknowledgement}
 use Rattle.session.specs.Ends.{IsConfirmed}
 use Rattle.session.specs.History.{History, Came, sent_frames, received_count, acknowledged_count}
@@ -89,7 +92,8 @@ reached_by : (nr : ℕ) (h : History) → Acknowledges nr h
 reached_by nr h a =
     let least : reached (acknowledged_count h) nr ≤ a.count =
     reached_least (acknowledged_count h) nr a.count a.not_fewer a.same in
-    le-leb (reached (acknowledged_count h) nr) (length (sent_frames h)) (omega (arith, least, a.sent))
+    le-leb (reached (acknowledged_count h) nr) (length (sent_frames h))
+    (omega (arith, least, a.sent))
 
 all_three : (a b c : Bool)
     → cond (not a) (Close Stopped)
@@ -121,7 +125,8 @@ pub data_passes : (ns nr : ℕ) (asdu : ArrayVec ℕ) (h : History) → is_start
 data_passes ns nr asdu h runs next a =
     let within : nat_le (reached (acknowledged_count h) nr) (length (sent_frames h)) ≡ true =
     reached_by nr h a in
-    let same : (ns == received_count h % 32768) ≡ true = eq-eqb ns (received_count h % 32768) next in
+    let same : (ns == received_count h % 32768) ≡ true =
+    eq-eqb ns (received_count h % 32768) next in
     rw (runs, same, within) refl
 
 pub supervisory_taken : (nr : ℕ) (h : History)

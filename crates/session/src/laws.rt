@@ -20,7 +20,8 @@ ghost use Rattle.session.specs.History.{History, outstanding_test, unconfirmed_m
 ghost use Rattle.session.specs.History.{acknowledgement_of, is_open as is_open_history};
 ghost use Rattle.session.specs.History.{is_acknowledgement_due};
 ghost use Rattle.apci.specs.declared.apdu.Apdu.TheVariants.{I, S, U};
-ghost use Rattle.apci.specs.declared.apdu.Uf.TheVariants.{StartAct, StartCon, StopAct, StopCon, TestAct, TestCon};
+ghost use Rattle.apci.specs.declared.apdu.Uf.TheVariants.{StartAct, StartCon, StopAct, StopCon};
+ghost use Rattle.apci.specs.declared.apdu.Uf.TheVariants.{TestAct, TestCon};
 ghost use Rattle.session.specs.Laws.{AfterEachRun, Acknowledges, MatchesAcknowledged};
 ghost use Rattle.session.specs.Rules.{KeepsRules};
 ghost use Rattle.session.specs.SessionLaws.{SessionLaws};
@@ -36,8 +37,10 @@ ghost use Rattle.session.specs.declared.kinds.Taken.TheVariants.{Nothing, Asdu};
 ghost use Rattle.session.specs.History.{Opened, Came, Refused, Sent, Went, acknowledged_count};
 ghost use Rattle.session.specs.History.{is_stop_pending};
 ghost use Rattle.session.specs.Said.{HasNo, switches, is_about_a_stop, is_about_a_test};
-ghost use Rattle.session.specs.Said.{breaks_silence, acknowledges, bears_receive_number, data_moment};
-ghost use Rattle.session.specs.Said.{data_sent, asks_for, confirms, Acknowledges as AcknowledgesSent};
+ghost use Rattle.session.specs.Said.{breaks_silence, acknowledges, bears_receive_number};
+ghost use Rattle.session.specs.Said.{data_moment};
+ghost use Rattle.session.specs.Said.{data_sent, asks_for, confirms};
+ghost use Rattle.session.specs.Said.{Acknowledges as AcknowledgesSent};
 
 /// N(R) is judged by the least number that isn't below the acknowledged count and equals it modulo
 /// 32768.
