@@ -13,6 +13,7 @@ use Rattle.asdu.specs.declared.sizes.IoaSize.{IoaSize}
 use Rattle.asdu.specs.declared.sizes.IoaSize.TheVariants as ioas
 use Rattle.asdu.specs.declared.sizes.Sizes.{Sizes}
 use Rattle.asdu.specs.Asdu.{AsduValue, Info, IsAsdu}
+use Rattle.asdu.specs.InformationObjects.{InformationObject}
 
 -- whatever the sizes, the ASDU and its octets
 abbrev pub OfEachAsdu : (Sizes → AsduValue → List ℕ → Type 0) → Type 0
@@ -83,6 +84,17 @@ pub record StandsInSequence (w : IoaSize) (t : TypeId) (k place : ℕ) (xs : Lis
   where
     pub address : object_address_at w place xs + k ≡ i.address
     pub content : HasContentAt t (place + address_octets w + k * content_octets t) xs i
+
+-- It is one of an ASDU's objects, in all its parts: what the ASDU says of all of them (7.2.1 to
+-- 7.2.4), and its own address, element and time tag (7.2.5, 7.2.6).
+pub record IsObjectOf (u : AsduValue) (i : Info) (o : InformationObject) : Type 0 where
+  pub kind : o.kind ≡ u.kind
+  pub cause : o.cause ≡ u.cause
+  pub originator : o.originator ≡ u.originator
+  pub ca : o.ca ≡ u.ca
+  pub address : o.address ≡ i.address
+  pub element : o.element ≡ i.element
+  pub tag : o.tag ≡ i.tag
 
 -- ---- What stays
 

@@ -11,7 +11,8 @@ ghost use Rattle.asdu.specs.Asdu.{AsduValue, Info};
 ghost use Rattle.asdu.specs.Layout.{OfEachAsdu, common_address_at, common_address_place};
 ghost use Rattle.asdu.specs.Layout.{objects_place, address_octets, content_octets};
 ghost use Rattle.asdu.specs.Layout.{StandsApart, StandsInSequence, HaveOneHead, IsSameIn};
-ghost use Rattle.asdu.specs.Layout.{IsLongEnough, length_by, object_address_at};
+ghost use Rattle.asdu.specs.Layout.{IsLongEnough, length_by, object_address_at, IsObjectOf};
+ghost use Rattle.asdu.specs.InformationObjects.{InformationObject, objects_of};
 ghost use Rattle.std.specs.List.{AllByRecursion};
 ghost use Rattle.asdu.specs.declared.sizes.Sizes.{Sizes};
 ghost use Rattle.asdu.specs.Translation.{report_pieces};
@@ -50,6 +51,15 @@ pub fn octets_stand_where_the_standard_has_them()
     ensures together_length { OfEachAsdu (λ s u xs. u.sequence ≡ true →
         length xs ≡ objects_place s.cause s.ca + address_octets s.ioa
         + length u.infos * content_octets u.kind) }
+{}
+
+/// An ASDU's octets are read as all of its objects, in their order. Each has the type, the cause
+/// octet, the originator and the common address of the ASDU, and its own address, element and time
+/// tag. So reports whose objects are equal are equal in value, quality and tag.
+pub fn objects_have_all_their_parts()
+    ensures number { OfEachAsdu (λ s u xs. length (objects_of s xs) ≡ length u.infos) }
+    ensures parts { OfEachAsdu (λ s u xs. (k : ℕ) (i : Info) → slice_get u.infos k ≡ Some i →
+        (o : InformationObject) × (slice_get (objects_of s xs) k ≡ Some o) × IsObjectOf u i o) }
 {}
 
 /// Each piece of a report has its type, its SQ and its cause octet, with the test bit and P/N.

@@ -35,8 +35,8 @@ pub use laws::{
     tagged_types_are_thirteen_above, worked_examples_hold,
 };
 pub use layout::{
-    octets_stand_where_the_standard_has_them, other_sizes_keep_the_asdu, pieces_keep_the_head,
-    refusals_are_the_first_that_applies,
+    objects_have_all_their_parts, octets_stand_where_the_standard_has_them,
+    other_sizes_keep_the_asdu, pieces_keep_the_head, refusals_are_the_first_that_applies,
 };
 pub use objects::{Object, Objects};
 pub use reading::{head, read};

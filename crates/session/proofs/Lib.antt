@@ -8,3 +8,6 @@ mod ReadBack
 pub mod Examples
 pub mod Origins
 pub mod Timers
+pub mod Saying
+pub mod Sequences
+pub mod Stops

@@ -1,6 +1,7 @@
 pub mod Session
 pub mod Fields
 pub mod History
+pub mod Said
 pub mod Runs
 pub mod Laws
 pub mod Rules

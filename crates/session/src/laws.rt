@@ -19,8 +19,9 @@ ghost use Rattle.session.specs.History.{confirmations_sent, has_timed_out, frame
 ghost use Rattle.session.specs.History.{History, outstanding_test, unconfirmed_moments, last_frame};
 ghost use Rattle.session.specs.History.{acknowledgement_of, is_open as is_open_history};
 ghost use Rattle.session.specs.History.{is_acknowledgement_due};
-ghost use Rattle.apci.specs.declared.apdu.Apdu.TheVariants.{U};
-ghost use Rattle.apci.specs.declared.apdu.Uf.TheVariants.{TestAct};
+ghost use Rattle.apci.specs.declared.apdu.Apdu.TheVariants.{I, S, U};
+ghost use Rattle.apci.specs.declared.apdu.Uf.TheVariants.{StartAct, StartCon, StopAct, StopCon};
+ghost use Rattle.apci.specs.declared.apdu.Uf.TheVariants.{TestAct, TestCon};
 ghost use Rattle.session.specs.Laws.{AfterEachRun, Acknowledges, MatchesAcknowledged};
 ghost use Rattle.session.specs.Rules.{KeepsRules};
 ghost use Rattle.session.specs.SessionLaws.{SessionLaws};
@@ -28,7 +29,18 @@ ghost use Rattle.session.specs.Ends.{after_confirm, after_pull, IsConfirmed, IsI
 ghost use Rattle.session.specs.Ends.{AreInOrder};
 ghost use Rattle.session.specs.Examples.{IsRight, number_examples, transfer_examples};
 ghost use Rattle.session.specs.Examples.{timer_examples};
-ghost use Rattle.std.specs.List.{AllByRecursion};
+ghost use Rattle.std.specs.List.{AllByRecursion, filter_map};
+ghost use Rattle.std.specs.Prelude.{reverse};
+ghost use Rattle.arrayvec.specs.ArrayVec.{ArrayVec};
+ghost use Rattle.apci.specs.declared.apdu.Uf.{Uf};
+ghost use Rattle.session.specs.declared.kinds.Taken.TheVariants.{Nothing, Asdu};
+ghost use Rattle.session.specs.History.{Opened, Came, Refused, Sent, Went, acknowledged_count};
+ghost use Rattle.session.specs.History.{is_stop_pending};
+ghost use Rattle.session.specs.Said.{HasNo, switches, is_about_a_stop, is_about_a_test};
+ghost use Rattle.session.specs.Said.{breaks_silence, acknowledges, bears_receive_number};
+ghost use Rattle.session.specs.Said.{data_moment};
+ghost use Rattle.session.specs.Said.{data_sent, asks_for, confirms};
+ghost use Rattle.session.specs.Said.{Acknowledges as AcknowledgesSent};
 
 /// N(R) is judged by the least number that isn't below the acknowledged count and equals it modulo
 /// 32768.
@@ -166,6 +178,119 @@ pub fn timers_run_as_set()
         frame_due w t2 t3 now h ≡ Some (U TestAct) }
     ensures no_test { (w t2 t3 now : ℕ) (h : History) → 0 < w → unconfirmed_moments h ≡ [] →
         now < last_frame h + t3 → last_frame h ≤ now → frame_due w t2 t3 now h ≡ None }
+{}
+
+/// Data transfer runs from a STARTDT act that came until a STOPDT act comes, whatever else comes or
+/// goes out between them, and not before the first STARTDT act (5.3).
+pub fn data_transfer_runs_from_start_to_stop()
+    ensures started { (since before : History) (now : ℕ) → HasNo switches since →
+        is_started (since ++ Came (U StartAct) now ∷ before) ≡ true }
+    ensures stopped { (since before : History) (now : ℕ) → HasNo switches since →
+        is_started (since ++ Came (U StopAct) now ∷ before) ≡ false }
+    ensures at_first { (h : History) → HasNo switches h → is_started h ≡ false }
+{}
+
+/// Each STARTDT act and each TESTFR act asks for one confirmation, whatever the state of the
+/// connection, and each that goes out is one of these (5.2, 5.3). So a session confirms it at once:
+/// a second STARTDT act too, and a TESTFR act that crosses one of its own.
+pub fn each_act_is_confirmed()
+    ensures due { (h : History) → confirmations_due h ≡ filter_map asks_for h }
+    ensures gone { (h : History) → confirmations_sent h ≡ filter_map confirms h }
+    ensures start { (now : ℕ) (s : Session) → is_open s ≡ true → IsConfirmed s →
+        (confirmed (taken (U StartAct) now s)).0 ≡ Some (U StartCon) }
+    ensures test { (now : ℕ) (s : Session) → is_open s ≡ true → IsConfirmed s →
+        (confirmed (taken (U TestAct) now s)).0 ≡ Some (U TestCon) }
+{}
+
+/// A STOPDT act is pending from when it came until a STOPDT con goes out or a STARTDT act comes,
+/// whatever else comes or goes out between them (5.3).
+pub fn a_stop_is_pending_until_its_confirmation()
+    ensures pending { (since before : History) (now : ℕ) → HasNo is_about_a_stop since →
+        is_stop_pending (since ++ Came (U StopAct) now ∷ before) ≡ true }
+    ensures confirmed { (since before : History) (now : ℕ) → HasNo is_about_a_stop since →
+        is_stop_pending (since ++ Went (U StopCon) now ∷ before) ≡ false }
+    ensures forgotten { (since before : History) (now : ℕ) → HasNo is_about_a_stop since →
+        is_stop_pending (since ++ Came (U StartAct) now ∷ before) ≡ false }
+    ensures at_first { (h : History) → HasNo is_about_a_stop h → is_stop_pending h ≡ false }
+{}
+
+/// A STOPDT con goes out once each I frame that went out is acknowledged, own answers too, and each
+/// that came, and not before; then it does where no other confirmation is owed. The S frame for
+/// what came goes out before it (5.3).
+pub fn a_stop_is_confirmed_once_all_is_acknowledged()
+    ensures not_before { (h : History) → confirmation_of h ≡ Some (U StopCon) →
+        (is_stop_pending h ≡ true) × (length (sent_frames h) ≤ acknowledged_count h)
+        × (unconfirmed_moments h ≡ []) }
+    ensures then { (h : History) → is_stop_pending h ≡ true →
+        length (sent_frames h) ≤ acknowledged_count h → unconfirmed_moments h ≡ [] →
+        confirmation_owed h ≡ None → confirmation_of h ≡ Some (U StopCon) }
+    ensures supervisory { (h : History) → is_stop_pending h ≡ true →
+        0 < length (unconfirmed_moments h) → confirmation_of h ≡ Some (acknowledgement_of h) }
+{}
+
+/// A TESTFR act that went out waits from that moment on until a TESTFR con comes: no other frame is
+/// its answer, and none that goes out ends it (5.2).
+pub fn a_test_waits_for_its_confirmation()
+    ensures waits { (since before : History) (now : ℕ) → HasNo is_about_a_test since →
+        outstanding_test (since ++ Went (U TestAct) now ∷ before) ≡ Some now }
+    ensures answered { (since before : History) (now : ℕ) → HasNo is_about_a_test since →
+        outstanding_test (since ++ Came (U TestCon) now ∷ before) ≡ None }
+    ensures at_first { (h : History) → HasNo is_about_a_test h → outstanding_test h ≡ None }
+{}
+
+/// t3 counts from the latest frame that came, of whatever format, and from the opening where none
+/// has come; nothing that goes out breaks the silence (5.2).
+pub fn silence_counts_from_the_latest_frame()
+    ensures frame { (since before : History) (frame : Apdu) (now : ℕ) →
+        HasNo breaks_silence since → last_frame (since ++ Came frame now ∷ before) ≡ now }
+    ensures refused { (since before : History) (now : ℕ) → HasNo breaks_silence since →
+        last_frame (since ++ Refused now ∷ before) ≡ now }
+    ensures opened { (since before : History) (now : ℕ) → HasNo breaks_silence since →
+        last_frame (since ++ Opened now ∷ before) ≡ now }
+{}
+
+/// The I frames that wait for an acknowledgement are all those that came since an I frame or an S
+/// frame went out, or since the connection began; t2 counts from the oldest of them, and w counts
+/// them all (5.5). N(S) and N(R) count each I frame that went out or came, however many (5.1).
+pub fn each_data_frame_counts()
+    ensures since_data { (since before : History) (ns nr : ℕ) (kind : FrameOrigin) (now : ℕ) →
+        HasNo acknowledges since → unconfirmed_moments (since ++ Sent ns nr kind now ∷ before)
+        ≡ reverse (filter_map data_moment since) }
+    ensures since_supervisory { (since before : History) (nr now : ℕ) →
+        HasNo acknowledges since → unconfirmed_moments (since ++ Went (S nr) now ∷ before)
+        ≡ reverse (filter_map data_moment since) }
+    ensures since_the_opening { (h : History) → HasNo acknowledges h →
+        unconfirmed_moments h ≡ reverse (filter_map data_moment h) }
+    ensures received { (h : History) → received_count h ≡ length (filter_map data_moment h) }
+    ensures sent { (h : History) → sent_frames h ≡ reverse (filter_map data_sent h) }
+{}
+
+/// The latest N(R) says how many frames are acknowledged, modulo 32768, whatever comes or goes out
+/// behind it; without one none is (5.1).
+pub fn the_latest_receive_number_counts()
+    ensures data { (since before : History) (ns nr now : ℕ) (asdu : ArrayVec ℕ) →
+        HasNo bears_receive_number since →
+        acknowledged_count (since ++ Came (I ns nr asdu) now ∷ before) % 32768 ≡ nr % 32768 }
+    ensures supervisory { (since before : History) (nr now : ℕ) →
+        HasNo bears_receive_number since →
+        acknowledged_count (since ++ Came (S nr) now ∷ before) % 32768 ≡ nr % 32768 }
+    ensures at_first { (h : History) → HasNo bears_receive_number h →
+        acknowledged_count h ≡ 0 }
+{}
+
+/// An I frame is taken exactly where data transfer runs, its N(S) is the count of the I frames that
+/// came, modulo 32768, and its N(R) acknowledges no frame twice and none that wasn't sent; an S
+/// frame exactly where its N(R) does so. A U frame is always taken (5.1, 5.3).
+pub fn frames_are_taken_in_sequence()
+    ensures data { (ns nr : ℕ) (asdu : ArrayVec ℕ) (h : History) →
+        verdict_on (I ns nr asdu) h ≡ Asdu →
+        (is_started h ≡ true) × (ns ≡ received_count h % 32768) × AcknowledgesSent nr h }
+    ensures all_data { (ns nr : ℕ) (asdu : ArrayVec ℕ) (h : History) → is_started h ≡ true →
+        ns ≡ received_count h % 32768 → AcknowledgesSent nr h → verdict_on (I ns nr asdu) h ≡ Asdu }
+    ensures supervisory { (nr : ℕ) (h : History) →
+        (verdict_on (S nr) h ≡ Nothing → AcknowledgesSent nr h)
+        × (AcknowledgesSent nr h → verdict_on (S nr) h ≡ Nothing) }
+    ensures function { (f : Uf) (h : History) → verdict_on (U f) h ≡ Nothing }
 {}
 
 /// Connections worked by hand: which numbers frames bear and when they may go out, what a frame

@@ -1,0 +1,15 @@
+use Rattle.session.proofs.Saying.{due_one_by_one, gone_one_by_one}
+use Rattle.session.proofs.Sequences.{start_confirmed, test_confirmed}
+use Rattle.session.proofs.laws.each_act_is_confirmed.Goals as goal
+
+pub returns-clause-due : goal.returns-clause-due
+returns-clause-due c = due_one_by_one
+
+pub returns-clause-gone : goal.returns-clause-gone
+returns-clause-gone c = gone_one_by_one
+
+pub returns-clause-start : goal.returns-clause-start
+returns-clause-start c = start_confirmed
+
+pub returns-clause-test : goal.returns-clause-test
+returns-clause-test c = test_confirmed
