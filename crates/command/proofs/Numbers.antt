@@ -329,7 +329,7 @@ acts c x = (
       let q : nat_le 128 x ≡ true = le-leb 128 x high in
       let r : nat_lt x 128 ≡ false = upper x high in
       (rw (p, q) refl, rw (p, r) refl)),
-  λ other. (let p : (c % 64 == 6) ≡ false = unequal (c % 64) 6 other in (rw p refl, rw p refl))
+  λ other. (let p : (c % 64 == 6) ≡ false = unequal (c % 64) 6 other in (rw p refl, rw p refl)),
 )
 
 six : (c : ℕ) → c % 64 ≡ 6

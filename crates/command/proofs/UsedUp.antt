@@ -50,8 +50,11 @@ deactivation_is_none : (ys : List ℕ) → is_deactivating ys ≡ true → selec
 deactivation_is_none ys h = by (is_activation ys) refl
   where
     by : (a : Bool) → is_activation ys ≡ a → selects ys ≡ false
-    by true e = absurd (grind (arith, eqb-true (slice_index ys 2 % 64) 6 e,
-        eqb-true (slice_index ys 2 % 64) 8 h))
+    by true e = absurd (grind (
+      arith,
+      eqb-true (slice_index ys 2 % 64) 6 e,
+      eqb-true (slice_index ys 2 % 64) 8 h,
+    ))
     by false e =
         ap (λ (b : Bool). operates ys && b && nat_le 128 (last_octet ys)) e
         ∙ off (operates ys) (nat_le 128 (last_octet ys))
@@ -449,9 +452,10 @@ module _ (sizes : Sizes) (stations : List StationInfo) (ms age : ℕ) where
   without_acceptance z (Accept j ∷ calls) none = (tt, without_acceptance z calls none.1)
   without_acceptance z (Busy j ∷ calls) none = (tt, without_acceptance z calls none.1)
   without_acceptance z (Lose j ∷ calls) none = (tt, without_acceptance z calls none.1)
-  without_acceptance z (Mirror v now ∷ calls) none =
-      (inr (unaccepted (station_of stations z.octets) z.place calls none.1),
-      without_acceptance z calls none.1)
+  without_acceptance z (Mirror v now ∷ calls) none = (
+    inr (unaccepted (station_of stations z.octets) z.place calls none.1),
+    without_acceptance z calls none.1,
+  )
   without_acceptance z (Own octets ∷ calls) none = (tt, without_acceptance z calls none.1)
   without_acceptance z (SendOwn ∷ calls) none = (tt, without_acceptance z calls none.1)
   without_acceptance z (Cut ∷ calls) none = tt
