@@ -79,7 +79,7 @@ no_execute xs h =
     (and_parts (operates xs && is_activation xs) (nat_le 128 (last_octet xs)) h).1)
     ∙ any_off (operates xs && is_activation xs)
 
-no_select : (xs : List ℕ) → executes xs ≡ true → selects xs ≡ false
+pub no_select : (xs : List ℕ) → executes xs ≡ true → selects xs ≡ false
 no_select xs h =
     ap (λ (b : Bool). operates xs && is_activation xs && b) (above_off (last_octet xs)
     (and_parts (operates xs && is_activation xs) (nat_lt (last_octet xs) 128) h).1)

@@ -30,4 +30,5 @@ pub mod Heeded
 pub mod Glances
 pub mod Outlived
 pub mod Faultless
+pub mod UsedUp
 pub mod Numbers

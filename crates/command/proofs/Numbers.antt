@@ -20,7 +20,7 @@ use Rattle.command.specs.Standard.{has_tag, is_activation, tag_of}
 use Rattle.command.specs.Standard.{refuses_command, is_negative_confirmation, is_object_of}
 use Rattle.command.specs.Numbers.{Numbers, command_with, address_of, object_of}
 use Rattle.command.specs.Numbers.{AddressesAreRead, ObjectsAreRead, TargetsAreCompared}
-use Rattle.command.specs.Numbers.{ElementsAreRead, TimesAreKept}
+use Rattle.command.specs.Numbers.{ElementsAreRead, ActsAreRead, TimesAreKept}
 
 -- ---- tests
 
@@ -301,6 +301,104 @@ elements_hold = record {
   groups = λ n x low high. group x low high;
   below = λ n x low. below x low;
   above = λ n x high. above x high;
+}
+
+-- ---- acts
+
+lower : (x : ℕ) → x < 128 → nat_le 128 x ≡ false
+lower x low = grind (arith, low)
+
+upper : (x : ℕ) → 128 ≤ x → nat_lt x 128 ≡ false
+upper x high = le-ltb x 128 high
+
+acts : (c x : ℕ)
+    → (c % 64 ≡ 6 → x < 128
+    → (((c % 64 == 6) && nat_lt x 128) ≡ true) × (((c % 64 == 6) && nat_le 128 x) ≡ false))
+    × (c % 64 ≡ 6 → 128 ≤ x
+    → (((c % 64 == 6) && nat_le 128 x) ≡ true) × (((c % 64 == 6) && nat_lt x 128) ≡ false))
+    × ((c % 64 ≡ 6 → ⊥)
+    → (((c % 64 == 6) && nat_lt x 128) ≡ false) × (((c % 64 == 6) && nat_le 128 x) ≡ false))
+acts c x = (
+  λ six low.
+      (let p : (c % 64 == 6) ≡ true = eq-eqb (c % 64) 6 six in
+      let q : nat_lt x 128 ≡ true = lt-ltb x 128 low in
+      let r : nat_le 128 x ≡ false = lower x low in
+      (rw (p, q) refl, rw (p, r) refl)),
+  λ six high.
+      (let p : (c % 64 == 6) ≡ true = eq-eqb (c % 64) 6 six in
+      let q : nat_le 128 x ≡ true = le-leb 128 x high in
+      let r : nat_lt x 128 ≡ false = upper x high in
+      (rw (p, q) refl, rw (p, r) refl)),
+  λ other. (let p : (c % 64 == 6) ≡ false = unequal (c % 64) 6 other in (rw p refl, rw p refl)),
+)
+
+six : (c : ℕ) → c % 64 ≡ 6
+    → ((c % 64 == 6) ≡ true) × ((c % 64 == 8) ≡ false)
+    × (not ((c % 64 == 6) || (c % 64 == 8)) ≡ false)
+six c is =
+    let p : (c % 64 == 6) ≡ true = eq-eqb (c % 64) 6 is in
+    let q : (c % 64 == 8) ≡ false =
+    unequal (c % 64) 8 (λ e. absurd (omega (arith, is, e))) in
+    (p, q, rw p refl)
+
+eight : (c : ℕ) → c % 64 ≡ 8
+    → ((c % 64 == 6) ≡ false) × ((c % 64 == 8) ≡ true)
+    × (not ((c % 64 == 6) || (c % 64 == 8)) ≡ false)
+eight c is =
+    let p : (c % 64 == 6) ≡ false =
+    unequal (c % 64) 6 (λ e. absurd (omega (arith, is, e))) in
+    let q : (c % 64 == 8) ≡ true = eq-eqb (c % 64) 8 is in
+    (p, q, rw (p, q) refl)
+
+neither : (c : ℕ) → (c % 64 ≡ 6 → ⊥) → (c % 64 ≡ 8 → ⊥)
+    → not ((c % 64 == 6) || (c % 64 == 8)) ≡ true
+neither c a b =
+    let p : (c % 64 == 6) ≡ false = unequal (c % 64) 6 a in
+    let q : (c % 64 == 8) ≡ false = unequal (c % 64) 8 b in
+    rw (p, q) refl
+
+alike : (a b : ℕ) → ((a < 128) × (b < 128)) ⊎ ((128 ≤ a) × (128 ≤ b))
+    → (nat_le 128 a && nat_le 128 b || not (nat_le 128 a) && not (nat_le 128 b)) ≡ true
+alike a b (inl low) =
+    let p : nat_le 128 a ≡ false = lower a low.0 in
+    let q : nat_le 128 b ≡ false = lower b low.1 in
+    rw (p, q) refl
+alike a b (inr high) =
+    let p : nat_le 128 a ≡ true = le-leb 128 a high.0 in
+    let q : nat_le 128 b ≡ true = le-leb 128 b high.1 in
+    rw (p, q) refl
+
+unlike : (a b : ℕ) → ((a < 128) × (128 ≤ b)) ⊎ ((128 ≤ a) × (b < 128))
+    → (nat_le 128 a && nat_le 128 b || not (nat_le 128 a) && not (nat_le 128 b)) ≡ false
+unlike a b (inl is) =
+    let p : nat_le 128 a ≡ false = lower a is.0 in
+    let q : nat_le 128 b ≡ true = le-leb 128 b is.1 in
+    rw (p, q) refl
+unlike a b (inr is) =
+    let p : nat_le 128 a ≡ true = le-leb 128 a is.0 in
+    let q : nat_le 128 b ≡ false = lower b is.1 in
+    rw (p, q) refl
+
+pub acts_hold : ActsAreRead
+acts_hold = record {
+  single = λ n x. acts n.cause x;
+  double = λ n x. acts n.cause x;
+  step = λ n x. acts n.cause x;
+  normalised = λ a b n x. acts n.cause x;
+  scaled = λ a b n x. acts n.cause x;
+  tagged_single = λ t n x. acts n.cause x;
+  tagged_double = λ t n x. acts n.cause x;
+  tagged_step = λ t n x. acts n.cause x;
+  tagged_normalised = λ t a b n x. acts n.cause x;
+  tagged_scaled = λ t a b n x. acts n.cause x;
+  interrogation = λ n rest. (refl, refl);
+  activation = λ kind n rest is. six n.cause is;
+  deactivation = λ kind n rest is. eight n.cause is;
+  other_cause = λ kind n rest a b. neither n.cause a b;
+  tests = λ j k n m r s is. alike n.cause m.cause is;
+  no_test = λ j k n m r s is. unlike n.cause m.cause is;
+  types = λ j k n m r s is. eq-eqb j k is;
+  only_types = λ j k n m r s is. eqb-true j k is;
 }
 
 -- ---- times

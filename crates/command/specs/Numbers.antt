@@ -10,7 +10,9 @@ use Rattle.command.specs.declared.station.StationInfo.{StationInfo}
 use Rattle.command.specs.Standard.{plain_type, have_one_target, have_one_element, is_object_of}
 use Rattle.command.specs.Standard.{is_for_station, station_of, IsFresh, unknown_station}
 use Rattle.command.specs.Standard.{unknown_object, not_permitted, not_fresh, refuses_command}
-use Rattle.command.specs.Standard.{is_negative_confirmation}
+use Rattle.command.specs.Standard.{is_negative_confirmation, executes, selects, is_activation}
+use Rattle.command.specs.Standard.{is_deactivating, unknown_cause, have_one_test_bit}
+use Rattle.command.specs.Standard.{have_one_type}
 use Rattle.command.specs.Judging.{judged}
 use Rattle.command.specs.Calls.{run}
 use Rattle.command.specs.Examples.{sizes, stations, execute, refused, confirmed_at_moments}
@@ -180,6 +182,62 @@ pub record ElementsAreRead : Type 0 where
       (not_permitted (command_with 100 n (one_octet x))).applies ≡ true
   pub above : (n : Numbers) (x : ℕ) → 36 < x →
       (not_permitted (command_with 100 n (one_octet x))).applies ≡ true
+
+-- ---- Acts (7.2.3, 7.2.6.15 to 7.2.6.17 and 7.2.6.39: activation, deactivation, S/E)
+
+-- An activation (6) with S/E 0 executes and one with S/E 1 selects, whatever the other bits are. No
+-- other cause does either.
+abbrev pub HasActs : (kind : ℕ) → (ℕ → List ℕ) → Type 0
+HasActs kind rest =
+    (n : Numbers) (x : ℕ) →
+    (n.cause % 64 ≡ 6 → x < 128
+    → (executes (command_with kind n (rest x)) ≡ true)
+    × (selects (command_with kind n (rest x)) ≡ false))
+    × (n.cause % 64 ≡ 6 → 128 ≤ x
+    → (selects (command_with kind n (rest x)) ≡ true)
+    × (executes (command_with kind n (rest x)) ≡ false))
+    × ((n.cause % 64 ≡ 6 → ⊥)
+    → (executes (command_with kind n (rest x)) ≡ false)
+    × (selects (command_with kind n (rest x)) ≡ false))
+
+pub record ActsAreRead : Type 0 where
+  pub single : HasActs 45 one_octet
+  pub double : HasActs 46 one_octet
+  pub step : HasActs 47 one_octet
+  pub normalised : (a b : ℕ) → HasActs 48 (set_point a b)
+  pub scaled : (a b : ℕ) → HasActs 49 (set_point a b)
+  pub tagged_single : (t : Tag) → HasActs 58 (one_octet_tagged t)
+  pub tagged_double : (t : Tag) → HasActs 59 (one_octet_tagged t)
+  pub tagged_step : (t : Tag) → HasActs 60 (one_octet_tagged t)
+  pub tagged_normalised : (t : Tag) (a b : ℕ) → HasActs 61 (set_point_tagged t a b)
+  pub tagged_scaled : (t : Tag) (a b : ℕ) → HasActs 62 (set_point_tagged t a b)
+  -- an interrogation has no S/E
+  pub interrogation : (n : Numbers) (rest : List ℕ) →
+      (executes (command_with 100 n rest) ≡ false)
+      × (selects (command_with 100 n rest) ≡ false)
+  -- 6 asks for something and 8 takes it back; other causes are unknown
+  pub activation : (kind : ℕ) (n : Numbers) (rest : List ℕ) → n.cause % 64 ≡ 6 →
+      (is_activation (command_with kind n rest) ≡ true)
+      × (is_deactivating (command_with kind n rest) ≡ false)
+      × ((unknown_cause (command_with kind n rest)).applies ≡ false)
+  pub deactivation : (kind : ℕ) (n : Numbers) (rest : List ℕ) → n.cause % 64 ≡ 8 →
+      (is_activation (command_with kind n rest) ≡ false)
+      × (is_deactivating (command_with kind n rest) ≡ true)
+      × ((unknown_cause (command_with kind n rest)).applies ≡ false)
+  pub other_cause : (kind : ℕ) (n : Numbers) (rest : List ℕ) → (n.cause % 64 ≡ 6 → ⊥) →
+      (n.cause % 64 ≡ 8 → ⊥) → (unknown_cause (command_with kind n rest)).applies ≡ true
+  -- the test bit is bit 7 of the cause octet: select and execute have the same
+  pub tests : (j k : ℕ) (n m : Numbers) (r s : List ℕ) →
+      ((n.cause < 128) × (m.cause < 128)) ⊎ ((128 ≤ n.cause) × (128 ≤ m.cause)) →
+      have_one_test_bit (command_with j n r) (command_with k m s) ≡ true
+  pub no_test : (j k : ℕ) (n m : Numbers) (r s : List ℕ) →
+      ((n.cause < 128) × (128 ≤ m.cause)) ⊎ ((128 ≤ n.cause) × (m.cause < 128)) →
+      have_one_test_bit (command_with j n r) (command_with k m s) ≡ false
+  -- and the same type, with a tag or without
+  pub types : (j k : ℕ) (n m : Numbers) (r s : List ℕ) → j ≡ k →
+      have_one_type (command_with j n r) (command_with k m s) ≡ true
+  pub only_types : (j k : ℕ) (n m : Numbers) (r s : List ℕ) →
+      have_one_type (command_with j n r) (command_with k m s) ≡ true → j ≡ k
 
 -- ---- Times (this gateway's own profile)
 

@@ -4,7 +4,8 @@
 //! stations and what they answered, and the own answers. Each law says what the calls do by what
 //! the rules make of that history.
 
-ghost use Rattle.std.specs.Prelude.{◌≡◌, ◌≤◌, ◌<◌, ◌==◌, ◌+◌, ◌&&◌, ◌||◌, ◌++◌, ℕ, List, []};
+ghost use Rattle.std.specs.Prelude.{◌≡◌, ◌≤◌, ◌<◌, ◌==◌, ◌+◌, ◌&&◌, ◌||◌, ◌++◌, ◌∷◌, ℕ, List};
+ghost use Rattle.std.specs.Prelude.{[]};
 ghost use Rattle.std.specs.Prelude.{length};
 ghost use Rattle.std.specs.Prelude.{slice_get, slice_index, Option, Some, None, false};
 ghost use Rattle.std.specs.Prelude.{true, option_map};
@@ -19,7 +20,7 @@ ghost use Rattle.command.specs.Mirrors.{mirrored, tag_for};
 ghost use Rattle.asdu.specs.declared.sizes.Sizes.{Sizes};
 ghost use Rattle.command.specs.declared.station.StationInfo.{StationInfo};
 ghost use Rattle.command.specs.Standard.{first_cause, cause_of_fault, executes, selects};
-ghost use Rattle.command.specs.Standard.{must_be_selected, is_deactivating};
+ghost use Rattle.command.specs.Standard.{must_be_selected, is_deactivating, station_of};
 ghost use Rattle.command.specs.Standard.{IsRefusal};
 ghost use Rattle.command.specs.Rules.{rules_for, not_selected, no_place};
 ghost use Rattle.command.specs.History.{ForwardsCommands, next_octets, SendsFreshCommands};
@@ -27,12 +28,15 @@ ghost use Rattle.command.specs.History.{mirror_tag, ExecutesAreSelected, IsSelec
 ghost use Rattle.command.specs.History.{GivesOwnAnswers, own_kept, own_sent, KeepsOwnAnswers};
 ghost use Rattle.command.specs.History.{AnswersWholly, IsGuarded, forwarded_in_all, sent_in_all};
 ghost use Rattle.command.specs.Passing.{FindsPlaces, of_others};
+ghost use Rattle.command.specs.Calls.{Call};
+ghost use Rattle.command.specs.UsedUp.{uses_up, is_select_for, is_acceptance_by};
+ghost use Rattle.command.specs.UsedUp.{is_confirmation_for, of_connection, NoneIs, IsHeldBack};
 ghost use Rattle.command.specs.Selections.{AreDistinct, IsStanding, IsInTime};
 ghost use Rattle.command.specs.Examples.{OctetExamples, IsRight, WaitsSo, rule_examples};
 ghost use Rattle.command.specs.Examples.{selection_examples, line_examples, tag_examples, BearsIt};
 ghost use Rattle.command.specs.Examples.{mirror_examples};
 ghost use Rattle.command.specs.Numbers.{AddressesAreRead, ObjectsAreRead, TargetsAreCompared};
-ghost use Rattle.command.specs.Numbers.{ElementsAreRead, TimesAreKept};
+ghost use Rattle.command.specs.Numbers.{ElementsAreRead, ActsAreRead, TimesAreKept};
 ghost use Rattle.command.specs.Laws.{AfterEachRun, AtEachMoment, AfterEachDue};
 ghost use Rattle.command.specs.CommandLaws.{CommandLaws};
 ghost use Rattle.command.specs.Carried.{carried};
@@ -123,6 +127,30 @@ pub fn executes_are_selected()
     ensures each_station { AfterEachRun (λ stations sizes select_ms max_age_ms s h. (k : ℕ)
         (station : StationInfo) → slice_get stations k ≡ Some station → station.select ≡ true →
         IsGuarded sizes stations select_ms max_age_ms station h) }
+{}
+
+/// A selection lets one execute through, and no more. An execute to a station that asks for selects
+/// isn't forwarded unless since the latest of these a select of its type, common address and object
+/// address came: an execute or a deactivation of these, a station's negative confirmation, and the
+/// end of a connection. Nor is it where on its connection the station accepted no command on its
+/// line, or confirmed none of this type and these addresses. So it is for each station, each
+/// address and each type.
+pub fn selections_let_one_execute_through()
+    ensures used_up { (stations : List StationInfo) (sizes : Sizes) (select_ms max_age_ms : ℕ)
+        (earlier since : List Call) (call : Call) (xs : List ℕ) →
+        uses_up sizes stations max_age_ms xs call ≡ true → NoneIs (is_select_for xs) since →
+        IsHeldBack stations sizes select_ms max_age_ms (since ++ call ∷ earlier) xs }
+    ensures unselected { (stations : List StationInfo) (sizes : Sizes) (select_ms max_age_ms : ℕ)
+        (calls : List Call) (xs : List ℕ) → NoneIs (is_select_for xs) (of_connection calls) →
+        IsHeldBack stations sizes select_ms max_age_ms calls xs }
+    ensures unaccepted { (stations : List StationInfo) (sizes : Sizes) (select_ms max_age_ms : ℕ)
+        (calls : List Call) (xs : List ℕ) →
+        NoneIs (is_acceptance_by (station_of stations xs)) (of_connection calls) →
+        IsHeldBack stations sizes select_ms max_age_ms calls xs }
+    ensures unconfirmed { (stations : List StationInfo) (sizes : Sizes) (select_ms max_age_ms : ℕ)
+        (calls : List Call) (xs : List ℕ) →
+        NoneIs (is_confirmation_for xs) (of_connection calls) →
+        IsHeldBack stations sizes select_ms max_age_ms calls xs }
 {}
 
 /// Where moments never fall, a selected execute is refused for no want of a selection: one that is
@@ -225,12 +253,14 @@ pub fn worked_examples_hold()
 
 /// The rules say the same of a command whatever its numbers are: each common address of a station,
 /// each object address, each octet of an element, each place of a station, and each setting of the
-/// times.
+/// times. So what selects, what executes and what takes back is the same at each of them, and what
+/// select and execute have to have in common.
 pub fn rules_hold_for_all_numbers()
     ensures addresses { AddressesAreRead }
     ensures objects { ObjectsAreRead }
     ensures targets { TargetsAreCompared }
     ensures elements { ElementsAreRead }
+    ensures acts { ActsAreRead }
     ensures times { TimesAreKept }
 {}
 

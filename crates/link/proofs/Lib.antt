@@ -35,6 +35,7 @@ pub mod Turning
 pub mod Leaving
 pub mod Resting
 pub mod Flagging
+pub mod LatestFlags
 pub mod OneMore
 pub mod GapsReported
 pub mod EndedGaps

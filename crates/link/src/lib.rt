@@ -91,7 +91,7 @@ pub use laws::carrying::{
     the_latest_exchange_is_marked,
 };
 pub use laws::commands::{commands_are_those_that_wait, one_command_at_a_time};
-pub use laws::flags::flags_are_heeded;
+pub use laws::flags::{flags_are_heeded, flags_are_those_of_the_latest_answer};
 pub use laws::gaps::{gaps_are_ended_sessions, gaps_are_lost_polls, gaps_are_reported};
 pub use laws::hearing::answers_are_heard;
 pub use laws::leave::{polls_wait_for_leave, rests_mean};
