@@ -34,11 +34,11 @@
 //! At a restart a gateway is read from the lines of its state ([`Gateway::read_state`]), gives up
 //! the commands without an answer ([`Gateway::give_up_commands`]), and goes on with other settings
 //! where these were changed ([`Gateway::carried`], [`stations_go_on_by_their_addresses`]): no link
-//! is up then but of a station as it was ([`no_link_goes_on_but_of_a_station_as_it_was`]), a stale
-//! state leaves gaps ([`a_stale_state_leaves_gaps`]), and counts and clock stay
-//! ([`what_is_kept_goes_on`]). With the same settings the restart is an event of the log
-//! ([`restarts_give_up_commands`]), which goes on: each promise on a log holds of all lives
-//! together.
+//! is up then but of a station as it was ([`no_link_goes_on_but_of_a_station_as_it_was`], and each
+//! such goes on: [`a_station_as_it_was_goes_on`]), a stale state leaves gaps
+//! ([`a_stale_state_leaves_gaps`]), and counts and clock stay ([`what_is_kept_goes_on`]). With the
+//! same settings the restart is an event of the log ([`restarts_give_up_commands`]), which goes on:
+//! each promise on a log holds of all lives together.
 #![tactic(auto)]
 
 mod config;
@@ -62,8 +62,9 @@ pub use entries::{Entry, StoredEntry, announce, cause_number, keep};
 pub use history::History;
 pub use laws::deciding::what_comes_decides_what_goes_out;
 pub use laws::going_on::{
-    a_stale_state_leaves_gaps, no_link_goes_on_but_of_a_station_as_it_was,
-    stations_go_on_by_their_addresses, what_is_kept_goes_on,
+    a_stale_state_leaves_gaps, a_station_as_it_was_goes_on,
+    no_link_goes_on_but_of_a_station_as_it_was, stations_go_on_by_their_addresses,
+    what_is_kept_goes_on,
 };
 pub use laws::going_out::{
     commands_last_as_long_as_their_connection, data_wait_for_confirmations,

@@ -54,6 +54,23 @@ pub fn no_link_goes_on_but_of_a_station_as_it_was()
     stations_go_on_by_their_addresses();
 }
 
+/// A station that is set as it was goes on, in a state that is trusted, whatever its link address
+/// is: no link is reset without need, since what its latest answer brought may be lost then. It has
+/// the link that its exchange left as it was broken off.
+pub fn a_station_as_it_was_goes_on()
+    ensures { (goes_on : Bool) (before now : Settings) (s : State) (i k : ℕ)
+        (station : StationSettings) →
+        slice_get now.stations i ≡ Some station →
+        place_of station.address before.stations ≡ Some k →
+        k < length s.serial.line.stations →
+        MayGoOn goes_on before now station.address →
+        station_at (carried goes_on before now s).serial.line.stations i
+        ≡ station_carried now.line.retries station.address
+        (station_at (released s.serial.line).stations k) }
+{
+    stations_go_on_by_their_addresses();
+}
+
 /// Where a state is stale, what its stations gave since isn't known: the session of each station
 /// that goes on has a gap then, which is reported at its next answered reset. Where a state is
 /// trusted, each such session stays as it was.

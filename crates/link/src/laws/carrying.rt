@@ -1,13 +1,13 @@
 //! What giving up the link to a station does to the line.
 ghost use Rattle.std.specs.Prelude.{◌≡◌, ◌≢◌, ◌<◌, ℕ, Bool, true, false, List, length, slice_get};
-ghost use Rattle.std.specs.Prelude.{Some};
+ghost use Rattle.std.specs.Prelude.{Some, min};
 ghost use Rattle.ft12.specs.declared.frame.Front.{Front};
 ghost use Rattle.ft12.specs.declared.frame.LinkSize.{LinkSize};
 ghost use Rattle.ft12.specs.Fronts.{front_of};
 ghost use Rattle.link.specs.Exchanges.{Exchanges, given_up_at, reports_of_exchanges};
 ghost use Rattle.link.specs.Gaps.{exchanges_at, gaps_at};
 ghost use Rattle.link.specs.Marks.{latest_given_up};
-ghost use Rattle.link.specs.Procedure.{LinkSettings};
+ghost use Rattle.link.specs.Procedure.{LinkSettings, Held};
 ghost use Rattle.link.specs.Turns.{StationState, station_at};
 ghost use Rattle.link.specs.Answers.{Service, Counted};
 ghost use Rattle.link.specs.Primary.{Primary, Outstanding};
@@ -38,7 +38,8 @@ pub fn giving_up_is_for_one_station()
 /// A station that goes on keeps its frame count bit: where an exchange is broken off whose request
 /// was one that may be sent, and where the station goes on with other settings; and it goes on in
 /// the seat that has its place, and in no other. It also keeps the service that has no answer,
-/// which is sent again with that bit, and what its latest answer showed by ACD and DFC.
+/// which is sent again with that bit, and what its latest answer showed by ACD and DFC. How often
+/// that service went unanswered counts on, up to the number of repeats that is set now.
 pub fn frame_count_bits_go_on()
     ensures released { (p : Primary) (k : ℕ) → p.turn < length p.stations →
         IsAllowed p.stations p.turn p.outstanding →
@@ -52,6 +53,9 @@ pub fn frame_count_bits_go_on()
     ensures number { (p : Primary) → length (released p).stations ≡ length p.stations }
     ensures service { (retries address : ℕ) (s : StationState) →
         service_of (station_carried retries address s).link ≡ service_of s.link }
+    ensures missed { (retries address missed : ℕ) (s : StationState) (fcb : Bool)
+        (service : Service) → s.link ≡ Held fcb service missed →
+        (station_carried retries address s).link ≡ Held fcb service (min retries missed) }
     ensures broken_off { (p : Primary) (o : Outstanding) (fcb : Bool) (service : Service) →
         p.turn < length p.stations → p.outstanding ≡ Some o → o.request ≡ Counted fcb service →
         service_of (station_at (released p).stations p.turn).link ≡ Some (Counted fcb service) }
