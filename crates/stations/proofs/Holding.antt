@@ -14,7 +14,7 @@ use Rattle.stations.specs.Exchanges.{RequestExchange, Exchanged, IsRequestAnswer
 use Rattle.stations.specs.Exchanges.{OutstationsState, latest_delay}
 use Rattle.stations.specs.Late.{LateAnswer, has_passed, late_after, late_behind, late_now}
 use Rattle.stations.specs.Places.{IsAnsweredAt, IsReceivedAt, LooksOnce, OutstationServer}
-use Rattle.stations.specs.Places.{after_accept}
+use Rattle.stations.specs.Places.{GivesLate, IsGiven, IsGivenIfAny, after_accept, without_late}
 use Rattle.stations.specs.Replying.{GivesReply, RepliesBy, RepliesEach, RepliesFrom}
 use Rattle.stations.specs.Replying.{RepliesTo, command_at, manner_of}
 use Rattle.stations.specs.TimedServers.{IsRound, RoundsAt, TimedServer, ReportsSince, WasHeld}
@@ -160,13 +160,28 @@ replies_keep (suc n) old new h =
 
 -- ---- Rounds
 
+if_given_late : (octets : Option (List ℕ)) (old new : OutstationServer)
+    → IsGivenIfAny octets old new → new.standing.late ≡ old.standing.late
+if_given_late None old new h = ap (λ (p : OutstationServer). p.standing.late) h
+if_given_late (Some octets) old new h = by old.stream h
+  where
+    by : (s : Option StreamHistory) → IsGiven octets s old new
+        → new.standing.late ≡ old.standing.late
+    by None h = ap (λ (p : OutstationServer). p.standing.late) h
+    by (Some before) h = ap (λ (p : OutstationServer). p.standing.late) h.1
+
+given_late : (now : ℕ) (old new : OutstationServer) → GivesLate now old new
+    → new.standing.late ≡ late_after now old.standing.late
+given_late now old new g =
+    if_given_late (late_now now old.standing.late) (without_late now old) new g
+
 round_late : (now : ℕ) (old new : TimedServer) (r : IsRound now old new) →
     new.place.standing.late ≡ late_after now r.looked.standing.late
 round_late now old new r =
     replies_keep (length r.reported.standing.stations) r.reported.standing new.place.standing
     r.replies.replied
     ∙ (since_keeps now new.start r.sent r.reported r.reports
-    ∙ ap (λ (p : OutstationServer). p.standing.late) r.gives.new_is)
+    ∙ given_late now r.looked r.sent r.gives)
 
 -- what waits was held in one of these rounds
 HeldSo : (moments : List ℕ) → (old new : TimedServer) → RoundsAt moments old new → Option LateAnswer

@@ -5,6 +5,8 @@ pub mod Delays
 pub mod Receiving
 pub mod Holding
 pub mod Placing
+mod LettingGo
+mod Giving
 pub mod Rounds
 pub mod BothReadings
 pub mod Replying

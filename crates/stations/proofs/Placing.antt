@@ -6,6 +6,7 @@ use Rattle.live.specs.OctetStreams.{StreamHistory, Attempts, looked, noted, atte
 use Rattle.live.specs.declared.ends.Got.TheVariants.{Octets}
 use Rattle.stations.specs.Exchanges.{HasReceived, OutstationsState}
 use Rattle.stations.specs.Places.{IsAnsweredAt, IsReceivedAt, OutstationServer, after_accept}
+use Rattle.stations.specs.Places.{after_writing}
 
 -- somebody came in
 pub came_in : (view now new : OutstationServer) → view ≡ now
@@ -16,19 +17,21 @@ pub came_in : (view now new : OutstationServer) → view ≡ now
           [];
     } →
     listener ≡ attempted view.listener here → here ≡ true →
-    new ≡ record { standing = standing; stream = Some stream; listener = listener } →
+    new ≡ record { standing = standing; stream = Some stream; let_go = None; listener = listener } →
     new ≡ after_accept now (Some stream)
 came_in view now new e stream standing listener here s d h n =
     n
     ∙ (ap (λ (x : OutstationsState). record {
       standing = x;
       stream = Some stream;
+      let_go = None;
       listener =
           listener;
     }) s
     ∙ (ap (λ (x : Attempts). record view {
       standing = record view.standing { late = None; so_far = [] };
       stream = Some stream;
+      let_go = None;
       listener = x;
     }) (d ∙ ap (λ (b : Bool). attempted view.listener b) h)
     ∙ ap (λ (p : OutstationServer). after_accept p (Some stream)) e))
@@ -39,11 +42,17 @@ pub octets_received : (view now new : OutstationServer) → view ≡ now
     view.stream ≡ Some before → (len : ℕ) (buf octets : List ℕ) → octets ≡ take len buf →
     mid ≡ noted before (looked (Octets len) buf) → (result is_taken : Bool) → result ≡ is_taken →
     (standing : OutstationsState) → HasReceived view.standing octets mid after result standing →
-    (stream : Option StreamHistory) → stream ≡ (if is_taken then Some after else None) →
-    new ≡ record { standing = standing; stream = stream; listener = view.listener } →
+    (stream let_go : Option StreamHistory) → stream ≡ (if is_taken then Some after else None) →
+    let_go ≡ (if is_taken then view.let_go else Some after) →
+    new ≡ record {
+      standing = standing;
+      stream = stream;
+      let_go = let_go;
+      listener = view.listener;
+    } →
     IsReceivedAt now.stream now new
 octets_received view now new e before mid after w len buf octets o m result is_taken t standing h
-    stream i n =
+    stream let_go i j n =
     let seen : HasReceived view.standing (take len buf) (noted before (looked (Octets len) buf))
     after
     is_taken standing =
@@ -53,16 +62,20 @@ octets_received view now new e before mid after w len buf octets o m result is_t
     m
     (subst (λ (x : List ℕ). HasReceived view.standing x mid after result standing) o h)) in
     let stands : new.standing ≡ standing = ap (λ (p : OutstationServer). p.standing) n in
-    let new_is : new ≡ record view {
-      standing = new.standing;
-      stream = if is_taken then Some after else None;
-    } =
+    let new_is : new ≡ after_writing is_taken after (record view { standing = new.standing }) =
     n
-    ∙ (ap (λ (x : Option StreamHistory). record view { standing = standing; stream = x }) i
-    ∙ ap (λ (x : OutstationsState). record view {
-      standing = x;
+    ∙ (ap (λ (x : Option StreamHistory). record view {
+      standing = standing;
+      stream = x;
+      let_go = let_go;
+    }) i
+    ∙ (ap (λ (x : Option StreamHistory). record view {
+      standing = standing;
       stream = if is_taken then Some after else None;
-    }) (sym stands)) in
+      let_go = x;
+    }) j
+    ∙ ap (λ (x : OutstationsState). after_writing is_taken after (record view { standing = x }))
+    (sym stands))) in
     let answered : IsAnsweredAt before view (Octets len) buf new = (
       is_taken,
       after,

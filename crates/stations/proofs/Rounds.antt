@@ -11,6 +11,7 @@ use Rattle.stations.specs.Late.{LateAnswer, late_after, late_now}
 use Rattle.stations.specs.Places.{GivesLate, IsAnsweredAt, IsGivenIfAny, IsReceivedAt, LooksOnce}
 use Rattle.stations.specs.Places.{LooksOn}
 use Rattle.stations.specs.Places.{OutstationServer, RepliesAll, AllLinesReport, after_accept}
+use Rattle.stations.specs.Places.{without_late}
 use Rattle.stations.specs.Replying.{RepliesBy, RepliesEach, manner_of}
 use Rattle.stations.specs.TimedServers.{IsRound, PlaysOn, RoundsAt, TimedServer, ReportsSince}
 use Rattle.stations.specs.TimedServers.{passed_since}
@@ -103,15 +104,13 @@ nothing_late : (now : ℕ) (old new : OutstationServer) → old.standing.late �
     → GivesLate now old new →
     new ≡ old
 nothing_late now old new none g =
-    let stream : new.stream ≡ old.stream =
-    subst (λ (o : Option LateAnswer). IsGivenIfAny (late_now now o) old.stream new.stream) none
-    g.given in
+    let given : new ≡ without_late now old =
+    subst (λ (o : Option LateAnswer). IsGivenIfAny (late_now now o) (without_late now old) new) none
+    g in
     let still : record old.standing { late = late_after now old.standing.late } ≡ old.standing =
     ap (λ (o : Option LateAnswer). record old.standing { late = late_after now o }) none
     ∙ ap (λ (o : Option LateAnswer). record old.standing { late = o }) (sym none) in
-    g.new_is
-    ∙ (ap (λ (s : OutstationsState). record old { standing = s; stream = new.stream }) still
-    ∙ ap (λ (w : Option StreamHistory). record old { stream = w }) stream)
+    given ∙ ap (λ (s : OutstationsState). record old { standing = s }) still
 
 nothing_reported : (passed : ℕ) (old new : OutstationServer) → old.standing.cues ≡ []
     → AllLinesReport passed old new →

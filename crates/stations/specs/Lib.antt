@@ -14,3 +14,4 @@ pub mod CuesWritten
 pub mod SpokenOf
 pub mod CueTexts
 pub mod Listeners
+pub mod Given

@@ -1,7 +1,9 @@
 -- The outstations behind a listener, as behind a serial device server (profile).
 use Rattle.std.specs.Prelude.{◌≡◌, ℕ, zero, suc, Bool, true, false, if◌then◌else◌, List, [], take}
 use Rattle.std.specs.Prelude.{Option, Some, None, length}
+use Rattle.std.specs.Prelude.{◌∷◌}
 use Rattle.live.specs.OctetStreams.{StreamHistory, IsNew, Attempts, Wrote, looked, noted, attempted}
+use Rattle.live.specs.OctetStreams.{WasGone}
 use Rattle.live.specs.declared.ends.Got.{Got}
 use Rattle.live.specs.declared.ends.Got.TheVariants.{Octets, Quiet, Gone}
 use Rattle.gateway.specs.Config.{Settings}
@@ -11,11 +13,13 @@ use Rattle.stations.specs.Replying.{RepliesEach}
 use Rattle.stations.specs.Reporting.{LinesReport}
 use Rattle.stations.specs.declared.scenario.Scenario.{Scenario}
 
--- the outstations, what happened at the stream of the gateway that is connected, if one is, and
--- whether a connection was accepted at each look at the listener
+-- The outstations; what happened at the stream of the gateway that is connected, if one is, and at
+-- that of the one that was let go since the latest look at the listener began; and whether a
+-- connection was accepted at each look at the listener.
 pub record OutstationServer : Type 0 where
   pub standing : OutstationsState
   pub stream : Option StreamHistory
+  pub let_go : Option StreamHistory
   pub listener : Attempts
 
 -- before the first look: the outstations of a text, behind this listener, and no gateway
@@ -23,17 +27,18 @@ abbrev pub first_place : Settings → Scenario → Attempts → OutstationServer
 first_place c s listener = record {
   standing = first_standing c s;
   stream = None;
-  listener =
-      listener;
+  let_go = None;
+  listener = listener;
 }
 
 -- a look at the listener: who connects takes the place of the gateway that was there, of its
--- octets, and of the answer that would go out to it late
+-- octets, and of the answer that would go out to it late; and one that was let go is forgotten
 abbrev pub after_accept : OutstationServer → Option StreamHistory → OutstationServer
-after_accept p None = record p { listener = attempted p.listener false }
+after_accept p None = record p { let_go = None; listener = attempted p.listener false }
 after_accept p (Some stream) = record p {
   standing = record p.standing { late = None; so_far = [] };
   stream = Some stream;
+  let_go = None;
   listener = attempted p.listener true;
 }
 
@@ -42,8 +47,15 @@ abbrev pub IsNewStream : Option StreamHistory → Type 0
 IsNewStream None = Unit {0}
 IsNewStream (Some stream) = IsNew stream
 
+-- A gateway stays if its stream took what was written, and else is let go.
+abbrev pub after_writing : (is_taken : Bool) → StreamHistory → OutstationServer → OutstationServer
+after_writing is_taken stream p = record p {
+  stream = if is_taken then Some stream else None;
+  let_go = if is_taken then p.let_go else Some stream;
+}
+
 -- A look at the stream found this, in this buffer: octets, which the outstations answered; nothing;
--- or that it is gone. A gateway that doesn't take an answer is let go.
+-- or that it is gone. A gateway that is gone, or doesn't take an answer, is let go.
 abbrev pub IsAnsweredAt : (before : StreamHistory) → (old : OutstationServer) → Got → (buf : List ℕ)
     → (new : OutstationServer)
     → Type 0
@@ -52,13 +64,13 @@ IsAnsweredAt before old (Octets len) buf new =
     × HasReceived old.standing (take len buf) (noted before (looked (Octets len) buf)) after
     is_taken
     new.standing
-    × (new ≡ record old {
-      standing = new.standing;
-      stream = if is_taken then Some after else None;
-    })
+    × (new ≡ after_writing is_taken after (record old { standing = new.standing }))
 IsAnsweredAt before old Quiet buf new =
     new ≡ record old { stream = Some (noted before (looked Quiet buf)) }
-IsAnsweredAt before old Gone buf new = new ≡ record old { stream = None }
+IsAnsweredAt before old Gone buf new = new ≡ record old {
+  stream = None;
+  let_go = Some (noted before (looked Gone buf));
+}
 
 -- where no gateway is connected nothing is received
 abbrev pub IsReceivedAt : Option StreamHistory → (old new : OutstationServer) → Type 0
@@ -79,23 +91,27 @@ LooksOn (suc n) old new = (mid : OutstationServer) × LooksOn n old mid × Looks
 
 -- Octets are written to the stream of the gateway, if one is connected. One that doesn't take them
 -- is let go.
-abbrev pub IsGiven : (octets : List ℕ) → (old new : Option StreamHistory) → Type 0
-IsGiven octets None new = new ≡ None
-IsGiven octets (Some before) new =
+abbrev pub IsGiven : (octets : List ℕ) → Option StreamHistory → (old new : OutstationServer)
+    → Type 0
+IsGiven octets None old new = new ≡ old
+IsGiven octets (Some before) old new =
     (is_taken : Bool)
-    × (new ≡ (if is_taken then Some (noted before (Wrote octets is_taken)) else None))
+    × (new ≡ after_writing is_taken (noted before (Wrote octets is_taken)) old)
 
-abbrev pub IsGivenIfAny : (octets : Option (List ℕ)) → (old new : Option StreamHistory) → Type 0
+abbrev pub IsGivenIfAny : (octets : Option (List ℕ)) → (old new : OutstationServer) → Type 0
 IsGivenIfAny None old new = new ≡ old
-IsGivenIfAny (Some octets) old new = IsGiven octets old new
+IsGivenIfAny (Some octets) old new = IsGiven octets old.stream old new
+
+-- the answer that goes out late at this moment waits no more, and the others go on waiting
+abbrev pub without_late : (now : ℕ) → OutstationServer → OutstationServer
+without_late now p = record p {
+  standing = record p.standing { late = late_after now p.standing.late };
+}
 
 -- The gateway is given the answer that goes out late at this moment.
-pub record GivesLate (now : ℕ) (old new : OutstationServer) : Type 0 where
-  pub given : IsGivenIfAny (late_now now old.standing.late) old.stream new.stream
-  pub new_is : new ≡ record old {
-    standing = record old.standing { late = late_after now old.standing.late };
-    stream = new.stream;
-  }
+abbrev pub GivesLate : (now : ℕ) → (old new : OutstationServer) → Type 0
+GivesLate now old new =
+    IsGivenIfAny (late_now now old.standing.late) (without_late now old) new
 
 -- each line gives its station the report that it has due, so many ms behind the start
 pub record AllLinesReport (passed : ℕ) (old new : OutstationServer) : Type 0 where
@@ -106,3 +122,17 @@ pub record AllLinesReport (passed : ℕ) (old new : OutstationServer) : Type 0 w
 pub record RepliesAll (old new : OutstationServer) : Type 0 where
   pub replied : RepliesEach (length old.standing.stations) old.standing new.standing
   pub new_is : new ≡ record old { standing = new.standing }
+
+-- Why a gateway was let go, by what happened last at its stream, where that notes it: it was gone,
+-- or didn't take octets.
+abbrev pub IsCause : StreamHistory → Type 0
+IsCause None = Unit {0}
+IsCause (Some []) = ⊥
+IsCause (Some (WasGone ∷ before)) = Unit {0}
+IsCause (Some (Wrote octets false ∷ before)) = Unit {0}
+IsCause (Some (_ ∷ before)) = ⊥
+
+-- there is one that was let go, for a cause
+abbrev pub IsLetGoForCause : Option StreamHistory → Type 0
+IsLetGoForCause None = ⊥
+IsLetGoForCause (Some stream) = IsCause stream

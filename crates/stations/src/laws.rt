@@ -11,16 +11,18 @@ ghost use Rattle.gateway.specs.Config.{Settings};
 ghost use Rattle.link.specs.Requests.{reading_of};
 ghost use Rattle.link.specs.declared.request.Reading.TheVariants.{Foreign};
 ghost use Rattle.link.specs.Secondary.{Secondary, ReceivesOctets};
-ghost use Rattle.live.specs.OctetStreams.{StreamHistory};
+ghost use Rattle.live.specs.OctetStreams.{Happening, StreamHistory};
 ghost use Rattle.sim.specs.declared.directive.Class.{Class};
 ghost use Rattle.stations.specs.Cues.{AreInPeriods, IsOneFrom, given_moments};
 ghost use Rattle.stations.specs.Exchanges.{Brings, ComesBack, RequestExchange, IsRequestAnswered};
 ghost use Rattle.stations.specs.Exchanges.{OutstationsState, first_standing};
 ghost use Rattle.stations.specs.Exchanges.{next_number, requests_joined};
+ghost use Rattle.stations.specs.Given.{ReceivesWhatCame};
 ghost use Rattle.stations.specs.Late.{LateAnswer, delay_of, late_now};
 ghost use Rattle.stations.specs.Law.{BringsRequests, CouldReply, HadItsTurn, HasOneMore};
 ghost use Rattle.stations.specs.Law.{IsAnswering, WaitsBehind};
-ghost use Rattle.stations.specs.Places.{LooksOn, LooksOnce, OutstationServer};
+ghost use Rattle.stations.specs.Places.{IsLetGoForCause, LooksOn, LooksOnce, OutstationServer};
+ghost use Rattle.stations.specs.Places.{after_accept};
 ghost use Rattle.stations.specs.Replies.{IsReply, fits_line, is_command, is_select};
 ghost use Rattle.stations.specs.Replying.{Replies};
 ghost use Rattle.stations.specs.Reporting.{IsReported};
@@ -113,6 +115,23 @@ pub fn a_look_brings_requests_alone()
     ensures other { (old new : OutstationServer) (look : LooksOnce old new)
         (stream : StreamHistory) → look.accepted ≡ Some stream →
         BringsRequests None [] old.standing new.standing }
+{}
+
+/// What the outstations receive at a look is what the stream of the gateway gave at it: each octet
+/// of it, behind those that they had so far. This holds if the gateway stays, and if it is let go.
+pub fn what_a_stream_gives_is_received()
+    ensures { (old new : OutstationServer) (look : LooksOnce old new) (before : List Happening) →
+        (after_accept old look.accepted).stream ≡ Some (Some before) →
+        ReceivesWhatCame before (after_accept old look.accepted).standing new }
+{}
+
+/// A gateway that is connected when a round looks at it is connected behind the round too, unless
+/// there is a cause: its stream said that it was gone, or didn't take octets. That is the last that
+/// happened there.
+pub fn gateways_are_let_go_for_a_cause()
+    ensures { (now : ℕ) (old new : TimedServer) (round : IsRound now old new) →
+        (after_accept old.place round.looks.accepted).stream ≢ None → new.place.stream ≡ None →
+        IsLetGoForCause new.place.let_go }
 {}
 
 /// The time of a play begins in the first round in which a gateway is there, at that round's

@@ -27,10 +27,10 @@ pub use cue_laws::{
 pub use examples::lines_are_read_by_example;
 pub use laws::{
     a_connection_begins_anew, a_look_brings_requests_alone, all_have_a_turn_in_each_round,
-    late_answers_go_out_when_due, replies_answer_their_commands, reports_are_counted,
-    reports_come_at_their_moments, reports_stand_behind_those_of_their_class,
+    gateways_are_let_go_for_a_cause, late_answers_go_out_when_due, replies_answer_their_commands,
+    reports_are_counted, reports_come_at_their_moments, reports_stand_behind_those_of_their_class,
     requests_are_what_came, stations_take_their_own_requests_alone, time_begins_with_a_gateway,
-    without_lines_of_their_own_all_stays,
+    what_a_stream_gives_is_received, without_lines_of_their_own_all_stays,
 };
 pub use listeners::{GatewaySocket, LineListener};
 pub use outstations::Outstations;

@@ -15,6 +15,11 @@ pub struct OutstationServer<L: Listener + Drop> {
     listener: L,
     allow_list: AllowList,
     connection: Option<Accepted<L::Stream>>,
+    /// The connection that was let go since the latest look at the listener. It is closed at the
+    /// next one.
+    // Kept until then, since its history says why it was let go: no contract can speak of a stream
+    // that is no more.
+    let_go: Option<Accepted<L::Stream>>,
 }
 
 impl<L: Listener + Drop> Model for OutstationServer<L> {
@@ -26,6 +31,7 @@ impl<L: Listener + Drop> Model for OutstationServer<L> {
     ghost view = { λ p. record {
       standing = p.outstations;
       stream = option_map (λ v. L.Stream.history v.stream) p.connection;
+      let_go = option_map (λ v. L.Stream.history v.stream) p.let_go;
       listener = L.attempts p.listener;
     } };
 }
@@ -36,6 +42,7 @@ impl<L: Listener + Drop> OutstationServer<L> {
         ensures { result ≡ record {
           standing = outstations;
           stream = None;
+          let_go = None;
           listener = L.attempts listener;
         } }
     {
@@ -44,6 +51,7 @@ impl<L: Listener + Drop> OutstationServer<L> {
             listener,
             allow_list: AllowList::Anyone,
             connection: None,
+            let_go: None,
         }
     }
 
@@ -76,14 +84,15 @@ impl<L: Listener + Drop> OutstationServer<L> {
 
     /// Gives the gateway these octets, if one is there.
     fn give(&mut self, octets: &[u8])
-        ensures given { IsGiven octets.now self.old.stream self.new.stream }
-        ensures new { self.new ≡ record self.old { stream = self.new.stream } }
+        ensures { IsGiven octets.now self.old.stream self.old self.new }
     {
         let Some(mut accepted) = self.connection.take() else {
             return;
         };
         if accepted.stream.write(octets) {
             self.connection = Some(accepted);
+        } else {
+            self.let_go = Some(accepted);
         }
     }
 
@@ -103,11 +112,12 @@ impl<L: Listener + Drop> OutstationServer<L> {
         self.outstations.reply_all();
     }
 
-    /// Looks at the listener.
+    /// Looks at the listener. Who was let go before is closed.
     fn accept(&mut self)
         ensures { (accepted : Option StreamHistory) × IsNewStream accepted
             × (self.new ≡ after_accept self.old accepted) }
     {
+        self.let_go = None;
         if let Some(accepted) = self.listener.accept(&self.allow_list) {
             self.outstations.begin();
             self.connection = Some(accepted);
@@ -126,10 +136,12 @@ impl<L: Listener + Drop> OutstationServer<L> {
             Got::Octets(len) => {
                 if self.outstations.receive(&buf[..len], &mut accepted.stream) {
                     self.connection = Some(accepted);
+                } else {
+                    self.let_go = Some(accepted);
                 }
             }
             Got::Quiet => self.connection = Some(accepted),
-            Got::Gone => {}
+            Got::Gone => self.let_go = Some(accepted),
         }
     }
 }

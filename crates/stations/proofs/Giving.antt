@@ -1,0 +1,99 @@
+-- What a stream gives is received.
+use Rattle.std.proofs.Common.{◌≡◌, Bool, true, false, List, [], ◌∷◌, ℕ, take, inl, inr}
+use Rattle.std.proofs.Common.{Option, Some, None, refl, sym, ap, subst, ◌∙◌}
+use Rattle.std.specs.Prelude.{if◌then◌else◌}
+use Rattle.std.proofs.lemmas.List.{append-nil}
+use Rattle.live.specs.OctetStreams.{Gave, Happening, StreamHistory, WasGone, WasQuiet, Wrote}
+use Rattle.live.specs.declared.ends.Got.{Got}
+use Rattle.live.specs.declared.ends.Got.TheVariants.{Octets, Quiet, Gone}
+use Rattle.stations.specs.Exchanges.{OutstationsState, RequestExchange, answer_written, written}
+use Rattle.stations.specs.Given.{Happened, ReceivesWhatCame, came_on}
+use Rattle.stations.specs.Places.{IsAnsweredAt, IsReceivedAt, LooksOnce, OutstationServer}
+use Rattle.stations.specs.Places.{after_accept}
+
+-- writing is no coming
+WritesOn : List Happening → List RequestExchange → Type 0
+WritesOn before xs = (after : List Happening) × (written (Some before) xs ≡ Some after)
+    × (came_on after ≡ came_on before)
+
+writes_on : (before : List Happening) (xs : List RequestExchange) → WritesOn before xs
+unfolding WritesOn
+writes_on before [] = (before, refl, refl)
+writes_on before (x ∷ xs) = by x.answer
+    (writes_on before xs) (λ octets. writes_on (Wrote octets x.is_taken ∷ before) xs)
+  where
+    by : (answer : Option (List ℕ)) → WritesOn before xs
+        → ((octets : List ℕ) → WritesOn (Wrote octets x.is_taken ∷ before) xs)
+        → (after : List Happening)
+        × (written (answer_written (Some before) answer x.is_taken) xs ≡ Some after)
+        × (came_on after ≡ came_on before)
+    by None none some = none
+    by (Some octets) none some = some octets
+
+happened_so : (new : OutstationServer) (is_taken : Bool) (let_go : Option StreamHistory)
+    (after : StreamHistory) (now : List Happening) → after ≡ Some now
+    → new.stream ≡ (if is_taken then Some after else None)
+    → new.let_go ≡ (if is_taken then let_go else Some after) → Happened new now
+happened_so new true let_go after now is here gone =
+    inl (here ∙ ap (λ (h : StreamHistory). Some h) is)
+happened_so new false let_go after now is here gone =
+    inr (gone ∙ ap (λ (h : StreamHistory). Some h) is)
+
+nothing_came : (before after : List Happening) (old new : OutstationServer)
+    → came_on after ≡ came_on before → Happened new after → new.standing ≡ old.standing
+    → ReceivesWhatCame before old.standing new
+nothing_came before after old new came happened same = record {
+  after = after;
+  happened = happened;
+  octets = [];
+  came = came ∙ sym (append-nil (came_on before));
+  exchanges = [];
+  last = old.standing.so_far;
+  left = [];
+  brought = (refl, refl);
+  mid = old.standing;
+  answered = refl;
+  new_is = same ∙ ap (λ (z : OutstationsState). record old.standing { so_far = z.so_far })
+      (sym same);
+}
+
+answered_whole : (before : List Happening) (old : OutstationServer) (got : Got) (buf : List ℕ)
+    (new : OutstationServer) → IsAnsweredAt (Some before) old got buf new
+    → ReceivesWhatCame before old.standing new
+unfolding WritesOn
+answered_whole before old (Octets len) buf new (is_taken, after, h, e) =
+    let w : WritesOn (Gave (take len buf) ∷ before) h.exchanges =
+    writes_on (Gave (take len buf) ∷ before) h.exchanges in
+    record {
+      after = w.0;
+      happened = happened_so new is_taken old.let_go after w.0 (h.wrote ∙ w.1)
+          (ap (λ (p : OutstationServer). p.stream) e)
+          (ap (λ (p : OutstationServer). p.let_go) e);
+      octets = take len buf;
+      came = w.2;
+      exchanges = h.exchanges;
+      last = h.last;
+      left = h.left;
+      brought = h.brought;
+      mid = h.mid;
+      answered = h.answered;
+      new_is = h.new_is;
+    }
+answered_whole before old Quiet buf new e =
+    nothing_came before (WasQuiet ∷ before) old new refl
+    (inl (ap (λ (p : OutstationServer). p.stream) e))
+    (ap (λ (p : OutstationServer). p.standing) e)
+answered_whole before old Gone buf new e =
+    nothing_came before (WasGone ∷ before) old new refl
+    (inr (ap (λ (p : OutstationServer). p.let_go) e))
+    (ap (λ (p : OutstationServer). p.standing) e)
+
+pub received_whole : (old new : OutstationServer) (look : LooksOnce old new)
+    (before : List Happening)
+    → (after_accept old look.accepted).stream ≡ Some (Some before)
+    → ReceivesWhatCame before (after_accept old look.accepted).standing new
+received_whole old new look before is =
+    let now : OutstationServer = after_accept old look.accepted in
+    let here : IsReceivedAt (Some (Some before)) now new =
+    subst (λ (s : Option StreamHistory). IsReceivedAt s now new) is look.received in
+    answered_whole before now here.0 here.1 new here.2
