@@ -51,7 +51,7 @@ pub use hour::Hour;
 pub use judging::{Judgement, judge};
 pub use laws::{
     a_text_stands_whole_or_not_at_all, judgements_mean_what_they_say,
-    visitors_are_sent_what_they_asked_for,
+    the_last_hour_has_a_number_a_minute, visitors_are_sent_what_they_asked_for,
 };
 pub use reading_laws::{
     lists_have_each_thing, numbers_stand_under_their_names, texts_are_read_back,
