@@ -6,3 +6,4 @@ pub mod RulesRead
 pub mod Worded
 pub mod Apart
 pub mod Waits
+pub mod RowLemmas

@@ -4,6 +4,7 @@ pub mod OrderWords
 pub mod Wordings
 pub mod Notes
 pub mod Severities
+pub mod SeverityRows
 pub mod Ends
 pub mod Gathering
 pub mod Inbox

@@ -32,8 +32,6 @@ ghost use Rattle.runlog.specs.Traffic.{first_line};
 ghost use Rattle.runlog.specs.Watching.{Watching, counted, counts_noted, is_full, is_look_due};
 ghost use Rattle.runlog.specs.Watching.{failed, late_noted, wall_of};
 ghost use Rattle.runlog.specs.Logging.{line_of_notice};
-ghost use Rattle.runlog.specs.Severities.{number_of, severity_of};
-ghost use Rattle.runlog.specs.declared.severity.Severity.TheVariants as severity;
 ghost use Rattle.runlog.specs.declared.exchange.AwaitedAnswer.TheVariants.{Poll};
 ghost use Rattle.runlog.specs.declared.fate.Mishap.TheVariants as mishap;
 ghost use Rattle.runlog.specs.declared.note.Note.TheVariants as note;
@@ -226,38 +224,6 @@ pub fn failures_and_walls_by_example()
       moment = 7500;
       wall = Some (record { moment = 7000; shown = 100 });
     }) ≡ Some 600) × (wall_of (record w { wall = None }) ≡ None) }
-{}
-
-/// How severe lines are, by syslog's numbers (RFC 5424, 6.2.1), as docs/TEXTS.md has them.
-pub fn severities_by_example()
-    ensures numbers { (number_of severity.Error ≡ 3) × (number_of severity.Warning ≡ 4)
-        × (number_of severity.Notice ≡ 5) × (number_of severity.Info ≡ 6) }
-    ensures errors { (severity_of note.LineLost ≡ severity.Error)
-        × (severity_of note.LineNotThere ≡ severity.Error)
-        × (severity_of (note.Gap 7) ≡ severity.Error)
-        × (severity_of note.QueueFull ≡ severity.Error)
-        × (severity_of note.StatePutAside ≡ severity.Error)
-        × (severity_of (note.State notices.NotKept) ≡ severity.Error)
-        × (severity_of (note.Trouble trouble.StateUnusable) ≡ severity.Error) }
-    ensures warnings { (severity_of (note.Cut cut.Gone) ≡ severity.Warning)
-        × (severity_of (note.Closed close.Timeout) ≡ severity.Warning)
-        × (severity_of (note.RefusedPeers 1 None) ≡ severity.Warning)
-        × (severity_of (note.Silent 7) ≡ severity.Warning)
-        × (severity_of (note.Down 7) ≡ severity.Warning)
-        × (severity_of note.StateStale ≡ severity.Warning)
-        × (severity_of (note.Skipped 7 1 skip.TypeUnknown) ≡ severity.Warning)
-        × (severity_of (note.MirrorDropped 7) ≡ severity.Warning)
-        × (severity_of (note.Spoilt 7) ≡ severity.Warning)
-        × (severity_of (note.Late 7) ≡ severity.Warning) }
-    ensures commands { (severity_of (note.Refused (order 45 act.Execute 1 7 value.On) None
-        (reason.Rule refusal.NotSelected)) ≡ severity.Warning)
-        × (severity_of (note.Ordered (order 45 act.Execute 1 7 value.On) None) ≡ severity.Info)
-        × (severity_of (note.Fate (order 45 act.Execute 1 7 value.On) 7 fate.Denied)
-        ≡ severity.Warning)
-        × (severity_of (note.Fate (order 45 act.Execute 1 7 value.On) 7 fate.GivenUp)
-        ≡ severity.Warning)
-        × (severity_of (note.Fate (order 45 act.Execute 1 7 value.On) 7 fate.Confirmed)
-        ≡ severity.Info) }
 {}
 
 /// What lines say of commands: by the octets of an ASDU (IEC 60870-5-101, 7.2.6 and 7.3.2), and in
