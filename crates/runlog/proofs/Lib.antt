@@ -7,3 +7,5 @@ pub mod Worded
 pub mod Apart
 pub mod Waits
 pub mod RowLemmas
+pub mod Passings
+pub mod Connections

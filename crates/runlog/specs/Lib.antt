@@ -14,5 +14,6 @@ pub mod Waiting
 pub mod Exchange
 pub mod Watching
 pub mod Logging
+pub mod Passing
 pub mod Examples
 pub mod Names

@@ -28,6 +28,7 @@
 //! is right, and what standard error does with it, is no matter of a proof.
 #![tactic(auto)]
 
+mod connection_laws;
 mod content;
 mod ends;
 mod examples;
@@ -52,6 +53,7 @@ mod traffic;
 mod watch;
 mod word_examples;
 
+pub use connection_laws::connections_are_known_from_their_opening_to_their_end;
 pub use content::Skip;
 pub use ends::OpenConnection;
 pub use examples::{
