@@ -11,28 +11,21 @@ use Rattle.gateway.specs.declared.ports.Next.TheVariants as next
 use Rattle.live.specs.declared.watched.EndsSight.{EndsSight}
 use Rattle.runlog.specs.Ends.{connection_opened, connection_cut, connection_closed, connection_sent}
 use Rattle.runlog.specs.Ends.{connection_started, connection_stopped, open_after, started_so}
-use Rattle.runlog.specs.Ends.{happened, line_by}
-use Rattle.runlog.specs.Limits.{IsSecondAfter, asked_by, is_free, is_free_after, one_more}
+use Rattle.runlog.specs.Limits.{one_more}
 use Rattle.runlog.specs.Passing.{Passed, Came, Went, Between, passed, watched, Step, Opens, Cuts}
 use Rattle.runlog.specs.Passing.{Closes, Starts, Stops, Nothing, sent_step, step_of, IsOpen, Opened}
 use Rattle.runlog.specs.Passing.{Started, Stopped, Replaced, Stays, IsNoneOpen, AtFirst, AfterCut}
-use Rattle.runlog.specs.Passing.{AfterClose, Still, IsKnown, OneOpen, NoneOpen, opened_in, StepKind}
-use Rattle.runlog.specs.Passing.{Opening, Cutting, Closing, Starting, Stopping, IsLoggedAs, AsOpened}
-use Rattle.runlog.specs.Passing.{AsCut, AsClosed, AsStarted, AsStopped, is_of, limit_of, IsLineOf}
-use Rattle.runlog.specs.Passing.{with_line, lines_of, steps_in, spoken_of, AreSecondsBehind}
+use Rattle.runlog.specs.Passing.{AfterClose, Still, IsKnown, OneOpen, NoneOpen, opened_in}
 use Rattle.runlog.specs.Watching.{Watching, at, late_noted, line_received, received, walled}
 use Rattle.runlog.specs.declared.ends.ConnectionWatch.{ConnectionWatch}
 use Rattle.runlog.specs.declared.ends.OpenConnection.{OpenConnection}
-use Rattle.runlog.specs.declared.limit.Limit.{Limit}
 use Rattle.runlog.specs.declared.note.LogLine.{LogLine}
-use Rattle.runlog.specs.declared.note.Note.{Note}
-use Rattle.runlog.specs.declared.note.Note.TheVariants as note
 use Rattle.runlog.proofs.Passings.{late_same, seen_same, line_received_same, received_same}
 use Rattle.runlog.proofs.Passings.{asked_same, looked_same}
 
 -- ---- What a connection has of what passes
 
-stepped : Step → ConnectionWatch → ConnectionWatch × Option LogLine
+unfoldable pub stepped : Step → ConnectionWatch → ConnectionWatch × Option LogLine
 stepped (Opens now peer) c = connection_opened peer now c
 stepped (Cuts now cause) c = connection_cut cause now c
 stepped (Closes now cause) c = connection_closed cause now c
@@ -54,7 +47,7 @@ sent_so octets now c = sent_by
     (bytes_eq octets (0x68 ∷ 0x04 ∷ 0x0B ∷ 0x00 ∷ 0x00 ∷ 0x00 ∷ []))
     (bytes_eq octets (0x68 ∷ 0x04 ∷ 0x23 ∷ 0x00 ∷ 0x00 ∷ 0x00 ∷ [])) now c
 
-connection_is : (p : Passed) (w : Watching)
+pub connection_is : (p : Passed) (w : Watching)
     → (passed p w).0.connection ≡ (stepped (step_of p) w.connection).0
 unfolding stepped
 connection_is (Came (next.Open now) octets s) w =
@@ -83,7 +76,7 @@ connection_is (Went now (LineOut octets)) w = (asked_same octets now w).connecti
 connection_is (Went now (GapOut station session)) w = refl
 connection_is (Between gateway) w = (looked_same gateway w).connection
 
-line_is : (p : Passed) (w : Watching) → step_of p ≢ Nothing
+pub line_is : (p : Passed) (w : Watching) → step_of p ≢ Nothing
     → (passed p w).1 ≡ (stepped (step_of p) w.connection).1
 unfolding stepped
 line_is (Came (next.Open now) octets s) w is =

@@ -9,3 +9,5 @@ pub mod Waits
 pub mod RowLemmas
 pub mod Passings
 pub mod Connections
+pub mod ConnectionLines
+pub mod Walls

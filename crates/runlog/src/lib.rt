@@ -53,7 +53,10 @@ mod traffic;
 mod watch;
 mod word_examples;
 
-pub use connection_laws::connections_are_known_from_their_opening_to_their_end;
+pub use connection_laws::{
+    connections_are_known_from_their_opening_to_their_end,
+    each_step_of_a_connection_is_logged_or_counted, the_wall_clock_goes_on_between_its_events,
+};
 pub use content::Skip;
 pub use ends::OpenConnection;
 pub use examples::{
