@@ -11,3 +11,4 @@ pub mod Passings
 pub mod Connections
 pub mod ConnectionLines
 pub mod Walls
+pub mod Failures

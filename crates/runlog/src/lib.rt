@@ -18,11 +18,17 @@
 //! command is refused is the judgement's own (`command::Commands::refusal_at`), and each rule has
 //! its own words ([`refusals_are_logged_by_their_rules`]); a sink that takes no line any more ends
 //! the log, and nothing else; how severe each line is ([`Note::severity`],
-//! [`each_line_has_the_severity_of_its_row`]); the words of each line,
-//! and the name behind them ([`NamedLine`]). Of all this there are literal examples
-//! ([`stations_by_example`], [`standings_by_example`], [`commands_by_example`],
-//! [`moments_by_example`], [`connections_by_example`], [`failures_and_walls_by_example`],
-//! [`late_answers_by_example`], [`log_lines_by_example`], [`each_word_by_example`]). What becomes of a command, and each
+//! [`each_line_has_the_severity_of_its_row`]); the words of each line, and the name behind them
+//! ([`NamedLine`]). Of all this there are literal examples ([`stations_by_example`],
+//! [`standings_by_example`], [`commands_by_example`], [`moments_by_example`],
+//! [`late_answers_by_example`], [`log_lines_by_example`], [`each_word_by_example`]).
+//!
+//! Which connection is open is known, whatever passes
+//! ([`connections_are_known_from_their_opening_to_their_end`]), and each step of one is logged, or
+//! counted by a later line ([`each_step_of_a_connection_is_logged_or_counted`]). A line is logged
+//! where it goes and where it is back ([`a_line_is_logged_where_it_goes_and_where_it_is_back`]), and
+//! what has failed at the end ([`failures_are_logged_at_the_end`]). The wall clock is shown as it
+//! goes on ([`the_wall_clock_goes_on_between_its_events`]). What becomes of a command, and each
 //! mishap, is logged for the station that it befell ([`what_becomes_of_commands_is_logged`]), and
 //! nothing that may be logged waits ([`nothing_waits_that_may_be_logged`]). That a line's UTC time
 //! is right, and what standard error does with it, is no matter of a proof.
@@ -33,6 +39,7 @@ mod content;
 mod ends;
 mod examples;
 mod exchange;
+mod failure_laws;
 mod fate;
 mod fate_laws;
 mod gathered;
@@ -60,9 +67,11 @@ pub use connection_laws::{
 pub use content::Skip;
 pub use ends::OpenConnection;
 pub use examples::{
-    commands_by_example, connections_by_example, failures_and_walls_by_example,
-    late_answers_by_example, log_lines_by_example, moments_by_example, standings_by_example,
-    stations_by_example,
+    commands_by_example, late_answers_by_example, log_lines_by_example, moments_by_example,
+    standings_by_example,    stations_by_example,
+};
+pub use failure_laws::{
+    a_line_is_logged_where_it_goes_and_where_it_is_back, failures_are_logged_at_the_end,
 };
 pub use fate::{CommandFate, Reason};
 pub use fate_laws::{
