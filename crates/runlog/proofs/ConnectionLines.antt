@@ -1,14 +1,17 @@
 -- The lines of connections: each step is logged, or counted by a later line.
-use Rattle.std.proofs.Common.{◌≡◌, ◌≢◌, ℕ, ◌+◌, ◌-◌, ◌^◌, ◌<◌, ◌≤◌, Bool, true, false, List, [], ◌∷◌}
-use Rattle.std.proofs.Common.{Option, Some, None, refl, sym, ap, ◌∙◌, subst, min, map, nat_le, arith}
+use Rattle.std.proofs.Common.{◌≡◌, ◌≢◌, ℕ, ◌+◌, ◌-◌, ◌^◌, ◌<◌, ◌≤◌, Bool, true, false, List, []}
+use Rattle.std.proofs.Common.{◌∷◌}
+use Rattle.std.proofs.Common.{Option, Some, None, refl, sym, ap, ◌∙◌, subst, min, map, nat_le}
+use Rattle.std.proofs.Common.{arith}
 use Rattle.std.specs.Prelude.{if◌then◌else◌}
 use Rattle.gateway.specs.Config.{Settings}
 use Rattle.runlog.specs.Ends.{happened, line_by}
-use Rattle.runlog.specs.Limits.{IsSecondAfter, asked_by, is_free, is_free_after, one_more}
+use Rattle.runlog.specs.Limits.{IsSecondAfter, asked_by, is_free, is_free_after}
 use Rattle.runlog.specs.Passing.{Passed, passed, watched, Step, Opens, Cuts, Closes, Starts, Stops}
 use Rattle.runlog.specs.Passing.{Nothing, step_of, StepKind, Opening, Cutting, Closing, Starting}
 use Rattle.runlog.specs.Passing.{Stopping, IsLoggedAs, AsOpened, AsCut, AsClosed, AsStarted}
-use Rattle.runlog.specs.Passing.{AsStopped, is_of, limit_of, IsLineOf, with_line, lines_of, steps_in}
+use Rattle.runlog.specs.Passing.{AsStopped, is_of, limit_of, IsLineOf, with_line, lines_of}
+use Rattle.runlog.specs.Passing.{steps_in}
 use Rattle.runlog.specs.Passing.{spoken_of, AreSecondsBehind}
 use Rattle.runlog.specs.Watching.{Watching, new_watching}
 use Rattle.runlog.specs.declared.ends.ConnectionWatch.{ConnectionWatch}
@@ -170,7 +173,8 @@ behind (before ∷ lines) logged line is second apart =
 
 kept_by : (b : Bool) (l : Limit) (lines : List LogLine) (n now : ℕ) (what : Note)
     → is_free l now ≡ b → Kept l lines n
-    → Kept (asked_by b l now).0 (with_line true (line_by what now (asked_by b l now).1) lines) (n + 1)
+    → Kept (asked_by b l now).0 (with_line true (line_by what now (asked_by b l now).1) lines)
+    (n + 1)
 unfolding moment_of
 kept_by true l lines n now what free kept = record {
   apart = behind lines l.logged (record { moment = now; note = what; left_out = l.left_out })
@@ -199,7 +203,7 @@ kept_step kind p w lines n (Own now what is) kept =
     let line : (passed p w).1 ≡ (happened what l now).1 =
     line_is p w (has_step kind (step_of p) now what is) ∙ asks.2 in
     subst (λ b. Kept (limit_of kind (passed p w).0.connection) (with_line b (passed p w).1 lines)
-        (if b then n + 1 else n)) (sym asks.0)
+    (if b then n + 1 else n)) (sym asks.0)
     (subst (λ m. Kept m (with_line true (passed p w).1 lines) (n + 1)) (sym limit)
     (subst (λ o. Kept (happened what l now).0 (with_line true o lines) (n + 1)) (sym line)
     (kept_by (is_free l now) l lines n now what refl kept)))
@@ -207,7 +211,7 @@ kept_step kind p w lines n (Other is) kept =
     let limit : limit_of kind (passed p w).0.connection ≡ limit_of kind w.connection =
     ap (λ c. limit_of kind c) (connection_is p w) ∙ other_kept kind (step_of p) w.connection is in
     subst (λ b. Kept (limit_of kind (passed p w).0.connection) (with_line b (passed p w).1 lines)
-        (if b then n + 1 else n)) (sym is)
+    (if b then n + 1 else n)) (sym is)
     (subst (λ m. Kept m lines n) (sym limit) kept)
 
 kept_all : (kind : StepKind) (start : Watching) (ps : List Passed)

@@ -1,14 +1,12 @@
 -- Connections, their lines and the wall clock, by what passes.
-use Rattle.std.proofs.Common.{◌≡◌, ◌≢◌, ℕ, ◌+◌, ◌-◌, ◌^◌, ◌<◌, ◌≤◌, Bool, true, false, List, [], ◌∷◌}
-use Rattle.std.proofs.Common.{Option, Some, None, refl, sym, ap, ◌∙◌, subst, min, map, take, arith}
-use Rattle.std.specs.Prelude.{bytes_eq, if◌then◌else◌, option_map}
+use Rattle.std.proofs.Common.{◌≡◌, ◌≢◌, ℕ, ◌+◌, ◌-◌, ◌^◌, ◌<◌, Bool, true, false, List, [], ◌∷◌}
+use Rattle.std.proofs.Common.{Option, Some, None, refl, ap, ◌∙◌, min, map, take, arith}
+use Rattle.std.specs.Prelude.{bytes_eq, if◌then◌else◌}
 use Rattle.std.specs.declared.net.ip_addr.IpAddr.{IpAddr}
 use Rattle.session.specs.declared.kinds.Close.{Close}
 use Rattle.session.specs.declared.kinds.Close.TheVariants as close
-use Rattle.gateway.specs.Log.{Output, LineOut, TcpOut, Closed, GapOut}
-use Rattle.gateway.specs.declared.ports.Next.{Next}
+use Rattle.gateway.specs.Log.{LineOut, TcpOut, Closed, GapOut}
 use Rattle.gateway.specs.declared.ports.Next.TheVariants as next
-use Rattle.live.specs.declared.watched.EndsSight.{EndsSight}
 use Rattle.runlog.specs.Ends.{connection_opened, connection_cut, connection_closed, connection_sent}
 use Rattle.runlog.specs.Ends.{connection_started, connection_stopped, open_after, started_so}
 use Rattle.runlog.specs.Limits.{one_more}

@@ -1,12 +1,12 @@
 -- Where it is logged that the line goes, and that it is back.
-use Rattle.std.proofs.Common.{◌≡◌, ℕ, ◌+◌, ◌-◌, ◌<◌, ◌≤◌, Bool, true, false, Option, Some, None, refl}
+use Rattle.std.proofs.Common.{◌≡◌, ℕ, ◌+◌, ◌-◌, ◌<◌, ◌≤◌, Bool, true, false, Option, Some, None}
+use Rattle.std.proofs.Common.{refl}
 use Rattle.std.proofs.Common.{ap, ◌∙◌, nat_le, arith}
 use Rattle.std.specs.Prelude.{if◌then◌else◌}
-use Rattle.live.specs.declared.ends.Presence.{Presence}
 use Rattle.live.specs.declared.ends.Presence.TheVariants as presence
-use Rattle.runlog.specs.Ends.{is_away, line_by, line_change, line_changed, line_logged, line_seen}
+use Rattle.runlog.specs.Ends.{line_by, line_change, line_changed, line_logged, line_seen}
 use Rattle.runlog.specs.Ends.{line_seen_so, presence_noted, seen_as}
-use Rattle.runlog.specs.Limits.{IsSecondAfter, asked_by, is_free, is_free_after, is_minute_after}
+use Rattle.runlog.specs.Limits.{IsSecondAfter, asked_by, is_free_after, is_minute_after}
 use Rattle.runlog.specs.declared.ends.LineLogged.{LineLogged}
 use Rattle.runlog.specs.declared.ends.LineLogged.TheVariants as logged
 use Rattle.runlog.specs.declared.ends.LineWatch.{LineWatch}

@@ -1,13 +1,10 @@
 -- What passes a run and has nothing of its connections: these stay as they are, and what the wall
 -- clock showed, and the moment.
-use Rattle.std.proofs.Common.{◌≡◌, ℕ, ◌-◌, ◌==◌, Bool, true, false, List, [], ◌∷◌, Option, Some, None}
-use Rattle.std.proofs.Common.{refl, sym, ap, ◌∙◌, nat_lt, take}
+use Rattle.std.proofs.Common.{◌≡◌, ℕ, ◌-◌, ◌==◌, Bool, true, false, List, Option, Some, None}
+use Rattle.std.proofs.Common.{refl, ◌∙◌, nat_lt}
 use Rattle.std.specs.Prelude.{slice_get, if◌then◌else◌, is_some}
-use Rattle.gateway.specs.Log.{Output, LineOut, TcpOut, Closed, GapOut}
 use Rattle.gateway.specs.State.{State, counts_of}
 use Rattle.gateway.specs.declared.counts.Counts.{Counts}
-use Rattle.gateway.specs.declared.ports.Next.{Next}
-use Rattle.gateway.specs.declared.ports.Next.TheVariants as next
 use Rattle.link.specs.declared.answer.Answer.{Answer}
 use Rattle.live.specs.declared.watched.EndsSight.{EndsSight}
 use Rattle.runlog.specs.Ends.{line_seen}
@@ -19,12 +16,11 @@ use Rattle.runlog.specs.Inbox.{Inbox}
 use Rattle.runlog.specs.Logging.{looked, looked_if_due, taken_in}
 use Rattle.runlog.specs.Watching as watching
 use Rattle.runlog.specs.Watching.{Watching, unless_logged, seen, with_line, answered_by}
-use Rattle.runlog.specs.Watching.{answer_noted_by, answer_noted_at, line_received, received, at}
+use Rattle.runlog.specs.Watching.{answer_noted_by, answer_noted_at, line_received, received}
 use Rattle.runlog.specs.Watching.{suffered_by, suffered_at, suffered_if, counts_noted, late_noted}
-use Rattle.runlog.specs.Watching.{as_late, sent_by, sent_at, exchanged, asked, is_repeat, judged}
+use Rattle.runlog.specs.Watching.{as_late, sent_by, sent_at, asked, is_repeat, judged}
 use Rattle.runlog.specs.Watching.{unless_queue, counted, looked_at, is_look_due, queue_seen}
-use Rattle.runlog.specs.Watching.{unless_inbox, gathered, unless_line, walled, put, event_noted}
-use Rattle.runlog.specs.declared.ends.ConnectionWatch.{ConnectionWatch}
+use Rattle.runlog.specs.Watching.{unless_inbox, gathered, unless_line}
 use Rattle.runlog.specs.declared.ends.LineWatch.{LineWatch}
 use Rattle.runlog.specs.declared.exchange.AwaitedAnswer.{AwaitedAnswer}
 use Rattle.runlog.specs.declared.exchange.AwaitedAnswer.TheVariants as awaited
@@ -33,7 +29,6 @@ use Rattle.runlog.specs.declared.fate.Mishap.TheVariants as mishap
 use Rattle.runlog.specs.declared.note.LogLine.{LogLine}
 use Rattle.runlog.specs.declared.queue.QueueWatch.{QueueWatch}
 use Rattle.runlog.specs.declared.traffic.Traffic.{Traffic}
-use Rattle.runlog.specs.declared.watch.WallShown.{WallShown}
 
 pub record Same (a b : Watching) : Type 0 where
   pub connection : a.connection ≡ b.connection
@@ -168,9 +163,10 @@ queue_same counts taken (queue, Some line) w =
 queue_same counts taken (queue, None) w =
     counted_by (nat_lt (w.moment - w.counted) 60000)
   where
-    counted_by : (b : Bool) → Same (one_of b (record w { queue = queue }, None)
-        (record w { queue = queue; counted = w.moment },
-        Some (watching.sum_line counts taken (record w { queue = queue })))).0 w
+    counted_by : (b : Bool) → Same (one_of b (record w { queue = queue }, None) (
+      record w { queue = queue; counted = w.moment },
+      Some (watching.sum_line counts taken (record w { queue = queue })),
+    )).0 w
     counted_by true = record { connection = refl; wall = refl; moment = refl }
     counted_by false = record { connection = refl; wall = refl; moment = refl }
 

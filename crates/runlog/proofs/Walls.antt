@@ -1,5 +1,5 @@
 -- The wall clock between its events.
-use Rattle.std.proofs.Common.{◌≡◌, ℕ, ◌+◌, ◌-◌, ◌^◌, ◌<◌, List, [], ◌∷◌, Option, Some, None, refl}
+use Rattle.std.proofs.Common.{◌≡◌, ℕ, ◌+◌, ◌-◌, ◌^◌, ◌<◌, List, [], ◌∷◌, Some, None, refl}
 use Rattle.std.proofs.Common.{ap, ◌∙◌, min, take, arith}
 use Rattle.std.specs.Prelude.{option_map}
 use Rattle.std.specs.Io.Iter.{u64_saturate}
@@ -14,7 +14,6 @@ use Rattle.runlog.specs.Passing.{BehindAction, BehindLook, BehindFault, BehindEn
 use Rattle.runlog.specs.Passing.{IsWallGiven, Given, Before}
 use Rattle.runlog.specs.Watching.{Watching, at, late_noted, line_received, received, walled}
 use Rattle.runlog.specs.Watching.{wall_of, wall_at, put}
-use Rattle.runlog.specs.declared.watch.WallShown.{WallShown}
 use Rattle.runlog.proofs.Passings.{late_same, seen_same, line_received_same}
 use Rattle.runlog.proofs.Passings.{received_same, asked_same, looked_same}
 
@@ -45,7 +44,8 @@ wall_kept (Between gateway) w none = (looked_same gateway w).wall
 wall_is : (start : Watching) (ps : List Passed) (at_ms shown : ℕ) → IsWallGiven ps at_ms shown
     → (watched start ps).wall ≡ Some (record { moment = at_ms; shown = shown })
 wall_is start ps at_ms shown (Given now clock octets s earlier) =
-    (seen_same s (walled now clock (at now (late_noted s.late_octets (watched start earlier))))).wall
+    (seen_same s
+    (walled now clock (at now (late_noted s.late_octets (watched start earlier))))).wall
 wall_is start ps at_ms shown (Before p now clock earlier none given) =
     wall_kept p (watched start earlier) none ∙ wall_is start earlier now clock given
 

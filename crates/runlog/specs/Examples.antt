@@ -1,5 +1,5 @@
 -- What the worked examples of the log speak of: lines, and those of a list of requests.
-use Rattle.std.specs.Prelude.{ℕ, List, [], ◌∷◌, ◌++◌, option_to_list, Some, None}
+use Rattle.std.specs.Prelude.{ℕ, List, [], ◌∷◌, ◌++◌, option_to_list, Some}
 use Rattle.ft12.specs.declared.frame.LinkSize.{LinkSize}
 use Rattle.ft12.specs.declared.frame.LinkSize.TheVariants.{One}
 use Rattle.asdu.specs.declared.sizes.CaSize.TheVariants as ca

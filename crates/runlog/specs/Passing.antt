@@ -1,6 +1,6 @@
 -- What passes a run that is watched, the newest first; and what an operator knows by it of the
 -- connections, of their lines and of the wall clock (docs/TEXTS.md, docs/STATUS.md).
-use Rattle.std.specs.Prelude.{◌≡◌, ◌≢◌, ℕ, ◌+◌, ◌<◌, ◌≤◌, Bool, true, false, List, [], ◌∷◌, map}
+use Rattle.std.specs.Prelude.{◌≡◌, ◌≢◌, ℕ, ◌+◌, ◌<◌, ◌≤◌, Bool, true, false, List, [], ◌∷◌}
 use Rattle.std.specs.Prelude.{Option, Some, None, bytes_eq, if◌then◌else◌}
 use Rattle.std.specs.declared.net.ip_addr.IpAddr.{IpAddr}
 use Rattle.session.specs.declared.kinds.Close.{Close}
@@ -54,7 +54,8 @@ pub data Step : Type 0 where
 abbrev pub sent_step : (now : ℕ) → List ℕ → Step
 sent_step now octets =
     if bytes_eq octets (0x68 ∷ 0x04 ∷ 0x0B ∷ 0x00 ∷ 0x00 ∷ 0x00 ∷ []) then Starts now
-    else if bytes_eq octets (0x68 ∷ 0x04 ∷ 0x23 ∷ 0x00 ∷ 0x00 ∷ 0x00 ∷ []) then Stops now else Nothing
+    else if bytes_eq octets (0x68 ∷ 0x04 ∷ 0x23 ∷ 0x00 ∷ 0x00 ∷ 0x00 ∷ []) then Stops now
+    else Nothing
 
 abbrev pub step_of : Passed → Step
 step_of (Came (next.Open now) octets s) = Opens now s.peer

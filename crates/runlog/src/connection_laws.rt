@@ -31,7 +31,7 @@ pub fn connections_are_known_from_their_opening_to_their_end()
 /// What is logged of connections, whatever else passes. Each that opens is logged with its peer,
 /// each that is cut or closed with its cause, and each start and stop of its data transfer: at once
 /// where a second has passed since the line before of the same kind. Else the next line of the kind
-/// counts it, or it still waits for that. So none is lost, and none is told twice.
+/// counts it, or it still waits for that. So the lines at these steps tell of each of them once.
 pub fn each_step_of_a_connection_is_logged_or_counted()
     ensures line { (w : Watching) (p : Passed) (kind : StepKind) (now : ℕ) (what : Note) →
         IsLoggedAs (step_of p) kind now what →
@@ -46,8 +46,8 @@ pub fn each_step_of_a_connection_is_logged_or_counted()
 {}
 
 /// What the wall clock shows at the moment of the latest event: what the latest event that gave it
-/// says, and as many ms more as the run's clock has gone on since, whatever passed in between. Where
-/// no event gave it, that isn't known.
+/// says, and as many ms more as the run's clock has gone on since, whatever passed in between.
+/// Where no event gave it, that isn't known.
 pub fn the_wall_clock_goes_on_between_its_events()
     ensures shown { (start : Watching) (ps : List Passed) (given shown now : ℕ) →
         IsWallGiven ps given shown → IsLatest ps now → shown + (now - given) < 2 ^ 64 →

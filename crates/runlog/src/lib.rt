@@ -68,7 +68,7 @@ pub use content::Skip;
 pub use ends::OpenConnection;
 pub use examples::{
     commands_by_example, late_answers_by_example, log_lines_by_example, moments_by_example,
-    standings_by_example,    stations_by_example,
+    standings_by_example, stations_by_example,
 };
 pub use failure_laws::{
     a_line_is_logged_where_it_goes_and_where_it_is_back, failures_are_logged_at_the_end,
@@ -80,8 +80,8 @@ pub use fate_laws::{
     what_becomes_of_commands_is_logged,
 };
 pub use laws::{
-    each_line_has_the_severity_of_its_row, lines_of_a_kind_are_a_second_apart, refusals_are_logged_by_their_rules,
-    what_is_gathered_is_logged_or_counted,
+    each_line_has_the_severity_of_its_row, lines_of_a_kind_are_a_second_apart,
+    refusals_are_logged_by_their_rules, what_is_gathered_is_logged_or_counted,
 };
 pub use logger::{Logger, taken_places};
 pub use names::{LogNames, NamedLine, NamedStation, name_of};

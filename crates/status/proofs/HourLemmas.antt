@@ -2,11 +2,11 @@
 use Rattle.std.proofs.Common.{◌≡◌, ℕ, ◌+◌, ◌-◌, ◌*◌, ◌<◌, ◌≤◌, ◌==◌, Bool, true, false, List, []}
 use Rattle.std.proofs.Common.{◌∷◌, ◌++◌, length, map, take, drop, reverse, Option, Some, None}
 use Rattle.std.proofs.Common.{suc, zero, ◌⊎◌, inl, inr, refl, sym, ap, ◌∙◌, subst, nat_le, arith}
-use Rattle.std.proofs.Common.{if◌then◌else◌, length-take, append_assoc}
+use Rattle.std.proofs.Common.{length-take}
 use Rattle.std.proofs.lemmas.Grind.{reverse_onto}
 use Rattle.std.proofs.lemmas.List.{reverse-append, length-reverse, take-append-drop, take-map}
 use Rattle.std.specs.List.{AllByRecursion}
-use Rattle.status.specs.Hour.{Samples, is_due, noted, with_room}
+use Rattle.status.specs.Hour.{Samples, noted, with_room}
 use Rattle.status.specs.LastHour.{QueueLook, after, GiveNumbers, NoLook, First, Minute, Within}
 use Rattle.status.specs.LastHour.{AreAnHourOld, AreClose, AreOfTheHour, IsLastHour}
 
@@ -29,13 +29,17 @@ one_longer (suc n) (x ∷ xs) =
 newest_kept : (xs : List ℕ) → with_room (reverse (take 60 xs)) ≡ reverse (take 59 xs)
 newest_kept xs =
     elim (one_longer 59 xs) [
-      | inl same ↦ rw same.0 (few_kept (reverse (take 59 xs)) (rw (length-reverse (take 59 xs)) (let few = same.1 in omega arith)))
+      | inl same ↦
+          rw same.0
+          (few_kept (reverse (take 59 xs)) (rw (length-reverse (take 59 xs)) (let few = same.1 in
+          omega arith)))
       | inr more ↦ rw more.1 (rw (reverse-append (take 59 xs) (more.0 ∷ []))
           (sixty_kept more.0 (reverse (take 59 xs)) (rw (length-reverse (take 59 xs)) more.2)))
     ]
   where
     few_kept : (ys : List ℕ) → length ys ≤ 59 → with_room ys ≡ ys
     few_kept ys few = let e : (length ys == 60) ≡ false = grind arith in rw e refl
+
     sixty_kept : (y : ℕ) (ys : List ℕ) → length ys ≡ 59 → with_room (y ∷ ys) ≡ ys
     sixty_kept y ys is = let e : (length (y ∷ ys) == 60) ≡ true = grind arith in rw e refl
 
@@ -77,7 +81,8 @@ given_after look looks (before ∷ numbered) given so =
       numbered = look ∷ before ∷ numbered;
       given = Minute look before looks numbered given (grind (arith, due));
       noted_so = ap (λ s. noted look.moment look.taken s) so
-          ∙ rw due (ap (λ ns. let s : Samples = record { numbers = ns; noted_ms = Some look.moment } in s)
+          ∙ rw due
+          (ap (λ ns. let s : Samples = record { numbers = ns; noted_ms = Some look.moment } in s)
           (one_more look (before ∷ numbered)));
     }
     by_minute false early = record {
@@ -122,9 +127,11 @@ far_older : (k age moment : ℕ) (looks : List QueueLook) → AreMinutesOlder mo
     → AllByRecursion (λ look. look.moment + age ≤ moment) (drop k looks)
 unfolding AreMinutesOlder
 far_older zero age moment [] all is = tt
-far_older zero age moment (look ∷ looks) (here, all) is = (omega (arith, here, is),
-    older looks 60000 age look.moment moment (far_older zero 60000 look.moment looks all refl)
-    (omega (arith, here, is)))
+far_older zero age moment (look ∷ looks) (here, all) is = (
+  omega (arith, here, is),
+  older looks 60000 age look.moment moment (far_older zero 60000 look.moment looks all refl)
+      (omega (arith, here, is)),
+)
 far_older (suc k) age moment [] all is = tt
 far_older (suc k) age moment (look ∷ looks) (here, all) is =
     older (drop k looks) (60000 * k + 60000) age look.moment moment
@@ -146,7 +153,8 @@ AreGapsOlder gap moment (look ∷ looks) =
 within_minute : (latest newest : QueueLook) (looks numbered : List QueueLook)
     → GiveNumbers (latest ∷ looks) (newest ∷ numbered) → latest.moment < newest.moment + 60000
 within_minute latest newest looks numbered (First look) = omega arith
-within_minute latest newest looks numbered (Minute look before others more given later) = omega arith
+within_minute latest newest looks numbered (Minute look before others more given later) =
+    omega arith
 within_minute latest newest looks numbered (Within look before others more given sooner) = sooner
 
 gaps_older : (gap : ℕ) (looks numbered : List QueueLook) (newest : QueueLook)
@@ -158,9 +166,9 @@ gaps_older gap looks numbered newest (Minute look before [] more given later) cl
     elim given [ ]
 gaps_older gap looks numbered newest (Minute look before (last ∷ others) more given later)
     (near, close) = (
-  let sooner = within_minute last before others more given in omega (arith, near, sooner),
-  gaps_older gap (last ∷ others) more before given close,
-)
+      let sooner = within_minute last before others more given in omega (arith, near, sooner),
+      gaps_older gap (last ∷ others) more before given close,
+    )
 gaps_older gap looks numbered newest (Within look before [] more given sooner) close =
     elim given [ ]
 gaps_older gap looks numbered newest (Within look before (last ∷ others) more given sooner)
@@ -177,7 +185,7 @@ near_older (suc k) gap moment latest sum age (look ∷ looks) (here, all) lt le 
     let more : gap * suc k ≡ gap * k + gap = grind arith in (
       omega (arith, here, lt, le, more),
       near_older k gap look.moment latest (sum + (60000 + gap)) age looks all
-      (omega (arith, here, lt)) (omega (arith, le, more)),
+          (omega (arith, here, lt)) (omega (arith, le, more)),
     )
 
 of_the_hour : (gap : ℕ) (looks numbered : List QueueLook) → GiveNumbers looks numbered
@@ -189,7 +197,7 @@ of_the_hour gap (latest ∷ looks) (newest ∷ numbered) given close =
     let sooner = within_minute latest newest looks numbered given in (
       omega (arith, sooner),
       near_older 59 gap newest.moment latest.moment 60000 (3600000 + 59 * gap) numbered
-      (gaps_older gap (latest ∷ looks) numbered newest given close) sooner (omega arith),
+          (gaps_older gap (latest ∷ looks) numbered newest given close) sooner (omega arith),
     )
 
 -- ---- The law

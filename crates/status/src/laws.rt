@@ -36,9 +36,9 @@ pub fn judgements_mean_what_they_say()
 
 /// The numbers of the last hour, after any looks at the queue, whatever their moments. The first
 /// look gives a number, and so does each that comes a minute or more after the one that gave the
-/// number before. The newest 60 of these are shown, in their order. So a number goes only once it is
-/// an hour older than the newest one. Where no two looks are further apart than a gap, none that is
-/// shown is as old as an hour and 59 such gaps.
+/// number before. The newest 60 of these are shown, in their order. So a number goes only once it
+/// is an hour older than the newest one. Where no two looks are further apart than a gap, none that
+/// is shown is as old as an hour and 59 such gaps.
 pub fn the_last_hour_has_a_number_a_minute()
     ensures { (looks : List QueueLook) → IsLastHour looks (after looks).numbers }
 {}
