@@ -6,3 +6,9 @@ pub mod RulesRead
 pub mod Worded
 pub mod Apart
 pub mod Waits
+pub mod RowLemmas
+pub mod Passings
+pub mod Connections
+pub mod ConnectionLines
+pub mod Walls
+pub mod Failures

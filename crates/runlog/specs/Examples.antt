@@ -1,5 +1,5 @@
 -- What the worked examples of the log speak of: lines, and those of a list of requests.
-use Rattle.std.specs.Prelude.{ℕ, List, [], ◌∷◌, ◌++◌, option_to_list, Some, None}
+use Rattle.std.specs.Prelude.{ℕ, List, [], ◌∷◌, ◌++◌, option_to_list, Some}
 use Rattle.ft12.specs.declared.frame.LinkSize.{LinkSize}
 use Rattle.ft12.specs.declared.frame.LinkSize.TheVariants.{One}
 use Rattle.asdu.specs.declared.sizes.CaSize.TheVariants as ca
@@ -8,7 +8,7 @@ use Rattle.asdu.specs.declared.sizes.IoaSize.TheVariants as ioa
 use Rattle.gateway.specs.Log.{LineOut}
 use Rattle.gateway.specs.declared.counts.Counts.{Counts}
 use Rattle.live.specs.declared.ends.Presence.{Presence}
-use Rattle.runlog.specs.Ends.{connection_opened, line_seen, new_connection}
+use Rattle.runlog.specs.Ends.{line_seen}
 use Rattle.runlog.specs.Exchange.{RequestWatch, new_exchange}
 use Rattle.runlog.specs.Gathering.{GatheringCall, Add, Look, nothing, added, line_of}
 use Rattle.runlog.specs.Stations.{asked, asking_of, new_station, station_asked, standing_of}
@@ -20,7 +20,6 @@ use Rattle.runlog.specs.declared.order.OrderKind.{OrderKind}
 use Rattle.runlog.specs.declared.order.Value.{Value}
 use Rattle.runlog.specs.declared.order.Order.{Order}
 use Rattle.runlog.specs.declared.stations.StationStanding.{StationStanding}
-use Rattle.runlog.specs.declared.ends.ConnectionWatch.{ConnectionWatch}
 use Rattle.runlog.specs.declared.ends.LineWatch.{LineWatch}
 use Rattle.runlog.specs.declared.note.LogLine.{LogLine}
 use Rattle.runlog.specs.declared.note.Note.{Note}
@@ -85,10 +84,6 @@ asked_before place = record (new_exchange 150) { before = Some place }
 abbrev pub counting : (mirrors spoilt : ℕ) → Counts
 counting mirrors spoilt =
     record { skipped = 0; mirrors = mirrors; lost = 0; spoilt = spoilt }
-
--- a connection, which is the first, has been open since 5 ms
-abbrev pub one_open : ConnectionWatch
-one_open = (connection_opened None 5 new_connection).0
 
 -- two commands (C_SC_NA_1 to objects 100 and 101, of common addresses 1 and 300) with an S frame
 -- between them, and the beginning of a third APDU behind them

@@ -4,6 +4,7 @@ pub mod OrderWords
 pub mod Wordings
 pub mod Notes
 pub mod Severities
+pub mod SeverityRows
 pub mod Ends
 pub mod Gathering
 pub mod Inbox
@@ -13,5 +14,6 @@ pub mod Waiting
 pub mod Exchange
 pub mod Watching
 pub mod Logging
+pub mod Passing
 pub mod Examples
 pub mod Names

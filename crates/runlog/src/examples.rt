@@ -5,16 +5,13 @@ ghost use Rattle.gateway.specs.declared.counts.Counts.{Counts};
 ghost use Rattle.live.specs.declared.ends.CutCause.TheVariants as cut;
 ghost use Rattle.live.specs.declared.ends.Presence.TheVariants.{Untried, Away, There, Receiving};
 ghost use Rattle.session.specs.declared.kinds.Close.TheVariants as close;
-ghost use Rattle.live.specs.declared.watched.Failure.TheVariants as failure;
-ghost use Rattle.live.specs.declared.watched.Notice.TheVariants as notices;
 ghost use Rattle.runlog.specs.Ends.{new_line, new_listener, new_connection, listener_seen};
-ghost use Rattle.runlog.specs.Ends.{connection_closed, connection_cut, connection_opened};
-ghost use Rattle.runlog.specs.Ends.{connection_sent, connection_started};
+ghost use Rattle.runlog.specs.Ends.{connection_sent};
 ghost use Rattle.asdu.specs.Sizes.{tcp};
 ghost use Rattle.command.specs.declared.refusal.Refusal.TheVariants as refusal;
 ghost use Rattle.runlog.specs.Examples.{at, lines_of_calls, lines_of_looks, lines_of_requests};
 ghost use Rattle.runlog.specs.Examples.{asked_before, counting, lines_of_mishaps, order};
-ghost use Rattle.runlog.specs.Examples.{one_open, standings_of, two_stations};
+ghost use Rattle.runlog.specs.Examples.{standings_of, two_stations};
 ghost use Rattle.runlog.specs.Exchange.{asked as request_sent, new_exchange};
 ghost use Rattle.runlog.specs.Gathering.{Add, Look};
 ghost use Rattle.runlog.specs.Orders.{order_of};
@@ -30,10 +27,7 @@ ghost use Rattle.runlog.specs.Stations.{address_of, asking_of, new_station, aske
 ghost use Rattle.runlog.specs.Stations.{standing_of};
 ghost use Rattle.runlog.specs.Traffic.{first_line};
 ghost use Rattle.runlog.specs.Watching.{Watching, counted, counts_noted, is_full, is_look_due};
-ghost use Rattle.runlog.specs.Watching.{failed, late_noted, wall_of};
-ghost use Rattle.runlog.specs.Logging.{line_of_notice};
-ghost use Rattle.runlog.specs.Severities.{number_of, severity_of};
-ghost use Rattle.runlog.specs.declared.severity.Severity.TheVariants as severity;
+ghost use Rattle.runlog.specs.Watching.{late_noted};
 ghost use Rattle.runlog.specs.declared.exchange.AwaitedAnswer.TheVariants.{Poll};
 ghost use Rattle.runlog.specs.declared.fate.Mishap.TheVariants as mishap;
 ghost use Rattle.runlog.specs.declared.note.Note.TheVariants as note;
@@ -173,91 +167,6 @@ pub fn log_lines_by_example()
       places = 6;
       connections = 7;
     })) ≡ codes "counts skipped 1 mirrors 2 lost 3 spoilt 4 taken 5 of 6 connections 7" }
-{}
-
-/// What is logged and known of connections: each is counted, and known from its moment on, also one
-/// that comes while another is open. A cut ends it, and a close, but not the close of the one whose
-/// place it took. Data transfer runs from STARTDT con to STOPDT con, on an open connection alone.
-pub fn connections_by_example()
-    ensures opened { ((connection_opened None 5 new_connection).1 ≡ Some (at 5 (note.Opened None)))
-        × ((connection_opened None 5 new_connection).0.count ≡ 1)
-        × ((connection_opened None 5 new_connection).0.opening
-        ≡ Some (record { since = 5; is_started = false })) }
-    ensures another { ((connection_opened None 9000 one_open).1
-        ≡ Some (at 9000 (note.Opened None)))
-        × ((connection_opened None 9000 one_open).0.count ≡ 2)
-        × ((connection_opened None 9000 one_open).0.opening
-        ≡ Some (record { since = 9000; is_started = false })) }
-    ensures cut { ((connection_cut cut.NotTaken 9 one_open).1
-        ≡ Some (at 9 (note.Cut cut.NotTaken)))
-        × ((connection_cut cut.NotTaken 9 one_open).0.opening ≡ None)
-        × ((connection_cut cut.NotTaken 9 one_open).0.count ≡ 1) }
-    ensures closed { ((connection_closed close.Timeout 9 one_open).1
-        ≡ Some (at 9 (note.Closed close.Timeout)))
-        × ((connection_closed close.Timeout 9 one_open).0.opening ≡ None)
-        × ((connection_closed close.Replaced 9 one_open).1
-        ≡ Some (at 9 (note.Closed close.Replaced)))
-        × ((connection_closed close.Replaced 9 one_open).0.opening ≡ one_open.opening) }
-    ensures transfer { ((connection_sent (0x68 ∷ 0x04 ∷ 0x0B ∷ 0x00 ∷ 0x00 ∷ 0x00 ∷ []) 9
-        one_open).0.opening ≡ Some (record { since = 5; is_started = true }))
-        × ((connection_sent (0x68 ∷ 0x04 ∷ 0x23 ∷ 0x00 ∷ 0x00 ∷ 0x00 ∷ []) 9
-        (connection_started 7 one_open).0).0.opening
-        ≡ Some (record { since = 5; is_started = false }))
-        × ((connection_sent (0x68 ∷ 0x04 ∷ 0x0B ∷ 0x00 ∷ 0x00 ∷ 0x00 ∷ []) 9
-        new_connection).0.opening ≡ None) }
-{}
-
-/// What is logged where a run has ended for a failure, and of the state on the disk; and what the
-/// wall clock shows at the moment of the latest event, by what it showed when it was given last.
-pub fn failures_and_walls_by_example()
-    ensures line { (w : Watching) → (failed (Some failure.Line) (record w {
-      moment = 7;
-      line = new_line;
-    })).1 ≡ Some (at 7 note.LineNotThere) }
-    ensures state { (w : Watching) → (failed (Some failure.State) (record w { moment = 7 })).1
-        ≡ Some (at 7 (note.Trouble trouble.StateUnusable)) }
-    ensures none { (w : Watching) → failed None w ≡ (w, None) }
-    ensures notices { (w : Watching) → (line_of_notice (Some notices.NotKept)
-        (record w { moment = 7 }) ≡ Some (at 7 (note.State notices.NotKept)))
-        × (line_of_notice (Some notices.KeptAgain) (record w { moment = 7 })
-        ≡ Some (at 7 (note.State notices.KeptAgain)))
-        × (line_of_notice None w ≡ None) }
-    ensures wall { (w : Watching) → (wall_of (record w {
-      moment = 7500;
-      wall = Some (record { moment = 7000; shown = 100 });
-    }) ≡ Some 600) × (wall_of (record w { wall = None }) ≡ None) }
-{}
-
-/// How severe lines are, by syslog's numbers (RFC 5424, 6.2.1), as docs/TEXTS.md has them.
-pub fn severities_by_example()
-    ensures numbers { (number_of severity.Error ≡ 3) × (number_of severity.Warning ≡ 4)
-        × (number_of severity.Notice ≡ 5) × (number_of severity.Info ≡ 6) }
-    ensures errors { (severity_of note.LineLost ≡ severity.Error)
-        × (severity_of note.LineNotThere ≡ severity.Error)
-        × (severity_of (note.Gap 7) ≡ severity.Error)
-        × (severity_of note.QueueFull ≡ severity.Error)
-        × (severity_of note.StatePutAside ≡ severity.Error)
-        × (severity_of (note.State notices.NotKept) ≡ severity.Error)
-        × (severity_of (note.Trouble trouble.StateUnusable) ≡ severity.Error) }
-    ensures warnings { (severity_of (note.Cut cut.Gone) ≡ severity.Warning)
-        × (severity_of (note.Closed close.Timeout) ≡ severity.Warning)
-        × (severity_of (note.RefusedPeers 1 None) ≡ severity.Warning)
-        × (severity_of (note.Silent 7) ≡ severity.Warning)
-        × (severity_of (note.Down 7) ≡ severity.Warning)
-        × (severity_of note.StateStale ≡ severity.Warning)
-        × (severity_of (note.Skipped 7 1 skip.TypeUnknown) ≡ severity.Warning)
-        × (severity_of (note.MirrorDropped 7) ≡ severity.Warning)
-        × (severity_of (note.Spoilt 7) ≡ severity.Warning)
-        × (severity_of (note.Late 7) ≡ severity.Warning) }
-    ensures commands { (severity_of (note.Refused (order 45 act.Execute 1 7 value.On) None
-        (reason.Rule refusal.NotSelected)) ≡ severity.Warning)
-        × (severity_of (note.Ordered (order 45 act.Execute 1 7 value.On) None) ≡ severity.Info)
-        × (severity_of (note.Fate (order 45 act.Execute 1 7 value.On) 7 fate.Denied)
-        ≡ severity.Warning)
-        × (severity_of (note.Fate (order 45 act.Execute 1 7 value.On) 7 fate.GivenUp)
-        ≡ severity.Warning)
-        × (severity_of (note.Fate (order 45 act.Execute 1 7 value.On) 7 fate.Confirmed)
-        ≡ severity.Info) }
 {}
 
 /// What lines say of commands: by the octets of an ASDU (IEC 60870-5-101, 7.2.6 and 7.3.2), and in

@@ -17,6 +17,9 @@ ghost use Rattle.runlog.specs.declared.order.Order.{Order};
 ghost use Rattle.runlog.specs.Gathering.{GatheringCall, added, line_of, lines_in};
 ghost use Rattle.runlog.specs.Gathering.{left_in as gathered_after, added_in, count_of};
 ghost use Rattle.runlog.specs.Limits.{is_free};
+ghost use Rattle.runlog.specs.Severities.{number_of, severity_of};
+ghost use Rattle.runlog.specs.SeverityRows.{HasRow};
+ghost use Rattle.runlog.specs.declared.severity.Severity.TheVariants as severity;
 ghost use Rattle.runlog.specs.declared.gathered.Gathered.{Gathered};
 ghost use Rattle.runlog.specs.declared.limit.Limit.{Limit};
 ghost use Rattle.runlog.specs.declared.note.Note.{Note};
@@ -69,4 +72,15 @@ pub fn refusals_are_logged_by_their_rules()
         ≡ Some (order_words o ++ peer_words peer ++ codes " refused: " ++ why) }
     ensures apart { (a b : Refusal) → age_of a < 2 ^ 64 → age_of b < 2 ^ 64 →
         rule_words a ≡ rule_words b → in_seconds a ≡ in_seconds b }
+{}
+
+/// Each line has exactly one severity, that of its row in the operator's table (docs/TEXTS.md),
+/// whatever else it says. The numbers are syslog's (RFC 5424, 6.2.1): 3 error, 4 warning, 5 notice,
+/// 6 informational.
+pub fn each_line_has_the_severity_of_its_row()
+    ensures numbers { (number_of severity.Error ≡ 3) × (number_of severity.Warning ≡ 4)
+        × (number_of severity.Notice ≡ 5) × (number_of severity.Info ≡ 6) }
+    ensures row { (n : Note) → HasRow n (number_of (severity_of n)) }
+    ensures one { (n : Note) (number : ℕ) → HasRow n number →
+        number ≡ number_of (severity_of n) }
 {}

@@ -17,21 +17,29 @@
 //! logged, or counted by a later line ([`what_is_gathered_is_logged_or_counted`]); by which rule a
 //! command is refused is the judgement's own (`command::Commands::refusal_at`), and each rule has
 //! its own words ([`refusals_are_logged_by_their_rules`]); a sink that takes no line any more ends
-//! the log, and nothing else; how severe each line is ([`Note::severity`]); the words of each line,
-//! and the name behind them ([`NamedLine`]). Of all this there are literal examples
-//! ([`stations_by_example`], [`standings_by_example`], [`commands_by_example`],
-//! [`moments_by_example`], [`connections_by_example`], [`failures_and_walls_by_example`],
-//! [`severities_by_example`], [`late_answers_by_example`], [`log_lines_by_example`],
-//! [`each_word_by_example`], [`each_severity_by_example`]). What becomes of a command, and each
+//! the log, and nothing else; how severe each line is ([`Note::severity`],
+//! [`each_line_has_the_severity_of_its_row`]); the words of each line, and the name behind them
+//! ([`NamedLine`]). Of all this there are literal examples ([`stations_by_example`],
+//! [`standings_by_example`], [`commands_by_example`], [`moments_by_example`],
+//! [`late_answers_by_example`], [`log_lines_by_example`], [`each_word_by_example`]).
+//!
+//! Which connection is open is known, whatever passes
+//! ([`connections_are_known_from_their_opening_to_their_end`]), and each step of one is logged, or
+//! counted by a later line ([`each_step_of_a_connection_is_logged_or_counted`]). A line is logged
+//! where it goes and where it is back ([`a_line_is_logged_where_it_goes_and_where_it_is_back`]), and
+//! what has failed at the end ([`failures_are_logged_at_the_end`]). The wall clock is shown as it
+//! goes on ([`the_wall_clock_goes_on_between_its_events`]). What becomes of a command, and each
 //! mishap, is logged for the station that it befell ([`what_becomes_of_commands_is_logged`]), and
 //! nothing that may be logged waits ([`nothing_waits_that_may_be_logged`]). That a line's UTC time
 //! is right, and what standard error does with it, is no matter of a proof.
 #![tactic(auto)]
 
+mod connection_laws;
 mod content;
 mod ends;
 mod examples;
 mod exchange;
+mod failure_laws;
 mod fate;
 mod fate_laws;
 mod gathered;
@@ -52,12 +60,18 @@ mod traffic;
 mod watch;
 mod word_examples;
 
+pub use connection_laws::{
+    connections_are_known_from_their_opening_to_their_end,
+    each_step_of_a_connection_is_logged_or_counted, the_wall_clock_goes_on_between_its_events,
+};
 pub use content::Skip;
 pub use ends::OpenConnection;
 pub use examples::{
-    commands_by_example, connections_by_example, failures_and_walls_by_example,
-    late_answers_by_example, log_lines_by_example, moments_by_example, severities_by_example,
+    commands_by_example, late_answers_by_example, log_lines_by_example, moments_by_example,
     standings_by_example, stations_by_example,
+};
+pub use failure_laws::{
+    a_line_is_logged_where_it_goes_and_where_it_is_back, failures_are_logged_at_the_end,
 };
 pub use fate::{CommandFate, Reason};
 pub use fate_laws::{
@@ -66,8 +80,8 @@ pub use fate_laws::{
     what_becomes_of_commands_is_logged,
 };
 pub use laws::{
-    lines_of_a_kind_are_a_second_apart, refusals_are_logged_by_their_rules,
-    what_is_gathered_is_logged_or_counted,
+    each_line_has_the_severity_of_its_row, lines_of_a_kind_are_a_second_apart,
+    refusals_are_logged_by_their_rules, what_is_gathered_is_logged_or_counted,
 };
 pub use logger::{Logger, taken_places};
 pub use names::{LogNames, NamedLine, NamedStation, name_of};
@@ -79,4 +93,4 @@ pub use sink::{LogSink, StandardError};
 pub use stations::{StationStanding, StationWatch};
 pub use traffic::Traffic;
 pub use watch::Watch;
-pub use word_examples::{each_severity_by_example, each_word_by_example};
+pub use word_examples::each_word_by_example;

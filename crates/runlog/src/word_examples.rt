@@ -1,4 +1,4 @@
-//! The words of lines, and how severe they are, word by word (docs/TEXTS.md).
+//! The words of lines, word by word (docs/TEXTS.md).
 ghost use Rattle.std.specs.Prelude.{◌≡◌, ◌++◌, [], ℕ, codes, Option, Some};
 ghost use Rattle.std.specs.Net.Text.{ip_text, socket_text};
 ghost use Rattle.std.specs.declared.net.ip_addr.IpAddr.{IpAddr};
@@ -64,34 +64,4 @@ pub fn each_word_by_example()
         × (peer_words (Some a) ≡ codes " by " ++ ip_text a)
         × (words (note.Opened (Some a)) ≡ codes "connection opened" ++ peer_words (Some a))
         × (last_words (Some a) ≡ codes ", the last at " ++ ip_text a) }
-{}
-
-/// How severe the lines are of which `severities_by_example` says nothing, whatever else they say:
-/// with these each line has its severity.
-pub fn each_severity_by_example()
-    ensures notices { (n : ℕ) → (severity_of note.LineReached ≡ Notice)
-        × (severity_of note.LineReachedAgain ≡ Notice) × (severity_of (note.Up n) ≡ Notice)
-        × (severity_of (note.Again n) ≡ Notice) × (severity_of note.QueueFree ≡ Notice)
-        × (severity_of note.StateBegins ≡ Notice) × (severity_of (note.StateGoesOn n) ≡ Notice)
-        × (severity_of note.SettingsChanged ≡ Notice)
-        × (severity_of (note.State notices.KeptAgain) ≡ Notice) }
-    ensures information { (n : ℕ) (peer : Option IpAddr) (s : SocketAddr) (c : RunCounts)
-        (o : Order) → (severity_of (note.Listening s) ≡ Info)
-        × (severity_of (note.Opened peer) ≡ Info) × (severity_of note.Started ≡ Info)
-        × (severity_of note.Stopped ≡ Info) × (severity_of (note.Asked n) ≡ Info)
-        × (severity_of (note.Counts c) ≡ Info) × (severity_of (note.Ordered o peer) ≡ Info)
-        × (severity_of (note.Fate o n fate.Sent) ≡ Info)
-        × (severity_of (note.Fate o n fate.Confirmed) ≡ Info)
-        × (severity_of (note.Fate o n fate.Terminated) ≡ Info) }
-    ensures warnings { (n kind : ℕ) (peer : Option IpAddr) (o : Order) (cut : CutCause)
-        (close : Close) (why : Reason) (skipped : Skip) →
-        (severity_of (note.Cut cut) ≡ Warning) × (severity_of (note.Closed close) ≡ Warning)
-        × (severity_of (note.RefusedPeers n peer) ≡ Warning)
-        × (severity_of (note.Refused o peer why) ≡ Warning)
-        × (severity_of (note.Fate o n fate.Denied) ≡ Warning)
-        × (severity_of (note.Fate o n fate.Busy) ≡ Warning)
-        × (severity_of (note.Fate o n fate.GivenUp) ≡ Warning)
-        × (severity_of (note.Skipped n kind skipped) ≡ Warning) }
-    ensures errors { (n : ℕ) (why : Trouble) → (severity_of (note.Trouble why) ≡ Error)
-        × (severity_of (note.Gap n) ≡ Error) }
 {}

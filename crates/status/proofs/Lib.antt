@@ -5,3 +5,4 @@ pub mod JudgeLaws
 pub mod VisitLemmas
 pub mod ReadingLemmas
 pub mod PageLemmas
+pub mod HourLemmas

@@ -3,6 +3,7 @@ pub mod Hour
 pub mod Html
 pub mod Json
 pub mod Judge
+pub mod LastHour
 pub mod Law
 pub mod Labels
 pub mod Metrics

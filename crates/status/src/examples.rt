@@ -1,7 +1,6 @@
 //! Texts by worked examples: literal octets and words.
 ghost use Rattle.std.specs.Prelude.{◌≡◌, ◌∷◌, ◌++◌, [], codes, true, false, Some, None};
 ghost use Rattle.status.specs.Answer.{head_text};
-ghost use Rattle.status.specs.Hour.{noted};
 ghost use Rattle.status.specs.Json.{json_before_hour, json_before_peer, json_before_stations};
 ghost use Rattle.status.specs.Json.{json_of_station};
 ghost use Rattle.status.specs.Html as html;
@@ -67,10 +66,6 @@ pub fn answers_by_example()
         × (is_lost (record { is_there = true; since_ms = 40 }) 99999 ≡ false) }
     ensures plot { (depth 100 0 ≡ 100) × (depth 100 25 ≡ 75) × (depth 100 400 ≡ 0)
         × (depth 0 5 ≡ 100) }
-    ensures hour { (noted 60000 7 (record { numbers = 3 ∷ []; noted_ms = Some 0 })
-        ≡ record { numbers = 3 ∷ 7 ∷ []; noted_ms = Some 60000 })
-        × (noted 59999 7 (record { numbers = 3 ∷ []; noted_ms = Some 0 })
-        ≡ record { numbers = 3 ∷ []; noted_ms = Some 0 }) }
 {}
 
 /// Which number stands under which name, in JSON and for Prometheus: of a station, and of all

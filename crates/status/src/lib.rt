@@ -14,10 +14,10 @@
 //! it distinguishes a request that isn't whole, one that is too long, and what is none. Who comes
 //! has a seat where one is free. A visitor is sent the page that he asked for, whole and once,
 //! whatever others do ([`visitors_are_sent_what_they_asked_for`]). After a turn nobody has been
-//! there for two seconds. A page goes out whole or not at all
-//! ([`a_text_stands_whole_or_not_at_all`]). Of
-//! escapes, ages, answers and the judgement there are literal examples ([`texts_by_example`],
-//! [`answers_by_example`]).
+//! there for two seconds. The last hour has a number a minute
+//! ([`the_last_hour_has_a_number_a_minute`]). A page goes out whole or not at all
+//! ([`a_text_stands_whole_or_not_at_all`]). Of escapes, ages, answers and the judgement there are
+//! literal examples ([`texts_by_example`], [`answers_by_example`]).
 //!
 //! Tested alone: that the largest pages find room, that streams are read and written at all, and
 //! what browsers and monitors make of a page (checks/status.py).
@@ -51,7 +51,7 @@ pub use hour::Hour;
 pub use judging::{Judgement, judge};
 pub use laws::{
     a_text_stands_whole_or_not_at_all, judgements_mean_what_they_say,
-    visitors_are_sent_what_they_asked_for,
+    the_last_hour_has_a_number_a_minute, visitors_are_sent_what_they_asked_for,
 };
 pub use reading_laws::{
     lists_have_each_thing, numbers_stand_under_their_names, texts_are_read_back,

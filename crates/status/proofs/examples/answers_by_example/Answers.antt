@@ -20,6 +20,3 @@ returns-clause-line c = (refl, refl, refl)
 
 pub returns-clause-plot : goal.returns-clause-plot
 returns-clause-plot c = (refl, refl, refl, refl)
-
-pub returns-clause-hour : goal.returns-clause-hour
-returns-clause-hour c = (refl, refl)

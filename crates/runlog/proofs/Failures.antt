@@ -1,0 +1,145 @@
+-- Where it is logged that the line goes, and that it is back.
+use Rattle.std.proofs.Common.{◌≡◌, ℕ, ◌+◌, ◌-◌, ◌<◌, ◌≤◌, Bool, true, false, Option, Some, None}
+use Rattle.std.proofs.Common.{refl}
+use Rattle.std.proofs.Common.{ap, ◌∙◌, nat_le, arith}
+use Rattle.std.specs.Prelude.{if◌then◌else◌}
+use Rattle.live.specs.declared.ends.Presence.TheVariants as presence
+use Rattle.runlog.specs.Ends.{line_by, line_change, line_changed, line_logged, line_seen}
+use Rattle.runlog.specs.Ends.{line_seen_so, presence_noted, seen_as}
+use Rattle.runlog.specs.Limits.{IsSecondAfter, asked_by, is_free_after, is_minute_after}
+use Rattle.runlog.specs.declared.ends.LineLogged.{LineLogged}
+use Rattle.runlog.specs.declared.ends.LineLogged.TheVariants as logged
+use Rattle.runlog.specs.declared.ends.LineWatch.{LineWatch}
+use Rattle.runlog.specs.declared.limit.Limit.{Limit}
+use Rattle.runlog.specs.declared.note.LogLine.{LogLine}
+use Rattle.runlog.specs.declared.note.Note.{Note}
+use Rattle.runlog.specs.declared.note.Note.TheVariants as note
+
+free_after : (before : Option ℕ) (now : ℕ) → IsSecondAfter before now
+    → is_free_after before now ≡ true
+free_after None now is = refl
+free_after (Some before) now is = let le : before + 1000 ≤ now = is in grind (arith, le)
+
+away_so : (b : Bool) → seen_as b presence.Away ≡ presence.Away
+away_so true = refl
+away_so false = refl
+
+receiving_so : (b : Bool) → seen_as b presence.Receiving ≡ presence.Receiving
+receiving_so true = refl
+receiving_so false = refl
+
+-- what is asked of a limit
+abbrev line_asked : Bool → Note → Limit → ℕ → Limit × Option LogLine
+line_asked b what l now =
+    if b then ((asked_by b l now).0, line_by what now (asked_by b l now).1) else (l, None)
+
+-- it is answered where a second has passed
+line_of_away : (so : LineLogged) (what : Note) (now : ℕ) (w : LineWatch)
+    → IsSecondAfter w.away.logged now
+    → (line_changed (Some (so, what)) true now w).1
+    ≡ Some (record { moment = now; note = what; left_out = w.away.left_out })
+line_of_away so what now w second = ap (λ b. (line_logged so (line_asked b what w.away now).1
+    (record w { away = (line_asked b what w.away now).0 })).1)
+    (free_after w.away.logged now second)
+
+line_of_there : (so : LineLogged) (what : Note) (now : ℕ) (w : LineWatch)
+    → IsSecondAfter w.there.logged now
+    → (line_changed (Some (so, what)) false now w).1
+    ≡ Some (record { moment = now; note = what; left_out = w.there.left_out })
+line_of_there so what now w second = ap (λ b. (line_logged so (line_asked b what w.there now).1
+    (record w { there = (line_asked b what w.there now).0 })).1)
+    (free_after w.there.logged now second)
+
+-- the line of a look at which it is away, by what was logged of it last
+away_look : (so : LineLogged) (now : ℕ) (w : LineWatch) → w.logged ≡ so
+    → (line_seen presence.Away now w).1
+    ≡ (line_changed (line_change so presence.Away (is_minute_after w.away.logged now)) true now
+    (presence_noted presence.Away now w)).1
+away_look so now w is =
+    ap (λ p. (line_seen_so p now w).1) (away_so w.is_receiving)
+    ∙ ap (λ l. (line_changed (line_change l presence.Away (is_minute_after w.away.logged now)) true
+    now (presence_noted presence.Away now w)).1) is
+
+-- and of one at which octets have come
+there_look : (so : LineLogged) (now : ℕ) (w : LineWatch) → w.logged ≡ so
+    → (line_seen presence.Receiving now w).1
+    ≡ (line_changed (line_change so presence.Receiving (is_minute_after w.away.logged now)) false
+    now (presence_noted presence.Receiving now w)).1
+there_look so now w is =
+    ap (λ p. (line_seen_so p now w).1) (receiving_so w.is_receiving)
+    ∙ ap (λ l. (line_changed (line_change l presence.Receiving
+    (is_minute_after w.away.logged now)) false now (presence_noted presence.Receiving now w)).1) is
+
+pub lost_so : (w : LineWatch) (now : ℕ) → w.logged ≡ logged.There
+    → IsSecondAfter w.away.logged now
+    → (line_seen presence.Away now w).1
+    ≡ Some (record { moment = now; note = note.LineLost; left_out = w.away.left_out })
+lost_so w now is second =
+    away_look logged.There now w is
+    ∙ line_of_away logged.Lost note.LineLost now (presence_noted presence.Away now w) second
+
+pub first_so : (w : LineWatch) (now : ℕ) → w.logged ≡ logged.Nothing
+    → IsSecondAfter w.away.logged now
+    → (line_seen presence.Away now w).1
+    ≡ Some (record { moment = now; note = note.LineNotThere; left_out = w.away.left_out })
+first_so w now is second =
+    away_look logged.Nothing now w is
+    ∙ line_of_away logged.NotThere note.LineNotThere now (presence_noted presence.Away now w) second
+
+pub back_so : (w : LineWatch) (now : ℕ) → w.logged ≡ logged.Lost
+    → IsSecondAfter w.there.logged now
+    → (line_seen presence.Receiving now w).1
+    ≡ Some (record { moment = now; note = note.LineReachedAgain; left_out = w.there.left_out })
+back_so w now is second =
+    there_look logged.Lost now w is
+    ∙ line_of_there logged.There note.LineReachedAgain now
+    (presence_noted presence.Receiving now w) second
+
+pub reached_so : (w : LineWatch) (now : ℕ) → w.logged ≡ logged.NotThere
+    → IsSecondAfter w.there.logged now
+    → (line_seen presence.Receiving now w).1
+    ≡ Some (record { moment = now; note = note.LineReached; left_out = w.there.left_out })
+reached_so w now is second =
+    there_look logged.NotThere now w is
+    ∙ line_of_there logged.There note.LineReached now
+    (presence_noted presence.Receiving now w) second
+
+no_minute : (now before : ℕ) (o : Option ℕ) → o ≡ Some before → now < before + 60000
+    → is_minute_after o now ≡ false
+no_minute now before o is lt = ap (λ o. is_minute_after o now) is ∙ not_yet
+  where
+    not_yet : nat_le 60000 (now - before) ≡ false
+    not_yet = grind (arith, lt)
+
+pub between_so : (w : LineWatch) (now before : ℕ) → w.logged ≡ logged.Lost
+    → w.away.logged ≡ Some before → now < before + 60000
+    → (line_seen presence.Away now w).1 ≡ None
+between_so w now before is last lt =
+    away_look logged.Lost now w is
+    ∙ ap (λ m. (line_changed (line_change logged.Lost presence.Away m) true now
+    (presence_noted presence.Away now w)).1)
+    (no_minute now before w.away.logged last lt)
+
+a_minute : (now before : ℕ) (o : Option ℕ) → o ≡ Some before → before + 60000 ≤ now
+    → is_minute_after o now ≡ true
+a_minute now before o is le = ap (λ o. is_minute_after o now) is ∙ passed
+  where
+    passed : nat_le 60000 (now - before) ≡ true
+    passed = grind (arith, le)
+
+second_of : (now before : ℕ) (o : Option ℕ) → o ≡ Some before → before + 60000 ≤ now
+    → IsSecondAfter o now
+second_of now before None is le = cc
+second_of now before (Some logged) is le = let e : logged ≡ before = cc in omega (arith, e, le)
+
+pub still_so : (w : LineWatch) (now before : ℕ) → w.logged ≡ logged.Lost
+    → w.away.logged ≡ Some before → before + 60000 ≤ now
+    → (line_seen presence.Away now w).1
+    ≡ Some (record { moment = now; note = note.LineNotThere; left_out = w.away.left_out })
+still_so w now before is last le =
+    away_look logged.Lost now w is
+    ∙ ap (λ m. (line_changed (line_change logged.Lost presence.Away m) true now
+    (presence_noted presence.Away now w)).1)
+    (a_minute now before w.away.logged last le)
+    ∙ line_of_away logged.Lost note.LineNotThere now (presence_noted presence.Away now w)
+    (second_of now before w.away.logged last le)

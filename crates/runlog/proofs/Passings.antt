@@ -1,0 +1,226 @@
+-- What passes a run and has nothing of its connections: these stay as they are, and what the wall
+-- clock showed, and the moment.
+use Rattle.std.proofs.Common.{◌≡◌, ℕ, ◌-◌, ◌==◌, Bool, true, false, List, Option, Some, None}
+use Rattle.std.proofs.Common.{refl, ◌∙◌, nat_lt}
+use Rattle.std.specs.Prelude.{slice_get, if◌then◌else◌, is_some}
+use Rattle.gateway.specs.State.{State, counts_of}
+use Rattle.gateway.specs.declared.counts.Counts.{Counts}
+use Rattle.link.specs.declared.answer.Answer.{Answer}
+use Rattle.live.specs.declared.watched.EndsSight.{EndsSight}
+use Rattle.runlog.specs.Ends.{line_seen}
+use Rattle.runlog.specs.Exchange as exchange
+use Rattle.runlog.specs.Exchange.{answer_in}
+use Rattle.runlog.specs.Stations as stations
+use Rattle.runlog.specs.Inbox as inbox
+use Rattle.runlog.specs.Inbox.{Inbox}
+use Rattle.runlog.specs.Logging.{looked, looked_if_due, taken_in}
+use Rattle.runlog.specs.Watching as watching
+use Rattle.runlog.specs.Watching.{Watching, unless_logged, seen, with_line, answered_by}
+use Rattle.runlog.specs.Watching.{answer_noted_by, answer_noted_at, line_received, received}
+use Rattle.runlog.specs.Watching.{suffered_by, suffered_at, suffered_if, counts_noted, late_noted}
+use Rattle.runlog.specs.Watching.{as_late, sent_by, sent_at, asked, is_repeat, judged}
+use Rattle.runlog.specs.Watching.{unless_queue, counted, looked_at, is_look_due, queue_seen}
+use Rattle.runlog.specs.Watching.{unless_inbox, gathered, unless_line}
+use Rattle.runlog.specs.declared.ends.LineWatch.{LineWatch}
+use Rattle.runlog.specs.declared.exchange.AwaitedAnswer.{AwaitedAnswer}
+use Rattle.runlog.specs.declared.exchange.AwaitedAnswer.TheVariants as awaited
+use Rattle.runlog.specs.declared.fate.Mishap.{Mishap}
+use Rattle.runlog.specs.declared.fate.Mishap.TheVariants as mishap
+use Rattle.runlog.specs.declared.note.LogLine.{LogLine}
+use Rattle.runlog.specs.declared.queue.QueueWatch.{QueueWatch}
+use Rattle.runlog.specs.declared.traffic.Traffic.{Traffic}
+
+pub record Same (a b : Watching) : Type 0 where
+  pub connection : a.connection ≡ b.connection
+  pub wall : a.wall ≡ b.wall
+  pub moment : a.moment ≡ b.moment
+
+pub same : (w : Watching) → Same w w
+same w = record { connection = refl; wall = refl; moment = refl }
+
+then_same : (a b c : Watching) → Same a b → Same b c → Same a c
+then_same a b c x y = record {
+  connection = x.connection ∙ y.connection;
+  wall = x.wall ∙ y.wall;
+  moment = x.moment ∙ y.moment;
+}
+
+-- ---- Events
+
+unless_logged_same : (s : EndsSight) (x : LineWatch × Option LogLine) (w : Watching)
+    → Same (unless_logged s (with_line x w)).0 w
+unless_logged_same s (l, Some line) w = record { connection = refl; wall = refl; moment = refl }
+unless_logged_same s (l, None) w = record { connection = refl; wall = refl; moment = refl }
+
+pub seen_same : (s : EndsSight) (w : Watching) → Same (seen s w).0 w
+seen_same s w = unless_logged_same s (line_seen s.line w.moment w.line) w
+
+suffered_by_same : (t : Option Traffic) (place : ℕ) (what : Mishap) (w : Watching)
+    → Same (suffered_by t place what w) w
+suffered_by_same None place what w = same w
+suffered_by_same (Some t) place what w = record { connection = refl; wall = refl; moment = refl }
+
+suffered_at_same : (place : Option ℕ) (what : Mishap) (w : Watching)
+    → Same (suffered_at place what w) w
+suffered_at_same None what w = same w
+suffered_at_same (Some place) what w = suffered_by_same (slice_get w.traffic place) place what w
+
+late_same_by : (b : Bool) (late : ℕ) (place : Option ℕ) (w : Watching)
+    → Same (as_late late (if b then suffered_at place mishap.Late w else w)) w
+late_same_by true late place w = let x = suffered_at_same place mishap.Late w in
+    record { connection = x.connection; wall = x.wall; moment = x.moment }
+late_same_by false late place w = record { connection = refl; wall = refl; moment = refl }
+
+pub late_same : (late : ℕ) (w : Watching) → Same (late_noted late w) w
+late_same late w = late_same_by (nat_lt w.late late) late w.exchange.overdue w
+
+suffered_if_same : (b : Bool) (what : Mishap) (w : Watching) → Same (suffered_if b what w) w
+suffered_if_same true what w = suffered_at_same w.exchange.before what w
+suffered_if_same false what w = same w
+
+counts_same : (counts : Counts) (w : Watching) → Same (counts_noted counts w) w
+unfolding counts_noted
+counts_same counts w =
+    let a = suffered_if (nat_lt w.seen.lost counts.lost) mishap.GivenUp w in
+    let b = suffered_if (nat_lt w.seen.mirrors counts.mirrors) mishap.MirrorDropped a in
+    let x = suffered_if_same (nat_lt w.seen.lost counts.lost) mishap.GivenUp w in
+    let y = suffered_if_same (nat_lt w.seen.mirrors counts.mirrors) mishap.MirrorDropped a in
+    let z = suffered_if_same (nat_lt w.seen.spoilt counts.spoilt) mishap.Spoilt b in record {
+      connection = z.connection ∙ y.connection ∙ x.connection;
+      wall = z.wall ∙ y.wall ∙ x.wall;
+      moment = z.moment ∙ y.moment ∙ x.moment;
+    }
+
+answered_same : (a : Option (Option Answer)) (t : Traffic) (place : ℕ) (w : Watching)
+    → Same (answered_by a t place w) w
+answered_same None t place w = same w
+answered_same (Some answer) t place w = record { connection = refl; wall = refl; moment = refl }
+
+answer_noted_same : (t : Option Traffic) (place : ℕ) (w : Watching)
+    → Same (answer_noted_by t place w) w
+answer_noted_same None place w = same w
+answer_noted_same (Some t) place w =
+    answered_same (answer_in w.link t.address w.exchange) t place w
+
+answer_at_same : (place : Option ℕ) (w : Watching) → Same (answer_noted_at place w) w
+answer_at_same None w = same w
+answer_at_same (Some place) w = answer_noted_same (slice_get w.traffic place) place w
+
+pub line_received_same : (octets : List ℕ) (w : Watching) → Same (line_received octets w) w
+line_received_same octets w =
+    let v : Watching = record w { exchange = exchange.received octets w.exchange } in
+    let x = answer_at_same w.exchange.place v in
+    record { connection = x.connection; wall = x.wall; moment = x.moment }
+
+received_by : (b : Bool) (v w : Watching) → Same v w → Same (if b then v else w) w
+received_by true v w x = x
+received_by false v w x = same w
+
+pub received_same : (octets : List ℕ) (w : Watching) → Same (received octets w) w
+received_same octets w = received_by (is_some w.connection.opening)
+    (record w { inbox = inbox.received octets w.inbox }) w
+    (record { connection = refl; wall = refl; moment = refl })
+
+-- ---- Actions
+
+sent_by_so : (b : Bool) (w : Watching) (traffic : List Traffic)
+    → Same (if b then w else record w { traffic = traffic }) w
+sent_by_so true w traffic = same w
+sent_by_so false w traffic = record { connection = refl; wall = refl; moment = refl }
+
+sent_by_same : (t : Option Traffic) (place : ℕ) (octets : List ℕ) (w : Watching)
+    → Same (sent_by t place octets w) w
+sent_by_same None place octets w = same w
+sent_by_same (Some t) place octets w = sent_by_so (is_repeat place octets w) w _
+
+sent_at_same : (place : Option ℕ) (what : AwaitedAnswer) (octets : List ℕ) (w : Watching)
+    → Same (sent_at place what octets w) w
+sent_at_same None awaited.Command octets w = same w
+sent_at_same None awaited.Poll octets w = same w
+sent_at_same None awaited.Nothing octets w = same w
+sent_at_same (Some place) awaited.Command octets w =
+    sent_by_same (slice_get w.traffic place) place octets w
+sent_at_same (Some place) awaited.Poll octets w = same w
+sent_at_same (Some place) awaited.Nothing octets w = same w
+
+pub asked_same : (octets : List ℕ) (now : ℕ) (w : Watching) → Same (asked octets now w).0 w
+asked_same octets now w =
+    let place = exchange.place_of (stations.address_of w.link octets) w.traffic in
+    let what = exchange.awaited_of octets in
+    let v : Watching = record w { exchange = exchange.asked place what now w.exchange } in
+    let x = sent_at_same place what octets v in
+    record { connection = x.connection; wall = x.wall; moment = x.moment }
+
+-- ---- Looks
+
+abbrev one_of : Bool → (x y : Watching × Option LogLine) → Watching × Option LogLine
+one_of b x y = if b then x else y
+
+queue_same : (counts : Counts) (taken : ℕ) (q : QueueWatch × Option LogLine) (w : Watching)
+    → Same (unless_queue counts taken q w).0 w
+queue_same counts taken (queue, Some line) w =
+    record { connection = refl; wall = refl; moment = refl }
+queue_same counts taken (queue, None) w =
+    counted_by (nat_lt (w.moment - w.counted) 60000)
+  where
+    counted_by : (b : Bool) → Same (one_of b (record w { queue = queue }, None) (
+      record w { queue = queue; counted = w.moment },
+      Some (watching.sum_line counts taken (record w { queue = queue })),
+    )).0 w
+    counted_by true = record { connection = refl; wall = refl; moment = refl }
+    counted_by false = record { connection = refl; wall = refl; moment = refl }
+
+looked_at_same : (counts : Counts) (taken : ℕ) (w : Watching)
+    → Same (looked_at counts taken w).0 w
+looked_at_same counts taken w =
+    let v : Watching = record w { looked = w.moment } in
+    let x = queue_same counts taken (queue_seen taken w.places w.moment w.queue) v in
+    record { connection = x.connection; wall = x.wall; moment = x.moment }
+
+due_same : (b : Bool) (v w : Watching) (line : Option LogLine) → Same v w
+    → Same (one_of b (v, line) (w, None)).0 w
+due_same true v w line x = x
+due_same false v w line x = same w
+
+looked_if_due_same : (s : State) (w : Watching) → Same (looked_if_due s w).0 w
+looked_if_due_same s w =
+    due_same (is_look_due w) (looked_at (counts_of s) (taken_in s) w).0 w
+    (looked_at (counts_of s) (taken_in s) w).1 (looked_at_same (counts_of s) (taken_in s) w)
+
+inbox_same : (x : Inbox × Option LogLine) (w : Watching) → Same (unless_inbox x w).0 w
+inbox_same (b, Some line) w = record { connection = refl; wall = refl; moment = refl }
+inbox_same (b, None) w = record { connection = refl; wall = refl; moment = refl }
+
+gathered_by : (b : Bool) (v w : Watching) (line : Option LogLine) → Same v w
+    → Same (one_of b (w, None) (v, line)).0 w
+gathered_by true v w line x = same w
+gathered_by false v w line x = x
+
+gathered_same : (w : Watching) → Same (gathered w).0 w
+gathered_same w =
+    let v : Watching = record w { sought = w.moment } in
+    let found = unless_inbox (inbox.line_of w.moment w.inbox) v in
+    let x = inbox_same (inbox.line_of w.moment w.inbox) v in
+    gathered_by (w.sought == w.moment) found.0 w found.1
+    (record { connection = x.connection; wall = x.wall; moment = x.moment })
+
+unless_line_same : (x : Watching × Option LogLine) → Same (unless_line x).0 x.0
+unless_line_same (w, Some line) = same w
+unless_line_same (w, None) = gathered_same w
+
+judged_same : (s : State) (w : Watching) → Same (judged s w) w
+judged_same s w =
+    let v : Watching = record w { inbox = inbox.judged s w.connection.peer w.inbox } in
+    let x = counts_same (counts_of s) v in
+    record { connection = x.connection; wall = x.wall; moment = x.moment }
+
+pub looked_same : (s : State) (w : Watching) → Same (looked s w).0 w
+looked_same s w =
+    let v = judged s w in
+    let x = unless_line_same (looked_if_due s v) in
+    let y = looked_if_due_same s v in
+    let z = judged_same s w in record {
+      connection = x.connection ∙ y.connection ∙ z.connection;
+      wall = x.wall ∙ y.wall ∙ z.wall;
+      moment = x.moment ∙ y.moment ∙ z.moment;
+    }

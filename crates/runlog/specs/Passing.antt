@@ -1,0 +1,210 @@
+-- What passes a run that is watched, the newest first; and what an operator knows by it of the
+-- connections, of their lines and of the wall clock (docs/TEXTS.md, docs/STATUS.md).
+use Rattle.std.specs.Prelude.{◌≡◌, ◌≢◌, ℕ, ◌+◌, ◌<◌, ◌≤◌, Bool, true, false, List, [], ◌∷◌}
+use Rattle.std.specs.Prelude.{Option, Some, None, bytes_eq, if◌then◌else◌}
+use Rattle.std.specs.declared.net.ip_addr.IpAddr.{IpAddr}
+use Rattle.session.specs.declared.kinds.Close.{Close}
+use Rattle.session.specs.declared.kinds.Close.TheVariants as close
+use Rattle.gateway.specs.Log.{Output, LineOut, TcpOut, Closed, GapOut}
+use Rattle.gateway.specs.State.{State}
+use Rattle.gateway.specs.declared.ports.Next.{Next}
+use Rattle.gateway.specs.declared.ports.Next.TheVariants as next
+use Rattle.live.specs.declared.ends.CutCause.{CutCause}
+use Rattle.live.specs.declared.watched.EndsSight.{EndsSight}
+use Rattle.runlog.specs.Limits.{IsSecondAfter}
+use Rattle.runlog.specs.Logging.{looked}
+use Rattle.runlog.specs.Watching.{Watching, event_noted, put}
+use Rattle.runlog.specs.declared.ends.ConnectionWatch.{ConnectionWatch}
+use Rattle.runlog.specs.declared.ends.OpenConnection.{OpenConnection}
+use Rattle.runlog.specs.declared.limit.Limit.{Limit}
+use Rattle.runlog.specs.declared.note.LogLine.{LogLine}
+use Rattle.runlog.specs.declared.note.Note.{Note}
+use Rattle.runlog.specs.declared.note.Note.TheVariants as note
+
+-- an event whose octets are the front of these, with a sight of the ends; an action that goes out
+-- at this moment; or a look at the gateway between two steps
+pub data Passed : Type 0 where
+  Came : Next → (octets : List ℕ) → EndsSight → Passed
+  Went : (now : ℕ) → Output → Passed
+  Between : State → Passed
+
+abbrev pub passed : Passed → Watching → Watching × Option LogLine
+passed (Came event octets s) w = event_noted event octets s w
+passed (Went now action) w = put now action w
+passed (Between gateway) w = looked gateway w
+
+-- what is watched after all this
+abbrev pub watched : Watching → List Passed → Watching
+watched start [] = start
+watched start (p ∷ ps) = (passed p (watched start ps)).0
+
+-- ---- Connections
+
+-- What a connection has of it: it is opened by somebody, if that is known, or cut, or the gateway
+-- closes it; data transfer is started or stopped (IEC 60870-5-104, 5.3); or nothing.
+pub data Step : Type 0 where
+  Opens : (now : ℕ) → Option IpAddr → Step
+  Cuts : (now : ℕ) → CutCause → Step
+  Closes : (now : ℕ) → Close → Step
+  Starts : (now : ℕ) → Step
+  Stops : (now : ℕ) → Step
+  Nothing : Step
+
+-- STARTDT con and STOPDT con (IEC 60870-5-104, 5.1)
+abbrev pub sent_step : (now : ℕ) → List ℕ → Step
+sent_step now octets =
+    if bytes_eq octets (0x68 ∷ 0x04 ∷ 0x0B ∷ 0x00 ∷ 0x00 ∷ 0x00 ∷ []) then Starts now
+    else if bytes_eq octets (0x68 ∷ 0x04 ∷ 0x23 ∷ 0x00 ∷ 0x00 ∷ 0x00 ∷ []) then Stops now
+    else Nothing
+
+abbrev pub step_of : Passed → Step
+step_of (Came (next.Open now) octets s) = Opens now s.peer
+step_of (Came (next.Cut now) octets s) = Cuts now s.why_cut
+step_of (Came event octets s) = Nothing
+step_of (Went now (TcpOut octets)) = sent_step now octets
+step_of (Went now (Closed cause)) = Closes now cause
+step_of (Went now (LineOut octets)) = Nothing
+step_of (Went now (GapOut station session)) = Nothing
+step_of (Between gateway) = Nothing
+
+-- One is open since it was opened, also in the place of another, whose close comes behind that. Its
+-- data transfer runs from STARTDT con to STOPDT con.
+pub data IsOpen : List Step → OpenConnection → (peer : Option IpAddr) → Type 0 where
+  Opened : (now : ℕ) (peer : Option IpAddr) (earlier : List Step)
+      → IsOpen (Opens now peer ∷ earlier) (record { since = now; is_started = false }) peer
+  Started : (now since : ℕ) (was : Bool) (peer : Option IpAddr) (earlier : List Step)
+      → IsOpen earlier (record { since = since; is_started = was }) peer
+      → IsOpen (Starts now ∷ earlier) (record { since = since; is_started = true }) peer
+  Stopped : (now since : ℕ) (was : Bool) (peer : Option IpAddr) (earlier : List Step)
+      → IsOpen earlier (record { since = since; is_started = was }) peer
+      → IsOpen (Stops now ∷ earlier) (record { since = since; is_started = false }) peer
+  Replaced : (now : ℕ) (o : OpenConnection) (peer : Option IpAddr) (earlier : List Step)
+      → IsOpen earlier o peer → IsOpen (Closes now close.Replaced ∷ earlier) o peer
+  Stays : (o : OpenConnection) (peer : Option IpAddr) (earlier : List Step)
+      → IsOpen earlier o peer → IsOpen (Nothing ∷ earlier) o peer
+
+-- None is open before the first, nor after a cut, nor after another close, until one is opened.
+pub data IsNoneOpen : List Step → Type 0 where
+  AtFirst : IsNoneOpen []
+  AfterCut : (now : ℕ) (cause : CutCause) (earlier : List Step)
+      → IsNoneOpen (Cuts now cause ∷ earlier)
+  AfterClose : (now : ℕ) (cause : Close) (earlier : List Step) → cause ≢ close.Replaced
+      → IsNoneOpen (Closes now cause ∷ earlier)
+  Still : (s : Step) (earlier : List Step) → ((now : ℕ) (peer : Option IpAddr) → s ≢ Opens now peer)
+      → IsNoneOpen earlier → IsNoneOpen (s ∷ earlier)
+
+-- one of both
+pub data IsKnown (steps : List Step) : Type 0 where
+  OneOpen : (o : OpenConnection) (peer : Option IpAddr) → IsOpen steps o peer → IsKnown steps
+  NoneOpen : IsNoneOpen steps → IsKnown steps
+
+-- how many were opened
+abbrev pub opened_in : List Step → ℕ
+opened_in [] = 0
+opened_in (Opens now peer ∷ steps) = opened_in steps + 1
+opened_in (s ∷ steps) = opened_in steps
+
+-- ---- Their lines
+
+pub data StepKind : Type 0 where
+  Opening : StepKind
+  Cutting : StepKind
+  Closing : StepKind
+  Starting : StepKind
+  Stopping : StepKind
+
+-- what a step is logged as: its peer or its cause stands there
+pub data IsLoggedAs : Step → StepKind → (now : ℕ) → Note → Type 0 where
+  AsOpened : (now : ℕ) (peer : Option IpAddr)
+      → IsLoggedAs (Opens now peer) Opening now (note.Opened peer)
+  AsCut : (now : ℕ) (cause : CutCause) → IsLoggedAs (Cuts now cause) Cutting now (note.Cut cause)
+  AsClosed : (now : ℕ) (cause : Close)
+      → IsLoggedAs (Closes now cause) Closing now (note.Closed cause)
+  AsStarted : (now : ℕ) → IsLoggedAs (Starts now) Starting now note.Started
+  AsStopped : (now : ℕ) → IsLoggedAs (Stops now) Stopping now note.Stopped
+
+abbrev pub is_of : StepKind → Step → Bool
+is_of Opening (Opens now peer) = true
+is_of Cutting (Cuts now cause) = true
+is_of Closing (Closes now cause) = true
+is_of Starting (Starts now) = true
+is_of Stopping (Stops now) = true
+is_of kind s = false
+
+-- when a line of this kind was logged last, and how many were left out since
+abbrev pub limit_of : StepKind → ConnectionWatch → Limit
+limit_of Opening c = c.opened
+limit_of Cutting c = c.cut
+limit_of Closing c = c.closed
+limit_of Starting c = c.started
+limit_of Stopping c = c.stopped
+
+-- It is logged at once where a second has passed since the line before of its kind, with how many
+-- were left out. Else there is no line.
+pub record IsLineOf (before : Limit) (now : ℕ) (what : Note) (line : Option LogLine) : Type 0 where
+  pub at_once : IsSecondAfter before.logged now
+      → line ≡ Some (record { moment = now; note = what; left_out = before.left_out })
+  pub within : (logged : ℕ) → before.logged ≡ Some logged → now < logged + 1000 → line ≡ None
+
+abbrev pub with_line : (is_of_kind : Bool) → Option LogLine → List LogLine → List LogLine
+with_line true (Some line) lines = line ∷ lines
+with_line is_of_kind line lines = lines
+
+-- the lines of the steps of this kind
+abbrev pub lines_of : StepKind → Watching → List Passed → List LogLine
+lines_of kind start [] = []
+lines_of kind start (p ∷ ps) =
+    with_line (is_of kind (step_of p)) (passed p (watched start ps)).1 (lines_of kind start ps)
+
+-- how many steps of this kind there were
+abbrev pub steps_in : StepKind → List Step → ℕ
+steps_in kind [] = 0
+steps_in kind (s ∷ steps) = if is_of kind s then steps_in kind steps + 1 else steps_in kind steps
+
+-- how many steps lines speak of: each of its own, and of those left out before it
+abbrev pub spoken_of : List LogLine → ℕ
+spoken_of [] = 0
+spoken_of (line ∷ lines) = (line.left_out + 1) + spoken_of lines
+
+-- each line is a second behind the one before
+abbrev pub AreSecondsBehind : List LogLine → Type 0
+AreSecondsBehind [] = Unit {0}
+AreSecondsBehind (line ∷ []) = Unit {0}
+AreSecondsBehind (line ∷ before ∷ lines) =
+    before.moment + 1000 ≤ line.moment × AreSecondsBehind (before ∷ lines)
+
+-- ---- The wall clock
+
+-- the moment of an event
+pub data HasMoment : Next → (now : ℕ) → Type 0 where
+  OfLine : (now len : ℕ) → HasMoment (next.Line now len) now
+  OfOpen : (now : ℕ) → HasMoment (next.Open now) now
+  OfBytes : (now len : ℕ) → HasMoment (next.Bytes now len) now
+  OfCut : (now : ℕ) → HasMoment (next.Cut now) now
+  OfTick : (now : ℕ) → HasMoment (next.Tick now) now
+  OfWall : (now shown : ℕ) → HasMoment (next.Wall now shown) now
+
+-- the moment of the latest event that has one
+pub data IsLatest : List Passed → (now : ℕ) → Type 0 where
+  OfEvent : (event : Next) (octets : List ℕ) (s : EndsSight) (now : ℕ) (earlier : List Passed)
+      → HasMoment event now → IsLatest (Came event octets s ∷ earlier) now
+  BehindAction : (at now : ℕ) (action : Output) (earlier : List Passed)
+      → IsLatest earlier now → IsLatest (Went at action ∷ earlier) now
+  BehindLook : (gateway : State) (now : ℕ) (earlier : List Passed)
+      → IsLatest earlier now → IsLatest (Between gateway ∷ earlier) now
+  BehindFault : (octets : List ℕ) (s : EndsSight) (now : ℕ) (earlier : List Passed)
+      → IsLatest earlier now → IsLatest (Came next.Fault octets s ∷ earlier) now
+  BehindEnd : (octets : List ℕ) (s : EndsSight) (now : ℕ) (earlier : List Passed)
+      → IsLatest earlier now → IsLatest (Came next.Done octets s ∷ earlier) now
+
+-- it isn't an event that gives what the wall clock shows
+abbrev pub GivesNoWall : Passed → Type 0
+GivesNoWall (Came (next.Wall now shown) octets s) = ⊥
+GivesNoWall p = Unit {0}
+
+-- an event gave it last so, at this moment
+pub data IsWallGiven : List Passed → (now shown : ℕ) → Type 0 where
+  Given : (now shown : ℕ) (octets : List ℕ) (s : EndsSight) (earlier : List Passed)
+      → IsWallGiven (Came (next.Wall now shown) octets s ∷ earlier) now shown
+  Before : (p : Passed) (now shown : ℕ) (earlier : List Passed) → GivesNoWall p
+      → IsWallGiven earlier now shown → IsWallGiven (p ∷ earlier) now shown
