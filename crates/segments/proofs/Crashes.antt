@@ -13,10 +13,9 @@ use Rattle.hex.specs.Hex.{decode_sized, encode_lower}
 use Rattle.hex.proofs.HexLemmas.{decode_sized-encode_lower}
 use Rattle.sqlite_disk.specs.Disk.{Holds}
 use Rattle.statetext.specs.Sum.{remainder_after, sum_of}
-use Rattle.segments.specs.Crash.{BeginsWith, HasLength, HasNoOther, HasText, IsBlankFrom, IsShut}
+use Rattle.segments.specs.Crash.{BeginsWith, HasLength, HasNoOther, IsShut}
 use Rattle.segments.specs.Crash.{IsTextIfOpen}
-use Rattle.segments.specs.Crashes.{AreBoth, AreOlder, AreShutOr, HasNoZero, HasWhole, IsThatOf}
-use Rattle.segments.specs.Crashes.{StandsIn}
+use Rattle.segments.specs.Crashes.{AreBoth, AreOlder, AreShutOr, HasNoZero, IsThatOf, StandsIn}
 use Rattle.segments.specs.Crashes.{StaysBacked}
 use Rattle.segments.specs.Crashes.{Survives, lines_behind}
 use Rattle.segments.specs.Head.{Fits, IsWholeText, head_for, head_of, whole_text}
@@ -312,52 +311,6 @@ pub summed_front : (number end sum remainder : ℕ) (seen body : List ℕ) → t
 summed_front number end sum remainder seen body text few value summed =
     subst (λ (n : ℕ). n < 2 ^ 32) (value ∙ ap (λ (r : ℕ). bit_xor r 0xffffffff) summed
     ∙ ap sum_of (sym (body_is number end seen body text))) few
-
-pub sum_fits : (sum remainder : ℕ) (body : List ℕ) → sum < 2 ^ 32
-    → sum ≡ bit_xor remainder 0xffffffff → remainder ≡ remainder_after 0xffffffff body
-    → sum_of body < 2 ^ 32
-sum_fits sum remainder body few value summed =
-    subst (λ (n : ℕ). n < 2 ^ 32) (value ∙ ap (λ (r : ℕ). bit_xor r 0xffffffff) summed) few
-
-pub held_within : (stored : ℕ) (seen page : List ℕ)
-    → length (drop 87 (text_in stored seen page)) ≤ stored + length page
-held_within stored seen page = omega (
-  arith,
-  length-drop 87 (text_in stored seen page),
-  length-append (take stored seen) page,
-  length-take stored seen,
-)
-
--- what stands in the file behind a finish that has gone well
-pub whole_stands : (number end : ℕ) (seen body : List ℕ) → number < 2 ^ 64 → end < 2 ^ 64
-    → sum_of body < 2 ^ 32 → text_in end seen [] ≡ whole_text number body
-    → length (text_in end seen []) ≡ end → IsBlankFrom end seen → HasWhole number body seen
-whole_stands number end seen body few few' summed text count blank =
-    let long : length (whole_text number body) ≡ end = ap length (sym text) ∙ count in
-    record {
-      fits = record {
-        number = few;
-        octets = omega (arith, few', long, whole_length number body);
-        sum = summed;
-      };
-      text = (
-        ap (λ (n : ℕ). take n seen) long ∙ front_is number end seen body text,
-        subst (λ (n : ℕ). IsBlankFrom n seen) (sym long) blank,
-      );
-    }
-
--- and behind one that has failed
-pub whole_mixed : (outcomes : List ℕ → Type 0) (number most : ℕ) (body : List ℕ)
-    → number < 2 ^ 64 → sum_of body < 2 ^ 32 → length body ≤ most
-    → AreShutOr outcomes (λ c. (most < 2 ^ 64) × HasText (whole_text number body) c)
-    → AreShutOr outcomes (HasWhole number body)
-whole_mixed outcomes number most body few summed within kept c left = elim (kept c left) [
-  | inl shut ↦ inl shut
-  | inr has ↦ inr (record {
-    fits = record { number = few; octets = omega (arith, has.0, within); sum = summed };
-    text = has.1;
-  })
-]
 
 pub whole_begun : (number end : ℕ) (seen : List ℕ) → number < 2 ^ 64 → end < 2 ^ 64
     → end ≤ length seen → sum_of (drop 87 (take end seen)) < 2 ^ 32

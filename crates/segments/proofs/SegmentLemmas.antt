@@ -1,7 +1,7 @@
 -- What a segment holds after each write and sync, and what a crash may leave of it.
 use Rattle.std.proofs.Common.{◌≡◌, inl, inr, ℕ, ◌+◌, ◌-◌, ◌<◌, ◌≤◌, Bool, IsTrue, List, [], ◌++◌}
 use Rattle.std.proofs.Common.{length, get_or, take, drop, slice_index, refl, sym, ap, ◌∙◌, subst}
-use Rattle.std.proofs.Common.{lit<, arith, ◌*◌, ◌^◌}
+use Rattle.std.proofs.Common.{lit<, arith, ◌*◌}
 use Rattle.std.proofs.lemmas.Bool.{cases_lt}
 use Rattle.std.proofs.lemmas.List.{append-nil, ext_get_or, get_or-take, get_or_append_left}
 use Rattle.std.proofs.lemmas.List.{get_or-append_right, length-take-le, length-append}
@@ -307,13 +307,6 @@ pub text_or_shut : (outcomes : List ℕ → Type 0) (seen text : List ℕ) → H
 text_or_shut outcomes seen text has kept c left = elim (kept c left) [
   | inl shut ↦ inl shut
   | inr is ↦ inr (subst (HasText text) (sym is) has)
-]
-
-pub bounded_or_shut : (outcomes : List ℕ → Type 0) (n : ℕ) (these : List ℕ → Type 0) → n < 2 ^ 64
-    → AreShutOr outcomes these → AreShutOr outcomes (λ c. (n < 2 ^ 64) × these c)
-bounded_or_shut outcomes n these few kept c left = elim (kept c left) [
-  | inl shut ↦ inl shut
-  | inr has ↦ inr (few, has)
 ]
 
 pub has_text : (end : ℕ) (head seen text : List ℕ) → length head ≡ 87 → 87 ≤ end

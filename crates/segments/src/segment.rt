@@ -99,7 +99,6 @@ impl<D: Disk> Segment<D> {
         requires sized { length (D.Disk.seen file) ≡ size }
         requires synced { Only (D.Disk.seen file) (D.Disk.may_leave file) }
         requires blank { IsBlankFrom end (D.Disk.seen file) }
-        ensures file { file_of result ≡ file }
         ensures text { text_of result ≡ text_in end (D.Disk.seen file) [] }
         ensures whole { IsWholeText number (text_of result) }
         ensures durable { durable_of result ≡ end }
@@ -129,7 +128,6 @@ impl<D: Disk> Segment<D> {
             BeginsNewer (own_number self.now) (D.Disk.seen other.new)) }
         ensures usable { IsTrue (D.Disk.is_usable other.new) }
         ensures seen { D.Disk.seen other.new ≡ D.Disk.seen other.old }
-        ensures left { (c : List ℕ) → D.Disk.may_leave other.new c → D.Disk.may_leave other.old c }
     {
         // One line is enough: which file this run has written is known (docs/DECISIONS.md, "The
         // newest log is never written over").

@@ -6,7 +6,7 @@ ghost use Rattle.sqlite_disk.specs.Disk.{Only};
 ghost use Rattle.segments.specs.Crash.{AreMixing, HasText, IsShut, IsLong, IsBlankFrom};
 ghost use Rattle.segments.specs.Crash.{IsTextIfOpen};
 ghost use Rattle.segments.specs.Head.{IsWholeText, whole_text};
-ghost use Rattle.segments.specs.Crashes.{AreShutOr, HasWhole, StaysBacked};
+ghost use Rattle.segments.specs.Crashes.{AreShutOr, StaysBacked};
 ghost use Rattle.segments.specs.Written.{text_in};
 ghost use Rattle.statetext.specs.Sum.{remainder_after};
 
@@ -51,7 +51,7 @@ pub struct Writer<D: Disk> {
 }
 
 impl<D: Disk> Writer<D> {
-    ghost use Rattle.segments.specs.Segment.{text_of, durable_of, size_of, is_open, outcomes_of};
+    ghost use Rattle.segments.specs.Segment.{text_of, durable_of, size_of, is_open};
     ghost use Rattle.segments.specs.Writer.{appended_to};
 
     /// Begins a segment in a file: first of all the file is shut, on the disk too. What stood there
@@ -88,7 +88,7 @@ impl<D: Disk> Writer<D> {
 
     /// Finishes the segment: behind the text come so many blocks of 4,096 zeros, the room for the
     /// lines to come. All is synced. An `Err` gives the file back; then it is shut, or it has the
-    /// whole segment, whose numbers fit its first line.
+    /// whole segment.
     pub fn finish(self, alloc: Global, number: u64, blocks: usize) -> Result<Segment<D>, Failed<D>>
         ensures text { IfOk result (λ s. text_of s ≡ whole_text number (appended_to self)) }
         ensures whole { IfOk result (λ s. IsWholeText number (text_of s)) }
@@ -98,9 +98,8 @@ impl<D: Disk> Writer<D> {
         ensures crash { IfErr result (λ failed. IsTextIfOpen (D.Disk.may_leave failed.file)
             (whole_text number (appended_to self))) }
         ensures mixed { IfErr result (λ failed. AreMixing D.Disk →
-            AreShutOr (D.Disk.may_leave failed.file) (HasWhole number (appended_to self))) }
-        ensures stands { IfOk result (λ s. (c : List ℕ) → outcomes_of s c →
-            HasWhole number (appended_to self) c) }
+            AreShutOr (D.Disk.may_leave failed.file)
+            (HasText (whole_text number (appended_to self)))) }
     {
         let Writer {
             mut file,
@@ -190,8 +189,7 @@ fn fill<D: Disk>(
     ensures crash { OnErr result (IsTextIfOpen (D.Disk.may_leave file.new)
         (whole_text number (drop 87 (text_in stored (D.Disk.seen file.old) page.now)))) }
     ensures mixed { OnErr result (AreMixing D.Disk → AreShutOr (D.Disk.may_leave file.new)
-        (λ c. (stored + length page.now < 2 ^ 64) × HasText (whole_text number
-        (drop 87 (text_in stored (D.Disk.seen file.old) page.now))) c)) }
+        (HasText (whole_text number (drop 87 (text_in stored (D.Disk.seen file.old) page.now))))) }
 {
     let (end, size, head) = prepare(alloc, file, stored, page, number, sum, blocks)?;
     match publish(file, &head) {

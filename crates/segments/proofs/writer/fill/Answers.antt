@@ -1,6 +1,6 @@
-use Rattle.std.proofs.Common.{◌≡◌, ◌∙◌, ◌+◌, ◌≤◌, ap, List, ℕ, ◌++◌, drop, arith, length, subst}
+use Rattle.std.proofs.Common.{◌≡◌, ◌∙◌, ◌≤◌, ap, List, ℕ, ◌++◌, drop, arith, length, subst}
 use Rattle.segments.specs.Crashes.{AreShutOr}
-use Rattle.segments.proofs.SegmentLemmas.{bounded_or_shut, has_text, text_or_shut, whole_open}
+use Rattle.segments.proofs.SegmentLemmas.{has_text, text_or_shut, whole_open}
 use Rattle.segments.proofs.HeldLemmas.{published_length, published_text}
 use Rattle.segments.proofs.HeldLemmas.{published_blank, ended_length, at_deref}
 use Rattle.segments.proofs.writer.fill.Goals as goal
@@ -62,12 +62,10 @@ returns-clause-mixed g c mixing =
     let some : 87 ≤ c.in_ok-end.end = omega (arith, p.end, c.requires.behind) in
     let within : c.in_ok-end.end ≤ length (g.D.Disk.seen c.prepare.new.file) =
     omega (arith, p.size, p.sized) in
-    bounded_or_shut (g.D.Disk.may_leave c.publish.new.file) (c.args.stored + length c.args.page.now) _
-    (omega (arith, p.end))
-    (text_or_shut (g.D.Disk.may_leave c.publish.new.file)
+    text_or_shut (g.D.Disk.may_leave c.publish.new.file)
     (c.in_ok-end.head.items ++ drop 87 (g.D.Disk.seen c.prepare.new.file)) _
     (has_text c.in_ok-end.end c.in_ok-end.head.items (g.D.Disk.seen c.prepare.new.file) _
     p.head some within p.blank p.text)
     (subst (λ (h : List ℕ). AreShutOr (g.D.Disk.may_leave c.publish.new.file)
     (λ (file : List ℕ). file ≡ h ++ drop 87 (g.D.Disk.seen c.prepare.new.file)))
-    c.deref.ensures.value (c.publish.ensures.mixed mixing)))
+    c.deref.ensures.value (c.publish.ensures.mixed mixing))

@@ -1,11 +1,9 @@
-use Rattle.std.proofs.Common.{◌≡◌, ◌∙◌, ◌+◌, ◌<◌, ◌^◌, [], subst, sym, List, ℕ, drop, length, arith}
+use Rattle.std.proofs.Common.{◌≡◌, ◌<◌, ◌^◌, [], subst, List, ℕ, drop, arith}
 use Rattle.segments.specs.Crash.{HasText, IsTextIfOpen}
-use Rattle.segments.specs.Crashes.{AreShutOr, HasWhole}
+use Rattle.segments.specs.Crashes.{AreShutOr}
 use Rattle.segments.specs.Head.{whole_text}
 use Rattle.segments.specs.Written.{text_in}
-use Rattle.segments.proofs.Crashes.{held_within, sum_fits, summed_front, whole_front, whole_mixed}
-use Rattle.segments.proofs.Crashes.{whole_stands}
-use Rattle.segments.specs.Segment.{file_of}
+use Rattle.segments.proofs.Crashes.{summed_front, whole_front}
 use Rattle.segments.proofs.writer.Writer.finish.Goals as goal
 
 at_page : (number end stored : ℕ) (seen old held page : List ℕ) → held ≡ page
@@ -25,33 +23,9 @@ returns-clause-crash g c =
 pub returns-clause-mixed : goal.returns-clause-mixed
 returns-clause-mixed g c mixing =
     let s = c.args.self in
-    let few : c.value-sum.result < 2 ^ 32 = omega arith in
-    whole_mixed (g.D.Disk.may_leave c.fill.new.file) c.args.number (s.stored + length s.page.items)
-    (drop 87 (text_in s.stored (g.D.Disk.seen s.file) s.page.items)) c.ranges.number.fits
-    (sum_fits c.value-sum.result s.sum.remainder
-    (drop 87 (text_in s.stored (g.D.Disk.seen s.file) s.page.items)) few c.value-sum.ensures s.summed)
-    (held_within s.stored (g.D.Disk.seen s.file) s.page.items)
-    (subst (λ (h : List ℕ). AreShutOr (g.D.Disk.may_leave c.fill.new.file)
-    (λ file. (s.stored + length h < 2 ^ 64)
-    × HasText (whole_text c.args.number (drop 87 (text_in s.stored (g.D.Disk.seen s.file) h))) file))
-    c.deref.ensures.value (c.in-Err.ensures.mixed mixing))
-
-pub returns-in-Ok-clause-stands : goal.returns-in-Ok-clause-stands
-returns-in-Ok-clause-stands g c file left =
-    let s = c.args.self in
-    let seen : List ℕ = g.D.Disk.seen c.fill.new.file in
-    let few : c.value-sum.result < 2 ^ 32 = omega arith in
-    let same : file ≡ seen = c.in-Ok.ensures.synced file
-    (subst (λ d. g.D.Disk.may_leave d file) c.begun.ensures.file left) in
-    subst (HasWhole c.args.number (drop 87 (text_in s.stored (g.D.Disk.seen s.file) s.page.items)))
-    (sym same)
-    (whole_stands c.args.number c.in-Ok.end seen
-    (drop 87 (text_in s.stored (g.D.Disk.seen s.file) s.page.items)) c.ranges.number.fits
-    (omega arith)
-    (sum_fits c.value-sum.result s.sum.remainder
-    (drop 87 (text_in s.stored (g.D.Disk.seen s.file) s.page.items)) few c.value-sum.ensures s.summed)
-    (at_page c.args.number c.in-Ok.end s.stored seen (g.D.Disk.seen s.file) _ _
-    c.deref.ensures.value c.in-Ok.ensures.text) c.in-Ok.ensures.end c.in-Ok.ensures.blank)
+    subst (λ (h : List ℕ). AreShutOr (g.D.Disk.may_leave c.fill.new.file)
+    (HasText (whole_text c.args.number (drop 87 (text_in s.stored (g.D.Disk.seen s.file) h)))))
+    c.deref.ensures.value (c.in-Err.ensures.mixed mixing)
 
 pub begun-requires-clause-whole : goal.begun-requires-clause-whole
 begun-requires-clause-whole g c =
