@@ -95,11 +95,13 @@ module _ (calls : List Call) where
   pub first_told : told calls ≡ [] → notice_of true (patience_behind calls) ≡ Some NotKept
   first_told is = told_now (ap reported is)
 
-  pub told_anew : (since : ℕ) (notices : List (ℕ × Notice)) → told calls ≡ (since, KeptAgain) ∷ notices
+  pub told_anew : (since : ℕ) (notices : List (ℕ × Notice)) → told calls ≡ (since, KeptAgain)
+      ∷ notices
       → notice_of true (patience_behind calls) ≡ Some NotKept
   told_anew since notices is = told_now (ap reported is)
 
-  pub told_later : (since : ℕ) (notices : List (ℕ × Notice)) → told calls ≡ (since, NotKept) ∷ notices
+  pub told_later : (since : ℕ) (notices : List (ℕ × Notice)) → told calls ≡ (since, NotKept)
+      ∷ notices
       → since + 60000 ≤ latest calls → notice_of true (patience_behind calls) ≡ Some NotKept
   told_later since notices is long = told_if _ true
       (passed_long 60000 (patience_behind calls).moment since (latest calls) _
@@ -111,7 +113,8 @@ module _ (calls : List Call) where
       (passed_short 60000 (patience_behind calls).moment since (latest calls) _
       (logged_is calls ∙ ap reported is) (moment_is calls) short (omega arith))
 
-  pub told_over : (since : ℕ) (notices : List (ℕ × Notice)) → told calls ≡ (since, NotKept) ∷ notices
+  pub told_over : (since : ℕ) (notices : List (ℕ × Notice)) → told calls ≡ (since, NotKept)
+      ∷ notices
       → notice_of false (patience_behind calls) ≡ Some KeptAgain
   told_over since notices is = ap again (logged_is calls ∙ ap reported is)
 
