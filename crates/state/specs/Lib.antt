@@ -8,6 +8,7 @@ pub mod Logs
 pub mod Both
 pub mod Replays
 pub mod Renewals
+pub mod Notices
 pub mod Starts
 pub mod Beginnings
 pub mod Origins

@@ -2,7 +2,8 @@
 use Rattle.std.specs.Prelude.{◌≡◌, ℕ, Bool, true, false, List, [], ◌∷◌, ◌++◌, Option, Some, None}
 use Rattle.std.specs.Prelude.{length}
 use Rattle.gateway.specs.Agrees.{Follows, Rests}
-use Rattle.gateway.specs.Log.{Log, LogEntry, Came, Went, Output, LineOut, TcpOut, Closed, GapOut}
+use Rattle.gateway.specs.Log.{Log, LogEntry, Came, Went, Input, Output, LineOut, TcpOut, Closed}
+use Rattle.gateway.specs.Log.{GapOut}
 use Rattle.gateway.specs.Log.{events_of}
 use Rattle.gateway.specs.Ports.{FitsBuffer, faults_of, logged_by}
 use Rattle.gateway.specs.Reports.{Setup}
@@ -88,6 +89,11 @@ gap_of (GapOut station session) = Some (station, session)
 abbrev pub or_gap : Option ReportedGap → Option ReportedGap → Option ReportedGap
 or_gap None gap = gap
 or_gap (Some newest) gap = Some newest
+
+-- no event, and no gap: what else goes out
+pub record IsQuiet (entry : LogEntry) : Type 0 where
+  pub action : (now : ℕ) (event : Input) → entry ≡ Came now event → ⊥
+  pub other : (now station session : ℕ) → entry ≡ Went now (GapOut station session) → ⊥
 
 -- the latest gap that was reported behind the latest event
 abbrev pub last_gap : Log → Option ReportedGap

@@ -6,7 +6,7 @@ ghost use Rattle.std.specs.Option.{is_some};
 ghost use Rattle.checkpoint.specs.Octets.{IsOctetLine};
 ghost use Rattle.gateway.specs.Carried.{carried};
 ghost use Rattle.gateway.specs.Config.{Settings};
-ghost use Rattle.gateway.specs.Log.{Log, LogEntry, Came, Went, Ticked, LineIn, LineOut, GapOut};
+ghost use Rattle.gateway.specs.Log.{Log, LogEntry, Came, Went, Input, LineIn, GapOut};
 ghost use Rattle.gateway.specs.Restored.{HasSettings, IsSavable, state_lines};
 ghost use Rattle.gateway.specs.State.{State};
 ghost use Rattle.gateway.specs.declared.settings.StationSettings.{StationSettings};
@@ -23,6 +23,7 @@ ghost use Rattle.statetext.specs.Text.{lines_in};
 ghost use Rattle.state.specs.Beginnings.{AreLinesRead, has_past};
 ghost use Rattle.state.specs.Crashed.{AreLeft, HasLog, IsKeptIn};
 ghost use Rattle.live.specs.declared.watched.Failure.{Failure};
+ghost use Rattle.live.specs.declared.watched.Notice.{Notice};
 ghost use Rattle.live.specs.declared.watched.Notice.TheVariants.{NotKept, KeptAgain};
 ghost use Rattle.state.specs.Deeds.{AreRight, Deeds, GivenUp, IsAllOnDisk, IsSafe, PutOut};
 ghost use Rattle.state.specs.Deeds.{Received, appended, arrived, loss_of, moment_of, on_disk};
@@ -32,8 +33,9 @@ ghost use Rattle.state.specs.Keeping.{failure_of};
 ghost use Rattle.state.specs.Lines.{IsWritable, is_renewal_due};
 ghost use Rattle.state.specs.Logs.{IsOlderBeside};
 ghost use Rattle.state.specs.Origins.{IsBegun};
-ghost use Rattle.state.specs.Renewals.{after_notice, after_try, is_try_due, notice_of};
-ghost use Rattle.state.specs.Replays.{last_gap, whole_lines};
+ghost use Rattle.state.specs.Notices.{Call, latest, patience_behind, told, tries};
+ghost use Rattle.state.specs.Renewals.{is_try_due, notice_of};
+ghost use Rattle.state.specs.Replays.{IsQuiet, last_gap, whole_lines};
 ghost use Rattle.state.specs.Returns.{GoesOnOver};
 ghost use Rattle.state.specs.Standings.{is_stopped};
 ghost use Rattle.state.specs.Stores.{led_to_head, safe};
@@ -43,7 +45,6 @@ ghost use Rattle.state.specs.declared.loss.Loss.{Loss};
 ghost use Rattle.state.specs.declared.loss.Loss.TheVariants.{Marked, Unmarked};
 ghost use Rattle.state.specs.declared.loss.StoreFault.TheVariants.{Full, Unwritable};
 ghost use Rattle.state.specs.declared.opened.Opened.{Opened};
-ghost use Rattle.state.specs.declared.renewal.Patience.{Patience};
 ghost use Rattle.traces.specs.Printed.{line_of_entry, lines_of_log};
 ghost use Rattle.traces.specs.Trace.{logged};
 
@@ -86,35 +87,57 @@ pub fn a_clock_goes_on_where_the_gateway_stood<D: Disk + Drop>()
 {}
 
 /// A gap that the last step before an end reported is reported again by the next life, since nobody
-/// may have seen it: the latest one behind the latest event, and none that an event stands behind.
-pub fn reported_gaps_by_example()
-    ensures last { last_gap (Went 7 (LineOut (16 ∷ [])) ∷ Went 7 (GapOut 2 9)
-        ∷ Went 7 (GapOut 1 8) ∷ Came 7 Ticked ∷ Went 6 (GapOut 3 5) ∷ []) ≡ Some (2, 9) }
-    ensures only { last_gap (Went 7 (GapOut 2 9) ∷ []) ≡ Some (2, 9) }
-    ensures past { last_gap (Went 8 (LineOut (16 ∷ [])) ∷ Came 8 Ticked
-        ∷ Went 7 (GapOut 2 9) ∷ []) ≡ None }
-    ensures none { last_gap [] ≡ None }
+/// may have seen it. It is the latest one of those behind the latest event, whatever else went out
+/// behind it. Where an event stands behind it, or there is none, nothing is reported again.
+pub fn a_gap_of_the_last_step_is_reported_again()
+    ensures gap { (quiet earlier : Log) (now station session : ℕ) → AllByRecursion IsQuiet quiet →
+        last_gap (quiet ++ Went now (GapOut station session) ∷ earlier) ≡ Some (station, session) }
+    ensures past { (quiet earlier : Log) (now : ℕ) (event : Input) → AllByRecursion IsQuiet quiet →
+        last_gap (quiet ++ Came now event ∷ earlier) ≡ None }
+    ensures none { (quiet : Log) → AllByRecursion IsQuiet quiet → last_gap quiet ≡ None }
 {}
 
-/// When a log is begun anew, when one is tried again that couldn't be begun, and when it is
-/// reported that none is kept, by literal numbers: behind 3,900,000 octets of events; at once and
-/// 10 s later; at once, each minute, and once where it is kept again.
-pub fn renewals_by_example()
-    ensures renewal { (is_renewal_due 3900000 ≡ false) × (is_renewal_due 3900001 ≡ true) }
-    ensures tries { (p : Patience) → (is_try_due (record p { tried = None }) ≡ true)
-        × (is_try_due (record p { tried = Some 5000; moment = 14999 }) ≡ false)
-        × (is_try_due (record p { tried = Some 5000; moment = 15000 }) ≡ true) }
-    ensures tried { (p : Patience) → ((after_try true p).tried ≡ Some p.moment)
-        × ((after_try false p).tried ≡ None) }
-    ensures notices { (p : Patience) →
-        (notice_of true (record p { logged = None }) ≡ Some NotKept)
-        × (notice_of true (record p { logged = Some 5000; moment = 64999 }) ≡ None)
-        × (notice_of true (record p { logged = Some 5000; moment = 65000 }) ≡ Some NotKept)
-        × (notice_of false (record p { logged = Some 5000 }) ≡ Some KeptAgain)
-        × (notice_of false (record p { logged = None }) ≡ None) }
-    ensures after { (p : Patience) → ((after_notice (Some NotKept) p).logged ≡ Some p.moment)
-        × ((after_notice (Some KeptAgain) p).logged ≡ None)
-        × (after_notice None p ≡ p) }
+/// A log is begun anew behind more than 3,900,000 octets of events. One that couldn't be begun is
+/// tried again as soon as 10 s have passed since, and not before, in moments of the events. None
+/// has to wait where none was tried yet, or the latest was begun.
+pub fn a_log_that_could_not_be_begun_is_tried_each_ten_seconds()
+    ensures grown { (octets : ℕ) → 3900000 < octets → is_renewal_due octets ≡ true }
+    ensures small { (octets : ℕ) → octets ≤ 3900000 → is_renewal_due octets ≡ false }
+    ensures first { (calls : List Call) → tries calls ≡ [] →
+        is_try_due (patience_behind calls) ≡ true }
+    ensures begun { (calls : List Call) (since : ℕ) (earlier : List (ℕ × Bool)) →
+        tries calls ≡ (since, false) ∷ earlier → is_try_due (patience_behind calls) ≡ true }
+    ensures later { (calls : List Call) (since : ℕ) (earlier : List (ℕ × Bool)) →
+        tries calls ≡ (since, true) ∷ earlier → since + 10000 ≤ latest calls →
+        is_try_due (patience_behind calls) ≡ true }
+    ensures within { (calls : List Call) (since : ℕ) (earlier : List (ℕ × Bool)) →
+        tries calls ≡ (since, true) ∷ earlier → latest calls < since + 10000 →
+        is_try_due (patience_behind calls) ≡ false }
+{}
+
+/// That the state isn't kept is reported at once, then as soon as a minute has passed, and never
+/// within one. That it is kept again is reported once, if the other was: nothing else is reported.
+/// It is said by what was reported before, over all calls on a keeper.
+pub fn a_loss_is_reported_each_minute_until_it_is_over()
+    ensures first { (calls : List Call) → told calls ≡ [] →
+        notice_of true (patience_behind calls) ≡ Some NotKept }
+    ensures anew { (calls : List Call) (since : ℕ) (earlier : List (ℕ × Notice)) →
+        told calls ≡ (since, KeptAgain) ∷ earlier →
+        notice_of true (patience_behind calls) ≡ Some NotKept }
+    ensures later { (calls : List Call) (since : ℕ) (earlier : List (ℕ × Notice)) →
+        told calls ≡ (since, NotKept) ∷ earlier → since + 60000 ≤ latest calls →
+        notice_of true (patience_behind calls) ≡ Some NotKept }
+    ensures within { (calls : List Call) (since : ℕ) (earlier : List (ℕ × Notice)) →
+        told calls ≡ (since, NotKept) ∷ earlier → latest calls < since + 60000 →
+        notice_of true (patience_behind calls) ≡ None }
+    ensures over { (calls : List Call) (since : ℕ) (earlier : List (ℕ × Notice)) →
+        told calls ≡ (since, NotKept) ∷ earlier →
+        notice_of false (patience_behind calls) ≡ Some KeptAgain }
+    ensures silent { (calls : List Call) → told calls ≡ [] →
+        notice_of false (patience_behind calls) ≡ None }
+    ensures once { (calls : List Call) (since : ℕ) (earlier : List (ℕ × Notice)) →
+        told calls ≡ (since, KeptAgain) ∷ earlier →
+        notice_of false (patience_behind calls) ≡ None }
 {}
 
 /// What becomes of a run whose store has failed, case by case. It goes on where the loss is borne

@@ -29,11 +29,13 @@ pub use folder::{Folder, FolderFault};
 pub use keeper::Keeper;
 pub use laws::{
     a_clock_goes_on_where_the_gateway_stood, a_damaged_state_never_goes_on_as_whole,
-    a_log_has_room_for_each_line, a_start_goes_on_behind_a_crash,
+    a_gap_of_the_last_step_is_reported_again, a_log_has_room_for_each_line,
+    a_log_that_could_not_be_begun_is_tried_each_ten_seconds,
+    a_loss_is_reported_each_minute_until_it_is_over, a_start_goes_on_behind_a_crash,
     a_state_that_can_be_read_is_not_put_aside, losses_by_example, no_crash_leaves_another_line,
     no_event_waits_for_a_second, no_line_is_longer_than_2067_octets, no_link_is_up_behind_a_reset,
-    nothing_goes_out_before_it_is_on_disk, renewals_by_example, reported_gaps_by_example,
-    what_is_on_disk_is_in_the_log, what_stands_is_not_passed_over,
+    nothing_goes_out_before_it_is_on_disk, what_is_on_disk_is_in_the_log,
+    what_stands_is_not_passed_over,
 };
 pub use looking::{Seen, Sight, look};
 pub use loss::{Loss, StoreFault};
