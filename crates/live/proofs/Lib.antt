@@ -16,6 +16,8 @@ pub mod Octets
 pub mod Walls
 pub mod Ticks
 pub mod WaitsTimed
+pub mod SourceLooks
+pub mod EachRound
 pub mod InTurn
 pub mod Logs
 pub mod Fixed

@@ -25,7 +25,7 @@ ghost use Rattle.live.specs.declared.watched.EndsSight.{EndsSight};
 ghost use Rattle.live.specs.declared.allow_list.AllowList.TheVariants.{Anyone, Only};
 ghost use Rattle.gateway.specs.Log.{Closed, LineOut, Output};
 ghost use Rattle.live.specs.InTurn.{BeginsBehind, LooksBefore, IsLookedAt, begins_behind};
-ghost use Rattle.live.specs.InTurn.{GivesOctets, HoldsOctets};
+ghost use Rattle.live.specs.InTurn.{EachRoundLooks, GivesOctets, HoldsOctets, level_rounds};
 ghost use Rattle.live.specs.declared.source.EventSource.TheVariants.{Line};
 ghost use Rattle.session.specs.declared.kinds.Close.{Close};
 ghost use Rattle.session.specs.declared.kinds.Close.TheVariants.{Replaced};
@@ -102,25 +102,28 @@ pub fn the_round_goes_on_behind_the_last_event()
 {}
 
 /// No source that always has something hides another. For an event each source of the round was
-/// looked at, up to the one where it was found, and for a tick all three were. Octets that are held
-/// come before any look. Where an event's moment is more than 50 ms behind the clock when a round
-/// begins, the line is looked at. Where it is so behind the round a tick is given, and octets that
-/// came are held.
+/// looked at, up to the one where it was found, and for a tick all three were. So they were in each
+/// round before. Octets that are held come before any look. Where an event's moment is more than
+/// 50 ms behind the clock when a round begins, the line is looked at. Where it is so behind the
+/// round a tick is given, and octets that came are held.
 pub fn no_source_hides_another()
     ensures round { (old new : LiveEnds) (event : Next) (buf : List ℕ) →
         LogsTurn old event buf new → old.is_cut_due ≡ false → old.held ≡ [] →
         is_wall event ≡ false → AtRounds old.clock new.clock (λ begun quiet now.
         begins_behind old.timing begun quiet ≡ false →
-        LooksBefore begun event old.first old new ⊎ HoldsOctets event new.timing now) }
+        LooksBefore begun quiet event old.first old new ⊎ HoldsOctets event new.timing now) }
+    ensures rounds { (old new : LiveEnds) (event : Next) (buf : List ℕ) →
+        LogsTurn old event buf new → is_wall event ≡ false →
+        AtRounds old.clock new.clock (λ begun quiet now. EachRoundLooks quiet event old new) }
     ensures held { (old new : LiveEnds) (event : Next) (buf : List ℕ) →
         LogsTurn old event buf new → old.is_cut_due ≡ false → old.held ≢ [] →
         is_wall event ≡ false → AtRounds old.clock new.clock (λ begun quiet now.
-        begins_behind old.timing begun quiet ≡ false →
-        GivesOctets event (length old.held) ⊎ HoldsOctets event new.timing now) }
+        (level_rounds old.timing quiet ≡ 0) × (begins_behind old.timing begun quiet ≡ false →
+        GivesOctets event (length old.held) ⊎ HoldsOctets event new.timing now)) }
     ensures line { (old new : LiveEnds) (event : Next) (buf : List ℕ) →
         LogsTurn old event buf new → old.is_cut_due ≡ false → is_wall event ≡ false →
         AtRounds old.clock new.clock (λ begun quiet now.
-        begins_behind old.timing begun quiet ≡ true → IsLookedAt begun Line old new) }
+        begins_behind old.timing begun quiet ≡ true → IsLookedAt begun quiet Line old new) }
 {}
 
 /// Behind a close no connection is open, no octets of it are held and no cut of it is due, but
