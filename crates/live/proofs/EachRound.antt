@@ -7,7 +7,7 @@ use Rattle.live.specs.Ends.{LiveEnds, Peer, Answers, IsTurn, clock_read_at, turn
 use Rattle.live.specs.Ends.{held_by, round, look, unless_found, next_round, looked_at, found_at}
 use Rattle.live.specs.Ends.{nothing_more, after, event_at, taken_by}
 use Rattle.live.specs.Ends.{of_peer, accepted, turned_away, of_open, peer_read, of_line}
-use Rattle.live.specs.InTurn.{IsMore, IsMoreAt, IsLookedAt, IfItStays, begins_behind, level_rounds}
+use Rattle.live.specs.InTurn.{IsMore, IsMoreAt, IfItStays, begins_behind, level_rounds}
 use Rattle.live.specs.InTurn.{EachRoundLooks}
 use Rattle.live.proofs.SourceLooks.{Looked, InRound, in_round, noted_more, attempted_more}
 use Rattle.live.proofs.Ticks.{RoundsOf, NoRoundOf, OneRoundOf}

@@ -8,10 +8,10 @@ use Rattle.live.specs.Timing.{is_behind, moment_at}
 use Rattle.live.specs.Walls.{is_wall}
 use Rattle.live.specs.Law.{AtRounds}
 use Rattle.live.specs.OctetStreams.{WasGone, WasQuiet, looked}
-use Rattle.live.specs.Ends.{LiveEnds, Peer, Answers, Turns, LogsTurn, LogsPut, as_logged, IsTurn}
+use Rattle.live.specs.Ends.{LiveEnds, Answers, Turns, LogsTurn, LogsPut, as_logged, IsTurn}
 use Rattle.live.specs.Ends.{TurnsToEnds, event_at, taken_by}
 use Rattle.live.specs.Ends.{looking, clock_read_at, turn_by, sources_by, held_by, round, look}
-use Rattle.live.specs.Ends.{nothing_more, after}
+use Rattle.live.specs.Ends.{nothing_more}
 use Rattle.live.specs.InTurn.{IsLookedAt, LooksBefore, LooksUpToLine, level_rounds, EachRoundLooks}
 use Rattle.live.specs.InTurn.{BeginsBehind}
 use Rattle.live.specs.InTurn.{GivesOctets, HoldsOctets, begins_behind}
@@ -24,7 +24,6 @@ use Rattle.live.specs.declared.found.SourceEvent.TheVariants as found
 use Rattle.live.specs.declared.source.EventSource.{EventSource}
 use Rattle.live.specs.declared.source.EventSource.TheVariants.{Listener, Connection, Line}
 use Rattle.live.specs.declared.timing.Timing.{Timing}
-use Rattle.live.specs.declared.ends.Presence.{Presence}
 use Rattle.live.specs.declared.ends.Got.{Got}
 use Rattle.live.specs.declared.ends.Got.TheVariants.{Octets, Quiet, Gone}
 use Rattle.live.proofs.Beside.{action_beside}

@@ -1,5 +1,5 @@
 -- What one round of looks looked at.
-use Rattle.std.proofs.Common.{◌≡◌, ℕ, ◌+◌, ◌≤◌, Bool, true, false, List, [], ◌∷◌, length, Option}
+use Rattle.std.proofs.Common.{◌≡◌, ℕ, ◌+◌, ◌≤◌, Bool, false, List, [], ◌∷◌, length, Option}
 use Rattle.std.proofs.Common.{Some, None, refl, arith}
 use Rattle.gateway.specs.declared.ports.Next.TheVariants as next
 use Rattle.live.specs.OctetStreams.{Happening, StreamHistory, WasGone, WasQuiet, looked, noted}
