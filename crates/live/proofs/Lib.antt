@@ -10,6 +10,7 @@ pub mod Drops
 pub mod Lines
 pub mod Came
 pub mod Tries
+pub mod Redials
 pub mod Law
 pub mod Allowed
 pub mod Octets
