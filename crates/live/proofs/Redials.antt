@@ -2,10 +2,10 @@
 use Rattle.std.proofs.Common.{◌≡◌, ◌≢◌, ℕ, ◌+◌, ◌-◌, ◌<◌, ◌≤◌, Bool, true, false, List, [], ◌∷◌}
 use Rattle.std.proofs.Common.{length, Option, Some, None, IfSome, refl, sym, ap, subst, arith, ◌∙◌}
 use Rattle.std.specs.Prelude.{is_some, nat_le}
-use Rattle.live.specs.OctetStreams.{StreamHistory}
+use Rattle.live.specs.OctetStreams.{StreamHistory, IsNew, noted, Wrote, Dropped}
 use Rattle.live.specs.Redial.{Redial, is_due, clock_read_at, begun_by, tried_by, is_due_by}
 use Rattle.live.specs.Redial.{IsRedialled, IsPut, HasDropped, answered, known_by, put_by, dropped_by}
-use Rattle.live.specs.Redial.{looked_by, quieted, Asked, DialCall, DialCalls, Dialed, BeginsTry}
+use Rattle.live.specs.Redial.{IfReached, looked_by, quieted, Asked, DialCall, DialCalls, Dialed, BeginsTry}
 use Rattle.live.specs.Ends.{read_open}
 use Rattle.live.specs.Law.{AtClock}
 use Rattle.live.proofs.Tries.{away_by, away_clock}
@@ -122,6 +122,53 @@ pub drops_away : (old new : Redial) (count : ℕ) → HasDropped old count new �
 drops_away old new count d away =
     let is = d.dropped ∙ ap (λ s. dropped_by s d.waiting old) away in
     (ap (λ (q : ℕ × Redial). q.0) is, ap (λ (q : ℕ × Redial). q.1) is)
+
+-- and one that is there
+pub puts_there : (old new : Redial) (octets : List ℕ) (is_taken : Bool) (h : StreamHistory)
+    → IsPut old octets is_taken new → old.stream ≡ Some h
+    → new ≡ record old { stream = Some (noted h (Wrote octets is_taken)) }
+puts_there old new octets is_taken h p there =
+    let is = p.put ∙ ap (λ s. put_by s octets p.taken old) there in
+    ap (λ (q : Bool × Redial). q.1) is
+    ∙ ap (λ b. record old { stream = Some (noted h (Wrote octets b)) })
+    (sym (ap (λ (q : Bool × Redial). q.0) is))
+
+pub drops_there : (old new : Redial) (count : ℕ) (h : StreamHistory) → HasDropped old count new
+    → old.stream ≡ Some h → new ≡ record old { stream = Some (noted h (Dropped count)) }
+drops_there old new count h d there =
+    let is = d.dropped ∙ ap (λ s. dropped_by s d.waiting old) there in
+    ap (λ (q : ℕ × Redial). q.1) is
+    ∙ ap (λ n. record old { stream = Some (noted h (Dropped n)) })
+    (sym (ap (λ (q : ℕ × Redial). q.0) is))
+
+-- nothing has happened at one that is reached
+answered_new : (call : Bool → DialCall) (answer : Dialled StreamHistory) (r : Redial)
+    → IfReached answer IsNew
+    → IfSome (answered call answer (record r { stream = None })).stream IsNew
+answered_new call (Reached stream) r fresh = fresh
+answered_new call Pending r fresh = tt
+answered_new call Failed r fresh = tt
+
+begun_new : (due : Bool) (now : ℕ) (answer : Dialled StreamHistory) (r : Redial)
+    → IfReached answer IsNew
+    → IfSome (begun_by due now answer (record r { stream = None })).stream IsNew
+begun_new true now answer r fresh = answered_new Dialed answer (record r { tried = Some now }) fresh
+begun_new false now answer r fresh = tt
+
+tried_new : (b : Bool) (now : ℕ) (answer : Dialled StreamHistory) (r : Redial)
+    → IfReached answer IsNew
+    → IfSome (tried_by b now answer (clock_read_at now (record r { stream = None }))).stream IsNew
+tried_new true now answer r fresh = answered_new Asked answer (clock_read_at now r) fresh
+tried_new false now answer r fresh =
+    begun_new (is_due (clock_read_at now (record r { stream = None })) now) now answer
+    (clock_read_at now r) fresh
+
+pub reached_new : (old new : Redial) (got : Got) (buf : List ℕ) → IsRedialled old got buf new
+    → old.stream ≡ None → IfSome new.stream IsNew
+reached_new old new got buf l away =
+    let P : Redial → Type 0 = λ r. IfSome r.stream IsNew in
+    subst P (sym (away_to old new got buf l away))
+    (tried_new old.is_trying l.now l.answer old l.is_new)
 
 -- how long after it the next one begins, and what is known
 Waits : (wait : ℕ) → Redial → Type 0

@@ -41,6 +41,7 @@ ghost use Rattle.live.specs.declared.ends.Got.{Got};
 ghost use Rattle.live.specs.declared.ends.Got.TheVariants.{Octets, Quiet};
 ghost use Rattle.live.specs.declared.ends.Presence.TheVariants.{There, Away, Receiving};
 ghost use Rattle.live.specs.OctetStreams.{IsNew, StreamHistory, WasGone, WasQuiet, looked, noted};
+ghost use Rattle.live.specs.OctetStreams.{Dropped, Wrote};
 ghost use Rattle.live.specs.declared.timing.WrittenRequest.{WrittenRequest};
 
 /// Where an event's moment lets an exchange end (`answer_ms` or more after its request's), a look
@@ -400,7 +401,8 @@ pub fn a_look_gives_what_its_calls_brought()
 /// A stream that is away is tried at once, and then as soon as its wait has passed since the last
 /// try began, but never before. For each try the dialler is called once. At each look it is asked
 /// about a try that goes on, and no other begins. Meanwhile the stream is quiet, and takes and drops
-/// nothing. One that is there gives what its stream gives, and one that has gone is kept no longer.
+/// nothing. One that is there gives, takes and drops what its stream does. One that has gone is kept
+/// no longer, and one that is reached begins with nothing in it.
 pub fn a_stream_that_is_away_is_tried_when_due()
     ensures first { (old new : Redial) (got : Got) (buf : List ℕ) → IsRedialled old got buf new →
         old.stream ≡ None → old.is_trying ≡ false → old.tried ≡ None →
@@ -425,6 +427,14 @@ pub fn a_stream_that_is_away_is_tried_when_due()
     ensures there { (old new : Redial) (got : Got) (buf : List ℕ) (history : StreamHistory) →
         IsRedialled old got buf new → old.stream ≡ Some history →
         IfSome new.stream (λ now. now ≡ noted history (looked got buf)) }
+    ensures written { (old new : Redial) (octets : List ℕ) (is_taken : Bool)
+        (history : StreamHistory) → IsPut old octets is_taken new → old.stream ≡ Some history →
+        new ≡ record old { stream = Some (noted history (Wrote octets is_taken)) } }
+    ensures waiting { (old new : Redial) (count : ℕ) (history : StreamHistory) →
+        HasDropped old count new → old.stream ≡ Some history →
+        new ≡ record old { stream = Some (noted history (Dropped count)) } }
+    ensures fresh { (old new : Redial) (got : Got) (buf : List ℕ) → IsRedialled old got buf new →
+        old.stream ≡ None → IfSome new.stream IsNew }
 {}
 
 /// A try that has ended goes on no longer. By it a stream is there, or the dialler noted that it

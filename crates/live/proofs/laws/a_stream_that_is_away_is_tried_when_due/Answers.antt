@@ -1,5 +1,5 @@
 use Rattle.live.proofs.Redials.{asks_on, begins_at_once, begins_later, drops_away, puts_away}
-use Rattle.live.proofs.Redials.{waits_undue}
+use Rattle.live.proofs.Redials.{drops_there, puts_there, reached_new, waits_undue}
 use Rattle.live.proofs.Tries.{away_quiet, looks_there}
 use Rattle.live.proofs.laws.a_stream_that_is_away_is_tried_when_due.Goals as goal
 
@@ -26,3 +26,12 @@ returns-clause-dropped c = drops_away
 
 pub returns-clause-there : goal.returns-clause-there
 returns-clause-there c = looks_there
+
+pub returns-clause-written : goal.returns-clause-written
+returns-clause-written c = puts_there
+
+pub returns-clause-waiting : goal.returns-clause-waiting
+returns-clause-waiting c = drops_there
+
+pub returns-clause-fresh : goal.returns-clause-fresh
+returns-clause-fresh c = reached_new
