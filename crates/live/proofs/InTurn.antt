@@ -398,9 +398,12 @@ held_turns old new event buf (inr t) due some dark =
     at_rounds old event buf new t (λ begun quiet now.
     (level_rounds old.timing quiet ≡ 0) × (begins_behind old.timing begun quiet ≡ false →
     GivesOctets event (length old.held) ⊎ HoldsOctets event new.timing now))
-    (λ before b. (held_level (looking (clock_read_at t.first old)) b.quiet t.looks.begun
-    t.looks.before b.rounds some, λ level. held_at old new event buf t b.quiet b.rounds due some
-    (ap (λ (k : Timing). is_behind k t.looks.begun) b.reads ∙ level)))
+    (λ before b. (
+      held_level (looking (clock_read_at t.first old)) b.quiet t.looks.begun
+          t.looks.before b.rounds some,
+      λ level. held_at old new event buf t b.quiet b.rounds due some
+          (ap (λ (k : Timing). is_behind k t.looks.begun) b.reads ∙ level),
+    ))
 
 pub held_in_turn : (old new : LiveEnds) (event : Next) (buf : List ℕ) → LogsTurn old event buf new
     → old.is_cut_due ≡ false → old.held ≢ [] → is_wall event ≡ false

@@ -4,9 +4,8 @@ use Rattle.std.proofs.Common.{length, Option, Some, None, IfSome, refl, sym, ap,
 use Rattle.std.specs.Prelude.{is_some, nat_le}
 use Rattle.live.specs.OctetStreams.{StreamHistory, IsNew, noted, Wrote, Dropped}
 use Rattle.live.specs.Redial.{Redial, is_due, clock_read_at, begun_by, tried_by, is_due_by}
-use Rattle.live.specs.Redial.{IsRedialled, IsPut, HasDropped, answered, known_by, put_by, dropped_by}
-use Rattle.live.specs.Redial.{IfReached, looked_by, quieted, Asked, DialCall, DialCalls, Dialed, BeginsTry}
-use Rattle.live.specs.Ends.{read_open}
+use Rattle.live.specs.Redial.{IsRedialled, IsPut, HasDropped, answered, put_by, dropped_by}
+use Rattle.live.specs.Redial.{IfReached, looked_by, Asked, DialCall, DialCalls, Dialed, BeginsTry}
 use Rattle.live.specs.Law.{AtClock}
 use Rattle.live.proofs.Tries.{away_by, away_clock}
 use Rattle.live.specs.declared.redial.Dialled.{Dialled}

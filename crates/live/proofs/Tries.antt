@@ -1,11 +1,11 @@
 -- A stream that is reached again.
 use Rattle.std.proofs.Common.{◌≡◌, ℕ, ◌≤◌, Bool, true, false, Some, None, List, [], ◌∷◌, length}
-use Rattle.std.proofs.Common.{Option, IfSome, refl, sym, ap, subst, arith, ◌∙◌}
+use Rattle.std.proofs.Common.{IfSome, refl, sym, ap, subst, arith, ◌∙◌}
 use Rattle.live.specs.Timing.{Moments, read_at}
 use Rattle.live.specs.OctetStreams.{StreamHistory, IsNew, Attempts, looked, noted}
 use Rattle.live.specs.Redial.{Redial, ended, IfReached, dialled_map, is_due, clock_read_at, settled}
 use Rattle.live.specs.Redial.{begun_by, tried_by, looked_by, is_due_by, IsTryAnswered, IsTriedOn}
-use Rattle.live.specs.Redial.{IsRedialled, IsPut, answered, known_by, put_by, quieted}
+use Rattle.live.specs.Redial.{IsRedialled, answered, known_by, quieted}
 use Rattle.live.specs.Redial.{Asked, DialCall, DialCalls, Dialed, dial_noted, is_reached}
 use Rattle.live.specs.Ends.{read_open}
 use Rattle.live.specs.Law.{AtClock}
