@@ -211,7 +211,8 @@ read_up t first now q Listener old e h = h
 read_up t first now q Connection old e h = h
 read_up t first now q Line old e h = h
 
-same_before : (n t first now : ℕ) (q : List ℕ) (s : EventSource) (f : Option SourceEvent) (old e : LiveEnds)
+same_before : (n t first now : ℕ) (q : List ℕ) (s : EventSource) (f : Option SourceEvent)
+    (old e : LiveEnds)
     → LooksBefore t q (event_at n f) s (looking (clock_read_at first old)) e
     → LooksBefore t q (event_at n f) s old (clock_read_at now e)
 same_before n t first now q s None old e h = h
@@ -234,7 +235,8 @@ logged_up t q Listener log old new h = h
 logged_up t q Connection log old new h = h
 logged_up t q Line log old new h = h
 
-logged_before : (event : Next) (t : ℕ) (q : List ℕ) (s : EventSource) (log : Log) (old new : LiveEnds)
+logged_before : (event : Next) (t : ℕ) (q : List ℕ) (s : EventSource) (log : Log)
+    (old new : LiveEnds)
     → LooksBefore t q event s old (as_logged log new)
     → LooksBefore t q event s old new
 logged_before (next.Open now) t q Listener log old new h = h
@@ -252,14 +254,16 @@ logged_before (next.Tick now) t q s log old new h = h
 logged_before (next.Wall now number) t q s log old new h = tt
 logged_before next.Done t q s log old new h = tt
 
-either_before : (event : Next) (t : ℕ) (q : List ℕ) (s : EventSource) (log : Log) (old new : LiveEnds) (now : ℕ)
+either_before : (event : Next) (t : ℕ) (q : List ℕ) (s : EventSource) (log : Log)
+    (old new : LiveEnds) (now : ℕ)
     → LooksBefore t q event s old (as_logged log new) ⊎ HoldsOctets event new.timing now
     → LooksBefore t q event s old new ⊎ HoldsOctets event new.timing now
 either_before event t q s log old new now (inl h) = inl (logged_before event t q s log old new h)
 either_before event t q s log old new now (inr h) = inr h
 
 -- octets that come too late are held
-taken_before : (b : Bool) (n t now : ℕ) (q : List ℕ) (s : EventSource) (buf : List ℕ) (f : Option SourceEvent)
+taken_before : (b : Bool) (n t now : ℕ) (q : List ℕ) (s : EventSource) (buf : List ℕ)
+    (f : Option SourceEvent)
     (old e : LiveEnds) → is_behind e.timing now ≡ b
     → LooksBefore t q (event_at n f) s old e
     → (let p = taken_by b buf f e in

@@ -20,6 +20,7 @@ pub mod WaitsTimed
 pub mod SourceLooks
 pub mod EachRound
 pub mod InTurn
+pub mod Behind
 pub mod Logs
 pub mod Fixed
 pub mod Passed

@@ -18,10 +18,12 @@ use Rattle.live.specs.declared.ends.Presence.TheVariants.{Away, There, Receiving
 -- a look at a stream that is away, by the try that it makes
 away_to : (old new : Redial) (got : Got) (buf : List ℕ) → (l : IsRedialled old got buf new)
     → old.stream ≡ None
-    → new ≡ tried_by old.is_trying l.now l.answer (clock_read_at l.now (record old { stream = None }))
+    → new
+    ≡ tried_by old.is_trying l.now l.answer (clock_read_at l.now (record old { stream = None }))
 away_to old new got buf l away =
     ap (λ (p : Got × Redial). p.1) (away_by old new got buf l away)
-    ∙ ap (λ s. tried_by old.is_trying l.now l.answer (clock_read_at l.now (record old { stream = s })))
+    ∙ ap
+    (λ s. tried_by old.is_trying l.now l.answer (clock_read_at l.now (record old { stream = s })))
     away
 
 -- one that begins
@@ -50,7 +52,8 @@ called_so call Pending (Some before) r = refl
 called_so call Failed (Some before) r = refl
 
 begins_so : (now : ℕ) (answer : Dialled StreamHistory) (old : Redial)
-    → BeginsTry now old (begun_by true now answer (clock_read_at now (record old { stream = None })))
+    → BeginsTry now old
+    (begun_by true now answer (clock_read_at now (record old { stream = None })))
 begins_so now answer old =
     let r = record (clock_read_at now old) { tried = Some now } in
     (tried_kept Dialed answer (record r { stream = None }), called_so Dialed answer old.calls r)

@@ -34,6 +34,7 @@ ghost use Rattle.live.specs.Passed.{centre_in, centre_out, opened_in, accepted_i
 ghost use Rattle.live.specs.Passed.{taken_of, example_log, example_line};
 ghost use Rattle.live.specs.Late.{dropped_of, gone_of, CountsLate};
 ghost use Rattle.live.specs.Streams.{Calls, Came, ReadsLine, ReadsOnce, octets_of};
+ghost use Rattle.live.specs.Timing.{is_behind};
 ghost use Rattle.live.specs.Walls.{is_wall};
 ghost use Rattle.live.specs.Redial.{Redial, clock_read_at, IsPut, HasDropped, BeginsTry};
 ghost use Rattle.live.specs.Redial.{Asked, DialCall, IsRedialled};
@@ -42,6 +43,7 @@ ghost use Rattle.live.specs.declared.ends.Got.TheVariants.{Octets, Quiet};
 ghost use Rattle.live.specs.declared.ends.Presence.TheVariants.{There, Away, Receiving};
 ghost use Rattle.live.specs.OctetStreams.{IsNew, StreamHistory, WasGone, WasQuiet, looked, noted};
 ghost use Rattle.live.specs.OctetStreams.{Dropped, Wrote};
+ghost use Rattle.live.specs.declared.timing.Timing.{Timing};
 ghost use Rattle.live.specs.declared.timing.WrittenRequest.{WrittenRequest};
 
 /// Where an event's moment lets an exchange end (`answer_ms` or more after its request's), a look
@@ -104,7 +106,8 @@ pub fn the_round_goes_on_behind_the_last_event()
 /// looked at, up to the one where it was found, and for a tick all three were. So they were in each
 /// round before. Octets that are held come before any look. Where an event's moment is more than
 /// 50 ms behind the clock when a round begins, the line is looked at. Where it is so behind the
-/// round a tick is given, and octets that came are held.
+/// round a tick is given, and octets that came are held. It is so only where an exchange would have
+/// been over for 50 ms, and the line hasn't been looked at for `answer_ms` behind its request.
 pub fn no_source_hides_another()
     ensures round { (old new : LiveEnds) (event : Next) (buf : List ℕ) →
         LogsTurn old event buf new → old.is_cut_due ≡ false → old.held ≡ [] →
@@ -123,6 +126,10 @@ pub fn no_source_hides_another()
         LogsTurn old event buf new → old.is_cut_due ≡ false → is_wall event ≡ false →
         AtRounds old.clock new.clock (λ begun quiet now.
         begins_behind old.timing begun quiet ≡ true → IsLookedAt begun quiet Line old new) }
+    ensures behind { (timing : Timing) (now : ℕ) → is_behind timing now ≡ true →
+        (r : WrittenRequest) × (timing.request ≡ Some r)
+        × (timing.looked - r.written < timing.answer_ms)
+        × (r.moment + timing.answer_ms + 50 ≤ now) }
 {}
 
 /// Behind a close no connection is open, no octets of it are held and no cut of it is due, but
@@ -400,9 +407,9 @@ pub fn a_look_gives_what_its_calls_brought()
 
 /// A stream that is away is tried at once, and then as soon as its wait has passed since the last
 /// try began, but never before. For each try the dialler is called once. At each look it is asked
-/// about a try that goes on, and no other begins. Meanwhile the stream is quiet, and takes and drops
-/// nothing. One that is there gives, takes and drops what its stream does. One that has gone is kept
-/// no longer, and one that is reached begins with nothing in it.
+/// about a try that goes on, and no other begins. Meanwhile the stream is quiet, and takes and
+/// drops nothing. One that is there gives, takes and drops what its stream does. One that has gone
+/// is kept no longer, and one that is reached begins with nothing in it.
 pub fn a_stream_that_is_away_is_tried_when_due()
     ensures first { (old new : Redial) (got : Got) (buf : List ℕ) → IsRedialled old got buf new →
         old.stream ≡ None → old.is_trying ≡ false → old.tried ≡ None →

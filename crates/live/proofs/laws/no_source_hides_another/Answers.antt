@@ -1,3 +1,4 @@
+use Rattle.live.proofs.Behind.{far_behind}
 use Rattle.live.proofs.InTurn.{in_turns, each_in_turn, held_in_turn, line_in_turn}
 use Rattle.live.proofs.laws.no_source_hides_another.Goals as goal
 
@@ -12,3 +13,6 @@ returns-clause-held c = held_in_turn
 
 pub returns-clause-line : goal.returns-clause-line
 returns-clause-line c = line_in_turn
+
+pub returns-clause-behind : goal.returns-clause-behind
+returns-clause-behind c = far_behind
