@@ -10,13 +10,17 @@ pub mod Drops
 pub mod Lines
 pub mod Came
 pub mod Tries
+pub mod Redials
 pub mod Law
 pub mod Allowed
 pub mod Octets
 pub mod Walls
 pub mod Ticks
 pub mod WaitsTimed
+pub mod SourceLooks
+pub mod EachRound
 pub mod InTurn
+pub mod Behind
 pub mod Logs
 pub mod Fixed
 pub mod Passed

@@ -14,7 +14,7 @@ use Rattle.live.specs.Law.{FarBehind, ManyRounds, IfTick, IsOneOf}
 use Rattle.live.specs.Ends.{LiveEnds, Turns, LogsTurn, as_logged, TurnsToWall, TurnsToEnds}
 use Rattle.live.specs.Ends.{QuietRounds}
 use Rattle.live.specs.Ends.{NoRound, OneRound, is_tick_due, IsLast, event_at, taken_by, looking}
-use Rattle.live.specs.Ends.{clock_read_at}
+use Rattle.live.specs.Ends.{IsTurn, clock_read_at}
 use Rattle.live.proofs.Apart.{clock_of, clock_apart, walled_of, walled_apart, taken_same}
 use Rattle.live.proofs.Rounds.{turn_kept}
 use Rattle.live.proofs.LineReads.{quiet_reads}
@@ -24,6 +24,15 @@ use Rattle.live.specs.declared.timing.Timing.{Timing}
 use Rattle.live.specs.declared.walled.Walled.{Walled}
 use Rattle.live.specs.declared.timing.WrittenRequest.{WrittenRequest}
 
+-- the rounds that found nothing, by when each began, the newest first, and when the next begins
+pub data RoundsOf (start : LiveEnds) : (quiet : List ℕ) → (begun : ℕ) → LiveEnds → Type 0 where
+  NoRoundOf : (begun : ℕ) → RoundsOf start [] begun start
+  OneRoundOf : (quiet : List ℕ) (begun now : ℕ) (before found : LiveEnds) (buf : List ℕ)
+      → RoundsOf start quiet begun before
+      → before.timing ≡ line_looked_at (looked_before start.timing.looked quiet) start.timing
+      → IsTurn begun before None buf found
+      → RoundsOf start (begun ∷ quiet) now (clock_read_at now found)
+
 -- what the rounds that found nothing say of the moments at which they began
 pub record Begins (start : LiveEnds) (first count begun : ℕ) (e : LiveEnds) (before : List ℕ) : Type
     0 where
@@ -32,6 +41,7 @@ pub record Begins (start : LiveEnds) (first count begun : ℕ) (e : LiveEnds) (b
   pub first_is : first_of begun quiet ≡ first
   pub brief : All (λ m. m < first + 100) (begun ∷ quiet)
   pub many : length quiet ≡ count
+  pub rounds : RoundsOf start quiet begun e
   pub asked : e.timing.request ≡ start.timing.request
   pub waits : e.timing.answer_ms ≡ start.timing.answer_ms
   pub reads : e.timing ≡ line_looked_at (looked_before start.timing.looked quiet) start.timing
@@ -73,6 +83,7 @@ begins start first _ _ _ before NoRound given =
       first_is = refl;
       brief = All-cons (λ m. m < first + 100) first [] short (All-nil (λ m. m < first + 100));
       many = refl;
+      rounds = NoRoundOf first;
       asked = refl;
       waits = refl;
       reads = refl;
@@ -94,6 +105,7 @@ begins start first _ _ _ before (OneRound count begun now earlier found buf q t 
       brief = All-cons (λ m. m < first + 100) now (begun ∷ b.quiet) (brief_by first now short)
           b.brief;
       many = grind (arith, b.many);
+      rounds = OneRoundOf b.quiet begun now earlier found buf b.rounds b.reads t;
       asked = ap (λ (k : Timing). k.request) looked ∙ b.asked;
       waits = ap (λ (k : Timing). k.answer_ms) looked ∙ b.waits;
       reads = looked ∙ ap (line_looked_at begun) b.reads;

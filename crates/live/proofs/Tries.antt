@@ -1,11 +1,11 @@
 -- A stream that is reached again.
 use Rattle.std.proofs.Common.{◌≡◌, ℕ, ◌≤◌, Bool, true, false, Some, None, List, [], ◌∷◌, length}
-use Rattle.std.proofs.Common.{Option, IfSome, refl, sym, ap, subst, arith, ◌∙◌}
+use Rattle.std.proofs.Common.{IfSome, refl, sym, ap, subst, arith, ◌∙◌}
 use Rattle.live.specs.Timing.{Moments, read_at}
 use Rattle.live.specs.OctetStreams.{StreamHistory, IsNew, Attempts, looked, noted}
 use Rattle.live.specs.Redial.{Redial, ended, IfReached, dialled_map, is_due, clock_read_at, settled}
 use Rattle.live.specs.Redial.{begun_by, tried_by, looked_by, is_due_by, IsTryAnswered, IsTriedOn}
-use Rattle.live.specs.Redial.{IsRedialled, IsPut, answered, known_by, put_by, quieted}
+use Rattle.live.specs.Redial.{IsRedialled, answered, known_by, quieted}
 use Rattle.live.specs.Redial.{Asked, DialCall, DialCalls, Dialed, dial_noted, is_reached}
 use Rattle.live.specs.Ends.{read_open}
 use Rattle.live.specs.Law.{AtClock}
@@ -175,7 +175,7 @@ first_try old new got buf none uncalled dark away idle untried l =
     )
 
 -- a look at a stream that is away, by the try that it makes
-away_by : (old new : Redial) (got : Got) (buf : List ℕ) → (l : IsRedialled old got buf new)
+pub away_by : (old new : Redial) (got : Got) (buf : List ℕ) → (l : IsRedialled old got buf new)
     → old.stream ≡ None
     → finds got new ≡ finds Quiet (tried_by old.is_trying l.now l.answer (clock_read_at l.now old))
 away_by old new got buf l away =
@@ -208,7 +208,7 @@ at_clock_read : (c : Moments) (now : ℕ) (Holds : ℕ → Type 0) → Holds now
 at_clock_read None now Holds h = tt
 at_clock_read (Some before) now Holds h = h
 
-away_clock : (old new : Redial) (got : Got) (buf : List ℕ) (l : IsRedialled old got buf new)
+pub away_clock : (old new : Redial) (got : Got) (buf : List ℕ) (l : IsRedialled old got buf new)
     (Holds : ℕ → Type 0) → old.stream ≡ None → Holds l.now → AtClock new.clock Holds
 away_clock old new got buf l Holds away h =
     let read = clock_read_at l.now old in
@@ -217,85 +217,6 @@ away_clock old new got buf l Holds away h =
     ∙ tried_clock old.is_trying l.now l.answer read in
     let P : Moments → Type 0 = λ c. AtClock c Holds in
     subst P (sym is) (at_clock_read old.clock l.now Holds h)
-
--- a try begins where one is due
-due_idle : (b : Bool) (tried : Option ℕ) (wait now : ℕ) → is_due_by b tried wait now ≡ true
-    → b ≡ false
-due_idle true tried wait now due = absurd (cc)
-due_idle false tried wait now due = refl
-
-begins_by : (b : Bool) (now : ℕ) (answer : Dialled StreamHistory) (r : Redial) → b ≡ false
-    → is_due r now ≡ true → (tried_by b now answer r).tried ≡ Some now
-begins_by b now answer r idle due =
-    let begun : Redial = record r { tried = Some now } in
-    ap (λ x. (tried_by x now answer r).tried) idle
-    ∙ (ap (λ x. (begun_by x now answer r).tried) due
-    ∙ settled_tried answer (record begun {
-      tries = ended begun.tries answer;
-      calls = dial_noted begun.calls (Dialed (is_reached answer));
-    }))
-
-pub begins_due : (old new : Redial) (got : Got) (buf : List ℕ) → IsRedialled old got buf new
-    → old.stream ≡ None → AtClock new.clock (λ now. is_due old now ≡ true → new.tried ≡ Some now)
-begins_due old new got buf l away =
-    away_clock old new got buf l (λ now. is_due old now ≡ true → new.tried ≡ Some now) away
-    (λ due. ap (λ (p : Got × Redial). p.1.tried) (away_by old new got buf l away)
-    ∙ begins_by old.is_trying l.now l.answer (clock_read_at l.now old)
-    (due_idle old.is_trying old.tried old.wait l.now due) due)
-
--- and none where none is
-pub waits_undue : (old new : Redial) (got : Got) (buf : List ℕ) → IsRedialled old got buf new
-    → old.stream ≡ None → old.is_trying ≡ false
-    → AtClock new.clock (λ now. is_due old now ≡ false → new ≡ clock_read_at now old)
-waits_undue old new got buf l away idle =
-    away_clock old new got buf l (λ now. is_due old now ≡ false → new ≡ clock_read_at now old) away
-    (λ undue. ap (λ (p : Got × Redial). p.1) (away_by old new got buf l away)
-    ∙ (ap (λ x. tried_by x l.now l.answer (clock_read_at l.now old)) idle
-    ∙ ap (λ x. begun_by x l.now l.answer (clock_read_at l.now old)) undue))
-
--- the dialler is asked about a try that goes on, and begins one that is due
-called_by : (call : Bool → DialCall) (answer : Dialled StreamHistory) (r : Redial)
-    → (answered call answer r).calls ≡ dial_noted r.calls (call (is_reached answer))
-called_by call answer r = settled_calls answer (record r {
-  tries = ended r.tries answer;
-  calls = dial_noted r.calls (call (is_reached answer));
-})
-
-noted_by : (call : Bool → DialCall) (reached : Bool) (before now : DialCalls)
-    → now ≡ dial_noted before (call reached)
-    → IfSome before (λ calls. (r : Bool) × (now ≡ Some (call r ∷ calls)))
-noted_by call reached None now is = tt
-noted_by call reached (Some before) now is = (reached, is)
-
-pub asks_on : (old new : Redial) (got : Got) (buf : List ℕ) → IsRedialled old got buf new
-    → old.stream ≡ None → old.is_trying ≡ true
-    → IfSome old.calls (λ before. (reached : Bool) × (new.calls ≡ Some (Asked reached ∷ before)))
-asks_on old new got buf l away trying =
-    let read = clock_read_at l.now old in
-    noted_by Asked (is_reached l.answer) old.calls new.calls
-    (ap (λ (p : Got × Redial). p.1.calls) (away_by old new got buf l away)
-    ∙ (ap (λ b. (tried_by b l.now l.answer read).calls) trying
-    ∙ called_by Asked l.answer read))
-
-dials_by : (b : Bool) (now : ℕ) (answer : Dialled StreamHistory) (r : Redial) → b ≡ false
-    → is_due r now ≡ true
-    → (tried_by b now answer r).calls ≡ dial_noted r.calls (Dialed (is_reached answer))
-dials_by b now answer r idle due =
-    ap (λ x. (tried_by x now answer r).calls) idle
-    ∙ (ap (λ x. (begun_by x now answer r).calls) due
-    ∙ called_by Dialed answer (record r { tried = Some now }))
-
-pub dials_due : (old new : Redial) (got : Got) (buf : List ℕ) → IsRedialled old got buf new
-    → old.stream ≡ None → AtClock new.clock (λ now. is_due old now ≡ true
-    → IfSome old.calls (λ before. (reached : Bool)
-    × (new.calls ≡ Some (Dialed reached ∷ before))))
-dials_due old new got buf l away =
-    away_clock old new got buf l (λ now. is_due old now ≡ true → IfSome old.calls (λ before.
-    (reached : Bool) × (new.calls ≡ Some (Dialed reached ∷ before)))) away
-    (λ due. noted_by Dialed (is_reached l.answer) old.calls new.calls
-    (ap (λ (p : Got × Redial). p.1.calls) (away_by old new got buf l away)
-    ∙ dials_by old.is_trying l.now l.answer (clock_read_at l.now old)
-    (due_idle old.is_trying old.tried old.wait l.now due) due))
 
 -- a look at one that is there
 there_at : (found : Got) (buf : List ℕ) (h : StreamHistory) (old : Redial)
@@ -319,9 +240,3 @@ pub looks_there : (old new : Redial) (got : Got) (buf : List ℕ) (h : StreamHis
 looks_there old new got buf h l there =
     there_by l.found got buf h old new
     (l.looked ∙ ap (λ s. looked_by s l.now l.answer l.found buf old) there)
-
--- what is put on one that is away
-pub puts_away : (old new : Redial) (octets : List ℕ) (is_taken : Bool)
-    → IsPut old octets is_taken new → old.stream ≡ None → is_taken ≡ false
-puts_away old new octets is_taken p away =
-    ap (λ (q : Bool × Redial). q.0) (p.put ∙ ap (λ s. put_by s octets p.taken old) away)

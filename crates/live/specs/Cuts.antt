@@ -1,6 +1,6 @@
 -- Cuts that are due, and how the log of a run begins in which one was due at first (this gateway's
 -- own profile).
-use Rattle.std.specs.Prelude.{◌≡◌, ℕ, List, [], ◌∷◌, ◌++◌, All, Bool, true, false, not, ◌&&◌, ◌||◌}
+use Rattle.std.specs.Prelude.{◌≡◌, ℕ, [], ◌∷◌, ◌++◌, All, Bool, true, false, not, ◌&&◌, ◌||◌}
 use Rattle.gateway.specs.Log.{Log, LogEntry, Came, Went, Input, CutOff, WallIs, Output, Closed}
 use Rattle.session.specs.declared.kinds.Close.TheVariants.{Replaced}
 

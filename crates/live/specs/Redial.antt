@@ -1,7 +1,6 @@
 -- A stream that is reached again where it has gone (this gateway's own profile).
 use Rattle.std.specs.Prelude.{◌≡◌, ℕ, ◌-◌, ◌*◌, min, nat_le, List, ◌∷◌, Bool, true, false, Option}
-use Rattle.std.specs.Prelude.{Some}
-use Rattle.std.specs.Prelude.{None}
+use Rattle.std.specs.Prelude.{IfSome, None, Some, is_some}
 use Rattle.live.specs.OctetStreams.{StreamHistory, Dropped, Wrote, noted, IsNew, Attempts}
 use Rattle.live.specs.OctetStreams.{attempted}
 use Rattle.live.specs.Timing.{Moments, read_at}
@@ -166,3 +165,8 @@ put_by (Some stream) octets taken r =
 pub record IsPut (old : Redial) (octets : List ℕ) (is_taken : Bool) (new : Redial) : Type 0 where
   pub taken : Bool
   pub put : (is_taken, new) ≡ put_by old.stream octets taken old
+
+-- A try begins at this moment, by one call of the dialler.
+abbrev pub BeginsTry : (now : ℕ) → (old new : Redial) → Type 0
+BeginsTry now old new = (new.tried ≡ Some now)
+    × IfSome old.calls (λ before. new.calls ≡ Some (Dialed (is_some new.stream) ∷ before))

@@ -1,5 +1,5 @@
 -- A live run from its beginning on, and what its log begins with (this gateway's own profile).
-use Rattle.std.specs.Prelude.{◌≡◌, ℕ, List, [], ◌∷◌, ◌++◌, All, Bool, true, false, not, ◌&&◌, ◌||◌}
+use Rattle.std.specs.Prelude.{◌≡◌, ℕ, [], ◌∷◌, ◌++◌, All, Bool, true, false, not, ◌&&◌, ◌||◌}
 use Rattle.std.specs.Prelude.{Option, None, is_some}
 use Rattle.gateway.specs.Log.{Log, LogEntry, Came, Went, Input}
 use Rattle.live.specs.Cuts.{CutsFirst, is_wall_in}

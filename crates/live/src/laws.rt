@@ -2,7 +2,7 @@
 //! line.
 ghost use Rattle.std.specs.Prelude.{◌⊎◌, ◌≡◌, ◌≢◌, All, IfSome, None, ◌+◌, ◌-◌, ◌<◌, ◌≤◌, ℕ, List};
 ghost use Rattle.std.specs.Prelude.{[], ◌∷◌, length, min, Option, Some, Ok, Err, Bool, true, false};
-ghost use Rattle.std.specs.Prelude.{◌↔◌, ◌^◌};
+ghost use Rattle.std.specs.Prelude.{◌↔◌, ◌^◌, is_some};
 ghost use Rattle.std.specs.Prelude.{Vec};
 ghost use Rattle.std.specs.declared.net.ip_addr.IpAddr.{IpAddr};
 ghost use Rattle.std.specs.declared.alloc.Global.{Global};
@@ -25,7 +25,7 @@ ghost use Rattle.live.specs.declared.watched.EndsSight.{EndsSight};
 ghost use Rattle.live.specs.declared.allow_list.AllowList.TheVariants.{Anyone, Only};
 ghost use Rattle.gateway.specs.Log.{Closed, LineOut, Output};
 ghost use Rattle.live.specs.InTurn.{BeginsBehind, LooksBefore, IsLookedAt, begins_behind};
-ghost use Rattle.live.specs.InTurn.{GivesOctets, HoldsOctets};
+ghost use Rattle.live.specs.InTurn.{EachRoundLooks, GivesOctets, HoldsOctets, level_rounds};
 ghost use Rattle.live.specs.declared.source.EventSource.TheVariants.{Line};
 ghost use Rattle.session.specs.declared.kinds.Close.{Close};
 ghost use Rattle.session.specs.declared.kinds.Close.TheVariants.{Replaced};
@@ -34,15 +34,16 @@ ghost use Rattle.live.specs.Passed.{centre_in, centre_out, opened_in, accepted_i
 ghost use Rattle.live.specs.Passed.{taken_of, example_log, example_line};
 ghost use Rattle.live.specs.Late.{dropped_of, gone_of, CountsLate};
 ghost use Rattle.live.specs.Streams.{Calls, Came, ReadsLine, ReadsOnce, octets_of};
+ghost use Rattle.live.specs.Timing.{is_behind};
 ghost use Rattle.live.specs.Walls.{is_wall};
-ghost use Rattle.live.specs.Redial.{Redial, is_due, settled, known_by, clock_read_at, IsPut};
-ghost use Rattle.live.specs.Redial.{Asked, Dialed, IsRedialled};
-ghost use Rattle.live.specs.declared.redial.Dialled.TheVariants.{Reached, Failed};
+ghost use Rattle.live.specs.Redial.{Redial, clock_read_at, IsPut, HasDropped, BeginsTry};
+ghost use Rattle.live.specs.Redial.{Asked, DialCall, IsRedialled};
 ghost use Rattle.live.specs.declared.ends.Got.{Got};
 ghost use Rattle.live.specs.declared.ends.Got.TheVariants.{Octets, Quiet};
-ghost use Rattle.live.specs.declared.ends.Got.TheVariants as ended;
 ghost use Rattle.live.specs.declared.ends.Presence.TheVariants.{There, Away, Receiving};
 ghost use Rattle.live.specs.OctetStreams.{IsNew, StreamHistory, WasGone, WasQuiet, looked, noted};
+ghost use Rattle.live.specs.OctetStreams.{Dropped, Wrote};
+ghost use Rattle.live.specs.declared.timing.Timing.{Timing};
 ghost use Rattle.live.specs.declared.timing.WrittenRequest.{WrittenRequest};
 
 /// Where an event's moment lets an exchange end (`answer_ms` or more after its request's), a look
@@ -102,25 +103,33 @@ pub fn the_round_goes_on_behind_the_last_event()
 {}
 
 /// No source that always has something hides another. For an event each source of the round was
-/// looked at, up to the one where it was found, and for a tick all three were. Octets that are held
-/// come before any look. Where an event's moment is more than 50 ms behind the clock when a round
-/// begins, the line is looked at. Where it is so behind the round a tick is given, and octets that
-/// came are held.
+/// looked at, up to the one where it was found, and for a tick all three were. So they were in each
+/// round before. Octets that are held come before any look. Where an event's moment is more than
+/// 50 ms behind the clock when a round begins, the line is looked at. Where it is so behind the
+/// round a tick is given, and octets that came are held. It is so only where an exchange would have
+/// been over for 50 ms, and the line hasn't been looked at for `answer_ms` behind its request.
 pub fn no_source_hides_another()
     ensures round { (old new : LiveEnds) (event : Next) (buf : List ℕ) →
         LogsTurn old event buf new → old.is_cut_due ≡ false → old.held ≡ [] →
         is_wall event ≡ false → AtRounds old.clock new.clock (λ begun quiet now.
         begins_behind old.timing begun quiet ≡ false →
-        LooksBefore begun event old.first old new ⊎ HoldsOctets event new.timing now) }
+        LooksBefore begun quiet event old.first old new ⊎ HoldsOctets event new.timing now) }
+    ensures rounds { (old new : LiveEnds) (event : Next) (buf : List ℕ) →
+        LogsTurn old event buf new → is_wall event ≡ false →
+        AtRounds old.clock new.clock (λ begun quiet now. EachRoundLooks quiet event old new) }
     ensures held { (old new : LiveEnds) (event : Next) (buf : List ℕ) →
         LogsTurn old event buf new → old.is_cut_due ≡ false → old.held ≢ [] →
         is_wall event ≡ false → AtRounds old.clock new.clock (λ begun quiet now.
-        begins_behind old.timing begun quiet ≡ false →
-        GivesOctets event (length old.held) ⊎ HoldsOctets event new.timing now) }
+        (level_rounds old.timing quiet ≡ 0) × (begins_behind old.timing begun quiet ≡ false →
+        GivesOctets event (length old.held) ⊎ HoldsOctets event new.timing now)) }
     ensures line { (old new : LiveEnds) (event : Next) (buf : List ℕ) →
         LogsTurn old event buf new → old.is_cut_due ≡ false → is_wall event ≡ false →
         AtRounds old.clock new.clock (λ begun quiet now.
-        begins_behind old.timing begun quiet ≡ true → IsLookedAt begun Line old new) }
+        begins_behind old.timing begun quiet ≡ true → IsLookedAt begun quiet Line old new) }
+    ensures behind { (timing : Timing) (now : ℕ) → is_behind timing now ≡ true →
+        (r : WrittenRequest) × (timing.request ≡ Some r)
+        × (timing.looked - r.written < timing.answer_ms)
+        × (r.moment + timing.answer_ms + 50 ≤ now) }
 {}
 
 /// Behind a close no connection is open, no octets of it are held and no cut of it is due, but
@@ -396,50 +405,94 @@ pub fn a_look_gives_what_its_calls_brought()
         Came old (octets_of got buf) new }
 {}
 
-/// When a stream that is away is tried, by literal numbers: at once, then a second after the last
-/// try began, and not while one goes on. Behind each stream that was reached and gave nothing at
-/// twice the distance, up to 30 s; behind octets a second again.
-pub fn tries_by_example()
-    ensures due { (r : Redial) → (is_due (record r { is_trying = false; tried = None }) 7 ≡ true)
-        × (is_due (record r { is_trying = false; tried = Some 5000; wait = 1000 }) 5999 ≡ false)
-        × (is_due (record r { is_trying = false; tried = Some 5000; wait = 1000 }) 6000 ≡ true) }
-    ensures one { (r : Redial) (now : ℕ) → is_due (record r { is_trying = true }) now ≡ false }
-    ensures reached { (r : Redial) → ((settled (Reached None)
-        (record r { wait = 1000 })).wait ≡ 2000) × ((settled (Reached None)
-        (record r { wait = 16000 })).wait ≡ 30000) × ((settled (Reached None)
-        (record r { wait = 30000 })).wait ≡ 30000) }
-    ensures others { (r : Redial) → ((settled Failed r).wait ≡ r.wait)
-        × ((known_by (Octets 1) r).wait ≡ 1000) }
-    ensures shown { (r : Redial) → ((settled (Reached None) r).presence ≡ There)
-        × ((settled Failed r).presence ≡ Away) × ((known_by (Octets 1) r).presence ≡ Receiving)
-        × ((known_by ended.Gone r).presence ≡ Away) }
-{}
-
-/// A stream that is away is tried when that is due, and not before: the try begins at the look, and
-/// the dialler is called once for it. At each look it is asked about a try that goes on.
-/// Meanwhile it is quiet and takes nothing. One that is there gives what its stream gives, and one
-/// that has gone is kept no longer.
+/// A stream that is away is tried at once, and then as soon as its wait has passed since the last
+/// try began, but never before. For each try the dialler is called once. At each look it is asked
+/// about a try that goes on, and no other begins. Meanwhile the stream is quiet, and takes and
+/// drops nothing. One that is there gives, takes and drops what its stream does. One that has gone
+/// is kept no longer, and one that is reached begins with nothing in it.
 pub fn a_stream_that_is_away_is_tried_when_due()
-    ensures due { (old new : Redial) (got : Got) (buf : List ℕ) → IsRedialled old got buf new →
-        old.stream ≡ None → AtClock new.clock (λ now. is_due old now ≡ true →
-        new.tried ≡ Some now) }
-    ensures dialed { (old new : Redial) (got : Got) (buf : List ℕ) → IsRedialled old got buf new →
-        old.stream ≡ None → AtClock new.clock (λ now. is_due old now ≡ true →
-        IfSome old.calls (λ before. (reached : Bool)
-        × (new.calls ≡ Some (Dialed reached ∷ before)))) }
+    ensures first { (old new : Redial) (got : Got) (buf : List ℕ) → IsRedialled old got buf new →
+        old.stream ≡ None → old.is_trying ≡ false → old.tried ≡ None →
+        AtClock new.clock (λ now. BeginsTry now old new) }
+    ensures later { (old new : Redial) (got : Got) (buf : List ℕ) (last : ℕ) →
+        IsRedialled old got buf new → old.stream ≡ None → old.is_trying ≡ false →
+        old.tried ≡ Some last → AtClock new.clock (λ now. old.wait ≤ now - last →
+        BeginsTry now old new) }
+    ensures undue { (old new : Redial) (got : Got) (buf : List ℕ) (last : ℕ) →
+        IsRedialled old got buf new → old.stream ≡ None → old.is_trying ≡ false →
+        old.tried ≡ Some last → AtClock new.clock (λ now. now - last < old.wait →
+        new ≡ clock_read_at now old) }
     ensures asked { (old new : Redial) (got : Got) (buf : List ℕ) → IsRedialled old got buf new →
-        old.stream ≡ None → old.is_trying ≡ true → IfSome old.calls (λ before.
-        (reached : Bool) × (new.calls ≡ Some (Asked reached ∷ before))) }
-    ensures undue { (old new : Redial) (got : Got) (buf : List ℕ) → IsRedialled old got buf new →
-        old.stream ≡ None → old.is_trying ≡ false → AtClock new.clock (λ now.
-        is_due old now ≡ false → new ≡ clock_read_at now old) }
+        old.stream ≡ None → old.is_trying ≡ true → (new.tried ≡ old.tried)
+        × IfSome old.calls (λ before. new.calls ≡ Some (Asked (is_some new.stream) ∷ before)) }
     ensures quiet { (old new : Redial) (got : Got) (buf : List ℕ) → IsRedialled old got buf new →
         old.stream ≡ None → got ≡ Quiet }
     ensures put { (old new : Redial) (octets : List ℕ) (is_taken : Bool) →
-        IsPut old octets is_taken new → old.stream ≡ None → is_taken ≡ false }
+        IsPut old octets is_taken new → old.stream ≡ None → (is_taken ≡ false) × (new ≡ old) }
+    ensures dropped { (old new : Redial) (count : ℕ) → HasDropped old count new →
+        old.stream ≡ None → (count ≡ 0) × (new ≡ old) }
     ensures there { (old new : Redial) (got : Got) (buf : List ℕ) (history : StreamHistory) →
         IsRedialled old got buf new → old.stream ≡ Some history →
         IfSome new.stream (λ now. now ≡ noted history (looked got buf)) }
+    ensures written { (old new : Redial) (octets : List ℕ) (is_taken : Bool)
+        (history : StreamHistory) → IsPut old octets is_taken new → old.stream ≡ Some history →
+        new ≡ record old { stream = Some (noted history (Wrote octets is_taken)) } }
+    ensures waiting { (old new : Redial) (count : ℕ) (history : StreamHistory) →
+        HasDropped old count new → old.stream ≡ Some history →
+        new ≡ record old { stream = Some (noted history (Dropped count)) } }
+    ensures fresh { (old new : Redial) (got : Got) (buf : List ℕ) → IsRedialled old got buf new →
+        old.stream ≡ None → IfSome new.stream IsNew }
+{}
+
+/// A try that has ended goes on no longer. By it a stream is there, or the dialler noted that it
+/// reached none. One that hasn't ended goes on, and nothing more is known of the stream then.
+pub fn a_try_goes_on_until_it_ends()
+    ensures ended { (old new : Redial) (got : Got) (buf : List ℕ) (tries : List Bool)
+        (reached : Bool) → IsRedialled old got buf new → old.stream ≡ None →
+        old.tries ≡ Some tries → new.tries ≡ Some (reached ∷ tries) →
+        (new.is_trying ≡ false) × (is_some new.stream ≡ reached) }
+    ensures goes_on { (old new : Redial) (got : Got) (buf : List ℕ) (tries : List Bool)
+        (calls : List DialCall) (call : DialCall) → IsRedialled old got buf new →
+        old.stream ≡ None → old.tries ≡ Some tries → new.tries ≡ Some tries →
+        old.calls ≡ Some calls → new.calls ≡ Some (call ∷ calls) →
+        (new.is_trying ≡ true) × (new.stream ≡ None) × (new.presence ≡ old.presence) }
+{}
+
+/// Behind each stream that was reached the wait for the next try is twice as long, up to 30 s. By
+/// octets that come it is a second again. Nothing else changes it.
+pub fn tries_lie_farther_apart_while_nothing_comes()
+    ensures reached { (old new : Redial) (got : Got) (buf : List ℕ) → IsRedialled old got buf new →
+        old.stream ≡ None → IfSome new.stream (λ _.
+        (old.wait ≤ 15000 → new.wait ≡ old.wait + old.wait)
+        × (15000 ≤ old.wait → new.wait ≡ 30000)) }
+    ensures away { (old new : Redial) (got : Got) (buf : List ℕ) → IsRedialled old got buf new →
+        old.stream ≡ None → new.stream ≡ None → new.wait ≡ old.wait }
+    ensures octets { (old new : Redial) (len : ℕ) (buf : List ℕ) →
+        IsRedialled old (Octets len) buf new → new.wait ≡ 1000 }
+    ensures quiet { (old new : Redial) (buf : List ℕ) (history : StreamHistory) →
+        IsRedialled old Quiet buf new → old.stream ≡ Some history → new.wait ≡ old.wait }
+    ensures put { (old new : Redial) (octets : List ℕ) (is_taken : Bool) →
+        IsPut old octets is_taken new → new.wait ≡ old.wait }
+    ensures dropped { (old new : Redial) (count : ℕ) → HasDropped old count new →
+        new.wait ≡ old.wait }
+{}
+
+/// What is known of a stream that is reached again. It is there once it was reached, and receiving
+/// once octets came. It is away where it has gone, and where a try ended without it.
+pub fn what_is_known_of_a_stream_is_what_was_seen()
+    ensures reached { (old new : Redial) (got : Got) (buf : List ℕ) → IsRedialled old got buf new →
+        old.stream ≡ None → IfSome new.stream (λ _. new.presence ≡ There) }
+    ensures failed { (old new : Redial) (got : Got) (buf : List ℕ) (tries : List Bool) →
+        IsRedialled old got buf new → old.stream ≡ None → old.tries ≡ Some tries →
+        new.tries ≡ Some (false ∷ tries) → new.presence ≡ Away }
+    ensures octets { (old new : Redial) (len : ℕ) (buf : List ℕ) →
+        IsRedialled old (Octets len) buf new → new.presence ≡ Receiving }
+    ensures gone { (old new : Redial) (got : Got) (buf : List ℕ) (history : StreamHistory) →
+        IsRedialled old got buf new → old.stream ≡ Some history → new.stream ≡ None →
+        new.presence ≡ Away }
+    ensures quiet { (old new : Redial) (buf : List ℕ) (history : StreamHistory) →
+        IsRedialled old Quiet buf new → old.stream ≡ Some history → new.stream ≢ None →
+        new.presence ≡ old.presence }
 {}
 
 /// What the words of these laws count, by worked examples: the octets and requests of a log, those

@@ -1,0 +1,403 @@
+-- When a stream that is away is tried again, and what is known of it.
+use Rattle.std.proofs.Common.{◌≡◌, ◌≢◌, ℕ, ◌+◌, ◌-◌, ◌<◌, ◌≤◌, Bool, true, false, List, [], ◌∷◌}
+use Rattle.std.proofs.Common.{length, Option, Some, None, IfSome, refl, sym, ap, subst, arith, ◌∙◌}
+use Rattle.std.specs.Prelude.{is_some, nat_le}
+use Rattle.live.specs.OctetStreams.{StreamHistory, IsNew, noted, Wrote, Dropped}
+use Rattle.live.specs.Redial.{Redial, is_due, clock_read_at, begun_by, tried_by, is_due_by}
+use Rattle.live.specs.Redial.{IsRedialled, IsPut, HasDropped, answered, put_by, dropped_by}
+use Rattle.live.specs.Redial.{IfReached, looked_by, Asked, DialCall, DialCalls, Dialed, BeginsTry}
+use Rattle.live.specs.Law.{AtClock}
+use Rattle.live.proofs.Tries.{away_by, away_clock}
+use Rattle.live.specs.declared.redial.Dialled.{Dialled}
+use Rattle.live.specs.declared.redial.Dialled.TheVariants.{Reached, Pending, Failed}
+use Rattle.live.specs.declared.ends.Got.{Got}
+use Rattle.live.specs.declared.ends.Got.TheVariants.{Octets, Quiet, Gone}
+use Rattle.live.specs.declared.ends.Presence.{Presence}
+use Rattle.live.specs.declared.ends.Presence.TheVariants.{Away, There, Receiving}
+
+-- a look at a stream that is away, by the try that it makes
+away_to : (old new : Redial) (got : Got) (buf : List ℕ) → (l : IsRedialled old got buf new)
+    → old.stream ≡ None
+    → new
+    ≡ tried_by old.is_trying l.now l.answer (clock_read_at l.now (record old { stream = None }))
+away_to old new got buf l away =
+    ap (λ (p : Got × Redial). p.1) (away_by old new got buf l away)
+    ∙ ap
+    (λ s. tried_by old.is_trying l.now l.answer (clock_read_at l.now (record old { stream = s })))
+    away
+
+-- one that begins
+begun_to : (old new : Redial) (got : Got) (buf : List ℕ) → (l : IsRedialled old got buf new)
+    → old.stream ≡ None → old.is_trying ≡ false
+    → is_due_by false old.tried old.wait l.now ≡ true
+    → new ≡ begun_by true l.now l.answer (clock_read_at l.now (record old { stream = None }))
+begun_to old new got buf l away idle due =
+    let r = clock_read_at l.now (record old { stream = None }) in
+    away_to old new got buf l away ∙ (ap (λ b. tried_by b l.now l.answer r) idle
+    ∙ ap (λ b. begun_by b l.now l.answer r)
+    (ap (λ b. is_due_by b old.tried old.wait l.now) idle ∙ due))
+
+tried_kept : (call : Bool → DialCall) (answer : Dialled StreamHistory) (r : Redial)
+    → (answered call answer r).tried ≡ r.tried
+tried_kept call (Reached stream) r = refl
+tried_kept call Pending r = refl
+tried_kept call Failed r = refl
+
+called_so : (call : Bool → DialCall) (answer : Dialled StreamHistory) (c : DialCalls) (r : Redial)
+    → (let n = answered call answer (record r { stream = None; calls = c }) in
+    IfSome c (λ before. n.calls ≡ Some (call (is_some n.stream) ∷ before)))
+called_so call answer None r = tt
+called_so call (Reached stream) (Some before) r = refl
+called_so call Pending (Some before) r = refl
+called_so call Failed (Some before) r = refl
+
+begins_so : (now : ℕ) (answer : Dialled StreamHistory) (old : Redial)
+    → BeginsTry now old
+    (begun_by true now answer (clock_read_at now (record old { stream = None })))
+begins_so now answer old =
+    let r = record (clock_read_at now old) { tried = Some now } in
+    (tried_kept Dialed answer (record r { stream = None }), called_so Dialed answer old.calls r)
+
+begins_due : (old new : Redial) (got : Got) (buf : List ℕ) → (l : IsRedialled old got buf new)
+    → old.stream ≡ None → old.is_trying ≡ false
+    → is_due_by false old.tried old.wait l.now ≡ true → BeginsTry l.now old new
+begins_due old new got buf l away idle due =
+    subst (BeginsTry l.now old) (sym (begun_to old new got buf l away idle due))
+    (begins_so l.now l.answer old)
+
+pub begins_at_once : (old new : Redial) (got : Got) (buf : List ℕ) → IsRedialled old got buf new
+    → old.stream ≡ None → old.is_trying ≡ false → old.tried ≡ None
+    → AtClock new.clock (λ now. BeginsTry now old new)
+begins_at_once old new got buf l away idle untried =
+    away_clock old new got buf l (λ now. BeginsTry now old new) away
+    (begins_due old new got buf l away idle
+    (ap (λ t. is_due_by false t old.wait l.now) untried))
+
+pub begins_later : (old new : Redial) (got : Got) (buf : List ℕ) (last : ℕ)
+    → IsRedialled old got buf new
+    → old.stream ≡ None → old.is_trying ≡ false → old.tried ≡ Some last
+    → AtClock new.clock (λ now. old.wait ≤ now - last → BeginsTry now old new)
+begins_later old new got buf last l away idle tried =
+    away_clock old new got buf l (λ now. old.wait ≤ now - last → BeginsTry now old new) away
+    (λ passed. let due : nat_le old.wait (l.now - last) ≡ true = grind (arith, passed) in
+    begins_due old new got buf l away idle
+    (ap (λ t. is_due_by false t old.wait l.now) tried ∙ due))
+
+pub waits_undue : (old new : Redial) (got : Got) (buf : List ℕ) (last : ℕ)
+    → IsRedialled old got buf new
+    → old.stream ≡ None → old.is_trying ≡ false → old.tried ≡ Some last
+    → AtClock new.clock (λ now. now - last < old.wait → new ≡ clock_read_at now old)
+waits_undue old new got buf last l away idle tried =
+    away_clock old new got buf l (λ now. now - last < old.wait → new ≡ clock_read_at now old) away
+    (λ short. let undue : nat_le old.wait (l.now - last) ≡ false = grind (arith, short) in
+    let r = clock_read_at l.now old in
+    ap (λ (p : Got × Redial). p.1) (away_by old new got buf l away)
+    ∙ (ap (λ b. tried_by b l.now l.answer r) idle ∙ ap (λ b. begun_by b l.now l.answer r)
+    (ap (λ b. is_due_by b old.tried old.wait l.now) idle
+    ∙ (ap (λ t. is_due_by false t old.wait l.now) tried ∙ undue))))
+
+-- the dialler is asked about one that goes on
+AsksOn : (old new : Redial) → Type 0
+AsksOn old new = (new.tried ≡ old.tried)
+    × IfSome old.calls (λ before. new.calls ≡ Some (Asked (is_some new.stream) ∷ before))
+
+pub asks_on : (old new : Redial) (got : Got) (buf : List ℕ) → IsRedialled old got buf new
+    → old.stream ≡ None → old.is_trying ≡ true → (new.tried ≡ old.tried)
+    × IfSome old.calls (λ before. new.calls ≡ Some (Asked (is_some new.stream) ∷ before))
+unfolding AsksOn
+asks_on old new got buf l away trying =
+    let r = clock_read_at l.now old in
+    let asked : new ≡ answered Asked l.answer (record r { stream = None }) =
+    away_to old new got buf l away
+    ∙ ap (λ b. tried_by b l.now l.answer (record r { stream = None })) trying in
+    subst (AsksOn old) (sym asked)
+    (tried_kept Asked l.answer (record r { stream = None }), called_so Asked l.answer old.calls r)
+
+pub puts_away : (old new : Redial) (octets : List ℕ) (is_taken : Bool)
+    → IsPut old octets is_taken new → old.stream ≡ None → (is_taken ≡ false) × (new ≡ old)
+puts_away old new octets is_taken p away =
+    let is = p.put ∙ ap (λ s. put_by s octets p.taken old) away in
+    (ap (λ (q : Bool × Redial). q.0) is, ap (λ (q : Bool × Redial). q.1) is)
+
+pub drops_away : (old new : Redial) (count : ℕ) → HasDropped old count new → old.stream ≡ None
+    → (count ≡ 0) × (new ≡ old)
+drops_away old new count d away =
+    let is = d.dropped ∙ ap (λ s. dropped_by s d.waiting old) away in
+    (ap (λ (q : ℕ × Redial). q.0) is, ap (λ (q : ℕ × Redial). q.1) is)
+
+-- and one that is there
+pub puts_there : (old new : Redial) (octets : List ℕ) (is_taken : Bool) (h : StreamHistory)
+    → IsPut old octets is_taken new → old.stream ≡ Some h
+    → new ≡ record old { stream = Some (noted h (Wrote octets is_taken)) }
+puts_there old new octets is_taken h p there =
+    let is = p.put ∙ ap (λ s. put_by s octets p.taken old) there in
+    ap (λ (q : Bool × Redial). q.1) is
+    ∙ ap (λ b. record old { stream = Some (noted h (Wrote octets b)) })
+    (sym (ap (λ (q : Bool × Redial). q.0) is))
+
+pub drops_there : (old new : Redial) (count : ℕ) (h : StreamHistory) → HasDropped old count new
+    → old.stream ≡ Some h → new ≡ record old { stream = Some (noted h (Dropped count)) }
+drops_there old new count h d there =
+    let is = d.dropped ∙ ap (λ s. dropped_by s d.waiting old) there in
+    ap (λ (q : ℕ × Redial). q.1) is
+    ∙ ap (λ n. record old { stream = Some (noted h (Dropped n)) })
+    (sym (ap (λ (q : ℕ × Redial). q.0) is))
+
+-- nothing has happened at one that is reached
+answered_new : (call : Bool → DialCall) (answer : Dialled StreamHistory) (r : Redial)
+    → IfReached answer IsNew
+    → IfSome (answered call answer (record r { stream = None })).stream IsNew
+answered_new call (Reached stream) r fresh = fresh
+answered_new call Pending r fresh = tt
+answered_new call Failed r fresh = tt
+
+begun_new : (due : Bool) (now : ℕ) (answer : Dialled StreamHistory) (r : Redial)
+    → IfReached answer IsNew
+    → IfSome (begun_by due now answer (record r { stream = None })).stream IsNew
+begun_new true now answer r fresh = answered_new Dialed answer (record r { tried = Some now }) fresh
+begun_new false now answer r fresh = tt
+
+tried_new : (b : Bool) (now : ℕ) (answer : Dialled StreamHistory) (r : Redial)
+    → IfReached answer IsNew
+    → IfSome (tried_by b now answer (clock_read_at now (record r { stream = None }))).stream IsNew
+tried_new true now answer r fresh = answered_new Asked answer (clock_read_at now r) fresh
+tried_new false now answer r fresh =
+    begun_new (is_due (clock_read_at now (record r { stream = None })) now) now answer
+    (clock_read_at now r) fresh
+
+pub reached_new : (old new : Redial) (got : Got) (buf : List ℕ) → IsRedialled old got buf new
+    → old.stream ≡ None → IfSome new.stream IsNew
+reached_new old new got buf l away =
+    let P : Redial → Type 0 = λ r. IfSome r.stream IsNew in
+    subst P (sym (away_to old new got buf l away))
+    (tried_new old.is_trying l.now l.answer old l.is_new)
+
+-- how long after it the next one begins, and what is known
+Waits : (wait : ℕ) → Redial → Type 0
+Waits wait new = IfSome new.stream (λ s. (wait ≤ 15000 → new.wait ≡ wait + wait)
+    × (15000 ≤ wait → new.wait ≡ 30000))
+    × (new.stream ≡ None → new.wait ≡ wait) × IfSome new.stream (λ s. new.presence ≡ There)
+
+answered_waits : (call : Bool → DialCall) (answer : Dialled StreamHistory) (r : Redial)
+    → Waits r.wait (answered call answer (record r { stream = None }))
+unfolding Waits
+answered_waits call (Reached stream) r =
+    ((λ short. grind (arith, short), λ long. grind (arith, long)), λ gone. absurd (cc), refl)
+answered_waits call Pending r = (tt, λ gone. refl, tt)
+answered_waits call Failed r = (tt, λ gone. refl, tt)
+
+begun_waits : (due : Bool) (now : ℕ) (answer : Dialled StreamHistory) (r : Redial)
+    → Waits r.wait (begun_by due now answer (record r { stream = None }))
+unfolding Waits
+begun_waits true now answer r = answered_waits Dialed answer (record r { tried = Some now })
+begun_waits false now answer r = (tt, λ gone. refl, tt)
+
+tried_waits : (b : Bool) (now : ℕ) (answer : Dialled StreamHistory) (r : Redial)
+    → Waits r.wait (tried_by b now answer (clock_read_at now (record r { stream = None })))
+tried_waits true now answer r = answered_waits Asked answer (clock_read_at now r)
+tried_waits false now answer r =
+    begun_waits (is_due (clock_read_at now (record r { stream = None })) now) now answer
+    (clock_read_at now r)
+
+away_waits : (old new : Redial) (got : Got) (buf : List ℕ) → IsRedialled old got buf new
+    → old.stream ≡ None → Waits old.wait new
+away_waits old new got buf l away =
+    subst (Waits old.wait) (sym (away_to old new got buf l away))
+    (tried_waits old.is_trying l.now l.answer old)
+
+pub reached_waits : (old new : Redial) (got : Got) (buf : List ℕ) → IsRedialled old got buf new
+    → old.stream ≡ None → IfSome new.stream (λ s. (old.wait ≤ 15000
+    → new.wait ≡ old.wait + old.wait) × (15000 ≤ old.wait → new.wait ≡ 30000))
+unfolding Waits
+reached_waits old new got buf l away = (away_waits old new got buf l away).0
+
+pub still_waits : (old new : Redial) (got : Got) (buf : List ℕ) → IsRedialled old got buf new
+    → old.stream ≡ None → new.stream ≡ None → new.wait ≡ old.wait
+unfolding Waits
+still_waits old new got buf l away none = (away_waits old new got buf l away).1 none
+
+pub reached_there : (old new : Redial) (got : Got) (buf : List ℕ) → IsRedialled old got buf new
+    → old.stream ≡ None → IfSome new.stream (λ s. new.presence ≡ There)
+unfolding Waits
+reached_there old new got buf l away = (away_waits old new got buf l away).2
+
+-- what one that is there finds
+Finds : (got : Got) → (old new : Redial) → Type 0
+Finds (Octets len) old new =
+    (new.wait ≡ 1000) × (new.presence ≡ Receiving) × (new.stream ≢ None)
+Finds Quiet old new = (new.wait ≡ old.wait) × (new.stream ≡ None → new.presence ≡ Away)
+    × (new.stream ≢ None → new.presence ≡ old.presence)
+Finds Gone old new = ⊥
+
+there_so : (s : Option StreamHistory) (now : ℕ) (answer : Dialled StreamHistory) (found : Got)
+    (buf : List ℕ) (h : StreamHistory) (r : Redial) → s ≡ Some h
+    → (let p = looked_by s now answer found buf r in Finds p.0 r p.1)
+unfolding Finds
+there_so None now answer found buf h r there = absurd (cc)
+there_so (Some g) now answer (Octets len) buf h r there = (refl, refl, λ none. absurd (cc))
+there_so (Some g) now answer Quiet buf h r there = (refl, λ none. absurd (cc), λ some. refl)
+there_so (Some g) now answer Gone buf h r there = (refl, λ none. refl, λ some. absurd (some refl))
+
+there_of : (old new : Redial) (got : Got) (buf : List ℕ) (h : StreamHistory)
+    → IsRedialled old got buf new → old.stream ≡ Some h → Finds got old new
+there_of old new got buf h l there =
+    let P : Got × Redial → Type 0 = λ p. Finds p.0 old p.1 in
+    subst P (sym l.looked) (there_so old.stream l.now l.answer l.found buf h old there)
+
+octets_by : (s : Option StreamHistory) (old new : Redial) (len : ℕ) (buf : List ℕ)
+    → old.stream ≡ s → IsRedialled old (Octets len) buf new → Finds (Octets len) old new
+octets_by None old new len buf is l =
+    let quiet : Octets len ≡ Quiet =
+    ap (λ (p : Got × Redial). p.0) (away_by old new (Octets len) buf l is) in absurd (cc)
+octets_by (Some h) old new len buf is l = there_of old new (Octets len) buf h l is
+
+pub octets_wait : (old new : Redial) (len : ℕ) (buf : List ℕ)
+    → IsRedialled old (Octets len) buf new → new.wait ≡ 1000
+unfolding Finds
+octets_wait old new len buf l = (octets_by old.stream old new len buf refl l).0
+
+pub octets_receiving : (old new : Redial) (len : ℕ) (buf : List ℕ)
+    → IsRedialled old (Octets len) buf new → new.presence ≡ Receiving
+unfolding Finds
+octets_receiving old new len buf l = (octets_by old.stream old new len buf refl l).1
+
+pub quiet_waits : (old new : Redial) (buf : List ℕ) (h : StreamHistory)
+    → IsRedialled old Quiet buf new → old.stream ≡ Some h → new.wait ≡ old.wait
+unfolding Finds
+quiet_waits old new buf h l there = (there_of old new Quiet buf h l there).0
+
+pub quiet_stays : (old new : Redial) (buf : List ℕ) (h : StreamHistory)
+    → IsRedialled old Quiet buf new → old.stream ≡ Some h → new.stream ≢ None
+    → new.presence ≡ old.presence
+unfolding Finds
+quiet_stays old new buf h l there some = (there_of old new Quiet buf h l there).2 some
+
+gone_by : (got : Got) (old new : Redial) → new.stream ≡ None → Finds got old new
+    → new.presence ≡ Away
+unfolding Finds
+gone_by (Octets len) old new none k = absurd (k.2 none)
+gone_by Quiet old new none k = k.1 none
+gone_by Gone old new none k = absurd k
+
+pub gone_away : (old new : Redial) (got : Got) (buf : List ℕ) (h : StreamHistory)
+    → IsRedialled old got buf new → old.stream ≡ Some h → new.stream ≡ None → new.presence ≡ Away
+gone_away old new got buf h l there none =
+    gone_by got old new none (there_of old new got buf h l there)
+
+put_wait : (s : Option StreamHistory) (octets : List ℕ) (taken : Bool) (r : Redial)
+    → (put_by s octets taken r).1.wait ≡ r.wait
+put_wait None octets taken r = refl
+put_wait (Some h) octets taken r = refl
+
+pub put_waits : (old new : Redial) (octets : List ℕ) (is_taken : Bool)
+    → IsPut old octets is_taken new → new.wait ≡ old.wait
+put_waits old new octets is_taken p =
+    ap (λ (q : Bool × Redial). q.1.wait) p.put ∙ put_wait old.stream octets p.taken old
+
+drop_wait : (s : Option StreamHistory) (count : ℕ) (r : Redial)
+    → (dropped_by s count r).1.wait ≡ r.wait
+drop_wait None count r = refl
+drop_wait (Some h) count r = refl
+
+pub drop_waits : (old new : Redial) (count : ℕ) → HasDropped old count new → new.wait ≡ old.wait
+drop_waits old new count d =
+    ap (λ (q : ℕ × Redial). q.1.wait) d.dropped ∙ drop_wait old.stream d.waiting old
+
+-- a try that has ended, and one that goes on
+length_of : {A : Type 0} → Option (List A) → ℕ
+length_of None = 0
+length_of (Some list) = length list
+
+no_longer : {A : Type 0} (x : A) (list : List A) → Some list ≡ Some (x ∷ list) → ⊥
+unfolding length_of
+no_longer x list is =
+    let same : length list ≡ length (x ∷ list) = ap length_of is in omega (arith, same)
+
+Ended : (tries : List Bool) (calls : DialCalls) (presence : Presence) → Redial → Type 0
+Ended tries calls presence new =
+    ((reached : Bool) → new.tries ≡ Some (reached ∷ tries) → (new.is_trying ≡ false)
+    × (is_some new.stream ≡ reached) × (reached ≡ false → new.presence ≡ Away))
+    × ((before : List DialCall) (call : DialCall) → new.tries ≡ Some tries → calls ≡ Some before
+    → new.calls ≡ Some (call ∷ before)
+    → (new.is_trying ≡ true) × (new.stream ≡ None) × (new.presence ≡ presence))
+
+front_of : Option (List Bool) → Bool
+front_of None = false
+front_of (Some []) = false
+front_of (Some (first ∷ list)) = first
+
+front_is : (a b : Bool) (list : List Bool) → Some (a ∷ list) ≡ Some (b ∷ list) → a ≡ b
+unfolding front_of
+front_is a b list is = ap front_of is
+
+answered_ended : (call : Bool → DialCall) (answer : Dialled StreamHistory) (tries : List Bool)
+    (r : Redial)
+    → Ended tries r.calls r.presence
+    (answered call answer (record r { stream = None; tries = Some tries }))
+unfolding Ended
+answered_ended call (Reached stream) tries r = (
+  λ reached is. let yes = front_is true reached tries is in (refl, yes, λ no. absurd (cc)),
+  λ before named is noted more. absurd (no_longer true tries (sym is)),
+)
+answered_ended call Pending tries r = (
+  λ reached is. absurd (no_longer reached tries is),
+  λ before named is noted more. (refl, refl, refl),
+)
+answered_ended call Failed tries r = (
+  λ reached is. let no = front_is false reached tries is in (refl, no, λ none. refl),
+  λ before named is noted more. absurd (no_longer false tries (sym is)),
+)
+
+begun_ended : (due : Bool) (now : ℕ) (answer : Dialled StreamHistory) (tries : List Bool)
+    (r : Redial)
+    → Ended tries r.calls r.presence
+    (begun_by due now answer (record r { stream = None; tries = Some tries }))
+unfolding Ended
+begun_ended true now answer tries r =
+    answered_ended Dialed answer tries (record r { tried = Some now })
+begun_ended false now answer tries r = (
+  λ reached is. absurd (no_longer reached tries is),
+  λ before call is noted more. absurd (no_longer call before (sym noted ∙ more)),
+)
+
+tried_ended : (b : Bool) (now : ℕ) (answer : Dialled StreamHistory) (tries : List Bool)
+    (r : Redial)
+    → Ended tries r.calls r.presence
+    (tried_by b now answer (clock_read_at now (record r { stream = None; tries = Some tries })))
+tried_ended true now answer tries r = answered_ended Asked answer tries (clock_read_at now r)
+tried_ended false now answer tries r =
+    begun_ended (is_due (clock_read_at now (record r { stream = None; tries = Some tries })) now)
+    now answer tries (clock_read_at now r)
+
+away_ended : (old new : Redial) (got : Got) (buf : List ℕ) (tries : List Bool)
+    → IsRedialled old got buf new → old.stream ≡ None → old.tries ≡ Some tries
+    → Ended tries old.calls old.presence new
+away_ended old new got buf tries l away noted =
+    subst (Ended tries old.calls old.presence) (sym (away_to old new got buf l away
+    ∙ ap (λ t. tried_by old.is_trying l.now l.answer
+    (clock_read_at l.now (record old { stream = None; tries = t }))) noted))
+    (tried_ended old.is_trying l.now l.answer tries old)
+
+pub ends_once : (old new : Redial) (got : Got) (buf : List ℕ) (tries : List Bool) (reached : Bool)
+    → IsRedialled old got buf new → old.stream ≡ None → old.tries ≡ Some tries
+    → new.tries ≡ Some (reached ∷ tries)
+    → (new.is_trying ≡ false) × (is_some new.stream ≡ reached)
+unfolding Ended
+ends_once old new got buf tries reached l away noted is =
+    let e = (away_ended old new got buf tries l away noted).0 reached is in (e.0, e.1)
+
+pub fails_away : (old new : Redial) (got : Got) (buf : List ℕ) (tries : List Bool)
+    → IsRedialled old got buf new → old.stream ≡ None → old.tries ≡ Some tries
+    → new.tries ≡ Some (false ∷ tries) → new.presence ≡ Away
+unfolding Ended
+fails_away old new got buf tries l away noted is =
+    let e = (away_ended old new got buf tries l away noted).0 false is in e.2 refl
+
+pub goes_on : (old new : Redial) (got : Got) (buf : List ℕ) (tries : List Bool)
+    (calls : List DialCall) (call : DialCall) → IsRedialled old got buf new → old.stream ≡ None
+    → old.tries ≡ Some tries → new.tries ≡ Some tries → old.calls ≡ Some calls
+    → new.calls ≡ Some (call ∷ calls)
+    → (new.is_trying ≡ true) × (new.stream ≡ None) × (new.presence ≡ old.presence)
+unfolding Ended
+goes_on old new got buf tries calls call l away noted still told more =
+    (away_ended old new got buf tries l away noted).1 calls call still told more
