@@ -25,10 +25,11 @@
 //!
 //! Which connection is open is known, whatever passes
 //! ([`connections_are_known_from_their_opening_to_their_end`]), and each step of one is logged, or
-//! counted by a later line ([`each_step_of_a_connection_is_logged_or_counted`]). A line is logged
-//! where it goes and where it is back ([`a_line_is_logged_where_it_goes_and_where_it_is_back`]), and
-//! what has failed at the end ([`failures_are_logged_at_the_end`]). The wall clock is shown as it
-//! goes on ([`the_wall_clock_goes_on_between_its_events`]). What becomes of a command, and each
+//! counted by a later line ([`each_step_of_a_connection_is_logged_or_counted`]). Of a line it is
+//! logged where it goes and where it is back
+//! ([`a_line_is_logged_where_it_goes_and_where_it_is_back`]), and so is what has failed at the end
+//! ([`failures_are_logged_at_the_end`]). The wall clock is shown as it goes on
+//! ([`the_wall_clock_goes_on_between_its_events`]). What becomes of a command, and each
 //! mishap, is logged for the station that it befell ([`what_becomes_of_commands_is_logged`]), and
 //! nothing that may be logged waits ([`nothing_waits_that_may_be_logged`]). That a line's UTC time
 //! is right, and what standard error does with it, is no matter of a proof.
