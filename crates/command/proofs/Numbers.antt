@@ -3,7 +3,7 @@ use Rattle.std.proofs.Common.{◌≡◌, ℕ, zero, suc, ◌+◌, ◌-◌, ◌%�
 use Rattle.std.proofs.Common.{◌++◌, Bool, true, false, not, List, [], ◌∷◌, refl, sym, ap, ◌∙◌}
 use Rattle.std.proofs.Common.{arith}
 use Rattle.std.specs.Prelude.{◌==◌, ◌&&◌, ◌||◌, nat_lt, nat_le, slice_get, slice_index, Option}
-use Rattle.std.specs.Prelude.{Some}
+use Rattle.std.specs.Prelude.{Some, length}
 use Rattle.std.specs.List.{list_any}
 use Rattle.std.proofs.lemmas.List.Folds.{list_any-append}
 use Rattle.std.proofs.lemmas.Bool.{eq-eqb, eqb-true, and_parts, lt-ltb, le-ltb, le-leb}
@@ -20,7 +20,7 @@ use Rattle.command.specs.Standard.{has_tag, is_activation, tag_of}
 use Rattle.command.specs.Standard.{refuses_command, is_negative_confirmation, is_object_of}
 use Rattle.command.specs.Numbers.{Numbers, command_with, address_of, object_of}
 use Rattle.command.specs.Numbers.{AddressesAreRead, ObjectsAreRead, TargetsAreCompared}
-use Rattle.command.specs.Numbers.{ElementsAreRead, ActsAreRead, TimesAreKept}
+use Rattle.command.specs.Numbers.{ElementsAreRead, ActsAreRead, FormsAreRead, TimesAreKept}
 
 -- ---- tests
 
@@ -399,6 +399,40 @@ acts_hold = record {
   no_test = λ j k n m r s is. unlike n.cause m.cause is;
   types = λ j k n m r s is. eq-eqb j k is;
   only_types = λ j k n m r s is. eqb-true j k is;
+}
+
+-- ---- forms
+
+-- nine octets stand before
+abbrev behind : ℕ → ℕ
+behind a = suc (suc (suc (suc (suc (suc (suc (suc (suc a))))))))
+
+form : (a b : ℕ) → (a ≡ b → not (behind a == behind b) ≡ false)
+    × ((a ≡ b → ⊥) → not (behind a == behind b) ≡ true)
+form a b = (
+  λ same.
+      (let p : (behind a == behind b) ≡ true =
+      eq-eqb (behind a) (behind b) (ap (λ x. behind x) same) in
+      rw p refl),
+  λ other.
+      (let p : (behind a == behind b) ≡ false =
+      unequal (behind a) (behind b) (λ e. other (omega (arith, e))) in
+      rw p refl)
+)
+
+pub forms_hold : FormsAreRead
+forms_hold = record {
+  single = λ n rest. (refl, (form (length rest) 1).0, (form (length rest) 1).1);
+  double = λ n rest. (refl, (form (length rest) 1).0, (form (length rest) 1).1);
+  step = λ n rest. (refl, (form (length rest) 1).0, (form (length rest) 1).1);
+  normalised = λ n rest. (refl, (form (length rest) 3).0, (form (length rest) 3).1);
+  scaled = λ n rest. (refl, (form (length rest) 3).0, (form (length rest) 3).1);
+  tagged_single = λ n rest. (refl, (form (length rest) 8).0, (form (length rest) 8).1);
+  tagged_double = λ n rest. (refl, (form (length rest) 8).0, (form (length rest) 8).1);
+  tagged_step = λ n rest. (refl, (form (length rest) 8).0, (form (length rest) 8).1);
+  tagged_normalised = λ n rest. (refl, (form (length rest) 10).0, (form (length rest) 10).1);
+  tagged_scaled = λ n rest. (refl, (form (length rest) 10).0, (form (length rest) 10).1);
+  interrogation = λ n rest. (refl, (form (length rest) 1).0, (form (length rest) 1).1);
 }
 
 -- ---- times

@@ -1,7 +1,7 @@
 -- What the rules say of a command whatever its numbers are (IEC 60870-5-101, 7.2.3 to 7.2.6 and
 -- 7.3.2): each octet of a command with one object is given here, in the sizes of IEC 60870-5-104.
 use Rattle.std.specs.Prelude.{◌≡◌, ℕ, ◌+◌, ◌*◌, ◌-◌, ◌%◌, ◌^◌, ◌<◌, ◌≤◌, ◌⊎◌, true, false, List, []}
-use Rattle.std.specs.Prelude.{◌∷◌, ◌++◌, slice_get, Option, Some, None}
+use Rattle.std.specs.Prelude.{◌∷◌, ◌++◌, length, slice_get, Option, Some, None}
 use Rattle.elements.specs.Types.{row}
 use Rattle.asdu.specs.Asdu.{AsduValue, Info}
 use Rattle.asdu.specs.Sizes.{ioa_len}
@@ -12,7 +12,7 @@ use Rattle.command.specs.Standard.{is_for_station, station_of, IsFresh, unknown_
 use Rattle.command.specs.Standard.{unknown_object, not_permitted, not_fresh, refuses_command}
 use Rattle.command.specs.Standard.{is_negative_confirmation, executes, selects, is_activation}
 use Rattle.command.specs.Standard.{is_deactivating, unknown_cause, have_one_test_bit}
-use Rattle.command.specs.Standard.{have_one_type}
+use Rattle.command.specs.Standard.{have_one_type, unknown_type, malformed}
 use Rattle.command.specs.Judging.{judged}
 use Rattle.command.specs.Calls.{run}
 use Rattle.command.specs.Examples.{sizes, stations, execute, refused, confirmed_at_moments}
@@ -238,6 +238,31 @@ pub record ActsAreRead : Type 0 where
       have_one_type (command_with j n r) (command_with k m s) ≡ true
   pub only_types : (j k : ℕ) (n m : Numbers) (r s : List ℕ) →
       have_one_type (command_with j n r) (command_with k m s) ≡ true → j ≡ k
+
+-- ---- Forms (7.2.2 and 7.3.2)
+
+-- A command of this type, which the gateway knows, is well-formed if so many octets follow its
+-- object address, and only then.
+abbrev pub HasForm : (kind count : ℕ) → Type 0
+HasForm kind count =
+    (n : Numbers) (rest : List ℕ) →
+    ((unknown_type (command_with kind n rest)).applies ≡ false)
+    × (length rest ≡ count → (malformed (command_with kind n rest)).applies ≡ false)
+    × ((length rest ≡ count → ⊥) → (malformed (command_with kind n rest)).applies ≡ true)
+
+-- a command has one octet behind its address and a set point three; a tag has seven more
+pub record FormsAreRead : Type 0 where
+  pub single : HasForm 45 1
+  pub double : HasForm 46 1
+  pub step : HasForm 47 1
+  pub normalised : HasForm 48 3
+  pub scaled : HasForm 49 3
+  pub tagged_single : HasForm 58 8
+  pub tagged_double : HasForm 59 8
+  pub tagged_step : HasForm 60 8
+  pub tagged_normalised : HasForm 61 10
+  pub tagged_scaled : HasForm 62 10
+  pub interrogation : HasForm 100 1
 
 -- ---- Times (this gateway's own profile)
 

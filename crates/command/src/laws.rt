@@ -36,7 +36,7 @@ ghost use Rattle.command.specs.Examples.{OctetExamples, IsRight, WaitsSo, rule_e
 ghost use Rattle.command.specs.Examples.{selection_examples, line_examples, tag_examples, BearsIt};
 ghost use Rattle.command.specs.Examples.{mirror_examples};
 ghost use Rattle.command.specs.Numbers.{AddressesAreRead, ObjectsAreRead, TargetsAreCompared};
-ghost use Rattle.command.specs.Numbers.{ElementsAreRead, ActsAreRead, TimesAreKept};
+ghost use Rattle.command.specs.Numbers.{ElementsAreRead, ActsAreRead, FormsAreRead, TimesAreKept};
 ghost use Rattle.command.specs.Laws.{AfterEachRun, AtEachMoment, AfterEachDue};
 ghost use Rattle.command.specs.CommandLaws.{CommandLaws};
 ghost use Rattle.command.specs.Carried.{carried};
@@ -261,6 +261,7 @@ pub fn rules_hold_for_all_numbers()
     ensures targets { TargetsAreCompared }
     ensures elements { ElementsAreRead }
     ensures acts { ActsAreRead }
+    ensures forms { FormsAreRead }
     ensures times { TimesAreKept }
 {}
 
