@@ -21,6 +21,10 @@ use Rattle.command.specs.Standard.{refuses_command, is_negative_confirmation, is
 use Rattle.command.specs.Numbers.{Numbers, command_with, address_of, object_of}
 use Rattle.command.specs.Numbers.{AddressesAreRead, ObjectsAreRead, TargetsAreCompared}
 use Rattle.command.specs.Numbers.{ElementsAreRead, ActsAreRead, FormsAreRead, TimesAreKept}
+use Rattle.command.specs.Numbers.{ConfirmationsAreRead, one_octet, set_point, one_octet_tagged}
+use Rattle.command.specs.Numbers.{set_point_tagged}
+use Rattle.command.specs.Standard.{confirms_command, is_only_object_of, are_equal, element_part}
+use Rattle.command.specs.Standard.{common_address, object_address}
 
 -- ---- tests
 
@@ -38,6 +42,14 @@ or_right false b is = is
 or_left : (a b : Bool) → a ≡ true → (a || b) ≡ true
 or_left true b is = refl
 or_left false b is = cc
+
+both_true : (a b : Bool) → a ≡ true → b ≡ true → (a && b) ≡ true
+both_true true b p is = is
+both_true false b p is = cc
+
+both_false : (a b : Bool) → b ≡ false → (a && b) ≡ false
+both_false true b is = is
+both_false false b is = refl
 
 -- ---- common addresses
 
@@ -433,6 +445,95 @@ forms_hold = record {
   tagged_normalised = λ n rest. (refl, (form (length rest) 10).0, (form (length rest) 10).1);
   tagged_scaled = λ n rest. (refl, (form (length rest) 10).0, (form (length rest) 10).1);
   interrogation = λ n rest. (refl, (form (length rest) 1).0, (form (length rest) 1).1);
+}
+
+-- ---- confirmations
+
+equal_lists : (xs ys : List ℕ) → xs ≡ ys → are_equal xs ys ≡ true
+equal_lists xs ys is = ap (are_equal xs) (sym is) ∙ go xs
+  where
+    go : (zs : List ℕ) → are_equal zs zs ≡ true
+    go [] = refl
+    go (z ∷ zs) = (let p : (z == z) ≡ true = eq-eqb z z refl in rw (p, go zs) refl)
+
+only_equal_lists : (xs ys : List ℕ) → are_equal xs ys ≡ true → xs ≡ ys
+only_equal_lists [] [] is = refl
+only_equal_lists (x ∷ xs) (y ∷ ys) is =
+    let parts = and_parts (x == y) (are_equal xs ys) is in
+    cons_equal (eqb-true x y parts.0) (only_equal_lists xs ys parts.1)
+  where
+    cons_equal : x ≡ y → xs ≡ ys → (x ∷ xs) ≡ (y ∷ ys)
+    cons_equal a b = cc
+only_equal_lists [] (y ∷ ys) is = cc
+only_equal_lists (x ∷ xs) [] is = cc
+
+confirmed : (xs : List ℕ) (v : AsduValue) (i : Info)
+    → v.infos ≡ i ∷ []
+    → (v.cause % 128 ≡ 7 → plain_type (slice_index xs 0) ≡ (row v.kind).code
+    → common_address xs ≡ v.ca
+    → object_address xs ≡ i.address
+    → element_part xs ≡ i.element
+    → confirms_command xs v ≡ true)
+    × (confirms_command xs v ≡ true
+    → (v.cause % 128 ≡ 7) × (plain_type (slice_index xs 0) ≡ (row v.kind).code)
+    × (common_address xs ≡ v.ca) × (object_address xs ≡ i.address)
+    × (element_part xs ≡ i.element))
+confirmed xs v i at = (is_so, is_only)
+  where
+    alone : is_only_object_of xs v v.infos
+        ≡ (is_object_of xs v i && are_equal (element_part xs) i.element)
+    alone = ap (is_only_object_of xs v) at
+    is_so : v.cause % 128 ≡ 7 → plain_type (slice_index xs 0) ≡ (row v.kind).code
+        → common_address xs ≡ v.ca
+        → object_address xs ≡ i.address
+        → element_part xs ≡ i.element
+        → confirms_command xs v ≡ true
+    is_so seven_ a b c d =
+        let p : (v.cause % 128 == 7) ≡ true = eq-eqb (v.cause % 128) 7 seven_ in
+        let q : is_object_of xs v i ≡ true =
+        three_equal (plain_type (slice_index xs 0)) (row v.kind).code (common_address xs) v.ca
+        (object_address xs) i.address a b c in
+        let r : are_equal (element_part xs) i.element ≡ true =
+        equal_lists (element_part xs) i.element d in
+        both_true (v.cause % 128 == 7) (is_only_object_of xs v v.infos) p
+        (alone ∙ both_true (is_object_of xs v i) (are_equal (element_part xs) i.element) q r)
+    is_only : confirms_command xs v ≡ true
+        → (v.cause % 128 ≡ 7) × (plain_type (slice_index xs 0) ≡ (row v.kind).code)
+        × (common_address xs ≡ v.ca) × (object_address xs ≡ i.address)
+        × (element_part xs ≡ i.element)
+    is_only is =
+        let parts = and_parts (v.cause % 128 == 7) (is_only_object_of xs v v.infos) is in
+        let rest =
+        and_parts (is_object_of xs v i) (are_equal (element_part xs) i.element)
+        (sym alone ∙ parts.1) in
+        let three =
+        three_only (plain_type (slice_index xs 0)) (row v.kind).code (common_address xs) v.ca
+        (object_address xs) i.address rest.0 in
+        (eqb-true (v.cause % 128) 7 parts.0, three.0, three.1, three.2,
+        only_equal_lists (element_part xs) i.element rest.1)
+
+not_alone : (xs : List ℕ) (v : AsduValue) (is : List Info) → v.infos ≡ is
+    → is_only_object_of xs v is ≡ false
+    → confirms_command xs v ≡ false
+not_alone xs v is at none =
+    both_false (v.cause % 128 == 7) (is_only_object_of xs v v.infos)
+    (ap (is_only_object_of xs v) at ∙ none)
+
+pub confirmations_hold : ConfirmationsAreRead
+confirmations_hold = record {
+  single = λ x n. confirmed (command_with 45 n (one_octet x));
+  double = λ x n. confirmed (command_with 46 n (one_octet x));
+  step = λ x n. confirmed (command_with 47 n (one_octet x));
+  normalised = λ a b x n. confirmed (command_with 48 n (set_point a b x));
+  scaled = λ a b x n. confirmed (command_with 49 n (set_point a b x));
+  tagged_single = λ t x n. confirmed (command_with 58 n (one_octet_tagged t x));
+  tagged_double = λ t x n. confirmed (command_with 59 n (one_octet_tagged t x));
+  tagged_step = λ t x n. confirmed (command_with 60 n (one_octet_tagged t x));
+  tagged_normalised = λ t a b x n. confirmed (command_with 61 n (set_point_tagged t a b x));
+  tagged_scaled = λ t a b x n. confirmed (command_with 62 n (set_point_tagged t a b x));
+  interrogation = λ x n. confirmed (command_with 100 n (one_octet x));
+  no_object = λ xs v at. not_alone xs v [] at refl;
+  several = λ xs v i j more at. not_alone xs v (i ∷ j ∷ more) at refl;
 }
 
 -- ---- times

@@ -12,7 +12,7 @@ use Rattle.command.specs.Standard.{is_for_station, station_of, IsFresh, unknown_
 use Rattle.command.specs.Standard.{unknown_object, not_permitted, not_fresh, refuses_command}
 use Rattle.command.specs.Standard.{is_negative_confirmation, executes, selects, is_activation}
 use Rattle.command.specs.Standard.{is_deactivating, unknown_cause, have_one_test_bit}
-use Rattle.command.specs.Standard.{have_one_type, unknown_type, malformed}
+use Rattle.command.specs.Standard.{have_one_type, unknown_type, malformed, confirms_command}
 use Rattle.command.specs.Judging.{judged}
 use Rattle.command.specs.Calls.{run}
 use Rattle.command.specs.Examples.{sizes, stations, execute, refused, confirmed_at_moments}
@@ -263,6 +263,42 @@ pub record FormsAreRead : Type 0 where
   pub tagged_normalised : HasForm 61 10
   pub tagged_scaled : HasForm 62 10
   pub interrogation : HasForm 100 1
+
+-- ---- Confirmations (7.2.3: activation con)
+
+-- An answer with one object confirms this command if it has cause 7 without P/N, and the type
+-- without a tag, the addresses and the element that the command has. No other does.
+abbrev pub HasConfirmation : (kind plain : ℕ) → (rest element : List ℕ) → Type 0
+HasConfirmation kind plain rest element =
+    (n : Numbers) (v : AsduValue) (i : Info) → v.infos ≡ i ∷ [] →
+    (v.cause % 128 ≡ 7 → plain ≡ (row v.kind).code → address_of n ≡ v.ca →
+    object_of n ≡ i.address → element ≡ i.element
+    → confirms_command (command_with kind n rest) v ≡ true)
+    × (confirms_command (command_with kind n rest) v ≡ true
+    → (v.cause % 128 ≡ 7) × (plain ≡ (row v.kind).code) × (address_of n ≡ v.ca)
+    × (object_of n ≡ i.address) × (element ≡ i.element))
+
+pub record ConfirmationsAreRead : Type 0 where
+  pub single : (x : ℕ) → HasConfirmation 45 45 (one_octet x) (one_octet x)
+  pub double : (x : ℕ) → HasConfirmation 46 46 (one_octet x) (one_octet x)
+  pub step : (x : ℕ) → HasConfirmation 47 47 (one_octet x) (one_octet x)
+  pub normalised : (a b x : ℕ) → HasConfirmation 48 48 (set_point a b x) (set_point a b x)
+  pub scaled : (a b x : ℕ) → HasConfirmation 49 49 (set_point a b x) (set_point a b x)
+  pub tagged_single : (t : Tag) (x : ℕ) →
+      HasConfirmation 58 45 (one_octet_tagged t x) (one_octet x)
+  pub tagged_double : (t : Tag) (x : ℕ) →
+      HasConfirmation 59 46 (one_octet_tagged t x) (one_octet x)
+  pub tagged_step : (t : Tag) (x : ℕ) →
+      HasConfirmation 60 47 (one_octet_tagged t x) (one_octet x)
+  pub tagged_normalised : (t : Tag) (a b x : ℕ) →
+      HasConfirmation 61 48 (set_point_tagged t a b x) (set_point a b x)
+  pub tagged_scaled : (t : Tag) (a b x : ℕ) →
+      HasConfirmation 62 49 (set_point_tagged t a b x) (set_point a b x)
+  pub interrogation : (x : ℕ) → HasConfirmation 100 100 (one_octet x) (one_octet x)
+  -- nor does an answer with no object, or with several
+  pub no_object : (xs : List ℕ) (v : AsduValue) → v.infos ≡ [] → confirms_command xs v ≡ false
+  pub several : (xs : List ℕ) (v : AsduValue) (i j : Info) (more : List Info) →
+      v.infos ≡ i ∷ j ∷ more → confirms_command xs v ≡ false
 
 -- ---- Times (this gateway's own profile)
 

@@ -37,6 +37,7 @@ ghost use Rattle.command.specs.Examples.{selection_examples, line_examples, tag_
 ghost use Rattle.command.specs.Examples.{mirror_examples};
 ghost use Rattle.command.specs.Numbers.{AddressesAreRead, ObjectsAreRead, TargetsAreCompared};
 ghost use Rattle.command.specs.Numbers.{ElementsAreRead, ActsAreRead, FormsAreRead, TimesAreKept};
+ghost use Rattle.command.specs.Numbers.{ConfirmationsAreRead};
 ghost use Rattle.command.specs.Laws.{AfterEachRun, AtEachMoment, AfterEachDue};
 ghost use Rattle.command.specs.CommandLaws.{CommandLaws};
 ghost use Rattle.command.specs.Carried.{carried};
@@ -262,6 +263,7 @@ pub fn rules_hold_for_all_numbers()
     ensures elements { ElementsAreRead }
     ensures acts { ActsAreRead }
     ensures forms { FormsAreRead }
+    ensures confirmations { ConfirmationsAreRead }
     ensures times { TimesAreKept }
 {}
 
