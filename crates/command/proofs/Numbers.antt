@@ -3,7 +3,7 @@ use Rattle.std.proofs.Common.{◌≡◌, ℕ, zero, suc, ◌+◌, ◌-◌, ◌%�
 use Rattle.std.proofs.Common.{◌++◌, Bool, true, false, not, List, [], ◌∷◌, refl, sym, ap, ◌∙◌}
 use Rattle.std.proofs.Common.{arith}
 use Rattle.std.specs.Prelude.{◌==◌, ◌&&◌, ◌||◌, nat_lt, nat_le, slice_get, slice_index, Option}
-use Rattle.std.specs.Prelude.{Some, length}
+use Rattle.std.specs.Prelude.{Some, length, if◌then◌else◌}
 use Rattle.std.specs.List.{list_any}
 use Rattle.std.proofs.lemmas.List.Folds.{list_any-append}
 use Rattle.std.proofs.lemmas.Bool.{eq-eqb, eqb-true, and_parts, lt-ltb, le-ltb, le-leb}
@@ -24,7 +24,10 @@ use Rattle.command.specs.Numbers.{ElementsAreRead, ActsAreRead, FormsAreRead, Ti
 use Rattle.command.specs.Numbers.{ConfirmationsAreRead, one_octet, set_point, one_octet_tagged}
 use Rattle.command.specs.Numbers.{set_point_tagged}
 use Rattle.command.specs.Standard.{confirms_command, is_only_object_of, are_equal, element_part}
-use Rattle.command.specs.Standard.{common_address, object_address}
+use Rattle.command.specs.Standard.{common_address, object_address, Rule, first_cause, negative_of}
+use Rattle.command.specs.Standard.{cause_of_fault, unknown_type, unknown_cause, malformed}
+use Rattle.command.specs.Standard.{not_permitted}
+use Rattle.command.specs.Numbers.{CausesAreGiven, IsKnown}
 
 -- ---- tests
 
@@ -534,6 +537,79 @@ confirmations_hold = record {
   interrogation = λ x n. confirmed (command_with 100 n (one_octet x));
   no_object = λ xs v at. not_alone xs v [] at refl;
   several = λ xs v i j more at. not_alone xs v (i ∷ j ∷ more) at refl;
+}
+
+-- ---- causes of negative answers
+
+negative_of_six : (kind : ℕ) (n : Numbers) (rest : List ℕ) → n.cause % 64 ≡ 6
+    → negative_of (command_with kind n rest) ≡ 7
+negative_of_six kind n rest is = (let p = (six n.cause is).0 in rw p refl)
+
+negative_of_eight : (kind : ℕ) (n : Numbers) (rest : List ℕ) → n.cause % 64 ≡ 8
+    → negative_of (command_with kind n rest) ≡ 9
+negative_of_eight kind n rest is = (let p = (eight n.cause is).0 in rw p refl)
+
+applied : (r : Rule) (rs : List Rule) → r.applies ≡ true → first_cause (r ∷ rs) ≡ Some r.cause
+applied r rs is = ap (λ (b : Bool). if b then Some r.cause else first_cause rs) is
+
+passed : (r : Rule) (rs : List Rule) → r.applies ≡ false → first_cause (r ∷ rs) ≡ first_cause rs
+passed r rs is = ap (λ (b : Bool). if b then Some r.cause else first_cause rs) is
+
+abbrev from_malformed : ℕ → Option ℕ → List ℕ → List Rule
+from_malformed most wall xs = malformed xs ∷ not_permitted xs ∷ not_fresh most wall xs ∷ []
+
+abbrev from_object : Sizes → ℕ → Option ℕ → List ℕ → List Rule
+from_object sizes most wall xs = unknown_object sizes xs ∷ from_malformed most wall xs
+
+abbrev from_station : Sizes → List StationInfo → ℕ → Option ℕ → List ℕ → List Rule
+from_station sizes stations most wall xs =
+    unknown_station stations xs ∷ from_object sizes most wall xs
+
+abbrev from_cause : Sizes → List StationInfo → ℕ → Option ℕ → List ℕ → List Rule
+from_cause sizes stations most wall xs =
+    unknown_cause xs ∷ from_station sizes stations most wall xs
+
+malformed_answer : (sizes : Sizes) (stations : List StationInfo) (most : ℕ) (wall : Option ℕ)
+    (xs : List ℕ)
+    → IsKnown sizes stations xs
+    → (malformed xs).applies ≡ true
+    → cause_of_fault sizes stations most wall xs ≡ Some (negative_of xs)
+malformed_answer sizes stations most wall xs known_ is =
+    passed (unknown_type xs) (from_cause sizes stations most wall xs) known_.kind
+    ∙ passed (unknown_cause xs) (from_station sizes stations most wall xs) known_.cause
+    ∙ passed (unknown_station stations xs) (from_object sizes most wall xs) known_.station
+    ∙ passed (unknown_object sizes xs) (from_malformed most wall xs) known_.object
+    ∙ applied (malformed xs) (not_permitted xs ∷ not_fresh most wall xs ∷ []) is
+
+some_equal : (a b : ℕ) → a ≡ b → Some a ≡ Some b
+some_equal a b is = cc
+
+pub causes_hold : CausesAreGiven
+causes_hold = record {
+  activation = negative_of_six;
+  deactivation = negative_of_eight;
+  unknown_types = λ sizes stations most wall xs is.
+      applied (unknown_type xs) (from_cause sizes stations most wall xs) is;
+  unknown_causes = λ sizes stations most wall xs a is.
+      passed (unknown_type xs) (from_cause sizes stations most wall xs) a
+      ∙ applied (unknown_cause xs) (from_station sizes stations most wall xs) is;
+  unknown_stations = λ sizes stations most wall xs a b is.
+      passed (unknown_type xs) (from_cause sizes stations most wall xs) a
+      ∙ passed (unknown_cause xs) (from_station sizes stations most wall xs) b
+      ∙ applied (unknown_station stations xs) (from_object sizes most wall xs) is;
+  unknown_objects = λ sizes stations most wall xs a b c is.
+      passed (unknown_type xs) (from_cause sizes stations most wall xs) a
+      ∙ passed (unknown_cause xs) (from_station sizes stations most wall xs) b
+      ∙ passed (unknown_station stations xs) (from_object sizes most wall xs) c
+      ∙ applied (unknown_object sizes xs) (from_malformed most wall xs) is;
+  forms = λ sizes stations most wall kind n rest known_ is. (
+    λ six_. malformed_answer sizes stations most wall (command_with kind n rest) known_ is
+        ∙ some_equal (negative_of (command_with kind n rest)) 7
+        (negative_of_six kind n rest six_),
+    λ eight_. malformed_answer sizes stations most wall (command_with kind n rest) known_ is
+        ∙ some_equal (negative_of (command_with kind n rest)) 9
+        (negative_of_eight kind n rest eight_)
+  );
 }
 
 -- ---- times

@@ -13,6 +13,7 @@ use Rattle.command.specs.Standard.{unknown_object, not_permitted, not_fresh, ref
 use Rattle.command.specs.Standard.{is_negative_confirmation, executes, selects, is_activation}
 use Rattle.command.specs.Standard.{is_deactivating, unknown_cause, have_one_test_bit}
 use Rattle.command.specs.Standard.{have_one_type, unknown_type, malformed, confirms_command}
+use Rattle.command.specs.Standard.{negative_of, cause_of_fault}
 use Rattle.command.specs.Judging.{judged}
 use Rattle.command.specs.Calls.{run}
 use Rattle.command.specs.Examples.{sizes, stations, execute, refused, confirmed_at_moments}
@@ -299,6 +300,46 @@ pub record ConfirmationsAreRead : Type 0 where
   pub no_object : (xs : List ℕ) (v : AsduValue) → v.infos ≡ [] → confirms_command xs v ≡ false
   pub several : (xs : List ℕ) (v : AsduValue) (i j : Info) (more : List Info) →
       v.infos ≡ i ∷ j ∷ more → confirms_command xs v ≡ false
+
+-- ---- Causes of negative answers (7.2.3: 44 to 47, and activation con and deactivation con)
+
+-- each rule that comes before the form of a command lets it pass
+pub record IsKnown (sizes : Sizes) (stations : List StationInfo) (xs : List ℕ) : Type 0 where
+  pub kind : (unknown_type xs).applies ≡ false
+  pub cause : (unknown_cause xs).applies ≡ false
+  pub station : (unknown_station stations xs).applies ≡ false
+  pub object : (unknown_object sizes xs).applies ≡ false
+
+pub record CausesAreGiven : Type 0 where
+  -- 7 answers an activation and 9 a deactivation
+  pub activation : (kind : ℕ) (n : Numbers) (rest : List ℕ) → n.cause % 64 ≡ 6 →
+      negative_of (command_with kind n rest) ≡ 7
+  pub deactivation : (kind : ℕ) (n : Numbers) (rest : List ℕ) → n.cause % 64 ≡ 8 →
+      negative_of (command_with kind n rest) ≡ 9
+  -- 44 stands before 45, 45 before 46, 46 before 47, and 47 before these
+  pub unknown_types : (sizes : Sizes) (stations : List StationInfo) (most : ℕ) (wall : Option ℕ)
+      (xs : List ℕ) → (unknown_type xs).applies ≡ true →
+      cause_of_fault sizes stations most wall xs ≡ Some 44
+  pub unknown_causes : (sizes : Sizes) (stations : List StationInfo) (most : ℕ) (wall : Option ℕ)
+      (xs : List ℕ) → (unknown_type xs).applies ≡ false → (unknown_cause xs).applies ≡ true →
+      cause_of_fault sizes stations most wall xs ≡ Some 45
+  pub unknown_stations : (sizes : Sizes) (stations : List StationInfo) (most : ℕ)
+      (wall : Option ℕ) (xs : List ℕ) → (unknown_type xs).applies ≡ false →
+      (unknown_cause xs).applies ≡ false → (unknown_station stations xs).applies ≡ true →
+      cause_of_fault sizes stations most wall xs ≡ Some 46
+  pub unknown_objects : (sizes : Sizes) (stations : List StationInfo) (most : ℕ)
+      (wall : Option ℕ) (xs : List ℕ) → (unknown_type xs).applies ≡ false →
+      (unknown_cause xs).applies ≡ false → (unknown_station stations xs).applies ≡ false →
+      (unknown_object sizes xs).applies ≡ true →
+      cause_of_fault sizes stations most wall xs ≡ Some 47
+  pub forms : (sizes : Sizes) (stations : List StationInfo) (most : ℕ) (wall : Option ℕ)
+      (kind : ℕ) (n : Numbers) (rest : List ℕ) →
+      IsKnown sizes stations (command_with kind n rest) →
+      (malformed (command_with kind n rest)).applies ≡ true →
+      (n.cause % 64 ≡ 6
+      → cause_of_fault sizes stations most wall (command_with kind n rest) ≡ Some 7)
+      × (n.cause % 64 ≡ 8
+      → cause_of_fault sizes stations most wall (command_with kind n rest) ≡ Some 9)
 
 -- ---- Times (this gateway's own profile)
 
