@@ -1,7 +1,7 @@
 -- What the rules say of a command whatever its numbers are (IEC 60870-5-101, 7.2.3 to 7.2.6 and
 -- 7.3.2): each octet of a command with one object is given here, in the sizes of IEC 60870-5-104.
 use Rattle.std.specs.Prelude.{◌≡◌, ℕ, ◌+◌, ◌*◌, ◌-◌, ◌%◌, ◌^◌, ◌<◌, ◌≤◌, ◌⊎◌, true, false, List, []}
-use Rattle.std.specs.Prelude.{◌∷◌, ◌++◌, slice_get, Option, Some, None}
+use Rattle.std.specs.Prelude.{◌∷◌, ◌++◌, length, slice_get, Option, Some, None}
 use Rattle.elements.specs.Types.{row}
 use Rattle.asdu.specs.Asdu.{AsduValue, Info}
 use Rattle.asdu.specs.Sizes.{ioa_len}
@@ -12,7 +12,8 @@ use Rattle.command.specs.Standard.{is_for_station, station_of, IsFresh, unknown_
 use Rattle.command.specs.Standard.{unknown_object, not_permitted, not_fresh, refuses_command}
 use Rattle.command.specs.Standard.{is_negative_confirmation, executes, selects, is_activation}
 use Rattle.command.specs.Standard.{is_deactivating, unknown_cause, have_one_test_bit}
-use Rattle.command.specs.Standard.{have_one_type}
+use Rattle.command.specs.Standard.{have_one_type, unknown_type, malformed, confirms_command}
+use Rattle.command.specs.Standard.{negative_of, cause_of_fault}
 use Rattle.command.specs.Judging.{judged}
 use Rattle.command.specs.Calls.{run}
 use Rattle.command.specs.Examples.{sizes, stations, execute, refused, confirmed_at_moments}
@@ -238,6 +239,107 @@ pub record ActsAreRead : Type 0 where
       have_one_type (command_with j n r) (command_with k m s) ≡ true
   pub only_types : (j k : ℕ) (n m : Numbers) (r s : List ℕ) →
       have_one_type (command_with j n r) (command_with k m s) ≡ true → j ≡ k
+
+-- ---- Forms (7.2.2 and 7.3.2)
+
+-- A command of this type, which the gateway knows, is well-formed if so many octets follow its
+-- object address, and only then.
+abbrev pub HasForm : (kind count : ℕ) → Type 0
+HasForm kind count =
+    (n : Numbers) (rest : List ℕ) →
+    ((unknown_type (command_with kind n rest)).applies ≡ false)
+    × (length rest ≡ count → (malformed (command_with kind n rest)).applies ≡ false)
+    × ((length rest ≡ count → ⊥) → (malformed (command_with kind n rest)).applies ≡ true)
+
+-- a command has one octet behind its address and a set point three; a tag has seven more
+pub record FormsAreRead : Type 0 where
+  pub single : HasForm 45 1
+  pub double : HasForm 46 1
+  pub step : HasForm 47 1
+  pub normalised : HasForm 48 3
+  pub scaled : HasForm 49 3
+  pub tagged_single : HasForm 58 8
+  pub tagged_double : HasForm 59 8
+  pub tagged_step : HasForm 60 8
+  pub tagged_normalised : HasForm 61 10
+  pub tagged_scaled : HasForm 62 10
+  pub interrogation : HasForm 100 1
+
+-- ---- Confirmations (7.2.3: activation con)
+
+-- An answer with one object confirms this command if it has cause 7 without P/N, and the type
+-- without a tag, the addresses and the element that the command has. No other does.
+abbrev pub HasConfirmation : (kind plain : ℕ) → (rest element : List ℕ) → Type 0
+HasConfirmation kind plain rest element =
+    (n : Numbers) (v : AsduValue) (i : Info) → v.infos ≡ i ∷ [] →
+    (v.cause % 128 ≡ 7 → plain ≡ (row v.kind).code → address_of n ≡ v.ca →
+    object_of n ≡ i.address → element ≡ i.element
+    → confirms_command (command_with kind n rest) v ≡ true)
+    × (confirms_command (command_with kind n rest) v ≡ true
+    → (v.cause % 128 ≡ 7) × (plain ≡ (row v.kind).code) × (address_of n ≡ v.ca)
+    × (object_of n ≡ i.address) × (element ≡ i.element))
+
+pub record ConfirmationsAreRead : Type 0 where
+  pub single : (x : ℕ) → HasConfirmation 45 45 (one_octet x) (one_octet x)
+  pub double : (x : ℕ) → HasConfirmation 46 46 (one_octet x) (one_octet x)
+  pub step : (x : ℕ) → HasConfirmation 47 47 (one_octet x) (one_octet x)
+  pub normalised : (a b x : ℕ) → HasConfirmation 48 48 (set_point a b x) (set_point a b x)
+  pub scaled : (a b x : ℕ) → HasConfirmation 49 49 (set_point a b x) (set_point a b x)
+  pub tagged_single : (t : Tag) (x : ℕ) →
+      HasConfirmation 58 45 (one_octet_tagged t x) (one_octet x)
+  pub tagged_double : (t : Tag) (x : ℕ) →
+      HasConfirmation 59 46 (one_octet_tagged t x) (one_octet x)
+  pub tagged_step : (t : Tag) (x : ℕ) →
+      HasConfirmation 60 47 (one_octet_tagged t x) (one_octet x)
+  pub tagged_normalised : (t : Tag) (a b x : ℕ) →
+      HasConfirmation 61 48 (set_point_tagged t a b x) (set_point a b x)
+  pub tagged_scaled : (t : Tag) (a b x : ℕ) →
+      HasConfirmation 62 49 (set_point_tagged t a b x) (set_point a b x)
+  pub interrogation : (x : ℕ) → HasConfirmation 100 100 (one_octet x) (one_octet x)
+  -- nor does an answer with no object, or with several
+  pub no_object : (xs : List ℕ) (v : AsduValue) → v.infos ≡ [] → confirms_command xs v ≡ false
+  pub several : (xs : List ℕ) (v : AsduValue) (i j : Info) (more : List Info) →
+      v.infos ≡ i ∷ j ∷ more → confirms_command xs v ≡ false
+
+-- ---- Causes of negative answers (7.2.3: 44 to 47, and activation con and deactivation con)
+
+-- each rule that comes before the form of a command lets it pass
+pub record IsKnown (sizes : Sizes) (stations : List StationInfo) (xs : List ℕ) : Type 0 where
+  pub kind : (unknown_type xs).applies ≡ false
+  pub cause : (unknown_cause xs).applies ≡ false
+  pub station : (unknown_station stations xs).applies ≡ false
+  pub object : (unknown_object sizes xs).applies ≡ false
+
+pub record CausesAreGiven : Type 0 where
+  -- 7 answers an activation and 9 a deactivation
+  pub activation : (kind : ℕ) (n : Numbers) (rest : List ℕ) → n.cause % 64 ≡ 6 →
+      negative_of (command_with kind n rest) ≡ 7
+  pub deactivation : (kind : ℕ) (n : Numbers) (rest : List ℕ) → n.cause % 64 ≡ 8 →
+      negative_of (command_with kind n rest) ≡ 9
+  -- 44 stands before 45, 45 before 46, 46 before 47, and 47 before these
+  pub unknown_types : (sizes : Sizes) (stations : List StationInfo) (most : ℕ) (wall : Option ℕ)
+      (xs : List ℕ) → (unknown_type xs).applies ≡ true →
+      cause_of_fault sizes stations most wall xs ≡ Some 44
+  pub unknown_causes : (sizes : Sizes) (stations : List StationInfo) (most : ℕ) (wall : Option ℕ)
+      (xs : List ℕ) → (unknown_type xs).applies ≡ false → (unknown_cause xs).applies ≡ true →
+      cause_of_fault sizes stations most wall xs ≡ Some 45
+  pub unknown_stations : (sizes : Sizes) (stations : List StationInfo) (most : ℕ)
+      (wall : Option ℕ) (xs : List ℕ) → (unknown_type xs).applies ≡ false →
+      (unknown_cause xs).applies ≡ false → (unknown_station stations xs).applies ≡ true →
+      cause_of_fault sizes stations most wall xs ≡ Some 46
+  pub unknown_objects : (sizes : Sizes) (stations : List StationInfo) (most : ℕ)
+      (wall : Option ℕ) (xs : List ℕ) → (unknown_type xs).applies ≡ false →
+      (unknown_cause xs).applies ≡ false → (unknown_station stations xs).applies ≡ false →
+      (unknown_object sizes xs).applies ≡ true →
+      cause_of_fault sizes stations most wall xs ≡ Some 47
+  pub forms : (sizes : Sizes) (stations : List StationInfo) (most : ℕ) (wall : Option ℕ)
+      (kind : ℕ) (n : Numbers) (rest : List ℕ) →
+      IsKnown sizes stations (command_with kind n rest) →
+      (malformed (command_with kind n rest)).applies ≡ true →
+      (n.cause % 64 ≡ 6
+      → cause_of_fault sizes stations most wall (command_with kind n rest) ≡ Some 7)
+      × (n.cause % 64 ≡ 8
+      → cause_of_fault sizes stations most wall (command_with kind n rest) ≡ Some 9)
 
 -- ---- Times (this gateway's own profile)
 

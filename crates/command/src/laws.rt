@@ -36,7 +36,8 @@ ghost use Rattle.command.specs.Examples.{OctetExamples, IsRight, WaitsSo, rule_e
 ghost use Rattle.command.specs.Examples.{selection_examples, line_examples, tag_examples, BearsIt};
 ghost use Rattle.command.specs.Examples.{mirror_examples};
 ghost use Rattle.command.specs.Numbers.{AddressesAreRead, ObjectsAreRead, TargetsAreCompared};
-ghost use Rattle.command.specs.Numbers.{ElementsAreRead, ActsAreRead, TimesAreKept};
+ghost use Rattle.command.specs.Numbers.{ElementsAreRead, ActsAreRead, FormsAreRead, TimesAreKept};
+ghost use Rattle.command.specs.Numbers.{ConfirmationsAreRead, CausesAreGiven};
 ghost use Rattle.command.specs.Laws.{AfterEachRun, AtEachMoment, AfterEachDue};
 ghost use Rattle.command.specs.CommandLaws.{CommandLaws};
 ghost use Rattle.command.specs.Carried.{carried};
@@ -254,13 +255,17 @@ pub fn worked_examples_hold()
 /// The rules say the same of a command whatever its numbers are: each common address of a station,
 /// each object address, each octet of an element, each place of a station, and each setting of the
 /// times. So what selects, what executes and what takes back is the same at each of them, and what
-/// select and execute have to have in common.
+/// select and execute have to have in common. What is well-formed, what confirms a command, and the
+/// cause of a negative answer are the same as well.
 pub fn rules_hold_for_all_numbers()
     ensures addresses { AddressesAreRead }
     ensures objects { ObjectsAreRead }
     ensures targets { TargetsAreCompared }
     ensures elements { ElementsAreRead }
     ensures acts { ActsAreRead }
+    ensures forms { FormsAreRead }
+    ensures confirmations { ConfirmationsAreRead }
+    ensures causes { CausesAreGiven }
     ensures times { TimesAreKept }
 {}
 

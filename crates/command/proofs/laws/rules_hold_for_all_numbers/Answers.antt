@@ -1,5 +1,5 @@
 use Rattle.command.proofs.Numbers.{addresses_hold, objects_hold, targets_hold, elements_hold}
-use Rattle.command.proofs.Numbers.{acts_hold, times_hold}
+use Rattle.command.proofs.Numbers.{acts_hold, forms_hold, confirmations_hold, causes_hold, times_hold}
 use Rattle.command.proofs.laws.rules_hold_for_all_numbers.Goals as goal
 
 pub returns-clause-addresses : goal.returns-clause-addresses
@@ -16,6 +16,15 @@ returns-clause-elements c = elements_hold
 
 pub returns-clause-acts : goal.returns-clause-acts
 returns-clause-acts c = acts_hold
+
+pub returns-clause-forms : goal.returns-clause-forms
+returns-clause-forms c = forms_hold
+
+pub returns-clause-confirmations : goal.returns-clause-confirmations
+returns-clause-confirmations c = confirmations_hold
+
+pub returns-clause-causes : goal.returns-clause-causes
+returns-clause-causes c = causes_hold
 
 pub returns-clause-times : goal.returns-clause-times
 returns-clause-times c = times_hold
