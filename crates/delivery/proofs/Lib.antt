@@ -30,3 +30,4 @@ pub mod Lasting
 pub mod Parts
 pub mod HasCome
 mod Examples
+pub mod Answers

@@ -6,3 +6,4 @@ pub mod Delivery
 pub mod Sessions
 pub mod Selections
 pub mod Received
+pub mod Answers

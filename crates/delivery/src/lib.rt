@@ -9,7 +9,9 @@
 //! piece is acknowledged with its frame: [`pieces_are_acknowledged_with_their_frames`].
 //! Downwards: [`each_command_is_given_once`]. Between them: [`the_course_is_the_logs`], that what
 //! the gateway's course logs of the line and of commands is what the octets of the log show; and
-//! [`selections_end_in_time`], by the log's moments.
+//! [`selections_end_in_time`], by the log's moments. What a station says of a command goes on as it
+//! came ([`answers_are_passed_on_as_they_came`]), with the command's tag
+//! ([`answers_bear_the_tag_of_their_command`]).
 //!
 //! Their premises are of the line alone: serial answers are neither late nor altered unseen
 //! (`IsHonest`), and for the first law no link reset is caused (`IsSteady`; the start of a link is
@@ -26,6 +28,7 @@
 // stays short (docs/DECISIONS.md, "`delivery` stands apart").
 mod commands;
 mod laws;
+mod passed_on;
 mod received;
 
 pub use commands::{
@@ -35,4 +38,5 @@ pub use laws::{
     each_session_is_known, losses_are_reported, losses_have_gaps, nothing_is_lost,
     silence_is_no_reset,
 };
+pub use passed_on::{answers_are_passed_on_as_they_came, answers_bear_the_tag_of_their_command};
 pub use received::{pieces_are_acknowledged_with_their_frames, what_has_come_is_one_run};

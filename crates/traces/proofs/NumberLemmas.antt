@@ -40,7 +40,7 @@ no_number xs k lt out = by (nat_le 1 (length xs) && nat_le (length xs) 15)
     by true = digits_none 0 xs k lt out
     by false = refl
 
-too_long : (xs : List ℕ) → 15 < length xs → decimal_of xs ≡ None
+pub too_long : (xs : List ℕ) → 15 < length xs → decimal_of xs ≡ None
 too_long xs long =
     let off : (nat_le 1 (length xs) && nat_le (length xs) 15) ≡ false = grind arith in
     ap (λ (b : Bool). if b then digits_after 0 xs else None) off
@@ -70,7 +70,7 @@ number_digits n v xs k e lt = by (is_ascii_digit (slice_index xs k)) refl
     by true is = refl
     by false is = let none = digits_none n xs k lt is in cc
 
-some_digits : (xs : List ℕ) (v : ℕ) → decimal_of xs ≡ Some v → digits_after 0 xs ≡ Some v
+pub some_digits : (xs : List ℕ) (v : ℕ) → decimal_of xs ≡ Some v → digits_after 0 xs ≡ Some v
 some_digits xs v e = by (nat_le 1 (length xs) && nat_le (length xs) 15) e
   where
     by : (b : Bool) → (if b then digits_after 0 xs else None) ≡ Some v → digits_after 0 xs ≡ Some v

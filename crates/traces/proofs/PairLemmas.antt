@@ -226,13 +226,13 @@ line_is_ended text buf n are lt feed =
     }) lt feed
 
 -- an odd number of digits, or too many, are no octets
-odd_digits : (xs : List ℕ) (n : ℕ) → length xs ≡ 2 * n + 1 → octets_of xs ≡ None
+pub odd_digits : (xs : List ℕ) (n : ℕ) → length xs ≡ 2 * n + 1 → octets_of xs ≡ None
 odd_digits xs n len = wrong_length xs (by (length xs) n len)
   where
     by : (m n : ℕ) → m ≡ 2 * n + 1 → (m % 2 == 0 && nat_le 2 m && nat_le m 2048) ≡ false
     by m n len = let odd : m % 2 ≡ 1 = omega (arith, len) in grind arith
 
-long_digits : (xs : List ℕ) → 2048 < length xs → octets_of xs ≡ None
+pub long_digits : (xs : List ℕ) → 2048 < length xs → octets_of xs ≡ None
 long_digits xs len = wrong_length xs (by (length xs) len)
   where
     by : (m : ℕ) → 2048 < m → (m % 2 == 0 && nat_le 2 m && nat_le m 2048) ≡ false

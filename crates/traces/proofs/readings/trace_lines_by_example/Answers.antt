@@ -7,7 +7,7 @@ unfolding decode_pairs
 returns-clause-events c = (refl, refl, refl, refl, refl, refl)
 
 pub returns-clause-numbers : goal.returns-clause-numbers
-returns-clause-numbers c = (refl, refl, refl, refl, refl, refl, refl, refl)
+returns-clause-numbers c = (refl, refl, refl, refl, refl, refl)
 
 pub returns-clause-fields : goal.returns-clause-fields
 unfolding decode_pairs
@@ -15,7 +15,7 @@ returns-clause-fields c = (refl, refl, refl, refl, refl, refl, refl)
 
 pub returns-clause-octets : goal.returns-clause-octets
 unfolding decode_pairs
-returns-clause-octets c = (refl, refl, refl, refl, refl, refl)
+returns-clause-octets c = (refl, refl)
 
 pub returns-clause-skipped : goal.returns-clause-skipped
 returns-clause-skipped c = (refl, refl, refl, refl)
