@@ -432,7 +432,7 @@ form a b = (
   λ other.
       (let p : (behind a == behind b) ≡ false =
       unequal (behind a) (behind b) (λ e. other (omega (arith, e))) in
-      rw p refl)
+      rw p refl),
 )
 
 pub forms_hold : FormsAreRead
@@ -486,6 +486,7 @@ confirmed xs v i at = (is_so, is_only)
     alone : is_only_object_of xs v v.infos
         ≡ (is_object_of xs v i && are_equal (element_part xs) i.element)
     alone = ap (is_only_object_of xs v) at
+
     is_so : v.cause % 128 ≡ 7 → plain_type (slice_index xs 0) ≡ (row v.kind).code
         → common_address xs ≡ v.ca
         → object_address xs ≡ i.address
@@ -500,6 +501,7 @@ confirmed xs v i at = (is_so, is_only)
         equal_lists (element_part xs) i.element d in
         both_true (v.cause % 128 == 7) (is_only_object_of xs v v.infos) p
         (alone ∙ both_true (is_object_of xs v i) (are_equal (element_part xs) i.element) q r)
+
     is_only : confirms_command xs v ≡ true
         → (v.cause % 128 ≡ 7) × (plain_type (slice_index xs 0) ≡ (row v.kind).code)
         × (common_address xs ≡ v.ca) × (object_address xs ≡ i.address)
@@ -511,9 +513,13 @@ confirmed xs v i at = (is_so, is_only)
         (sym alone ∙ parts.1) in
         let three =
         three_only (plain_type (slice_index xs 0)) (row v.kind).code (common_address xs) v.ca
-        (object_address xs) i.address rest.0 in
-        (eqb-true (v.cause % 128) 7 parts.0, three.0, three.1, three.2,
-        only_equal_lists (element_part xs) i.element rest.1)
+        (object_address xs) i.address rest.0 in (
+          eqb-true (v.cause % 128) 7 parts.0,
+          three.0,
+          three.1,
+          three.2,
+          only_equal_lists (element_part xs) i.element rest.1,
+        )
 
 not_alone : (xs : List ℕ) (v : AsduValue) (is : List Info) → v.infos ≡ is
     → is_only_object_of xs v is ≡ false
@@ -608,7 +614,7 @@ causes_hold = record {
         (negative_of_six kind n rest six_),
     λ eight_. malformed_answer sizes stations most wall (command_with kind n rest) known_ is
         ∙ some_equal (negative_of (command_with kind n rest)) 9
-        (negative_of_eight kind n rest eight_)
+        (negative_of_eight kind n rest eight_),
   );
 }
 
