@@ -435,6 +435,23 @@ form a b = (
       rw p refl),
 )
 
+abbrev not_one : ℕ → Bool
+not_one number = nat_le 128 number || not (number % 128 == 1)
+
+not_one_is : (number : ℕ) → (number ≡ 1 → ⊥) → not_one number ≡ true
+not_one_is number other = go (nat_le 128 number) (number % 128 == 1) refl refl
+  where
+    go : (a b : Bool) → nat_le 128 number ≡ a → (number % 128 == 1) ≡ b → (a || not b) ≡ true
+    go true b high is = refl
+    go false false low is = refl
+    go false true low is = absurd (other (remainder (eqb-true (number % 128) 1 is) (small low)))
+      where
+        small : nat_le 128 number ≡ false → number < 128
+        small not_high = grind (arith, not_high)
+
+        remainder : number % 128 ≡ 1 → number < 128 → number ≡ 1
+        remainder e less = omega (arith, e, less)
+
 pub forms_hold : FormsAreRead
 forms_hold = record {
   single = λ n rest. (refl, (form (length rest) 1).0, (form (length rest) 1).1);
@@ -448,6 +465,7 @@ forms_hold = record {
   tagged_normalised = λ n rest. (refl, (form (length rest) 10).0, (form (length rest) 10).1);
   tagged_scaled = λ n rest. (refl, (form (length rest) 10).0, (form (length rest) 10).1);
   interrogation = λ n rest. (refl, (form (length rest) 1).0, (form (length rest) 1).1);
+  not_one = λ kind number n rest other. or_left (not_one number) _ (not_one_is number other);
 }
 
 -- ---- confirmations

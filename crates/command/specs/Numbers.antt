@@ -264,6 +264,10 @@ pub record FormsAreRead : Type 0 where
   pub tagged_normalised : HasForm 61 10
   pub tagged_scaled : HasForm 62 10
   pub interrogation : HasForm 100 1
+  -- SQ is 0 and the number of objects is 1: else it is malformed
+  pub not_one : (kind number : ℕ) (n : Numbers) (rest : List ℕ) → (number ≡ 1 → ⊥) →
+      (malformed (kind ∷ number ∷ n.cause ∷ n.originator ∷ n.ca_low ∷ n.ca_high ∷ n.low
+      ∷ n.middle ∷ n.high ∷ rest)).applies ≡ true
 
 -- ---- Confirmations (7.2.3: activation con)
 
