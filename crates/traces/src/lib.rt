@@ -47,8 +47,10 @@ pub use blocks::{BlockFault, Blocks};
 pub use decimal::decimal as read_decimal;
 pub use examples::printed_lines_by_example;
 pub use judging::judge;
-pub use laws::{lines_say_what_they_log, numbers_are_read_digit_by_digit};
-pub use laws::{octets_are_read_two_digits_each, printed_lines_read_back};
+pub use laws::{
+    lines_say_what_they_log, numbers_are_read_digit_by_digit, octets_are_read_two_digits_each,
+    printed_lines_read_back,
+};
 pub use lines::{cut, is_skipped, parts};
 pub use moments::Moment;
 pub use octets::{hex_digits, read_octets};

@@ -10,7 +10,7 @@ returns-clause-one c = λ high low h l first second. one_octet high low h l firs
 pub returns-clause-further : goal.returns-clause-further
 returns-clause-further c =
     λ text octets high low h l e room first second.
-        further_octet text octets high low h l e room first second
+    further_octet text octets high low h l e room first second
 
 pub returns-clause-none : goal.returns-clause-none
 returns-clause-none c = wrong_length [] refl
