@@ -173,8 +173,12 @@ module _ (objects : ObjectsLaw) (v : AsduValue) where
   objects_are xs h = objects tcp (with_infos v h.infos) xs h.spells
 
   some_objects : (xs : List ℕ) → IsPiece v xs → 1 ≤ length (objects_of tcp xs)
-  some_objects xs h = omega (arith, ap length (objects_are xs h)
-      ∙ length-map h.infos (object_in v), h.spells.value.some)
+  some_objects xs h = omega (
+    arith,
+    ap length (objects_are xs h)
+        ∙ length-map h.infos (object_in v),
+    h.spells.value.some,
+  )
 
   pub alone : (i : Info) (pieces : List (List ℕ))
       → AllByRecursion (λ piece. IsPiece v piece) pieces
@@ -187,9 +191,14 @@ module _ (objects : ObjectsLaw) (v : AsduValue) where
       ap (λ x. x ∷ []) (h.0.spells.octets ∙ ap (λ is. spelled tcp (with_infos v is)) infos)
   alone i (p ∷ q ∷ ps) h e =
       let rest : List InformationObject = flat_map (λ piece. objects_of tcp piece) ps in
-      absurd (omega (arith, some_objects p h.0, some_objects q h.1.0, ap length e,
-      length-append (objects_of tcp p) (objects_of tcp q ++ rest),
-      length-append (objects_of tcp q) rest))
+      absurd (omega (
+        arith,
+        some_objects p h.0,
+        some_objects q h.1.0,
+        ap length e,
+        length-append (objects_of tcp p) (objects_of tcp q ++ rest),
+        length-append (objects_of tcp q) rest,
+      ))
 
 pub one_piece : ObjectsLaw → (s : Sizes) (v : AsduValue) (report : List ℕ)
     (pieces : List (List ℕ)) → IsPassedOn s v report pieces → length v.infos ≡ 1

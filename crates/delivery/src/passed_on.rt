@@ -14,8 +14,8 @@ ghost use Rattle.delivery.specs.Answers.{answer_form};
 
 use asdu::{
     objects_are_those_of_the_asdu, objects_have_all_their_parts,
-    octets_stand_where_the_standard_has_them, one_asdu_one_spelling, tagged_types_are_thirteen_above,
-    tags_stand_behind_the_element,
+    octets_stand_where_the_standard_has_them, one_asdu_one_spelling,
+    tagged_types_are_thirteen_above, tags_stand_behind_the_element,
 };
 
 /// A station's answer to a command is passed on as it came. With one object it is one ASDU, octet
