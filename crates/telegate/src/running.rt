@@ -28,8 +28,8 @@ pub(crate) struct Scribes<S: LogSink + Drop, W: RecordSheet + Drop, D: StreamSou
     pub(crate) lookout: Option<Lookout<D>>,
 }
 
-/// A run over a port that is over: the port, with what was logged and recorded, who looked at it, if
-/// it was shown, and how it ended.
+/// A run over a port that is over: the port, with what was logged and recorded, who looked at it,
+/// if it was shown, and how it ended.
 #[derive(Drop)]
 pub(crate) struct Lived<
     P: Watched + Drop,
