@@ -1,5 +1,6 @@
 -- What the worked examples of a record speak of: lines, and records whose text a sheet gives.
-use Rattle.std.specs.Prelude.{ℕ, false, List, [], ◌∷◌, ◌++◌, codes, Some}
+use Rattle.std.specs.Prelude.{ℕ, true, false, List, [], ◌∷◌, ◌++◌, codes}
+use Rattle.std.specs.Prelude.{Some}
 use Rattle.record.specs.Recording.{Recording}
 
 -- a line with the line feed that ends it
@@ -8,7 +9,13 @@ line text = text ++ 10 ∷ []
 
 -- a record that goes on: its sheet took this, and this is held
 abbrev pub recording : (taken held : List ℕ) → Recording
-recording taken held = record { taken = Some taken; held = held; is_over = false; missed = Some [] }
+recording taken held = record {
+  taken = Some taken;
+  held = held;
+  is_wished = true;
+  is_over = false;
+  missed = Some [];
+}
 
 -- one that has just begun
 abbrev pub begun : Recording

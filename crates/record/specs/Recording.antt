@@ -13,11 +13,13 @@ added None more = None
 added (Some text) more = Some (text ++ more)
 
 -- what the sheet took, if it says that; the lines that are held back until the next event is asked
--- for; whether the sheet took no more, or memory ran out, which ends the record; and what passed
--- unwritten, if the sheet says that
+-- for; whether a record was wished at all, which never changes; whether the record is over, since
+-- none was wished, the sheet took no more, or memory ran out; and what passed unwritten, if the
+-- sheet says that
 pub record Recording : Type 0 where
   pub taken : Option (List ℕ)
   pub held : List ℕ
+  pub is_wished : Bool
   pub is_over : Bool
   pub missed : Option Log
 
@@ -34,11 +36,21 @@ logged_behind (Some text) (Some missed) = Some (missed ++ log_in text)
 abbrev pub log_of : Recording → Option Log
 log_of r = logged_behind (text_of r) r.missed
 
--- what always holds of a record: its text is the lines of a log, and until it is over nothing
--- passed unwritten
+-- what always holds of a record: its text is the lines of a log, until it is over nothing passed
+-- unwritten, and one that wasn't wished is over
 pub record IsKept (r : Recording) : Type 0 where
   pub written : IsWritten (text_of r)
   pub whole : r.is_over ≡ false → IfSome r.missed (λ log. log ≡ [])
+  pub idle : r.is_wished ≡ false → r.is_over ≡ true
+
+-- what is fixed of a port that is recorded: what is of the port inside, and whether a record was
+-- wished
+pub record RecordedFixture (F : Type 0) : Type 0 where
+  pub port : F
+  pub is_wished : Bool
+
+abbrev pub recorded_fixture : {F : Type 0} → F → Recording → RecordedFixture F
+recorded_fixture port r = record { port = port; is_wished = r.is_wished }
 
 -- the first of two logs that is given
 abbrev pub logged_first : Option Log → Option Log → Option Log

@@ -22,6 +22,8 @@ pub struct Pen<W: RecordSheet + Drop> {
     sheet: W,
     /// The lines that the sheet hasn't been given yet.
     held: Page,
+    /// It is to write: one that isn't is over from the beginning.
+    is_wished: bool,
     is_over: bool,
 }
 
@@ -33,6 +35,7 @@ impl<W: RecordSheet + Drop> Model for Pen<W> {
     ghost view = { λ p. record {
       taken = W.taken p.sheet;
       held = p.held;
+      is_wished = p.is_wished;
       is_over = p.is_over;
       missed = W.missed p.sheet;
     } };
@@ -40,6 +43,7 @@ impl<W: RecordSheet + Drop> Model for Pen<W> {
     ghost invariant = { λ p. IsKept (record {
       taken = W.taken p.sheet;
       held = p.held;
+      is_wished = p.is_wished;
       is_over = p.is_over;
       missed = W.missed p.sheet;
     }) };
@@ -53,6 +57,7 @@ impl<W: RecordSheet + Drop> Pen<W> {
         ensures { result ≡ record {
           taken = W.taken sheet;
           held = first.items;
+          is_wished = true;
           is_over = false;
           missed = W.missed sheet;
         } }
@@ -61,6 +66,7 @@ impl<W: RecordSheet + Drop> Pen<W> {
             alloc,
             sheet,
             held: Page::holding(first),
+            is_wished: true,
             is_over: false,
         }
     }
@@ -71,6 +77,7 @@ impl<W: RecordSheet + Drop> Pen<W> {
         ensures { result ≡ record {
           taken = W.taken sheet;
           held = [];
+          is_wished = false;
           is_over = true;
           missed = W.missed sheet;
         } }
@@ -79,6 +86,7 @@ impl<W: RecordSheet + Drop> Pen<W> {
             alloc,
             sheet,
             held: Page::new(alloc),
+            is_wished: false,
             is_over: true,
         }
     }

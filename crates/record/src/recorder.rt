@@ -5,6 +5,7 @@ ghost use Rattle.gateway.specs.Log.{Went, with_news};
 ghost use Rattle.gateway.specs.Ports.{FitsBuffer, faults_of, output_of, logged_by};
 ghost use Rattle.gateway.specs.declared.ports.Next.TheVariants.{Done};
 ghost use Rattle.record.specs.Recording.{Receives, IsKept, Puts, log_of, logged_first};
+ghost use Rattle.record.specs.Recording.{recorded_fixture};
 
 use crate::pen::Pen;
 use crate::record_sheet::RecordSheet;
@@ -38,7 +39,8 @@ impl<P: Port + Drop, W: RecordSheet + Drop> Recorder<P, W> {
 }
 
 impl<P: Port + Drop, W: RecordSheet + Drop> Port for Recorder<P, W> {
-    ghost use Rattle.record.specs.Recording.{log_of, logged_first};
+    ghost use Rattle.record.specs.Recording.{RecordedFixture, log_of, logged_first};
+    ghost use Rattle.record.specs.Recording.{recorded_fixture};
 
     /// What it wrote down, if its sheet says that, or else the log of the port inside.
     ghost log = { λ r. logged_first (log_of r.pen) (P.log r.port) };
@@ -47,9 +49,10 @@ impl<P: Port + Drop, W: RecordSheet + Drop> Port for Recorder<P, W> {
 
     ghost ended = { λ r. P.ended r.port };
 
-    ghost Fixed = { P.Fixed };
+    ghost Fixed = { RecordedFixture P.Fixed };
 
-    ghost script = { λ r. P.script r.port };
+    /// What is fixed of the port inside, and whether a record was wished.
+    ghost script = { λ r. recorded_fixture (P.script r.port) r.pen };
 
     /// The line of the event is given to the sheet, with those of the step before, and only then is
     /// the event passed on: whoever reads the record knows each event that an action came from.
@@ -61,7 +64,8 @@ impl<P: Port + Drop, W: RecordSheet + Drop> Port for Recorder<P, W> {
             (logged_by result buf.new) }
         ensures fits { FitsBuffer result }
         ensures done { result ≡ Done → P.ended self.new.port ≡ true }
-        ensures script { P.script self.new.port ≡ P.script self.old.port }
+        ensures script { recorded_fixture (P.script self.new.port) self.new.pen
+            ≡ recorded_fixture (P.script self.old.port) self.old.pen }
         ensures cause { P.failed self.new.port ≡ P.failed self.old.port + faults_of result }
         ensures receives { Receives self.old.pen result buf.new self.new.pen }
     {
@@ -80,7 +84,8 @@ impl<P: Port + Drop, W: RecordSheet + Drop> Port for Recorder<P, W> {
             ≡ (if result then with_news (logged_first (log_of self.old.pen) (P.log self.old.port))
             (Went now (output_of action.now) ∷ [])
             else logged_first (log_of self.old.pen) (P.log self.old.port)) }
-        ensures script { P.script self.new.port ≡ P.script self.old.port }
+        ensures script { recorded_fixture (P.script self.new.port) self.new.pen
+            ≡ recorded_fixture (P.script self.old.port) self.old.pen }
         ensures cause { P.failed self.new.port
             ≡ P.failed self.old.port + (if result then 0 else 1) }
         ensures puts { Puts result self.old.pen

@@ -25,13 +25,35 @@ kept false line lines = lines
 kept true line None = None
 kept true line (Some before) = Some (line ∷ before)
 
--- what was logged, where to, whether that took no line any more, which ends the log, and whether
--- the run is watched all the same
+-- What was logged, and where to; whether a log was wished at all, which never changes; whether the
+-- log is over, since none was wished, or no line was taken any more; and whether the run is watched
+-- all the same.
 pub record Book : Type 0 where
   pub watching : Watching
   pub lines : Lines
+  pub is_wished : Bool
   pub is_over : Bool
   pub is_watching : Bool
+
+-- a log that wasn't wished is over
+abbrev pub IsWishedFirst : (is_wished is_over : Bool) → Type 0
+IsWishedFirst is_wished is_over = is_wished ≡ false → is_over ≡ true
+
+-- what is fixed of a log: whether it was wished, and whether the run is watched
+pub record BookFixture : Type 0 where
+  pub is_wished : Bool
+  pub is_watching : Bool
+
+abbrev pub book_fixture : Book → BookFixture
+book_fixture b = record { is_wished = b.is_wished; is_watching = b.is_watching }
+
+-- what is fixed of a run that is logged: what is of the port inside, and what is of the log
+pub record LoggedFixture (F : Type 0) : Type 0 where
+  pub port : F
+  pub book : BookFixture
+
+abbrev pub logged_fixture : {F : Type 0} → F → Book → LoggedFixture F
+logged_fixture port b = record { port = port; book = book_fixture b }
 
 -- a line is logged, taken or not, where the log isn't over
 abbrev pub logged : Option LogLine → (taken : Bool) → Book → Book

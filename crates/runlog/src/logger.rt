@@ -2,7 +2,8 @@
 ghost use Rattle.std.specs.Prelude.{◌≡◌, ◌&&◌, false, true, length, not};
 ghost use Rattle.events.specs.Queue.{kept};
 ghost use Rattle.gateway.specs.Ports.{FitsBuffer, output_of};
-ghost use Rattle.runlog.specs.Logging.{counted, looked_if_due, LogsEventSeeing, LogsAction};
+ghost use Rattle.runlog.specs.Logging.{book_fixture, counted, looked_if_due, LogsEventSeeing};
+ghost use Rattle.runlog.specs.Logging.{LogsAction};
 ghost use Rattle.runlog.specs.Logging.{LogsLook, Closes};
 ghost use Rattle.runlog.specs.Logging.{LogsNote, Fails, Sums, LogsNotice, IsLogged};
 
@@ -18,21 +19,27 @@ use std::marker::Model;
 pub struct Logger<S: LogSink + Drop> {
     watch: Watch,
     sink: S,
+    /// It is to log: one that isn't is over from the beginning.
+    is_wished: bool,
     is_over: bool,
     is_watching: bool,
 }
 
 impl<S: LogSink + Drop> Model for Logger<S> {
-    ghost use Rattle.runlog.specs.Logging.{Book};
+    ghost use Rattle.runlog.specs.Logging.{Book, IsWishedFirst};
 
     ghost Value = { Book };
 
     ghost view = { λ t. record {
       watching = t.watch;
       lines = S.lines t.sink;
+      is_wished = t.is_wished;
       is_over = t.is_over;
       is_watching = t.is_watching;
     } };
+
+    // So nothing is logged where no log was wished.
+    ghost invariant = { λ t. IsWishedFirst t.is_wished t.is_over };
 }
 
 /// How many pieces the gateway keeps.
@@ -54,6 +61,7 @@ impl<S: LogSink + Drop> Logger<S> {
         ensures { result ≡ record {
           watching = watch;
           lines = S.lines sink;
+          is_wished = is_logging;
           is_over = not is_logging;
           is_watching = false;
         } }
@@ -61,6 +69,7 @@ impl<S: LogSink + Drop> Logger<S> {
         Logger {
             watch,
             sink,
+            is_wished: is_logging,
             is_over: !is_logging,
             is_watching: false,
         }
@@ -73,6 +82,7 @@ impl<S: LogSink + Drop> Logger<S> {
         Logger {
             watch: self.watch,
             sink: self.sink,
+            is_wished: self.is_wished,
             is_over: self.is_over,
             is_watching: true,
         }
@@ -94,7 +104,8 @@ impl<S: LogSink + Drop> Logger<S> {
 
     /// Logs something that no event says, at the moment of the latest event.
     pub fn note(&mut self, note: Note)
-        ensures { LogsNote self.old note self.new }
+        ensures logs { LogsNote self.old note self.new }
+        ensures fixed { book_fixture self.new ≡ book_fixture self.old }
     {
         if self.is_idle() {
             return;
@@ -104,7 +115,8 @@ impl<S: LogSink + Drop> Logger<S> {
     }
 
     fn log(&mut self, line: Option<LogLine>)
-        ensures { IsLogged line self.old self.new }
+        ensures logs { IsLogged line self.old self.new }
+        ensures fixed { book_fixture self.new ≡ book_fixture self.old }
     {
         if self.is_over {
             return;
@@ -119,7 +131,8 @@ impl<S: LogSink + Drop> Logger<S> {
     /// An event came, whose octets are the front of the buffer, and the ends are seen so.
     pub(crate) fn note_event(&mut self, event: Next, buf: &[u8; 1024], sight: &EndsSight)
         requires { FitsBuffer event }
-        ensures { LogsEventSeeing sight.now self.old event buf.now self.new }
+        ensures logs { LogsEventSeeing sight.now self.old event buf.now self.new }
+        ensures fixed { book_fixture self.new ≡ book_fixture self.old }
     {
         if self.is_idle() {
             return;
@@ -130,7 +143,8 @@ impl<S: LogSink + Drop> Logger<S> {
 
     /// An action goes out.
     pub fn put(&mut self, now: u64, action: &Action<'_>)
-        ensures { LogsAction self.old now (output_of action.now) self.new }
+        ensures logs { LogsAction self.old now (output_of action.now) self.new }
+        ensures fixed { book_fixture self.new ≡ book_fixture self.old }
     {
         if self.is_idle() {
             return;
@@ -141,7 +155,8 @@ impl<S: LogSink + Drop> Logger<S> {
 
     /// This is to be logged of the state on the disk, if anything.
     pub(crate) fn tend(&mut self, notice: Option<Notice>)
-        ensures { LogsNotice notice self.old self.new }
+        ensures logs { LogsNotice notice self.old self.new }
+        ensures fixed { book_fixture self.new ≡ book_fixture self.old }
     {
         if let Some(notice) = notice {
             self.note(Note::State(notice));
@@ -150,7 +165,8 @@ impl<S: LogSink + Drop> Logger<S> {
 
     /// Looks at the gateway between two steps.
     pub(crate) fn look(&mut self, gateway: &Gateway)
-        ensures { LogsLook self.old gateway.now self.new }
+        ensures logs { LogsLook self.old gateway.now self.new }
+        ensures fixed { book_fixture self.new ≡ book_fixture self.old }
     {
         if self.is_idle() {
             return;
@@ -178,7 +194,8 @@ impl<S: LogSink + Drop> Logger<S> {
 
     /// The run is over: logs what has failed, if anything, and then the counts.
     pub(crate) fn close(&mut self, failure: Option<Failure>, gateway: &Gateway)
-        ensures { Closes self.old failure gateway.now self.new }
+        ensures closes { Closes self.old failure gateway.now self.new }
+        ensures fixed { book_fixture self.new ≡ book_fixture self.old }
     {
         self.fail(failure);
         self.sum(gateway);
@@ -186,7 +203,8 @@ impl<S: LogSink + Drop> Logger<S> {
 
     /// The device has failed, if it has.
     fn fail(&mut self, failure: Option<Failure>)
-        ensures { Fails self.old failure self.new }
+        ensures logs { Fails self.old failure self.new }
+        ensures fixed { book_fixture self.new ≡ book_fixture self.old }
     {
         if self.is_idle() {
             return;
@@ -197,7 +215,8 @@ impl<S: LogSink + Drop> Logger<S> {
 
     /// Logs the counts.
     fn sum(&mut self, gateway: &Gateway)
-        ensures { Sums self.old gateway.now self.new }
+        ensures logs { Sums self.old gateway.now self.new }
+        ensures fixed { book_fixture self.new ≡ book_fixture self.old }
     {
         if self.is_idle() {
             return;

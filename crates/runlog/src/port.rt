@@ -3,7 +3,7 @@ ghost use Rattle.std.specs.Prelude.{◌≡◌, ◌+◌, ◌<◌, ◌∷◌, [], 
 ghost use Rattle.gateway.specs.Log.{Went, with_news};
 ghost use Rattle.gateway.specs.Ports.{FitsBuffer, faults_of, output_of, logged_by};
 ghost use Rattle.gateway.specs.declared.ports.Next.TheVariants.{Done};
-ghost use Rattle.runlog.specs.Logging.{LogsEvent, PutsGone, Tends, Closes};
+ghost use Rattle.runlog.specs.Logging.{LogsEvent, PutsGone, Tends, Closes, logged_fixture};
 
 use crate::logger::Logger;
 use crate::sink::LogSink;
@@ -46,7 +46,8 @@ impl<P: Watched + Drop, S: LogSink + Drop> RunLog<P, S> {
         ensures log { P.log self.new.port ≡ P.log self.old.port }
         ensures failed { P.failed self.new.port ≡ P.failed self.old.port }
         ensures ended { P.ended self.new.port ≡ P.ended self.old.port }
-        ensures script { P.script self.new.port ≡ P.script self.old.port }
+        ensures script { logged_fixture (P.script self.new.port) self.new.logger
+            ≡ logged_fixture (P.script self.old.port) self.old.logger }
         ensures tends { P.tends self.old.port gateway.now self.new.port result }
         ensures logs { Tends result self.old.logger gateway.now self.new.logger }
     {
@@ -60,6 +61,8 @@ impl<P: Watched + Drop, S: LogSink + Drop> RunLog<P, S> {
     /// gateway counted.
     pub fn close(&mut self, gateway: &Gateway)
         ensures passes { self.new.port ≡ self.old.port }
+        ensures script { logged_fixture (P.script self.new.port) self.new.logger
+            ≡ logged_fixture (P.script self.old.port) self.old.logger }
         ensures closes { Closes self.old.logger (P.failure self.old.port) gateway.now
             self.new.logger }
     {
@@ -69,15 +72,18 @@ impl<P: Watched + Drop, S: LogSink + Drop> RunLog<P, S> {
 }
 
 impl<P: Watched + Drop, S: LogSink + Drop> Port for RunLog<P, S> {
+    ghost use Rattle.runlog.specs.Logging.{LoggedFixture, logged_fixture};
+
     ghost log = { λ j. P.log j.port };
 
     ghost failed = { λ j. P.failed j.port };
 
     ghost ended = { λ j. P.ended j.port };
 
-    ghost Fixed = { P.Fixed };
+    ghost Fixed = { LoggedFixture P.Fixed };
 
-    ghost script = { λ j. P.script j.port };
+    /// What is fixed of the port inside, and whether a log was wished, and the run is watched.
+    ghost script = { λ j. logged_fixture (P.script j.port) j.logger };
 
     fn next(&mut self, buf: &mut [u8; 1024]) -> Next
         requires { P.failed self.old.port < u64.MAX }
@@ -85,7 +91,8 @@ impl<P: Watched + Drop, S: LogSink + Drop> Port for RunLog<P, S> {
             ≡ with_news (P.log self.old.port) (logged_by result buf.new) }
         ensures fits { FitsBuffer result }
         ensures done { result ≡ Done → P.ended self.new.port ≡ true }
-        ensures script { P.script self.new.port ≡ P.script self.old.port }
+        ensures script { logged_fixture (P.script self.new.port) self.new.logger
+            ≡ logged_fixture (P.script self.old.port) self.old.logger }
         ensures cause { P.failed self.new.port ≡ P.failed self.old.port + faults_of result }
         // What is seen at an event shows the ends behind it.
         ensures logs { LogsEvent (P.shows self.new.port) self.old.logger result buf.new
@@ -103,7 +110,8 @@ impl<P: Watched + Drop, S: LogSink + Drop> Port for RunLog<P, S> {
         ensures logged { P.log self.new.port
             ≡ (if result then with_news (P.log self.old.port) (Went now (output_of action.now) ∷ [])
             else P.log self.old.port) }
-        ensures script { P.script self.new.port ≡ P.script self.old.port }
+        ensures script { logged_fixture (P.script self.new.port) self.new.logger
+            ≡ logged_fixture (P.script self.old.port) self.old.logger }
         ensures cause { P.failed self.new.port
             ≡ P.failed self.old.port + (if result then 0 else 1) }
         ensures puts { PutsGone result self.old.logger now (output_of action.now)

@@ -22,6 +22,14 @@ pub record Keeping (E : Type 0) : Type 0 where
   pub stops : ℕ
   pub patience : Patience
 
+-- what is fixed of a run that is kept: what is of its ends, and whether a loss is borne
+pub record KeptFixture (F : Type 0) : Type 0 where
+  pub ends : F
+  pub bears_loss : Bool
+
+abbrev pub kept_fixture : {F : Type 0} → F → (bears_loss : Bool) → KeptFixture F
+kept_fixture ends bears_loss = record { ends = ends; bears_loss = bears_loss }
+
 -- what always holds of a history: how far the events are on the disk, that none waited too long,
 -- and that each deed might be done when it was
 pub record IsOrderly (bears_loss : Bool) (standing : Standing) (deeds : Deeds) : Type 0 where

@@ -6,7 +6,7 @@ ghost use Rattle.gateway.specs.Log.{Went, with_news};
 ghost use Rattle.gateway.specs.Ports.{FitsBuffer, faults_of, output_of, logged_by};
 ghost use Rattle.gateway.specs.declared.ports.Next.TheVariants.{Done, Fault};
 ghost use Rattle.state.specs.Deeds.{grown, passed};
-ghost use Rattle.state.specs.Keeping.{IsOrderly, failure_of};
+ghost use Rattle.state.specs.Keeping.{IsOrderly, failure_of, kept_fixture};
 ghost use Rattle.state.specs.Lines.{is_renewal_due};
 ghost use Rattle.state.specs.Renewals.{after_notice, after_try, is_try_due, moment_after};
 ghost use Rattle.state.specs.Renewals.{notice_of};
@@ -202,15 +202,18 @@ impl<P: Watched + Drop, F: Folder + Drop> Keeper<Pair<P, DiskStore<F>>> {
 }
 
 impl<E: Ends + Drop> Port for Keeper<E> {
+    ghost use Rattle.state.specs.Keeping.{KeptFixture, kept_fixture};
+
     ghost log = { λ k. E.log k.ends };
 
     ghost failed = { λ k. E.failed k.ends + k.stops };
 
     ghost ended = { λ k. E.ended k.ends };
 
-    ghost Fixed = { E.Fixed };
+    ghost Fixed = { KeptFixture E.Fixed };
 
-    ghost script = { λ k. E.script k.ends };
+    /// What is fixed of the ends, and whether a loss is borne.
+    ghost script = { λ k. kept_fixture (E.script k.ends) k.bears_loss };
 
     /// The event has been appended when it is passed on. Where no event comes any more, all that
     /// came are on the disk.
@@ -222,7 +225,8 @@ impl<E: Ends + Drop> Port for Keeper<E> {
             ≡ logged_by result buf.new ++ passed (E.deeds self.old.ends) }
         ensures fits { FitsBuffer result }
         ensures done { result ≡ Done → E.ended self.new.ends ≡ true }
-        ensures script { E.script self.new.ends ≡ E.script self.old.ends }
+        ensures script { kept_fixture (E.script self.new.ends) self.new.bears_loss
+            ≡ kept_fixture (E.script self.old.ends) self.old.bears_loss }
         ensures cause { E.failed self.new.ends + self.new.stops
             ≡ E.failed self.old.ends + self.old.stops + faults_of result }
         ensures moment { self.new.patience ≡ record self.old.patience {
@@ -254,7 +258,8 @@ impl<E: Ends + Drop> Port for Keeper<E> {
         ensures passes { passed (E.deeds self.new.ends)
             ≡ (if result then Went now (output_of action.now) ∷ [] else [])
             ++ passed (E.deeds self.old.ends) }
-        ensures script { E.script self.new.ends ≡ E.script self.old.ends }
+        ensures script { kept_fixture (E.script self.new.ends) self.new.bears_loss
+            ≡ kept_fixture (E.script self.old.ends) self.old.bears_loss }
         ensures cause { E.failed self.new.ends + self.new.stops
             ≡ E.failed self.old.ends + self.old.stops + (if result then 0 else 1) }
         ensures asks { is_stopped self.new.standing self.old.bears_loss ≡ false →

@@ -19,6 +19,7 @@ pub mod Sites
 pub mod Lines
 pub mod Living
 pub mod Logged
+pub mod AsWished
 pub mod Kept
 pub mod Manners
 pub mod SimulatedInWords

@@ -1,13 +1,14 @@
 -- What came of a live run that was wished (this gateway's own profile).
-use Rattle.std.specs.Prelude.{◌≡◌, ◌⊎◌, ℕ, List, [], false, MatchOption, Result, Ok, Err}
+use Rattle.std.specs.Prelude.{◌≡◌, ◌⊎◌, ℕ, List, [], Bool, false, MatchOption, Result, Ok, Err}
 use Rattle.gateway.specs.Config.{Settings}
 use Rattle.gateway.specs.Log.{Log}
 use Rattle.live.specs.Ends.{LiveEnds}
-use Rattle.live.specs.declared.allow_list.AllowList.{AllowList}
 use Rattle.record.specs.Recording.{Recording}
+use Rattle.runlog.specs.Logging.{Book}
 use Rattle.settings.specs.Settings.{IsLiveReadOfText}
 use Rattle.settings.specs.declared.live.LiveSettings.{LiveSettings}
 use Rattle.state.specs.declared.beginning.Origin.{Origin}
+use Rattle.telegate.specs.AsWished.{IsAsWished}
 use Rattle.telegate.specs.Kept.{HasLivedFrom, IsKeptFault}
 use Rattle.telegate.specs.Living.{HasLived}
 use Rattle.telegate.specs.Running.{IsLiveConfigFault}
@@ -16,27 +17,36 @@ use Rattle.telegate.specs.declared.fault.Fault.TheVariants.{Device}
 use Rattle.telegate.specs.declared.host.Wishes.{Wishes}
 use Rattle.telegate.specs.declared.running.DeviceFailed.{DeviceFailed}
 
--- a run without a state is over: it began anew
-pub record HasLivedAnew {E : Type 0} (settings : Settings) (allow_list : AllowList)
+-- a run without a state is over: it began anew, and was as it was wished
+pub record HasLivedAnew {E : Type 0} (settings : Settings) (wishes : Wishes)
     (ended : Result (Unit {0}) E) : Type 0 where
   pub port : LiveEnds
   pub pen : Recording
-  pub lived : HasLived settings allow_list false [] port pen ended
+  pub book : Book
+  pub is_shown : Bool
+  pub lived : HasLived settings wishes.allow_list false [] port pen ended
+  pub wished : IsAsWished wishes book pen is_shown
 
--- a run whose state is kept is over: it began so, and went on from there
+-- A run whose state is kept is over: it began so, went on from there, and was as it was wished. It
+-- bore the loss of its state where that was wished.
 pub record HasLivedKept {E : Type 0} (begins : Origin → Type 0) (settings : Settings)
-    (allow_list : AllowList) (ended : Result (Unit {0}) E) : Type 0 where
+    (wishes : Wishes) (ended : Result (Unit {0}) E) : Type 0 where
   pub before : Log
   pub port : LiveEnds
   pub pen : Recording
-  pub lived : HasLivedFrom begins settings allow_list before port pen ended
+  pub book : Book
+  pub is_shown : Bool
+  pub bears_loss : Bool
+  pub lived : HasLivedFrom begins settings wishes.allow_list before port pen ended
+  pub wished : IsAsWished wishes book pen is_shown
+  pub bears : bears_loss ≡ wishes.bears_loss
 
 -- a run with these settings is over, as it was wished
 abbrev pub HasLivedAs : {E : Type 0} → (begins : Origin → Type 0) → Settings → Wishes
     → Result (Unit {0}) E → Type 0
 HasLivedAs begins settings wishes ended =
-    MatchOption wishes.state (HasLivedAnew settings wishes.allow_list ended)
-    (λ _. HasLivedKept begins settings wishes.allow_list ended)
+    MatchOption wishes.state (HasLivedAnew settings wishes ended)
+    (λ _. HasLivedKept begins settings wishes ended)
 
 -- what is answered of a run that has ended so: a device that failed is a fault
 abbrev pub answer_to : Result (Unit {0}) DeviceFailed → Result (Unit {0}) Fault

@@ -4,8 +4,10 @@ ghost use Rattle.std.specs.declared.net.socket_addr.SocketAddr.{SocketAddr};
 ghost use Rattle.gateway.specs.Agrees.{Follows};
 ghost use Rattle.gateway.specs.Setups.{setup_of};
 ghost use Rattle.record.specs.Recording.{log_of, logged_first};
+ghost use Rattle.runlog.specs.Logging.{book_fixture};
 ghost use Rattle.state.specs.Directories.{BeginsIn};
 ghost use Rattle.state.specs.Origins.{IsBegun};
+ghost use Rattle.telegate.specs.AsWished.{IsAsWished};
 ghost use Rattle.telegate.specs.Kept.{HasLivedFrom, HasLivedOn, IsEndFault, IsKeptFault};
 ghost use Rattle.telegate.specs.Kept.{first_moment};
 ghost use Rattle.telegate.specs.Living.{HasLived, IsPortOf};
@@ -53,8 +55,8 @@ fn scribes_of<T: RunSite>(
         logged_first (log_of scribes.pen) (Some []) ≡ Some []) }
     ensures logs { IfOk result (λ scribes. scribes.logger.is_over ≡ not wishes.now.log) }
     ensures records { IfOk result (λ scribes. scribes.pen.is_over ≡ not wishes.now.record) }
-    ensures shows { IfOk result (λ scribes.
-        is_some scribes.lookout ≡ is_some wishes.now.status) }
+    ensures wished { IfOk result (λ scribes.
+        IsAsWished wishes.now scribes.logger scribes.pen (is_some scribes.lookout)) }
     ensures fault { IfErr result IsEndFault }
 {
     let watch = Watch::new(site.alloc(), config)?;
@@ -98,6 +100,7 @@ fn lookout_of<T: RunSite>(
 fn pen_of<T: RunSite>(site: &T, is_recorded: bool) -> Pen<T::Sheet>
     ensures new { logged_first (log_of result) (Some []) ≡ Some [] }
     ensures records { result.is_over ≡ not is_recorded }
+    ensures wished { result.is_wished ≡ is_recorded }
 {
     if is_recorded {
         // Anew behind a restart too: a run goes on from its state, which is synced, and a record
@@ -127,6 +130,7 @@ fn opened<T: RunSite>(
 ) -> Result<RunEnds<T::Line, T::Listener, T::Clock>, Fault>
     ensures clock { IfOk result (λ ends. T.begins_at ends.clock moment) }
     ensures line { IfOk result (λ ends. T.comes_back ends.line ≡ wishes.now.redial) }
+    ensures fixed { book_fixture logger.new ≡ book_fixture logger.old }
     ensures fault { IfErr result IsEndFault }
 {
     // First, so that a second run by mistake takes nothing from the first (docs/DECISIONS.md, "The
@@ -151,6 +155,7 @@ fn listener_of<T: RunSite>(site: &T, logger: &mut Logger<T::Sink>) -> Result<T::
     ensures logged { IfOk result (λ _. (address : Option SocketAddr)
         × LogsNoteIf (note_of_address address) logger.old logger.new) }
     ensures refused { IfErr result (λ fault. IsRefused fault logger.old logger.new) }
+    ensures fixed { book_fixture logger.new ≡ book_fixture logger.old }
     ensures fault { IfErr result IsEndFault }
 {
     match site.listener() {
@@ -174,7 +179,8 @@ fn note_of_address(address: Option<SocketAddr>) -> Option<Note>
 
 /// Logs this, if there is anything to log.
 fn log<S: LogSink + Drop>(note: Option<Note>, logger: &mut Logger<S>)
-    ensures { LogsNoteIf note logger.old logger.new }
+    ensures logs { LogsNoteIf note logger.old logger.new }
+    ensures fixed { book_fixture logger.new ≡ book_fixture logger.old }
 {
     if let Some(note) = note {
         logger.note(note);
@@ -185,6 +191,7 @@ fn log<S: LogSink + Drop>(note: Option<Note>, logger: &mut Logger<S>)
 #[tactic(auto, using(crate::proofs::KeptLemmas::refused_is_end))]
 fn refused<S: LogSink + Drop>(refusal: EndRefusal, logger: &mut Logger<S>) -> Fault
     ensures refused { IsRefused result logger.old logger.new }
+    ensures fixed { book_fixture logger.new ≡ book_fixture logger.old }
     ensures fault { IsEndFault result }
 {
     logger.note(Note::Trouble(refusal.trouble));
@@ -236,9 +243,11 @@ fn run_anew<T: RunSite>(
     site: &T,
     config: &Config,
     wishes: Wishes<'_>,
-) -> Result<Lived<RunPort<T::Line, T::Listener, T::Clock>, T::Sheet, T::Sink>, Fault>
+) -> Result<Lived<RunPort<T::Line, T::Listener, T::Clock>, T::Sheet, T::Sink, T::Glass>, Fault>
     ensures lived { IfOk result (λ lived. HasLived config.now wishes.entry.allow_list false []
         lived.run_log.port.port.port lived.run_log.port.port.pen lived.ended) }
+    ensures wished { IfOk result (λ lived. IsAsWished wishes.entry lived.run_log.logger
+        lived.run_log.port.port.pen (is_some lived.lookout)) }
     ensures fault { IfErr result IsEndFault }
 {
     let gateway = Gateway::new(site.alloc(), config)?;
@@ -256,12 +265,15 @@ fn run_new<T: RunSite>(
     ends: RunEnds<T::Line, T::Listener, T::Clock>,
     allow_list: AllowList,
     scribes: Scribes<T::Sink, T::Sheet, T::Glass>,
-) -> Lived<RunPort<T::Line, T::Listener, T::Clock>, T::Sheet, T::Sink>
+) -> Lived<RunPort<T::Line, T::Listener, T::Clock>, T::Sheet, T::Sink, T::Glass>
     requires new { logged_first (log_of scribes.pen) (Some []) ≡ Some [] }
     requires begins { Follows (setup_of config.now) gateway (Some []) }
     requires clock { T.begins_at ends.clock 0 }
-    ensures { HasLived config.now allow_list false [] result.run_log.port.port.port
+    ensures lived { HasLived config.now allow_list false [] result.run_log.port.port.port
         result.run_log.port.port.pen result.ended }
+    ensures logged { book_fixture result.run_log.logger ≡ book_fixture scribes.logger }
+    ensures recorded { result.run_log.port.port.pen.is_wished ≡ scribes.pen.is_wished }
+    ensures looked { is_some result.lookout ≡ is_some scribes.lookout }
 {
     let port = port_between(config, ends, allow_list, false);
     live(gateway, port, History::new(), scribes)
@@ -307,12 +319,17 @@ fn run_kept<T: RunSite>(
     text: &[u8],
     directory: &str,
     wishes: Wishes<'_>,
-) -> Result<Lived<Kept<T>, T::Sheet, T::Sink>, Fault>
+) -> Result<Lived<Kept<T>, T::Sheet, T::Sink, T::Glass>, Fault>
     // It went on from what the directory had.
     ensures lived { IfOk result (λ lived. HasLivedFrom
         (BeginsIn T.Folder.File.Disk config.now text.now T.Folder.lineage) config.now
         wishes.entry.allow_list lived.run_log.port.before.entries
         lived.run_log.port.port.port.ends.port lived.run_log.port.port.pen lived.ended) }
+    ensures wished { IfOk result (λ lived. IsAsWished wishes.entry lived.run_log.logger
+        lived.run_log.port.port.pen (is_some lived.lookout)) }
+    // It bore the loss of its state where that was wished.
+    ensures bears { IfOk result (λ lived.
+        lived.run_log.port.port.port.bears_loss ≡ wishes.entry.bears_loss) }
     ensures fault { IfErr result IsKeptFault }
 {
     let mut scribes = scribes_of(site, config, &wishes)?;
@@ -339,12 +356,16 @@ fn run_from<T: RunSite>(
     ends: RunEnds<T::Line, T::Listener, T::Clock>,
     wishes: Wishes<'_>,
     scribes: Scribes<T::Sink, T::Sheet, T::Glass>,
-) -> Lived<Kept<T>, T::Sheet, T::Sink>
+) -> Lived<Kept<T>, T::Sheet, T::Sink, T::Glass>
     requires new { logged_first (log_of scribes.pen) (Some []) ≡ Some [] }
     requires clock { T.begins_at ends.clock (first_moment begun.origin.moment) }
-    ensures { HasLivedOn config.now wishes.entry.allow_list begun.origin
+    ensures lived { HasLivedOn config.now wishes.entry.allow_list begun.origin
         result.run_log.port.before.entries result.run_log.port.port.port.ends.port
         result.run_log.port.port.pen result.ended }
+    ensures logged { book_fixture result.run_log.logger ≡ book_fixture scribes.logger }
+    ensures recorded { result.run_log.port.port.pen.is_wished ≡ scribes.pen.is_wished }
+    ensures looked { is_some result.lookout ≡ is_some scribes.lookout }
+    ensures bears { result.run_log.port.port.port.bears_loss ≡ wishes.entry.bears_loss }
 {
     let Begun { origin, store } = begun;
     let Origin {
@@ -371,6 +392,7 @@ fn begun_in<T: RunSite>(
         (T.Folder.mark b.store.folder) b.store.opened b.origin) }
     ensures settings { IfOk result (λ b. b.store.settings.items ≡ text.now) }
     ensures logged { IfOk result (λ b. LogsBeginning b.origin logger.old logger.new) }
+    ensures fixed { IfOk result (λ _. book_fixture logger.new ≡ book_fixture logger.old) }
     ensures unkept { IfErr result (λ fault. IsUnkept fault logger.old logger.new) }
 {
     let folder = site.folder(directory)?;
@@ -412,7 +434,8 @@ fn note_if_on(moment: Option<u64>, gateway: &Gateway) -> Option<Note>
 
 /// Logs the gap that may not have been seen, at the moment at which the run goes on, in ms.
 fn log_gap<S: LogSink + Drop>(moment: Option<u64>, gap: Option<ReportedGap>, logger: &mut Logger<S>)
-    ensures { LogsGap moment gap logger.old logger.new }
+    ensures logs { LogsGap moment gap logger.old logger.new }
+    ensures fixed { book_fixture logger.new ≡ book_fixture logger.old }
 {
     let Some(moment) = moment else {
         return;
@@ -425,7 +448,8 @@ fn log_gap<S: LogSink + Drop>(moment: Option<u64>, gap: Option<ReportedGap>, log
 
 /// Logs how a run begins, and the gap that may not have been seen.
 fn log_beginning<S: LogSink + Drop>(origin: &Origin, logger: &mut Logger<S>)
-    ensures { LogsBeginning origin.now logger.old logger.new }
+    ensures logs { LogsBeginning origin.now logger.old logger.new }
+    ensures fixed { book_fixture logger.new ≡ book_fixture logger.old }
 {
     log(note_of(origin.beginning), logger);
     log(note_of_settings(origin.is_moved), logger);

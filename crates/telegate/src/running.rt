@@ -1,7 +1,9 @@
 //! A run of the gateway over a port.
 ghost use Rattle.std.specs.Prelude.{◌≡◌, ◌<◌, OnOk};
+ghost use Rattle.std.specs.Option.{is_some};
 ghost use Rattle.gateway.specs.Agrees.{Follows, Rests};
 ghost use Rattle.gateway.specs.Reports.{Setup};
+ghost use Rattle.runlog.specs.Logging.{book_fixture, logged_fixture};
 ghost use Rattle.telegate.specs.Lives.{all_passed};
 ghost use Rattle.telegate.specs.Running.{HasEnded, HasRun, HasRunFaithfully, IsRecorded};
 
@@ -26,10 +28,17 @@ pub(crate) struct Scribes<S: LogSink + Drop, W: RecordSheet + Drop, D: StreamSou
     pub(crate) lookout: Option<Lookout<D>>,
 }
 
-/// A run over a port that is over: the port, with what was logged, and how it ended.
+/// A run over a port that is over: the port, with what was logged and recorded, who looked at it,
+/// if it was shown, and how it ended.
 #[derive(Drop)]
-pub(crate) struct Lived<P: Watched + Drop, W: RecordSheet + Drop, S: LogSink + Drop> {
+pub(crate) struct Lived<
+    P: Watched + Drop,
+    W: RecordSheet + Drop,
+    S: LogSink + Drop,
+    D: StreamSource + Drop,
+> {
     pub(crate) run_log: RunLog<Life<Recorder<P, W>>, S>,
+    pub(crate) lookout: Option<Lookout<D>>,
     pub(crate) ended: Result<(), DeviceFailed>,
     /// How its ends stood then.
     pub(crate) sight: EndsSight,
@@ -42,14 +51,16 @@ pub(crate) struct Lived<P: Watched + Drop, W: RecordSheet + Drop, S: LogSink + D
 fn serve<P: Watched + Drop, S: LogSink + Drop, D: StreamSource + Drop>(
     mut gateway: Gateway,
     run_log: &mut RunLog<P, S>,
-    mut lookout: Option<Lookout<D>>,
+    lookout: &mut Option<Lookout<D>>,
 ) -> Result<(), DeviceFailed>
     requires { P.failed run_log.old.port < u64.MAX }
     ensures device { HasRun (P.failed run_log.old.port) (P.failed run_log.new.port) result }
     // It ended well only after all of its events.
     ensures over { OnOk result (HasEnded (P.ended run_log.new.port) (P.log run_log.old.port)
         (P.log run_log.new.port)) }
-    ensures script { P.script run_log.new.port ≡ P.script run_log.old.port }
+    ensures script { logged_fixture (P.script run_log.new.port) run_log.new.logger
+        ≡ logged_fixture (P.script run_log.old.port) run_log.old.logger }
+    ensures looked { is_some lookout.new ≡ is_some lookout.old }
     // Where the gateway begins with the state that the log so far leads to, what the log then shows
     // keeps every promise of a gateway with these settings.
     ensures faithful { (p : Setup) → Follows p gateway (P.log run_log.old.port) →
@@ -60,7 +71,7 @@ fn serve<P: Watched + Drop, S: LogSink + Drop, D: StreamSource + Drop>(
         match drive_on(&mut gateway, run_log, 1) {
             End::Turns => {
                 let notice = run_log.look(&gateway);
-                if let Some(lookout) = &mut lookout {
+                if let Some(lookout) = lookout {
                     lookout.look(&gateway, run_log.logger().watch(), notice);
                 }
             }
@@ -83,7 +94,7 @@ pub(crate) fn live<
     W: RecordSheet + Drop,
     S: LogSink + Drop,
     D: StreamSource + Drop,
->(gateway: Gateway, port: P, before: History, scribes: Scribes<S, W, D>) -> Lived<P, W, S>
+>(gateway: Gateway, port: P, before: History, scribes: Scribes<S, W, D>) -> Lived<P, W, S, D>
     requires { P.failed port < u64.MAX }
     ensures device { HasRun (P.failed port) (P.failed result.run_log.port.port.port) result.ended }
     ensures over { OnOk result.ended (HasEnded (P.ended result.run_log.port.port.port)
@@ -91,6 +102,10 @@ pub(crate) fn live<
         (all_passed before.entries result.run_log.port.port.pen
         (P.log result.run_log.port.port.port))) }
     ensures script { P.script result.run_log.port.port.port ≡ P.script port }
+    // It was logged, recorded and shown to its end, where it was at its beginning.
+    ensures logged { book_fixture result.run_log.logger ≡ book_fixture scribes.logger }
+    ensures recorded { result.run_log.port.port.pen.is_wished ≡ scribes.pen.is_wished }
+    ensures looked { is_some result.lookout ≡ is_some scribes.lookout }
     ensures before { result.run_log.port.before.entries ≡ before.entries }
     ensures shown { P.shows result.run_log.port.port.port result.sight }
     // Where the gateway begins with the state that all that passed before leads to, what has passed
@@ -108,11 +123,13 @@ pub(crate) fn live<
 {
     let recorder = Recorder::new(port, scribes.pen);
     let mut run_log = RunLog::new(Life::new(recorder, before), scribes.logger);
-    let ended = serve(gateway, &mut run_log, scribes.lookout);
+    let mut lookout = scribes.lookout;
+    let ended = serve(gateway, &mut run_log, &mut lookout);
     let _is_over = run_log.port().port().is_over();
     let sight = run_log.port().port().sight();
     Lived {
         run_log,
+        lookout,
         ended,
         sight,
     }

@@ -6,8 +6,8 @@ use Rattle.telegate.specs.Living.{HasLived, IsPortOf, IsPortOfRun}
 use Rattle.telegate.proofs.RunPorts.{port_of_run}
 use Rattle.telegate.proofs.living.run_from.Goals as goal
 
-pub returns : goal.returns
-returns g c =
+pub returns-clause-lived : goal.returns-clause-lived
+returns-clause-lived g c =
     let fixed : IsPortOf c.args.config.now c.args.wishes.allow_list
     (is_some c.args.begun.origin.moment) c.live.result.run_log.port.port.port.ends.port =
     search rules in

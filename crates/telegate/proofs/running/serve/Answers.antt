@@ -15,6 +15,7 @@ turning-preserved g c =
       fixed = c.look-notice.ensures.script ∙ (ran.script ∙ c.turning.invariant.fixed);
       faithful = λ p begins rests. let h = c.turning.invariant.faithful p begins rests in
           rw logs (ran.kept p h.0 h.1, ran.rests p h.0 h.1);
+      looked = search (rules, c.turning.invariant.looked);
       shown = λ p begins rests some. let h = c.turning.invariant.faithful p begins rests in
           rw logs (ran.faithful p h.0 h.1);
     }

@@ -1,14 +1,17 @@
-use Rattle.std.proofs.Common.{◌≡◌, ◌<◌}
+use Rattle.std.proofs.Common.{◌≡◌, ◌<◌, is_some}
 use Rattle.gateway.specs.Agrees.{Follows, Rests}
 use Rattle.gateway.specs.Reports.{Setup}
 use Rattle.gateway.specs.Runs.{MoreEvents}
+use Rattle.runlog.specs.Logging.{logged_fixture}
 use Rattle.telegate.specs.Running.{IsRunFaithful}
 use Rattle.telegate.proofs.running.serve.Given as goal
 
 abbrev pub invariant-turning : goal.invariant-turning
 invariant-turning g l = record {
   healthy : g.P.Port.failed l.run_log.port ≡ g.P.Port.failed l.initial.run_log.port;
-  fixed : g.P.Port.script l.run_log.port ≡ g.P.Port.script l.initial.run_log.port;
+  fixed : logged_fixture (g.P.Port.script l.run_log.port) l.run_log.logger
+      ≡ logged_fixture (g.P.Port.script l.initial.run_log.port) l.initial.run_log.logger;
+  looked : is_some l.lookout ≡ is_some l.initial.lookout;
   more : MoreEvents l.counter (g.P.Port.log l.initial.run_log.port) (g.P.Port.log l.run_log.port);
   faithful : (p : Setup) → Follows p l.initial.gateway (g.P.Port.log l.initial.run_log.port)
       → Rests p (g.P.Port.log l.initial.run_log.port)

@@ -26,4 +26,5 @@ invariant_of-self-else-is_err g c =
           })
           c.self.invariant.written);
       whole = c.self.invariant.whole;
+      idle = c.self.invariant.idle;
     }
