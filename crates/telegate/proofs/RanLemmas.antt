@@ -1,6 +1,7 @@
 -- What came of a live run as it was wished.
-use Rattle.std.proofs.Common.{◌≡◌, [], Bool, false, Option, Some, None, Result}
+use Rattle.std.proofs.Common.{◌≡◌, [], Bool, false, Option, Some, None, Result, sym, subst}
 use Rattle.std.specs.Borrow.{Bor}
+use Rattle.std.specs.Prelude.{MatchOption}
 use Rattle.clap.specs.Words.{Text}
 use Rattle.gateway.specs.Config.{Settings}
 use Rattle.gateway.specs.Log.{Log}
@@ -11,7 +12,7 @@ use Rattle.state.specs.declared.beginning.Origin.{Origin}
 use Rattle.telegate.specs.AsWished.{IsAsWished}
 use Rattle.telegate.specs.Kept.{HasLivedFrom}
 use Rattle.telegate.specs.Living.{HasLived}
-use Rattle.telegate.specs.Ran.{HasLivedAs}
+use Rattle.telegate.specs.Ran.{HasLivedAnew, HasLivedAs, HasLivedKept}
 use Rattle.telegate.specs.declared.host.Wishes.{Wishes}
 
 pub lived_anew : {E : Type 0} (begins : Origin → Type 0) (settings : Settings) (wishes : Wishes)
@@ -21,7 +22,10 @@ pub lived_anew : {E : Type 0} (begins : Origin → Type 0) (settings : Settings)
     → IsAsWished wishes book pen is_shown
     → HasLivedAs begins settings wishes ended
 lived_anew begins settings wishes port pen book is_shown ended none lived wished =
-    rw none (record {
+    let P : Option (Bor Text) → Type 0 = λ state.
+    MatchOption state (HasLivedAnew settings wishes ended)
+    (λ _. HasLivedKept begins settings wishes ended) in
+    subst P (sym none) (record {
       port = port;
       pen = pen;
       book = book;
@@ -39,7 +43,10 @@ pub lived_kept : {E : Type 0} (begins : Origin → Type 0) (settings : Settings)
     → HasLivedAs begins settings wishes ended
 lived_kept begins settings wishes directory before port pen book is_shown bears_loss ended named
     lived wished bears =
-    rw named (record {
+    let P : Option (Bor Text) → Type 0 = λ state.
+    MatchOption state (HasLivedAnew settings wishes ended)
+    (λ _. HasLivedKept begins settings wishes ended) in
+    subst P (sym named) (record {
       before = before;
       port = port;
       pen = pen;
