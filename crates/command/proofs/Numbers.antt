@@ -6,6 +6,7 @@ use Rattle.std.specs.Prelude.{◌==◌, ◌&&◌, ◌||◌, nat_lt, nat_le, slic
 use Rattle.std.specs.Prelude.{Some, length, if◌then◌else◌}
 use Rattle.std.specs.List.{list_any}
 use Rattle.std.proofs.lemmas.List.Folds.{list_any-append}
+use Rattle.std.proofs.lemmas.Bool.Decides.{leb_tells}
 use Rattle.std.proofs.lemmas.Bool.{eq-eqb, eqb-true, and_parts, lt-ltb, le-ltb, le-leb}
 use Rattle.elements.specs.Types.{row}
 use Rattle.elements.specs.TimeTag.{verdict_of}
@@ -435,6 +436,19 @@ form a b = (
       rw p refl),
 )
 
+not_one : (kind number : ℕ) (rest : List ℕ) → (number ≡ 1 → ⊥)
+    → (malformed (kind ∷ number ∷ rest)).applies ≡ true
+not_one kind number rest other = by (leb_tells 128 number)
+  where
+    by : ((nat_le 128 number ≡ true) × (128 ≤ number))
+        ⊎ ((nat_le 128 number ≡ false) × (number < 128))
+        → (malformed (kind ∷ number ∷ rest)).applies ≡ true
+    by (inl above) = rw above.0 refl
+    by (inr below) =
+        let q : (number % 128 == 1) ≡ false =
+        unequal (number % 128) 1 (λ e. other (omega (arith, e, below.1))) in
+        rw (below.0, q) refl
+
 pub forms_hold : FormsAreRead
 forms_hold = record {
   single = λ n rest. (refl, (form (length rest) 1).0, (form (length rest) 1).1);
@@ -448,6 +462,7 @@ forms_hold = record {
   tagged_normalised = λ n rest. (refl, (form (length rest) 10).0, (form (length rest) 10).1);
   tagged_scaled = λ n rest. (refl, (form (length rest) 10).0, (form (length rest) 10).1);
   interrogation = λ n rest. (refl, (form (length rest) 1).0, (form (length rest) 1).1);
+  not_one = not_one;
 }
 
 -- ---- confirmations

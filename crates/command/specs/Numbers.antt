@@ -264,6 +264,10 @@ pub record FormsAreRead : Type 0 where
   pub tagged_normalised : HasForm 61 10
   pub tagged_scaled : HasForm 62 10
   pub interrogation : HasForm 100 1
+  -- None is whose variable structure qualifier isn't 1 (SQ 0, one object), whatever its type is and
+  -- whatever follows: its cause, its addresses, its elements.
+  pub not_one : (kind number : ℕ) (rest : List ℕ) → (number ≡ 1 → ⊥) →
+      (malformed (kind ∷ number ∷ rest)).applies ≡ true
 
 -- ---- Confirmations (7.2.3: activation con)
 
