@@ -32,3 +32,4 @@ pub mod Outlived
 pub mod Faultless
 pub mod UsedUp
 pub mod Numbers
+pub mod Outcomes
