@@ -33,3 +33,4 @@ pub mod Faultless
 pub mod UsedUp
 pub mod Numbers
 pub mod Outcomes
+pub mod Order

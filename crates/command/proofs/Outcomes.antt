@@ -126,10 +126,10 @@ negative_of_eight : (kind : ℕ) (n : Numbers) (rest : List ℕ) → n.cause % 6
     → negative_of (command_with kind n rest) ≡ 9
 negative_of_eight kind n rest is = (let p = (eight n.cause is).0 in rw p refl)
 
-applied : (r : Rule) (rs : List Rule) → r.applies ≡ true → first_cause (r ∷ rs) ≡ Some r.cause
+pub applied : (r : Rule) (rs : List Rule) → r.applies ≡ true → first_cause (r ∷ rs) ≡ Some r.cause
 applied r rs is = ap (λ (b : Bool). if b then Some r.cause else first_cause rs) is
 
-passed : (r : Rule) (rs : List Rule) → r.applies ≡ false → first_cause (r ∷ rs) ≡ first_cause rs
+pub passed : (r : Rule) (rs : List Rule) → r.applies ≡ false → first_cause (r ∷ rs) ≡ first_cause rs
 passed r rs is = ap (λ (b : Bool). if b then Some r.cause else first_cause rs) is
 
 abbrev from_malformed : ℕ → Option ℕ → List ℕ → List Rule

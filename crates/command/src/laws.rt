@@ -23,6 +23,7 @@ ghost use Rattle.command.specs.Standard.{first_cause, cause_of_fault, executes, 
 ghost use Rattle.command.specs.Standard.{must_be_selected, is_deactivating, station_of};
 ghost use Rattle.command.specs.Standard.{IsRefusal};
 ghost use Rattle.command.specs.Rules.{rules_for, not_selected, no_place};
+ghost use Rattle.command.specs.Order.{IsJudgedInOrder, AgesAreTold};
 ghost use Rattle.command.specs.History.{ForwardsCommands, next_octets, SendsFreshCommands};
 ghost use Rattle.command.specs.History.{mirror_tag, ExecutesAreSelected, IsSelected};
 ghost use Rattle.command.specs.History.{GivesOwnAnswers, own_kept, own_sent, KeepsOwnAnswers};
@@ -48,6 +49,16 @@ pub fn judgement_is_the_first_rule_that_applies()
     ensures { (xs : List ℕ) (now : ℕ) (wall : Option ℕ) (s : State) →
         (judged xs now wall s).0
         ≡ option_map (λ cause. answer cause xs) (first_cause (rules_for xs now wall s)) }
+{}
+
+/// Nine rules judge an ASDU, and the first that applies is the one that is told and that gives the
+/// answer its cause. They look at its type, its cause, its common address, its object, its form,
+/// its state or qualifier, the age of its time tag, its selection and the places, in this order.
+/// What one of the first seven refuses changes nothing. What none refuses is forwarded.
+pub fn rules_apply_in_their_order()
+    ensures order { (xs : List ℕ) (now : ℕ) (wall : Option ℕ) (s : State) →
+        IsJudgedInOrder xs now wall s }
+    ensures ages { AgesAreTold }
 {}
 
 /// First sendings to a station are the commands forwarded to it, in their order, each once, and
