@@ -432,11 +432,11 @@ not_one kind number rest other = by (leb_tells 128 number)
     by : ((nat_le 128 number ≡ true) × (128 ≤ number))
         ⊎ ((nat_le 128 number ≡ false) × (number < 128))
         → (malformed (kind ∷ number ∷ rest)).applies ≡ true
-    by (inl above) = rw above.0 refl
-    by (inr below) =
+    by (inl high) = rw high.0 refl
+    by (inr low) =
         let q : (number % 128 == 1) ≡ false =
-        unequal (number % 128) 1 (λ e. other (omega (arith, e, below.1))) in
-        rw (below.0, q) refl
+        unequal (number % 128) 1 (λ e. other (omega (arith, e, low.1))) in
+        rw (low.0, q) refl
 
 pub forms_hold : FormsAreRead
 forms_hold = record {
