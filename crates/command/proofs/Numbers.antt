@@ -3,6 +3,7 @@ use Rattle.std.proofs.Common.{◌≡◌, ℕ, zero, suc, ◌+◌, ◌-◌, ◌%�
 use Rattle.std.proofs.Common.{◌++◌, Bool, true, false, not, List, [], ◌∷◌, refl, sym, ap, ◌∙◌}
 use Rattle.std.proofs.Common.{arith}
 use Rattle.std.specs.Prelude.{◌==◌, ◌&&◌, ◌||◌, nat_lt, nat_le, slice_get, Some, length}
+use Rattle.std.specs.Prelude.{if◌then◌else◌}
 use Rattle.std.specs.List.{list_any}
 use Rattle.std.proofs.lemmas.List.Folds.{list_any-append}
 use Rattle.std.proofs.lemmas.Bool.Decides.{leb_tells}
@@ -14,7 +15,8 @@ use Rattle.asdu.specs.declared.sizes.Sizes.{Sizes}
 use Rattle.command.specs.declared.station.StationInfo.{StationInfo}
 use Rattle.command.specs.Standard.{plain_type, is_for_station, is_for_each, station_of}
 use Rattle.command.specs.Standard.{unknown_station, unknown_object, refuses_command}
-use Rattle.command.specs.Standard.{is_negative_confirmation, is_object_of, malformed}
+use Rattle.command.specs.Standard.{is_negative_confirmation, is_object_of, malformed, has_tag}
+use Rattle.command.specs.Standard.{is_process_type, unknown_type, must_be_selected, wants_select}
 use Rattle.command.specs.Numbers.{Numbers, command_with, address_of, object_of, AddressesAreRead}
 use Rattle.command.specs.Numbers.{ObjectsAreRead, TargetsAreCompared, ElementsAreRead}
 use Rattle.command.specs.Numbers.{ActsAreRead, FormsAreRead}
@@ -124,6 +126,32 @@ first (st ∷ sts) (suc k) kind n rest station at is none =
     rw other (ap suc (first sts k kind n rest station at is
     (λ j it less there same. none (suc j) it (omega (arith, less)) there same)))
 
+guarded : (stations : List StationInfo) (k kind : ℕ) (n : Numbers) (rest : List ℕ)
+    (station : StationInfo)
+    → slice_get stations k ≡ Some station
+    → address_of n ≡ station.ca
+    → station.select ≡ true
+    → must_be_selected stations (command_with kind n rest) ≡ true
+guarded stations k kind n rest station at is asks =
+    any_is stations k station (wants_select (command_with kind n rest)) at
+    (both_true (address_of n == station.ca) station.select (eq-eqb (address_of n) station.ca is)
+    asks)
+
+unguarded : (stations : List StationInfo) (kind : ℕ) (n : Numbers) (rest : List ℕ)
+    → ((k : ℕ) (station : StationInfo) → slice_get stations k ≡ Some station
+    → address_of n ≡ station.ca
+    → station.select ≡ false)
+    → must_be_selected stations (command_with kind n rest) ≡ false
+unguarded [] kind n rest free = refl
+unguarded (st ∷ sts) kind n rest free =
+    let others : must_be_selected sts (command_with kind n rest) ≡ false =
+    unguarded sts kind n rest (λ k station at is. free (suc k) station at is) in
+    rw others (by (address_of n == st.ca) refl)
+  where
+    by : (b : Bool) → (address_of n == st.ca) ≡ b → ((b && st.select) || false) ≡ false
+    by true is = rw (free 0 st refl (eqb-true (address_of n) st.ca is)) refl
+    by false is = refl
+
 pub addresses_hold : AddressesAreRead
 addresses_hold = record {
   own = own;
@@ -132,6 +160,8 @@ addresses_hold = record {
   known = known;
   all_known = all_known;
   first = first;
+  guarded = guarded;
+  unguarded = unguarded;
 }
 
 -- ---- object addresses
@@ -224,6 +254,12 @@ refused xs v before behind i negative at is =
     (or_left (is_object_of xs v i) (list_any (is_object_of xs v) behind) is) in
     rw (negative, among) refl
 
+only_refused : (xs : List ℕ) (v : AsduValue) → refuses_command xs v ≡ true
+    → (v.cause % 128 ≡ 71) × (list_any (is_object_of xs v) v.infos ≡ true)
+only_refused xs v is =
+    let parts = and_parts (v.cause % 128 == 71) (list_any (is_object_of xs v) v.infos) is in
+    (eqb-true (v.cause % 128) 71 parts.0, parts.1)
+
 pub targets_hold : TargetsAreCompared
 targets_hold = record {
   equal = λ j k n m r s x y z. three_equal (plain_type j) (plain_type k) (address_of n)
@@ -235,6 +271,7 @@ targets_hold = record {
   only_answered = λ k n r v i is. three_only (plain_type k) (row v.kind).code (address_of n) v.ca
       (object_of n) i.address is;
   refused = refused;
+  only_refused = only_refused;
 }
 
 -- ---- elements
@@ -303,6 +340,12 @@ elements_hold = record {
   tagged_step_states = λ t n x. (permitted x, forbidden x);
   single_states = λ n x. refl;
   values = λ n a b x. refl;
+  scaled_values = λ n a b x. refl;
+  tagged_single_states = λ t n x. refl;
+  tagged_values = λ t n a b x. refl;
+  tagged_scaled_values = λ t n a b x. refl;
+  tags = λ t kind n x. refl;
+  tags_of_values = λ t kind n a b x. refl;
   groups = λ n x low high. group x low high;
   below = λ n x low. below x low;
   above = λ n x high. above x high;
@@ -425,6 +468,44 @@ form a b = (
       rw p refl),
 )
 
+no_tag : (kind : ℕ) → ((58 ≤ kind) × (kind ≤ 62) → ⊥) → has_tag kind ≡ false
+no_tag kind other =
+    let a : (kind == 58) ≡ false = unequal kind 58 (λ e. other (omega (arith, e), omega (arith, e)))
+    in
+    let b : (kind == 59) ≡ false = unequal kind 59 (λ e. other (omega (arith, e), omega (arith, e)))
+    in
+    let c : (kind == 60) ≡ false = unequal kind 60 (λ e. other (omega (arith, e), omega (arith, e)))
+    in
+    let d : (kind == 61) ≡ false = unequal kind 61 (λ e. other (omega (arith, e), omega (arith, e)))
+    in
+    let f : (kind == 62) ≡ false = unequal kind 62 (λ e. other (omega (arith, e), omega (arith, e)))
+    in
+    rw (a, b, c, d, f) refl
+
+no_process : (kind : ℕ) → ((45 ≤ kind) × (kind ≤ 49) → ⊥) → is_process_type kind ≡ false
+no_process kind other =
+    let a : (kind == 45) ≡ false = unequal kind 45 (λ e. other (omega (arith, e), omega (arith, e)))
+    in
+    let b : (kind == 46) ≡ false = unequal kind 46 (λ e. other (omega (arith, e), omega (arith, e)))
+    in
+    let c : (kind == 47) ≡ false = unequal kind 47 (λ e. other (omega (arith, e), omega (arith, e)))
+    in
+    let d : (kind == 48) ≡ false = unequal kind 48 (λ e. other (omega (arith, e), omega (arith, e)))
+    in
+    let f : (kind == 49) ≡ false = unequal kind 49 (λ e. other (omega (arith, e), omega (arith, e)))
+    in
+    rw (a, b, c, d, f) refl
+
+other_types : (kind : ℕ) (rest : List ℕ) → ((45 ≤ kind) × (kind ≤ 49) → ⊥)
+    → ((58 ≤ kind) × (kind ≤ 62) → ⊥)
+    → (kind ≡ 100 → ⊥)
+    → (unknown_type (kind ∷ rest)).applies ≡ true
+other_types kind rest process tagged interrogates =
+    ap (λ (b : Bool). not (is_process_type (if b then kind - 13 else kind) || kind == 100))
+    (no_tag kind tagged)
+    ∙ ap (λ (b : Bool). not (b || kind == 100)) (no_process kind process)
+    ∙ ap not (unequal kind 100 interrogates)
+
 not_one : (kind number : ℕ) (rest : List ℕ) → (number ≡ 1 → ⊥)
     → (malformed (kind ∷ number ∷ rest)).applies ≡ true
 not_one kind number rest other = by (leb_tells 128 number)
@@ -451,5 +532,6 @@ forms_hold = record {
   tagged_normalised = λ n rest. (refl, (form (length rest) 10).0, (form (length rest) 10).1);
   tagged_scaled = λ n rest. (refl, (form (length rest) 10).0, (form (length rest) 10).1);
   interrogation = λ n rest. (refl, (form (length rest) 1).0, (form (length rest) 1).1);
+  other_types = other_types;
   not_one = not_one;
 }

@@ -27,8 +27,9 @@
 //!
 //! By which rule an ASDU is refused is asked apart from its judgement ([`Commands::refusal_of`]),
 //! and also behind it, by a [`Glance`] that was taken before ([`Commands::refusal_at`]). Proved:
-//! there is a rule exactly where the judgement is an own answer, and the rule that is answered
-//! behind it is that of the state of which the glance was taken.
+//! there is a rule exactly where the judgement is an own answer, it is the first of nine that
+//! applies, and the rule that is answered behind it is that of the state of which the glance was
+//! taken.
 //!
 //! What is kept is put as lines of numbers ([`Commands::put_state`]) and made again of them
 //! ([`Commands::read_state`]). Proved: each state that a `Commands` has is one that can be saved
