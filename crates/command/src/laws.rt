@@ -29,7 +29,7 @@ ghost use Rattle.command.specs.History.{mirror_tag, ExecutesAreSelected, IsSelec
 ghost use Rattle.command.specs.History.{GivesOwnAnswers, own_kept, own_sent, KeepsOwnAnswers};
 ghost use Rattle.command.specs.History.{AnswersWholly, IsGuarded, forwarded_in_all, sent_in_all};
 ghost use Rattle.command.specs.Passing.{FindsPlaces, of_others};
-ghost use Rattle.command.specs.Calls.{Call};
+ghost use Rattle.command.specs.Calls.{Call, Cut, run};
 ghost use Rattle.command.specs.UsedUp.{uses_up, is_select_for, is_acceptance_by};
 ghost use Rattle.command.specs.UsedUp.{is_confirmation_for, of_connection, NoneIs, IsHeldBack};
 ghost use Rattle.command.specs.Selections.{AreDistinct, IsStanding, IsInTime};
@@ -166,7 +166,10 @@ pub fn selections_let_one_execute_through()
 {}
 
 /// Where moments never fall, a selected execute is refused for no want of a selection: one that is
-/// live lets it through. So it is forwarded where there are places for it.
+/// live lets it through. So it is forwarded where there are places for it. A selection lasts:
+/// nothing ends it but its time, the end of its connection, another select of its type and
+/// addresses, and what uses these up. A malformed deactivation, say, or a select that is no execute's
+/// of this type and these addresses, leaves it as it is.
 pub fn selected_executes_pass()
     ensures selected { AtEachMoment (λ stations sizes select_ms max_age_ms now s h.
         (xs : List ℕ) (wall : Option ℕ) →
@@ -178,6 +181,14 @@ pub fn selected_executes_pass()
         cause_of_fault sizes stations max_age_ms wall xs ≡ None → executes xs ≡ true
         → IsSelected sizes stations select_ms max_age_ms xs now h
         → (no_place xs s).applies ≡ false → (judged xs now wall s).0 ≡ None) }
+    ensures lasts { (stations : List StationInfo) (sizes : Sizes) (select_ms max_age_ms : ℕ)
+        (calls : List Call) (call : Call) (xs : List ℕ) (now : ℕ) → (call ≡ Cut → ⊥) →
+        is_select_for xs call ≡ false → is_confirmation_for xs call ≡ false →
+        uses_up sizes stations max_age_ms xs call ≡ false →
+        IsSelected sizes stations select_ms max_age_ms xs now
+        (run stations sizes select_ms max_age_ms calls).history →
+        IsSelected sizes stations select_ms max_age_ms xs now
+        (run stations sizes select_ms max_age_ms (call ∷ calls)).history }
 {}
 
 /// No two selections are of one target, and each is the select that stands for its target, as far
