@@ -1,5 +1,6 @@
 -- A selection lasts: what neither selects, nor confirms, nor uses up its target leaves it as it is.
-use Rattle.std.proofs.Common.{◌≡◌, ℕ, ◌-◌, ◌&&◌, ◌||◌, Bool, true, false, not, List, [], ◌∷◌, length}
+use Rattle.std.proofs.Common.{◌≡◌, ℕ, ◌-◌, ◌&&◌, ◌||◌, Bool, true, false, not, List, ◌∷◌}
+use Rattle.std.proofs.Common.{length}
 use Rattle.std.proofs.Common.{refl, ap, ◌∙◌}
 use Rattle.std.specs.Prelude.{Option, Some, None, if◌then◌else◌, is_none, nat_lt}
 use Rattle.std.proofs.lemmas.Bool.{and_parts}
@@ -7,7 +8,7 @@ use Rattle.asdu.specs.declared.sizes.Sizes.{Sizes}
 use Rattle.command.specs.declared.station.StationInfo.{StationInfo}
 use Rattle.command.specs.declared.waiting.Waiting.{Waiting}
 use Rattle.command.specs.Standard.{is_deactivating, selects, executes, have_one_target, station_of}
-use Rattle.command.specs.Standard.{must_be_selected, cause_of_fault, confirms_command}
+use Rattle.command.specs.Standard.{must_be_selected, cause_of_fault}
 use Rattle.command.specs.Judging.{judged}
 use Rattle.command.specs.State.{oldest_for, line_of, refusal_of, is_used, has_answer_place}
 use Rattle.command.specs.State.{first_answer}

@@ -2,8 +2,7 @@
 use Rattle.std.proofs.Common.{◌≡◌, ℕ, ◌+◌, ◌-◌, ◌<◌, ◌++◌, Bool, true, false, not, List, [], ◌∷◌}
 use Rattle.std.proofs.Common.{length, slice_index, refl, sym, ap, ◌∙◌, arith}
 use Rattle.std.specs.Prelude.{◌==◌, Option, Some, None, if◌then◌else◌, option_map, nat_le}
-use Rattle.std.proofs.lemmas.Bool.{and_parts, eqb-true, le-ltb, le-leb}
-use Rattle.std.proofs.lemmas.Bool.Decides.{leb_tells}
+use Rattle.std.proofs.lemmas.Bool.{and_parts, eqb-true, le-leb}
 use Rattle.elements.specs.TimeTag.{verdict_of}
 use Rattle.elements.specs.declared.tag.Verdict.{Verdict}
 use Rattle.elements.specs.declared.tag.Verdict.TheVariants as verdicts
@@ -11,17 +10,16 @@ use Rattle.command.specs.Octets.{answer}
 use Rattle.command.specs.Command.{command_at, command_len, is_permitted}
 use Rattle.command.specs.Standard.{Rule, first_cause, own_rules, cause_of_fault, unknown_type}
 use Rattle.command.specs.Standard.{unknown_cause, unknown_station, unknown_object, malformed}
-use Rattle.command.specs.Standard.{not_permitted, not_fresh, may_operate, negative_of, tag_of}
+use Rattle.command.specs.Standard.{not_permitted, not_fresh, negative_of, tag_of}
 use Rattle.command.specs.Standard.{is_activation}
 use Rattle.command.specs.Rules.{not_selected, no_place, rules_for}
 use Rattle.command.specs.State.{State}
-use Rattle.command.specs.Judging.{judged, by_fault, is_single, lacks_selection, lacks_place}
+use Rattle.command.specs.Judging.{judged, by_fault, is_single, lacks_place}
 use Rattle.command.specs.Judging.{ends_selection, without_selection}
 use Rattle.command.specs.Refusals.{refusal_of, rule_by, fault_rule, form_rule, tag_rule}
-use Rattle.command.specs.Refusals.{admission_rule, place_rule}
 use Rattle.command.specs.declared.refusal.Refusal.{Refusal}
 use Rattle.command.specs.declared.refusal.Refusal.TheVariants as refusal
-use Rattle.command.specs.Order.{NoneApplies, IsRefusedBy, IsFaulty, IsJudgedInOrder, AgesAreTold}
+use Rattle.command.specs.Order.{NoneApplies, IsFaulty, IsJudgedInOrder, AgesAreTold}
 use Rattle.command.proofs.ReadAlike.{faults_read, single_read, permitted_read, held_up}
 use Rattle.command.proofs.ReadAlike.{IsGood, good_read}
 use Rattle.command.proofs.Ruled.{first_rule, lacks_read, place_left, places_read}
@@ -229,7 +227,8 @@ aged clock instant b is =
 old : (instant ms : ℕ) → tag_rule (Some (instant + ms)) (verdicts.Good instant) ≡ refusal.TagOld ms
 old instant ms =
     aged (instant + ms) instant true (le-leb instant (instant + ms) (omega arith))
-    ∙ ap (λ (n : ℕ). refusal.TagOld n) (let same : instant + ms - instant ≡ ms = omega arith in same)
+    ∙ ap (λ (n : ℕ). refusal.TagOld n) (let same : instant + ms - instant ≡ ms = omega arith in
+    same)
 
 ahead : (clock ms : ℕ) → 0 < ms
     → tag_rule (Some clock) (verdicts.Good (clock + ms)) ≡ refusal.TagAhead ms

@@ -1,6 +1,7 @@
 -- A selection lets one execute through: what can't stand, hasn't been accepted or isn't confirmed
 -- selects nothing.
-use Rattle.std.proofs.Common.{◌≡◌, ℕ, suc, ◌-◌, ◌%◌, ◌⊎◌, inl, inr, ◌&&◌, ◌||◌, ◌++◌, Bool, true, false, not, List}
+use Rattle.std.proofs.Common.{◌≡◌, ℕ, suc, ◌-◌, ◌%◌, ◌⊎◌, inl, inr, ◌&&◌, ◌||◌, ◌++◌, Bool, true}
+use Rattle.std.proofs.Common.{false, not, List}
 use Rattle.std.proofs.Common.{[], ◌∷◌, length, slice_index, refl, sym, subst, ap, ◌∙◌, arith, rules}
 use Rattle.std.specs.Prelude.{◌==◌, Option, Some, None, if◌then◌else◌, is_none, nat_lt, nat_le}
 use Rattle.std.specs.List.{list_any, AllByRecursion}

@@ -166,10 +166,10 @@ pub fn selections_let_one_execute_through()
 {}
 
 /// Where moments never fall, a selected execute is refused for no want of a selection: one that is
-/// live lets it through. So it is forwarded where there are places for it. A selection lasts:
-/// nothing ends it but its time, the end of its connection, another select of its type and
-/// addresses, and what uses these up. A malformed deactivation, say, or a select that is no execute's
-/// of this type and these addresses, leaves it as it is.
+/// live lets it through. So it is forwarded where there are places for it. Until its time has
+/// passed nothing ends a selection but the end of its connection, another select of its type and
+/// addresses, and what uses these up. So a malformed deactivation leaves it as it is. Another
+/// confirmation renews it.
 pub fn selected_executes_pass()
     ensures selected { AtEachMoment (λ stations sizes select_ms max_age_ms now s h.
         (xs : List ℕ) (wall : Option ℕ) →
@@ -278,7 +278,8 @@ pub fn worked_examples_hold()
 /// each object address, each octet of an element, each place of a station, and each setting of the
 /// times. So what selects, what executes and what takes back is the same at each of them, and what
 /// select and execute have to have in common. What is well-formed, what confirms a command, and the
-/// cause of a negative answer are the same as well.
+/// cause of a negative answer are the same as well. So are the types that are known, and the
+/// stations that ask for selects.
 pub fn rules_hold_for_all_numbers()
     ensures addresses { AddressesAreRead }
     ensures objects { ObjectsAreRead }

@@ -62,9 +62,9 @@ pub use laws::{
     faultless_commands_pass, judgement_is_the_first_rule_that_applies, mirrors_bear_the_newest_tag,
     nothing_of_a_connection_outlives_new_settings, own_answers_are_given,
     own_answers_bear_no_objects, places_come_back, rules_apply_in_their_order,
-    rules_hold_for_all_numbers,
-    selected_executes_pass, selections_are_selects_that_stand, selections_let_one_execute_through,
-    sent_activations_are_fresh, settings_stay, waiting_commands_stay, worked_examples_hold,
+    rules_hold_for_all_numbers, selected_executes_pass, selections_are_selects_that_stand,
+    selections_let_one_execute_through, sent_activations_are_fresh, settings_stay,
+    waiting_commands_stay, worked_examples_hold,
 };
 pub use refusal::Refusal;
 pub use station::StationInfo;
