@@ -85,7 +85,8 @@ pub fn sent_activations_are_fresh()
 
 /// Places come back: the commands that wait are those that were forwarded on the open connection
 /// less those that went out, over all stations, and at most 64. So a command finds its places where
-/// no more than 64 wait with it.
+/// no more than 64 wait with it. A select to a station that asks for selects finds none where 16
+/// selections of other targets are kept.
 pub fn places_come_back()
     ensures waiting { AfterEachRun (λ stations sizes select_ms max_age_ms s h.
         length s.waiting + sent_in_all h ≡ forwarded_in_all stations h) }
@@ -95,6 +96,8 @@ pub fn places_come_back()
         FindsPlaces stations xs h
         → (must_be_selected stations xs && selects xs) ≡ false
         → (no_place xs s).applies ≡ false) }
+    ensures full { (xs : List ℕ) (s : State) → must_be_selected s.stations xs ≡ true →
+        selects xs ≡ true → 16 ≤ of_others xs s.selections → (no_place xs s).applies ≡ true }
 {}
 
 /// A command with which nothing is wrong, and which finds its places, is forwarded, whatever its
