@@ -101,7 +101,7 @@ class Setup:
         # What is left out has to fit the default of the other.
         tcp.set("t1_ms", self.t1)
         tcp.set("t2_ms", max(1, self.t1 - draw.choice((1, 20, self.t1))))
-        self.t3 = tcp.drawn("t3_ms", 20000, (1, 100, 2000) if is_hasty else (2000, 20000, 86400000))
+        self.t3 = tcp.drawn("t3_ms", 20000, (1, 100, 2000) if is_hasty else (2000, 20000, 60000, 86400000))
         self.select_ms = tcp.drawn("select_ms", 30000, (1, 30, 300) if is_hasty else (300, 30000, 600000))
         self.max_age_ms = tcp.drawn("max_age_ms", 10000, (1, 5000, 5000, 3600000))
         lines = ["[line]", f"link = {self.link}", f"cause = {self.cause}", f"ca = {self.ca}", f"ioa = {self.ioa}", *line.lines]
@@ -317,7 +317,8 @@ class Run:
         is_global = kind == 100
         size = COMMANDS.get(kind, 1)
         last = draw.choice((20, 20, 36, 19)) if is_global else draw.choice((1, 1, 2, 0x81, 0x81, 0x81, 0x82, 0x85, 0))
-        element = bytes(size - 1) + bytes([last])
+        # A set point has any value, of which no octet is looked at.
+        element = bytes(draw.randrange(256) for _ in range(size - 1)) + bytes([last])
         tag = draw.choice(TAGS) if kind in range(58, 63) else b""
         cause = draw.choices((6, 8, 0x86, 0x46, 5), (20, 2, 1, 1, 1))[0]
         ca = draw.choice(self.setup.cas * (1 + 36 // len(self.setup.cas)) + [9, 65535] + [65535] * 4 * is_global)

@@ -31,4 +31,7 @@ pub mod Glances
 pub mod Outlived
 pub mod Faultless
 pub mod UsedUp
+pub mod Lasting
 pub mod Numbers
+pub mod Outcomes
+pub mod Order

@@ -1,33 +1,25 @@
--- The rules say the same whatever the numbers of a command are.
+-- What the octets of a command say is the same whatever its numbers are.
 use Rattle.std.proofs.Common.{◌≡◌, ℕ, zero, suc, ◌+◌, ◌-◌, ◌%◌, ◌^◌, ◌<◌, ◌≤◌, ◌⊎◌, inl, inr}
 use Rattle.std.proofs.Common.{◌++◌, Bool, true, false, not, List, [], ◌∷◌, refl, sym, ap, ◌∙◌}
 use Rattle.std.proofs.Common.{arith}
-use Rattle.std.specs.Prelude.{◌==◌, ◌&&◌, ◌||◌, nat_lt, nat_le, slice_get, slice_index, Option}
-use Rattle.std.specs.Prelude.{Some, length, if◌then◌else◌}
+use Rattle.std.specs.Prelude.{◌==◌, ◌&&◌, ◌||◌, nat_lt, nat_le, slice_get, Some, length}
+use Rattle.std.specs.Prelude.{if◌then◌else◌}
 use Rattle.std.specs.List.{list_any}
 use Rattle.std.proofs.lemmas.List.Folds.{list_any-append}
+use Rattle.std.proofs.lemmas.Bool.Decides.{leb_tells}
 use Rattle.std.proofs.lemmas.Bool.{eq-eqb, eqb-true, and_parts, lt-ltb, le-ltb, le-leb}
 use Rattle.elements.specs.Types.{row}
-use Rattle.elements.specs.TimeTag.{verdict_of}
 use Rattle.asdu.specs.Asdu.{AsduValue, Info}
 use Rattle.asdu.specs.Sizes.{ioa_len}
 use Rattle.asdu.specs.declared.sizes.Sizes.{Sizes}
 use Rattle.command.specs.declared.station.StationInfo.{StationInfo}
-use Rattle.command.specs.Standard.{plain_type}
-use Rattle.command.specs.Standard.{is_for_station, is_for_each, station_of, IsFresh, is_fresh}
-use Rattle.command.specs.Standard.{unknown_station, unknown_object, not_fresh}
-use Rattle.command.specs.Standard.{has_tag, is_activation, tag_of}
-use Rattle.command.specs.Standard.{refuses_command, is_negative_confirmation, is_object_of}
-use Rattle.command.specs.Numbers.{Numbers, command_with, address_of, object_of}
-use Rattle.command.specs.Numbers.{AddressesAreRead, ObjectsAreRead, TargetsAreCompared}
-use Rattle.command.specs.Numbers.{ElementsAreRead, ActsAreRead, FormsAreRead, TimesAreKept}
-use Rattle.command.specs.Numbers.{ConfirmationsAreRead, one_octet, set_point, one_octet_tagged}
-use Rattle.command.specs.Numbers.{set_point_tagged}
-use Rattle.command.specs.Standard.{confirms_command, is_only_object_of, are_equal, element_part}
-use Rattle.command.specs.Standard.{common_address, object_address, Rule, first_cause, negative_of}
-use Rattle.command.specs.Standard.{cause_of_fault, unknown_type, unknown_cause, malformed}
-use Rattle.command.specs.Standard.{not_permitted}
-use Rattle.command.specs.Numbers.{CausesAreGiven, IsKnown}
+use Rattle.command.specs.Standard.{plain_type, is_for_station, is_for_each, station_of}
+use Rattle.command.specs.Standard.{unknown_station, unknown_object, refuses_command}
+use Rattle.command.specs.Standard.{is_negative_confirmation, is_object_of, malformed, has_tag}
+use Rattle.command.specs.Standard.{is_process_type, unknown_type, must_be_selected, wants_select}
+use Rattle.command.specs.Numbers.{Numbers, command_with, address_of, object_of, AddressesAreRead}
+use Rattle.command.specs.Numbers.{ObjectsAreRead, TargetsAreCompared, ElementsAreRead}
+use Rattle.command.specs.Numbers.{ActsAreRead, FormsAreRead}
 
 -- ---- tests
 
@@ -46,11 +38,11 @@ or_left : (a b : Bool) → a ≡ true → (a || b) ≡ true
 or_left true b is = refl
 or_left false b is = cc
 
-both_true : (a b : Bool) → a ≡ true → b ≡ true → (a && b) ≡ true
+pub both_true : (a b : Bool) → a ≡ true → b ≡ true → (a && b) ≡ true
 both_true true b p is = is
 both_true false b p is = cc
 
-both_false : (a b : Bool) → b ≡ false → (a && b) ≡ false
+pub both_false : (a b : Bool) → b ≡ false → (a && b) ≡ false
 both_false true b is = is
 both_false false b is = refl
 
@@ -134,6 +126,32 @@ first (st ∷ sts) (suc k) kind n rest station at is none =
     rw other (ap suc (first sts k kind n rest station at is
     (λ j it less there same. none (suc j) it (omega (arith, less)) there same)))
 
+guarded : (stations : List StationInfo) (k kind : ℕ) (n : Numbers) (rest : List ℕ)
+    (station : StationInfo)
+    → slice_get stations k ≡ Some station
+    → address_of n ≡ station.ca
+    → station.select ≡ true
+    → must_be_selected stations (command_with kind n rest) ≡ true
+guarded stations k kind n rest station at is asks =
+    any_is stations k station (wants_select (command_with kind n rest)) at
+    (both_true (address_of n == station.ca) station.select (eq-eqb (address_of n) station.ca is)
+    asks)
+
+unguarded : (stations : List StationInfo) (kind : ℕ) (n : Numbers) (rest : List ℕ)
+    → ((k : ℕ) (station : StationInfo) → slice_get stations k ≡ Some station
+    → address_of n ≡ station.ca
+    → station.select ≡ false)
+    → must_be_selected stations (command_with kind n rest) ≡ false
+unguarded [] kind n rest free = refl
+unguarded (st ∷ sts) kind n rest free =
+    let others : must_be_selected sts (command_with kind n rest) ≡ false =
+    unguarded sts kind n rest (λ k station at is. free (suc k) station at is) in
+    rw others (by (address_of n == st.ca) refl)
+  where
+    by : (b : Bool) → (address_of n == st.ca) ≡ b → ((b && st.select) || false) ≡ false
+    by true is = rw (free 0 st refl (eqb-true (address_of n) st.ca is)) refl
+    by false is = refl
+
 pub addresses_hold : AddressesAreRead
 addresses_hold = record {
   own = own;
@@ -142,6 +160,8 @@ addresses_hold = record {
   known = known;
   all_known = all_known;
   first = first;
+  guarded = guarded;
+  unguarded = unguarded;
 }
 
 -- ---- object addresses
@@ -202,7 +222,7 @@ objects_hold = record {
 
 -- ---- targets
 
-three_equal : (a b c d e f : ℕ) → a ≡ b → c ≡ d → e ≡ f
+pub three_equal : (a b c d e f : ℕ) → a ≡ b → c ≡ d → e ≡ f
     → ((a == b) && (c == d) && (e == f)) ≡ true
 three_equal a b c d e f x y z =
     let p : (a == b) ≡ true = eq-eqb a b x in
@@ -210,7 +230,7 @@ three_equal a b c d e f x y z =
     let r : (e == f) ≡ true = eq-eqb e f z in
     rw (p, q, r) refl
 
-three_only : (a b c d e f : ℕ) → ((a == b) && (c == d) && (e == f)) ≡ true
+pub three_only : (a b c d e f : ℕ) → ((a == b) && (c == d) && (e == f)) ≡ true
     → (a ≡ b) × (c ≡ d) × (e ≡ f)
 three_only a b c d e f is = go (a == b) (c == d) (e == f) refl refl refl is
   where
@@ -234,6 +254,12 @@ refused xs v before behind i negative at is =
     (or_left (is_object_of xs v i) (list_any (is_object_of xs v) behind) is) in
     rw (negative, among) refl
 
+only_refused : (xs : List ℕ) (v : AsduValue) → refuses_command xs v ≡ true
+    → (v.cause % 128 ≡ 71) × (list_any (is_object_of xs v) v.infos ≡ true)
+only_refused xs v is =
+    let parts = and_parts (v.cause % 128 == 71) (list_any (is_object_of xs v) v.infos) is in
+    (eqb-true (v.cause % 128) 71 parts.0, parts.1)
+
 pub targets_hold : TargetsAreCompared
 targets_hold = record {
   equal = λ j k n m r s x y z. three_equal (plain_type j) (plain_type k) (address_of n)
@@ -245,6 +271,7 @@ targets_hold = record {
   only_answered = λ k n r v i is. three_only (plain_type k) (row v.kind).code (address_of n) v.ca
       (object_of n) i.address is;
   refused = refused;
+  only_refused = only_refused;
 }
 
 -- ---- elements
@@ -313,6 +340,12 @@ elements_hold = record {
   tagged_step_states = λ t n x. (permitted x, forbidden x);
   single_states = λ n x. refl;
   values = λ n a b x. refl;
+  scaled_values = λ n a b x. refl;
+  tagged_single_states = λ t n x. refl;
+  tagged_values = λ t n a b x. refl;
+  tagged_scaled_values = λ t n a b x. refl;
+  tags = λ t kind n x. refl;
+  tags_of_values = λ t kind n a b x. refl;
   groups = λ n x low high. group x low high;
   below = λ n x low. below x low;
   above = λ n x high. above x high;
@@ -347,7 +380,7 @@ acts c x = (
   λ other. (let p : (c % 64 == 6) ≡ false = unequal (c % 64) 6 other in (rw p refl, rw p refl)),
 )
 
-six : (c : ℕ) → c % 64 ≡ 6
+pub six : (c : ℕ) → c % 64 ≡ 6
     → ((c % 64 == 6) ≡ true) × ((c % 64 == 8) ≡ false)
     × (not ((c % 64 == 6) || (c % 64 == 8)) ≡ false)
 six c is =
@@ -356,7 +389,7 @@ six c is =
     unequal (c % 64) 8 (λ e. absurd (omega (arith, is, e))) in
     (p, q, rw p refl)
 
-eight : (c : ℕ) → c % 64 ≡ 8
+pub eight : (c : ℕ) → c % 64 ≡ 8
     → ((c % 64 == 6) ≡ false) × ((c % 64 == 8) ≡ true)
     × (not ((c % 64 == 6) || (c % 64 == 8)) ≡ false)
 eight c is =
@@ -435,6 +468,57 @@ form a b = (
       rw p refl),
 )
 
+no_tag : (kind : ℕ) → ((58 ≤ kind) × (kind ≤ 62) → ⊥) → has_tag kind ≡ false
+no_tag kind other =
+    let a : (kind == 58) ≡ false = unequal kind 58 (λ e. other (omega (arith, e), omega (arith, e)))
+    in
+    let b : (kind == 59) ≡ false = unequal kind 59 (λ e. other (omega (arith, e), omega (arith, e)))
+    in
+    let c : (kind == 60) ≡ false = unequal kind 60 (λ e. other (omega (arith, e), omega (arith, e)))
+    in
+    let d : (kind == 61) ≡ false = unequal kind 61 (λ e. other (omega (arith, e), omega (arith, e)))
+    in
+    let f : (kind == 62) ≡ false = unequal kind 62 (λ e. other (omega (arith, e), omega (arith, e)))
+    in
+    rw (a, b, c, d, f) refl
+
+no_process : (kind : ℕ) → ((45 ≤ kind) × (kind ≤ 49) → ⊥) → is_process_type kind ≡ false
+no_process kind other =
+    let a : (kind == 45) ≡ false = unequal kind 45 (λ e. other (omega (arith, e), omega (arith, e)))
+    in
+    let b : (kind == 46) ≡ false = unequal kind 46 (λ e. other (omega (arith, e), omega (arith, e)))
+    in
+    let c : (kind == 47) ≡ false = unequal kind 47 (λ e. other (omega (arith, e), omega (arith, e)))
+    in
+    let d : (kind == 48) ≡ false = unequal kind 48 (λ e. other (omega (arith, e), omega (arith, e)))
+    in
+    let f : (kind == 49) ≡ false = unequal kind 49 (λ e. other (omega (arith, e), omega (arith, e)))
+    in
+    rw (a, b, c, d, f) refl
+
+other_types : (kind : ℕ) (rest : List ℕ) → ((45 ≤ kind) × (kind ≤ 49) → ⊥)
+    → ((58 ≤ kind) × (kind ≤ 62) → ⊥)
+    → (kind ≡ 100 → ⊥)
+    → (unknown_type (kind ∷ rest)).applies ≡ true
+other_types kind rest process tagged interrogates =
+    ap (λ (b : Bool). not (is_process_type (if b then kind - 13 else kind) || kind == 100))
+    (no_tag kind tagged)
+    ∙ ap (λ (b : Bool). not (b || kind == 100)) (no_process kind process)
+    ∙ ap not (unequal kind 100 interrogates)
+
+not_one : (kind number : ℕ) (rest : List ℕ) → (number ≡ 1 → ⊥)
+    → (malformed (kind ∷ number ∷ rest)).applies ≡ true
+not_one kind number rest other = by (leb_tells 128 number)
+  where
+    by : ((nat_le 128 number ≡ true) × (128 ≤ number))
+        ⊎ ((nat_le 128 number ≡ false) × (number < 128))
+        → (malformed (kind ∷ number ∷ rest)).applies ≡ true
+    by (inl high) = rw high.0 refl
+    by (inr low) =
+        let q : (number % 128 == 1) ≡ false =
+        unequal (number % 128) 1 (λ e. other (omega (arith, e, low.1))) in
+        rw (low.0, q) refl
+
 pub forms_hold : FormsAreRead
 forms_hold = record {
   single = λ n rest. (refl, (form (length rest) 1).0, (form (length rest) 1).1);
@@ -448,209 +532,6 @@ forms_hold = record {
   tagged_normalised = λ n rest. (refl, (form (length rest) 10).0, (form (length rest) 10).1);
   tagged_scaled = λ n rest. (refl, (form (length rest) 10).0, (form (length rest) 10).1);
   interrogation = λ n rest. (refl, (form (length rest) 1).0, (form (length rest) 1).1);
-}
-
--- ---- confirmations
-
-equal_lists : (xs ys : List ℕ) → xs ≡ ys → are_equal xs ys ≡ true
-equal_lists xs ys is = ap (are_equal xs) (sym is) ∙ go xs
-  where
-    go : (zs : List ℕ) → are_equal zs zs ≡ true
-    go [] = refl
-    go (z ∷ zs) = (let p : (z == z) ≡ true = eq-eqb z z refl in rw (p, go zs) refl)
-
-only_equal_lists : (xs ys : List ℕ) → are_equal xs ys ≡ true → xs ≡ ys
-only_equal_lists [] [] is = refl
-only_equal_lists (x ∷ xs) (y ∷ ys) is =
-    let parts = and_parts (x == y) (are_equal xs ys) is in
-    cons_equal (eqb-true x y parts.0) (only_equal_lists xs ys parts.1)
-  where
-    cons_equal : x ≡ y → xs ≡ ys → (x ∷ xs) ≡ (y ∷ ys)
-    cons_equal a b = cc
-only_equal_lists [] (y ∷ ys) is = cc
-only_equal_lists (x ∷ xs) [] is = cc
-
-confirmed : (xs : List ℕ) (v : AsduValue) (i : Info)
-    → v.infos ≡ i ∷ []
-    → (v.cause % 128 ≡ 7 → plain_type (slice_index xs 0) ≡ (row v.kind).code
-    → common_address xs ≡ v.ca
-    → object_address xs ≡ i.address
-    → element_part xs ≡ i.element
-    → confirms_command xs v ≡ true)
-    × (confirms_command xs v ≡ true
-    → (v.cause % 128 ≡ 7) × (plain_type (slice_index xs 0) ≡ (row v.kind).code)
-    × (common_address xs ≡ v.ca) × (object_address xs ≡ i.address)
-    × (element_part xs ≡ i.element))
-confirmed xs v i at = (is_so, is_only)
-  where
-    alone : is_only_object_of xs v v.infos
-        ≡ (is_object_of xs v i && are_equal (element_part xs) i.element)
-    alone = ap (is_only_object_of xs v) at
-
-    is_so : v.cause % 128 ≡ 7 → plain_type (slice_index xs 0) ≡ (row v.kind).code
-        → common_address xs ≡ v.ca
-        → object_address xs ≡ i.address
-        → element_part xs ≡ i.element
-        → confirms_command xs v ≡ true
-    is_so seven_ a b c d =
-        let p : (v.cause % 128 == 7) ≡ true = eq-eqb (v.cause % 128) 7 seven_ in
-        let q : is_object_of xs v i ≡ true =
-        three_equal (plain_type (slice_index xs 0)) (row v.kind).code (common_address xs) v.ca
-        (object_address xs) i.address a b c in
-        let r : are_equal (element_part xs) i.element ≡ true =
-        equal_lists (element_part xs) i.element d in
-        both_true (v.cause % 128 == 7) (is_only_object_of xs v v.infos) p
-        (alone ∙ both_true (is_object_of xs v i) (are_equal (element_part xs) i.element) q r)
-
-    is_only : confirms_command xs v ≡ true
-        → (v.cause % 128 ≡ 7) × (plain_type (slice_index xs 0) ≡ (row v.kind).code)
-        × (common_address xs ≡ v.ca) × (object_address xs ≡ i.address)
-        × (element_part xs ≡ i.element)
-    is_only is =
-        let parts = and_parts (v.cause % 128 == 7) (is_only_object_of xs v v.infos) is in
-        let rest =
-        and_parts (is_object_of xs v i) (are_equal (element_part xs) i.element)
-        (sym alone ∙ parts.1) in
-        let three =
-        three_only (plain_type (slice_index xs 0)) (row v.kind).code (common_address xs) v.ca
-        (object_address xs) i.address rest.0 in (
-          eqb-true (v.cause % 128) 7 parts.0,
-          three.0,
-          three.1,
-          three.2,
-          only_equal_lists (element_part xs) i.element rest.1,
-        )
-
-not_alone : (xs : List ℕ) (v : AsduValue) (is : List Info) → v.infos ≡ is
-    → is_only_object_of xs v is ≡ false
-    → confirms_command xs v ≡ false
-not_alone xs v is at none =
-    both_false (v.cause % 128 == 7) (is_only_object_of xs v v.infos)
-    (ap (is_only_object_of xs v) at ∙ none)
-
-pub confirmations_hold : ConfirmationsAreRead
-confirmations_hold = record {
-  single = λ x n. confirmed (command_with 45 n (one_octet x));
-  double = λ x n. confirmed (command_with 46 n (one_octet x));
-  step = λ x n. confirmed (command_with 47 n (one_octet x));
-  normalised = λ a b x n. confirmed (command_with 48 n (set_point a b x));
-  scaled = λ a b x n. confirmed (command_with 49 n (set_point a b x));
-  tagged_single = λ t x n. confirmed (command_with 58 n (one_octet_tagged t x));
-  tagged_double = λ t x n. confirmed (command_with 59 n (one_octet_tagged t x));
-  tagged_step = λ t x n. confirmed (command_with 60 n (one_octet_tagged t x));
-  tagged_normalised = λ t a b x n. confirmed (command_with 61 n (set_point_tagged t a b x));
-  tagged_scaled = λ t a b x n. confirmed (command_with 62 n (set_point_tagged t a b x));
-  interrogation = λ x n. confirmed (command_with 100 n (one_octet x));
-  no_object = λ xs v at. not_alone xs v [] at refl;
-  several = λ xs v i j more at. not_alone xs v (i ∷ j ∷ more) at refl;
-}
-
--- ---- causes of negative answers
-
-negative_of_six : (kind : ℕ) (n : Numbers) (rest : List ℕ) → n.cause % 64 ≡ 6
-    → negative_of (command_with kind n rest) ≡ 7
-negative_of_six kind n rest is = (let p = (six n.cause is).0 in rw p refl)
-
-negative_of_eight : (kind : ℕ) (n : Numbers) (rest : List ℕ) → n.cause % 64 ≡ 8
-    → negative_of (command_with kind n rest) ≡ 9
-negative_of_eight kind n rest is = (let p = (eight n.cause is).0 in rw p refl)
-
-applied : (r : Rule) (rs : List Rule) → r.applies ≡ true → first_cause (r ∷ rs) ≡ Some r.cause
-applied r rs is = ap (λ (b : Bool). if b then Some r.cause else first_cause rs) is
-
-passed : (r : Rule) (rs : List Rule) → r.applies ≡ false → first_cause (r ∷ rs) ≡ first_cause rs
-passed r rs is = ap (λ (b : Bool). if b then Some r.cause else first_cause rs) is
-
-abbrev from_malformed : ℕ → Option ℕ → List ℕ → List Rule
-from_malformed most wall xs = malformed xs ∷ not_permitted xs ∷ not_fresh most wall xs ∷ []
-
-abbrev from_object : Sizes → ℕ → Option ℕ → List ℕ → List Rule
-from_object sizes most wall xs = unknown_object sizes xs ∷ from_malformed most wall xs
-
-abbrev from_station : Sizes → List StationInfo → ℕ → Option ℕ → List ℕ → List Rule
-from_station sizes stations most wall xs =
-    unknown_station stations xs ∷ from_object sizes most wall xs
-
-abbrev from_cause : Sizes → List StationInfo → ℕ → Option ℕ → List ℕ → List Rule
-from_cause sizes stations most wall xs =
-    unknown_cause xs ∷ from_station sizes stations most wall xs
-
-malformed_answer : (sizes : Sizes) (stations : List StationInfo) (most : ℕ) (wall : Option ℕ)
-    (xs : List ℕ)
-    → IsKnown sizes stations xs
-    → (malformed xs).applies ≡ true
-    → cause_of_fault sizes stations most wall xs ≡ Some (negative_of xs)
-malformed_answer sizes stations most wall xs known_ is =
-    passed (unknown_type xs) (from_cause sizes stations most wall xs) known_.kind
-    ∙ passed (unknown_cause xs) (from_station sizes stations most wall xs) known_.cause
-    ∙ passed (unknown_station stations xs) (from_object sizes most wall xs) known_.station
-    ∙ passed (unknown_object sizes xs) (from_malformed most wall xs) known_.object
-    ∙ applied (malformed xs) (not_permitted xs ∷ not_fresh most wall xs ∷ []) is
-
-some_equal : (a b : ℕ) → a ≡ b → Some a ≡ Some b
-some_equal a b is = cc
-
-pub causes_hold : CausesAreGiven
-causes_hold = record {
-  activation = negative_of_six;
-  deactivation = negative_of_eight;
-  unknown_types = λ sizes stations most wall xs is.
-      applied (unknown_type xs) (from_cause sizes stations most wall xs) is;
-  unknown_causes = λ sizes stations most wall xs a is.
-      passed (unknown_type xs) (from_cause sizes stations most wall xs) a
-      ∙ applied (unknown_cause xs) (from_station sizes stations most wall xs) is;
-  unknown_stations = λ sizes stations most wall xs a b is.
-      passed (unknown_type xs) (from_cause sizes stations most wall xs) a
-      ∙ passed (unknown_cause xs) (from_station sizes stations most wall xs) b
-      ∙ applied (unknown_station stations xs) (from_object sizes most wall xs) is;
-  unknown_objects = λ sizes stations most wall xs a b c is.
-      passed (unknown_type xs) (from_cause sizes stations most wall xs) a
-      ∙ passed (unknown_cause xs) (from_station sizes stations most wall xs) b
-      ∙ passed (unknown_station stations xs) (from_object sizes most wall xs) c
-      ∙ applied (unknown_object sizes xs) (from_malformed most wall xs) is;
-  forms = λ sizes stations most wall kind n rest known_ is. (
-    λ six_. malformed_answer sizes stations most wall (command_with kind n rest) known_ is
-        ∙ some_equal (negative_of (command_with kind n rest)) 7
-        (negative_of_six kind n rest six_),
-    λ eight_. malformed_answer sizes stations most wall (command_with kind n rest) known_ is
-        ∙ some_equal (negative_of (command_with kind n rest)) 9
-        (negative_of_eight kind n rest eight_),
-  );
-}
-
--- ---- times
-
-fresh : (most : ℕ) (wall : Option ℕ) (xs : List ℕ) → IsFresh most wall xs
-    → (not_fresh most wall xs).applies ≡ false
-fresh most wall xs is =
-    let old : nat_le is.clock (is.instant + most) ≡ true =
-    le-leb is.clock (is.instant + most) is.not_old in
-    let ahead : nat_le is.instant (is.clock + most) ≡ true =
-    le-leb is.instant (is.clock + most) is.not_ahead in
-    let fresh : is_fresh most wall (verdict_of (tag_of xs)) ≡ true =
-    ap (λ w. is_fresh most w (verdict_of (tag_of xs))) is.known
-    ∙ ap (is_fresh most (Some is.clock)) is.good
-    ∙ rw (old, ahead) refl in
-    ap (λ (b : Bool). has_tag (slice_index xs 0) && is_activation xs && not b) fresh
-    ∙ go (has_tag (slice_index xs 0)) (is_activation xs)
-  where
-    go : (a b : Bool) → (a && b && false) ≡ false
-    go true true = refl
-    go true false = refl
-    go false b = refl
-
-pub times_hold : TimesAreKept
-times_hold = record {
-  passes = λ select_ms max_age_ms came con now soon early.
-      (let p : nat_lt (con - came) select_ms ≡ true = lt-ltb (con - came) select_ms soon in
-      let q : nat_lt (now - con) select_ms ≡ true = lt-ltb (now - con) select_ms early in
-      rw (p, q) refl);
-  late_execute = λ select_ms max_age_ms came con now soon late.
-      (let p : nat_lt (con - came) select_ms ≡ true = lt-ltb (con - came) select_ms soon in
-      let q : nat_lt (now - con) select_ms ≡ false = le-ltb (now - con) select_ms late in
-      rw (p, q) refl);
-  late_confirmation = λ select_ms max_age_ms came con now late.
-      (let p : nat_lt (con - came) select_ms ≡ false = le-ltb (con - came) select_ms late in
-      rw p refl);
-  fresh = fresh;
+  other_types = other_types;
+  not_one = not_one;
 }

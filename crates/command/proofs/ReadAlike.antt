@@ -390,7 +390,7 @@ not_both : (a b c : Bool) → a ≡ not b → (a || not c) ≡ not (b && c)
 not_both a true c h = rw h refl
 not_both a false c h = rw h refl
 
-single_read : (xs : List ℕ) → (malformed xs).applies ≡ not (is_single xs)
+pub single_read : (xs : List ℕ) → (malformed xs).applies ≡ not (is_single xs)
 single_read xs =
     ap (λ (n : ℕ). (nat_le 128 (slice_index xs 1) || not (slice_index xs 1 % 128 == 1))
     || not (length xs == n))
@@ -473,7 +473,7 @@ pub none_left : (a : Bool) (n : ℕ) (rest : Option ℕ) → (if a then Some n e
 none_left true n rest h = cc
 none_left false n rest h = (refl, h)
 
-held_up : (a : Bool) → not a ≡ false → a ≡ true
+pub held_up : (a : Bool) → not a ≡ false → a ≡ true
 held_up true h = refl
 held_up false h = sym h
 

@@ -39,7 +39,7 @@ off : (g p : Bool) → p ≡ false → (g && p) ≡ false
 off true p h = h
 off false p h = refl
 
-place_left : (c : Command) (s : State) (e : Bool) → ends_selection c ≡ e
+pub place_left : (c : Command) (s : State) (e : Bool) → ends_selection c ≡ e
     → lacks_place c (if e then without_selection c s else s) ≡ lacks_place c s
 place_left c s false h = refl
 place_left c s true h = rw (off (is_guarded s.stations c) (is_select c) (no_select c h)) refl
@@ -97,11 +97,11 @@ pub counts_read : (xs : List ℕ) (stations : List StationInfo)
     → count_by (is_addressed (command_at xs)) stations ≡ count_by (is_for_station xs) stations
 counts_read xs stations = counts_from xs 0 stations
 
-lacks_read : (xs : List ℕ) (now : ℕ) (s : State) → IsGood xs
+pub lacks_read : (xs : List ℕ) (now : ℕ) (s : State) → IsGood xs
     → lacks_selection (command_at xs) now s ≡ (not_selected xs now s).applies
 lacks_read xs now s g = rw (guards_read xs s.stations, executes_read xs g) refl
 
-places_read : (xs : List ℕ) (s : State) → IsGood xs → lacks_place (command_at xs) s
+pub places_read : (xs : List ℕ) (s : State) → IsGood xs → lacks_place (command_at xs) s
     ≡ (no_place xs s).applies
 places_read xs s g = rw (counts_read xs s.stations, guards_read xs s.stations, selects_read xs g)
     refl

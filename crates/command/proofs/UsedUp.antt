@@ -1,6 +1,7 @@
 -- A selection lets one execute through: what can't stand, hasn't been accepted or isn't confirmed
 -- selects nothing.
-use Rattle.std.proofs.Common.{◌≡◌, ℕ, suc, ◌-◌, ◌%◌, ◌⊎◌, inl, inr, ◌&&◌, ◌||◌, ◌++◌, Bool, true, false, not, List}
+use Rattle.std.proofs.Common.{◌≡◌, ℕ, suc, ◌-◌, ◌%◌, ◌⊎◌, inl, inr, ◌&&◌, ◌||◌, ◌++◌, Bool, true}
+use Rattle.std.proofs.Common.{false, not, List}
 use Rattle.std.proofs.Common.{[], ◌∷◌, length, slice_index, refl, sym, subst, ap, ◌∙◌, arith, rules}
 use Rattle.std.specs.Prelude.{◌==◌, Option, Some, None, if◌then◌else◌, is_none, nat_lt, nat_le}
 use Rattle.std.specs.List.{list_any, AllByRecursion}
@@ -28,7 +29,7 @@ use Rattle.command.specs.UsedUp.{is_confirmation_for, uses_up, NoneIs, IsHeldBac
 use Rattle.command.proofs.Faultless.{no_select}
 use Rattle.command.proofs.Wholes.{run_selected}
 
-clash : (a b : Bool) → (a && b) ≡ false → a ≡ true → b ≡ true → ⊥
+pub clash : (a b : Bool) → (a && b) ≡ false → a ≡ true → b ≡ true → ⊥
 clash true true h e f = absurd (search (rules, h))
 clash true false h e f = absurd (search (rules, f))
 clash false b h e f = absurd (search (rules, e))
@@ -77,7 +78,7 @@ pub record AreOne (xs ys : List ℕ) : Type 0 where
   pub ca : common_address xs ≡ common_address ys
   pub object : object_address xs ≡ object_address ys
 
-are_one : (xs ys : List ℕ) → have_one_target xs ys ≡ true → AreOne xs ys
+pub are_one : (xs ys : List ℕ) → have_one_target xs ys ≡ true → AreOne xs ys
 are_one xs ys h =
     let p : _ = and_parts
     ((plain_type (slice_index xs 0) == plain_type (slice_index ys 0))
@@ -107,7 +108,7 @@ same_object xs ys one v i = sym (
     ∙ ap (λ (o : ℕ). plain_type (slice_index ys 0) == (row v.kind).code
     && common_address ys == v.ca && o == i.address) one.object)
 
-none_confirmed : (xs ys : List ℕ) → AreOne xs ys → (v : AsduValue)
+pub none_confirmed : (xs ys : List ℕ) → AreOne xs ys → (v : AsduValue)
     → (is_positive_confirmation v.cause && list_any (is_object_of xs v) v.infos) ≡ false
     → confirms_command ys v ≡ false
 none_confirmed xs ys one v h = by (is_positive_confirmation v.cause) h
@@ -302,7 +303,7 @@ module _ (sizes : Sizes) (stations : List StationInfo) (ms age : ℕ) where
 
   -- ---- the select that stands has the target
 
-  standing_is_one : (xs : List ℕ) (h : History) (z : Select)
+  pub standing_is_one : (xs : List ℕ) (h : History) (z : Select)
       → standing sizes stations ms age xs h ≡ Some z → have_one_target xs z.octets ≡ true
   standing_is_one xs [] z e = absurd (nothing None refl e)
   standing_is_one xs (Judged now wall ys a ∷ h) z e = by (standing_is_one xs h z)

@@ -12,6 +12,7 @@ pub mod History
 pub mod Selections
 pub mod Calls
 pub mod Rules
+pub mod Order
 pub mod Laws
 pub mod CommandLaws
 pub mod Examples

@@ -2,6 +2,7 @@
 -- 7.3.2): each octet of a command with one object is given here, in the sizes of IEC 60870-5-104.
 use Rattle.std.specs.Prelude.{◌≡◌, ℕ, ◌+◌, ◌*◌, ◌-◌, ◌%◌, ◌^◌, ◌<◌, ◌≤◌, ◌⊎◌, true, false, List, []}
 use Rattle.std.specs.Prelude.{◌∷◌, ◌++◌, length, slice_get, Option, Some, None}
+use Rattle.std.specs.List.{list_any}
 use Rattle.elements.specs.Types.{row}
 use Rattle.asdu.specs.Asdu.{AsduValue, Info}
 use Rattle.asdu.specs.Sizes.{ioa_len}
@@ -13,7 +14,7 @@ use Rattle.command.specs.Standard.{unknown_object, not_permitted, not_fresh, ref
 use Rattle.command.specs.Standard.{is_negative_confirmation, executes, selects, is_activation}
 use Rattle.command.specs.Standard.{is_deactivating, unknown_cause, have_one_test_bit}
 use Rattle.command.specs.Standard.{have_one_type, unknown_type, malformed, confirms_command}
-use Rattle.command.specs.Standard.{negative_of, cause_of_fault}
+use Rattle.command.specs.Standard.{negative_of, cause_of_fault, must_be_selected, tag_of}
 use Rattle.command.specs.Judging.{judged}
 use Rattle.command.specs.Calls.{run}
 use Rattle.command.specs.Examples.{sizes, stations, execute, refused, confirmed_at_moments}
@@ -76,6 +77,15 @@ pub record AddressesAreRead : Type 0 where
       address_of n ≡ station.ca →
       ((j : ℕ) (other : StationInfo) → j < k → slice_get stations j ≡ Some other →
       address_of n ≡ other.ca → ⊥) → station_of stations (command_with kind n rest) ≡ k
+  -- a select is needed where the settings of a station with its address ask for one, and only there
+  pub guarded : (stations : List StationInfo) (k kind : ℕ) (n : Numbers) (rest : List ℕ)
+      (station : StationInfo) → slice_get stations k ≡ Some station →
+      address_of n ≡ station.ca → station.select ≡ true →
+      must_be_selected stations (command_with kind n rest) ≡ true
+  pub unguarded : (stations : List StationInfo) (kind : ℕ) (n : Numbers) (rest : List ℕ) →
+      ((k : ℕ) (station : StationInfo) → slice_get stations k ≡ Some station →
+      address_of n ≡ station.ca → station.select ≡ false) →
+      must_be_selected stations (command_with kind n rest) ≡ false
 
 -- ---- Object addresses (7.2.5)
 
@@ -115,6 +125,9 @@ pub record TargetsAreCompared : Type 0 where
   pub refused : (xs : List ℕ) (v : AsduValue) (before behind : List Info) (i : Info) →
       is_negative_confirmation v.cause ≡ true → v.infos ≡ before ++ i ∷ behind →
       is_object_of xs v i ≡ true → refuses_command xs v ≡ true
+  -- and nothing else does: an activation con with P/N 1 that has its object
+  pub only_refused : (xs : List ℕ) (v : AsduValue) → refuses_command xs v ≡ true →
+      (v.cause % 128 ≡ 71) × (list_any (is_object_of xs v) v.infos ≡ true)
 
 -- ---- Elements (7.2.6.15 to 7.2.6.17, 7.2.6.22 and 7.2.6.39)
 
@@ -176,6 +189,19 @@ pub record ElementsAreRead : Type 0 where
       (not_permitted (command_with 45 n (one_octet x))).applies ≡ false
   pub values : (n : Numbers) (a b x : ℕ) →
       (not_permitted (command_with 48 n (set_point a b x))).applies ≡ false
+  pub scaled_values : (n : Numbers) (a b x : ℕ) →
+      (not_permitted (command_with 49 n (set_point a b x))).applies ≡ false
+  pub tagged_single_states : (t : Tag) (n : Numbers) (x : ℕ) →
+      (not_permitted (command_with 58 n (one_octet_tagged t x))).applies ≡ false
+  pub tagged_values : (t : Tag) (n : Numbers) (a b x : ℕ) →
+      (not_permitted (command_with 61 n (set_point_tagged t a b x))).applies ≡ false
+  pub tagged_scaled_values : (t : Tag) (n : Numbers) (a b x : ℕ) →
+      (not_permitted (command_with 62 n (set_point_tagged t a b x))).applies ≡ false
+  -- the tag is what follows the element
+  pub tags : (t : Tag) (kind : ℕ) (n : Numbers) (x : ℕ) →
+      tag_of (command_with kind n (one_octet_tagged t x)) ≡ seven t
+  pub tags_of_values : (t : Tag) (kind : ℕ) (n : Numbers) (a b x : ℕ) →
+      tag_of (command_with kind n (set_point_tagged t a b x)) ≡ seven t
   -- 20 asks the station, and 21 to 36 its groups
   pub groups : (n : Numbers) (x : ℕ) → 20 ≤ x → x ≤ 36 →
       (not_permitted (command_with 100 n (one_octet x))).applies ≡ false
@@ -264,6 +290,14 @@ pub record FormsAreRead : Type 0 where
   pub tagged_normalised : HasForm 61 10
   pub tagged_scaled : HasForm 62 10
   pub interrogation : HasForm 100 1
+  -- All other types are unknown, whatever follows.
+  pub other_types : (kind : ℕ) (rest : List ℕ) → ((45 ≤ kind) × (kind ≤ 49) → ⊥) →
+      ((58 ≤ kind) × (kind ≤ 62) → ⊥) → (kind ≡ 100 → ⊥) →
+      (unknown_type (kind ∷ rest)).applies ≡ true
+  -- No command is well-formed whose variable structure qualifier isn't 1 (SQ 0, one object),
+  -- whatever its type is and whatever follows: its cause, its addresses, its elements.
+  pub not_one : (kind number : ℕ) (rest : List ℕ) → (number ≡ 1 → ⊥) →
+      (malformed (kind ∷ number ∷ rest)).applies ≡ true
 
 -- ---- Confirmations (7.2.3: activation con)
 

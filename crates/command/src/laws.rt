@@ -23,12 +23,13 @@ ghost use Rattle.command.specs.Standard.{first_cause, cause_of_fault, executes, 
 ghost use Rattle.command.specs.Standard.{must_be_selected, is_deactivating, station_of};
 ghost use Rattle.command.specs.Standard.{IsRefusal};
 ghost use Rattle.command.specs.Rules.{rules_for, not_selected, no_place};
+ghost use Rattle.command.specs.Order.{IsJudgedInOrder, AgesAreTold};
 ghost use Rattle.command.specs.History.{ForwardsCommands, next_octets, SendsFreshCommands};
 ghost use Rattle.command.specs.History.{mirror_tag, ExecutesAreSelected, IsSelected};
 ghost use Rattle.command.specs.History.{GivesOwnAnswers, own_kept, own_sent, KeepsOwnAnswers};
 ghost use Rattle.command.specs.History.{AnswersWholly, IsGuarded, forwarded_in_all, sent_in_all};
 ghost use Rattle.command.specs.Passing.{FindsPlaces, of_others};
-ghost use Rattle.command.specs.Calls.{Call};
+ghost use Rattle.command.specs.Calls.{Call, Cut, run};
 ghost use Rattle.command.specs.UsedUp.{uses_up, is_select_for, is_acceptance_by};
 ghost use Rattle.command.specs.UsedUp.{is_confirmation_for, of_connection, NoneIs, IsHeldBack};
 ghost use Rattle.command.specs.Selections.{AreDistinct, IsStanding, IsInTime};
@@ -48,6 +49,16 @@ pub fn judgement_is_the_first_rule_that_applies()
     ensures { (xs : List ℕ) (now : ℕ) (wall : Option ℕ) (s : State) →
         (judged xs now wall s).0
         ≡ option_map (λ cause. answer cause xs) (first_cause (rules_for xs now wall s)) }
+{}
+
+/// Nine rules judge an ASDU, and the first that applies is the one that is told and that gives the
+/// answer its cause. They look at its type, its cause, its common address, its object, its form,
+/// its state or qualifier, the age of its time tag, its selection and the places, in this order.
+/// What one of the first seven refuses changes nothing. What none refuses is forwarded.
+pub fn rules_apply_in_their_order()
+    ensures order { (xs : List ℕ) (now : ℕ) (wall : Option ℕ) (s : State) →
+        IsJudgedInOrder xs now wall s }
+    ensures ages { AgesAreTold }
 {}
 
 /// First sendings to a station are the commands forwarded to it, in their order, each once, and
@@ -74,7 +85,8 @@ pub fn sent_activations_are_fresh()
 
 /// Places come back: the commands that wait are those that were forwarded on the open connection
 /// less those that went out, over all stations, and at most 64. So a command finds its places where
-/// no more than 64 wait with it.
+/// no more than 64 wait with it. A select to a station that asks for selects finds none where 16
+/// selections of other targets are kept.
 pub fn places_come_back()
     ensures waiting { AfterEachRun (λ stations sizes select_ms max_age_ms s h.
         length s.waiting + sent_in_all h ≡ forwarded_in_all stations h) }
@@ -84,6 +96,8 @@ pub fn places_come_back()
         FindsPlaces stations xs h
         → (must_be_selected stations xs && selects xs) ≡ false
         → (no_place xs s).applies ≡ false) }
+    ensures full { (xs : List ℕ) (s : State) → must_be_selected s.stations xs ≡ true →
+        selects xs ≡ true → 16 ≤ of_others xs s.selections → (no_place xs s).applies ≡ true }
 {}
 
 /// A command with which nothing is wrong, and which finds its places, is forwarded, whatever its
@@ -155,7 +169,10 @@ pub fn selections_let_one_execute_through()
 {}
 
 /// Where moments never fall, a selected execute is refused for no want of a selection: one that is
-/// live lets it through. So it is forwarded where there are places for it.
+/// live lets it through. So it is forwarded where there are places for it. Until its time has
+/// passed nothing ends a selection but the end of its connection, another select of its type and
+/// addresses, and what uses these up. So a malformed deactivation leaves it as it is. Another
+/// confirmation renews it.
 pub fn selected_executes_pass()
     ensures selected { AtEachMoment (λ stations sizes select_ms max_age_ms now s h.
         (xs : List ℕ) (wall : Option ℕ) →
@@ -167,6 +184,14 @@ pub fn selected_executes_pass()
         cause_of_fault sizes stations max_age_ms wall xs ≡ None → executes xs ≡ true
         → IsSelected sizes stations select_ms max_age_ms xs now h
         → (no_place xs s).applies ≡ false → (judged xs now wall s).0 ≡ None) }
+    ensures lasts { (stations : List StationInfo) (sizes : Sizes) (select_ms max_age_ms : ℕ)
+        (calls : List Call) (call : Call) (xs : List ℕ) (now : ℕ) → (call ≡ Cut → ⊥) →
+        is_select_for xs call ≡ false → is_confirmation_for xs call ≡ false →
+        uses_up sizes stations max_age_ms xs call ≡ false →
+        IsSelected sizes stations select_ms max_age_ms xs now
+        (run stations sizes select_ms max_age_ms calls).history →
+        IsSelected sizes stations select_ms max_age_ms xs now
+        (run stations sizes select_ms max_age_ms (call ∷ calls)).history }
 {}
 
 /// No two selections are of one target, and each is the select that stands for its target, as far
@@ -256,7 +281,8 @@ pub fn worked_examples_hold()
 /// each object address, each octet of an element, each place of a station, and each setting of the
 /// times. So what selects, what executes and what takes back is the same at each of them, and what
 /// select and execute have to have in common. What is well-formed, what confirms a command, and the
-/// cause of a negative answer are the same as well.
+/// cause of a negative answer are the same as well. So are the types that are known, and the
+/// stations that ask for selects.
 pub fn rules_hold_for_all_numbers()
     ensures addresses { AddressesAreRead }
     ensures objects { ObjectsAreRead }

@@ -27,8 +27,9 @@
 //!
 //! By which rule an ASDU is refused is asked apart from its judgement ([`Commands::refusal_of`]),
 //! and also behind it, by a [`Glance`] that was taken before ([`Commands::refusal_at`]). Proved:
-//! there is a rule exactly where the judgement is an own answer, and the rule that is answered
-//! behind it is that of the state of which the glance was taken.
+//! there is a rule exactly where the judgement is an own answer, it is the first of nine that
+//! applies, and the rule that is answered behind it is that of the state of which the glance was
+//! taken.
 //!
 //! What is kept is put as lines of numbers ([`Commands::put_state`]) and made again of them
 //! ([`Commands::read_state`]). Proved: each state that a `Commands` has is one that can be saved
@@ -60,9 +61,10 @@ pub use laws::{
     commands_are_forwarded, commands_keep_the_rules, executes_are_selected,
     faultless_commands_pass, judgement_is_the_first_rule_that_applies, mirrors_bear_the_newest_tag,
     nothing_of_a_connection_outlives_new_settings, own_answers_are_given,
-    own_answers_bear_no_objects, places_come_back, rules_hold_for_all_numbers,
-    selected_executes_pass, selections_are_selects_that_stand, selections_let_one_execute_through,
-    sent_activations_are_fresh, settings_stay, waiting_commands_stay, worked_examples_hold,
+    own_answers_bear_no_objects, places_come_back, rules_apply_in_their_order,
+    rules_hold_for_all_numbers, selected_executes_pass, selections_are_selects_that_stand,
+    selections_let_one_execute_through, sent_activations_are_fresh, settings_stay,
+    waiting_commands_stay, worked_examples_hold,
 };
 pub use refusal::Refusal;
 pub use station::StationInfo;

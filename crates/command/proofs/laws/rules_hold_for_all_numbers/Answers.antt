@@ -1,5 +1,6 @@
 use Rattle.command.proofs.Numbers.{addresses_hold, objects_hold, targets_hold, elements_hold}
-use Rattle.command.proofs.Numbers.{acts_hold, forms_hold, confirmations_hold, causes_hold, times_hold}
+use Rattle.command.proofs.Numbers.{acts_hold, forms_hold}
+use Rattle.command.proofs.Outcomes.{confirmations_hold, causes_hold, times_hold}
 use Rattle.command.proofs.laws.rules_hold_for_all_numbers.Goals as goal
 
 pub returns-clause-addresses : goal.returns-clause-addresses

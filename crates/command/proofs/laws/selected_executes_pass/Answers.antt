@@ -1,4 +1,5 @@
 use Rattle.command.proofs.Converse.{is_let, is_forwarded}
+use Rattle.command.proofs.Lasting.{lasts}
 use Rattle.command.proofs.laws.selected_executes_pass.Goals as goal
 
 pub returns-clause-selected : goal.returns-clause-selected
@@ -12,3 +13,9 @@ returns-clause-forwarded c =
     λ stations sizes select_ms max_age_ms calls falls now later xs wall faultless executing
     selected. is_forwarded
     stations sizes select_ms max_age_ms calls falls now later xs wall faultless executing selected
+
+pub returns-clause-lasts : goal.returns-clause-lasts
+returns-clause-lasts c =
+    λ stations sizes select_ms max_age_ms calls call xs now goes_on no_select no_con unused
+    selected. lasts sizes stations select_ms max_age_ms calls call xs now goes_on no_select no_con
+    unused selected
