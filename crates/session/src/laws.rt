@@ -30,10 +30,12 @@ ghost use Rattle.session.specs.Ends.{AreInOrder};
 ghost use Rattle.session.specs.Examples.{IsRight, number_examples, transfer_examples};
 ghost use Rattle.session.specs.Examples.{timer_examples};
 ghost use Rattle.std.specs.List.{AllByRecursion, filter_map};
-ghost use Rattle.std.specs.Prelude.{reverse};
+ghost use Rattle.std.specs.Prelude.{reverse, take, ◌-◌};
 ghost use Rattle.arrayvec.specs.ArrayVec.{ArrayVec};
 ghost use Rattle.apci.specs.declared.apdu.Uf.{Uf};
-ghost use Rattle.session.specs.declared.kinds.Taken.TheVariants.{Nothing, Asdu};
+ghost use Rattle.session.specs.declared.kinds.Taken.TheVariants.{Nothing, Asdu, Close};
+ghost use Rattle.session.specs.declared.kinds.Close.TheVariants.{SendNumber, ReceiveNumber};
+ghost use Rattle.session.specs.declared.kinds.Close.TheVariants.{Stopped};
 ghost use Rattle.session.specs.History.{Opened, Came, Refused, Sent, Went, acknowledged_count};
 ghost use Rattle.session.specs.History.{is_stop_pending};
 ghost use Rattle.session.specs.Said.{HasNo, switches, is_about_a_stop, is_about_a_test};
@@ -152,32 +154,37 @@ pub fn origins_are_counted_apart()
 {}
 
 /// Whatever t1, t2, t3 and w are set to: t1 has run out from the moment on at which the oldest
-/// unacknowledged frame, or the test, is so old, and not before. An S frame is due from the moment
-/// on at which the oldest received frame is t2 old, or w have come, and not before; and a test if
-/// no frame has come for t3 (5.2, 5.5).
+/// unacknowledged frame, or the test, is so old, and not while each of them that there is is
+/// younger. An S frame is due from the moment on at which the oldest received frame is t2 old, or w
+/// have come, and not before. Where none is, a test is due if no frame has come for t3 and no test
+/// is out, and else nothing is (5.2, 5.5).
 pub fn timers_run_as_set()
     ensures frame { (t1 now : ℕ) (h : History) (oldest : Unacknowledged)
         (others : List Unacknowledged) → still_unacknowledged h ≡ oldest ∷ others →
         oldest.moment + t1 ≤ now → has_timed_out t1 now h ≡ true }
     ensures test { (t1 now moment : ℕ) (h : History) → outstanding_test h ≡ Some moment →
         moment + t1 ≤ now → has_timed_out t1 now h ≡ true }
-    ensures not_yet { (t1 now : ℕ) (h : History) (oldest : Unacknowledged)
-        (others : List Unacknowledged) → still_unacknowledged h ≡ oldest ∷ others →
-        outstanding_test h ≡ None → now < oldest.moment + t1 → oldest.moment ≤ now →
+    ensures not_yet { (t1 now : ℕ) (h : History) →
+        AllByRecursion (λ frame. now - frame.moment < t1) (take 1 (still_unacknowledged h)) →
+        AllByRecursion (λ moment. now - moment < t1) (option_to_list (outstanding_test h)) →
         has_timed_out t1 now h ≡ false }
     ensures t2 { (w t2 t3 now moment : ℕ) (h : History) (others : List ℕ) →
         unconfirmed_moments h ≡ moment ∷ others → moment + t2 ≤ now →
         frame_due w t2 t3 now h ≡ Some (acknowledgement_of h) }
     ensures w { (w t2 t3 now : ℕ) (h : History) → w ≤ length (unconfirmed_moments h) →
         frame_due w t2 t3 now h ≡ Some (acknowledgement_of h) }
-    ensures early { (w t2 now moment : ℕ) (h : History) (others : List ℕ) →
-        unconfirmed_moments h ≡ moment ∷ others → length (unconfirmed_moments h) < w →
-        now < moment + t2 → moment ≤ now → is_acknowledgement_due w t2 now h ≡ false }
-    ensures t3 { (w t2 t3 now : ℕ) (h : History) → 0 < w → is_open_history h ≡ true →
-        unconfirmed_moments h ≡ [] → outstanding_test h ≡ None → last_frame h + t3 ≤ now →
+    ensures early { (w t2 now : ℕ) (h : History) → length (unconfirmed_moments h) < w →
+        AllByRecursion (λ moment. now - moment < t2) (take 1 (unconfirmed_moments h)) →
+        is_acknowledgement_due w t2 now h ≡ false }
+    ensures t3 { (w t2 t3 now : ℕ) (h : History) → is_acknowledgement_due w t2 now h ≡ false →
+        is_open_history h ≡ true → outstanding_test h ≡ None → last_frame h + t3 ≤ now →
         frame_due w t2 t3 now h ≡ Some (U TestAct) }
-    ensures no_test { (w t2 t3 now : ℕ) (h : History) → 0 < w → unconfirmed_moments h ≡ [] →
-        now < last_frame h + t3 → last_frame h ≤ now → frame_due w t2 t3 now h ≡ None }
+    ensures no_test { (w t2 t3 now : ℕ) (h : History) →
+        is_acknowledgement_due w t2 now h ≡ false → now - last_frame h < t3 →
+        frame_due w t2 t3 now h ≡ None }
+    ensures one_test { (w t2 t3 now moment : ℕ) (h : History) →
+        is_acknowledgement_due w t2 now h ≡ false → outstanding_test h ≡ Some moment →
+        frame_due w t2 t3 now h ≡ None }
 {}
 
 /// Data transfer runs from a STARTDT act that came until a STOPDT act comes, whatever else comes or
@@ -291,6 +298,22 @@ pub fn frames_are_taken_in_sequence()
         (verdict_on (S nr) h ≡ Nothing → AcknowledgesSent nr h)
         × (AcknowledgesSent nr h → verdict_on (S nr) h ≡ Nothing) }
     ensures function { (f : Uf) (h : History) → verdict_on (U f) h ≡ Nothing }
+{}
+
+/// A frame that isn't taken has the cause of its first fault. An I frame has `Stopped` where data
+/// transfer doesn't run; else `SendNumber` where its N(S) isn't the count of the I frames that
+/// came, modulo 32768; else `ReceiveNumber` where its N(R) acknowledges a frame twice or one that
+/// wasn't sent. For an S frame that is the only cause (5.1, 5.3).
+pub fn each_close_has_its_cause()
+    ensures stopped { (ns nr : ℕ) (asdu : ArrayVec ℕ) (h : History) → is_started h ≡ false →
+        verdict_on (I ns nr asdu) h ≡ Close Stopped }
+    ensures send_number { (ns nr : ℕ) (asdu : ArrayVec ℕ) (h : History) → is_started h ≡ true →
+        (ns ≡ received_count h % 32768 → ⊥) → verdict_on (I ns nr asdu) h ≡ Close SendNumber }
+    ensures receive_number { (ns nr : ℕ) (asdu : ArrayVec ℕ) (h : History) →
+        is_started h ≡ true → ns ≡ received_count h % 32768 → (AcknowledgesSent nr h → ⊥) →
+        verdict_on (I ns nr asdu) h ≡ Close ReceiveNumber }
+    ensures supervisory { (nr : ℕ) (h : History) → (AcknowledgesSent nr h → ⊥) →
+        verdict_on (S nr) h ≡ Close ReceiveNumber }
 {}
 
 /// Connections worked by hand: which numbers frames bear and when they may go out, what a frame
