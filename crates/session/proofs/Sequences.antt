@@ -75,6 +75,22 @@ latest_supervisory since before nr now none =
     (Came (S nr) now ∷ before) none)
     ∙ reached_equal (acknowledged_count before) nr
 
+pub least_data : (since before : History) (ns nr now : ℕ) (asdu : ArrayVec ℕ)
+    → HasNo bears_receive_number since
+    → acknowledged_count (since ++ Came (I ns nr asdu) now ∷ before)
+    ≡ reached (acknowledged_count before) nr
+least_data since before ns nr now asdu none =
+    through acknowledged_count bears_receive_number acknowledged_step since
+    (Came (I ns nr asdu) now ∷ before) none
+
+pub least_supervisory : (since before : History) (nr now : ℕ)
+    → HasNo bears_receive_number since
+    → acknowledged_count (since ++ Came (S nr) now ∷ before)
+    ≡ reached (acknowledged_count before) nr
+least_supervisory since before nr now none =
+    through acknowledged_count bears_receive_number acknowledged_step since
+    (Came (S nr) now ∷ before) none
+
 -- ---- which frames are taken
 
 reaches : (nr : ℕ) (h : History)

@@ -10,7 +10,7 @@ ghost use Rattle.session.specs.declared.kinds.FrameOrigin.{FrameOrigin};
 ghost use Rattle.session.specs.declared.kinds.Unacknowledged.{Unacknowledged};
 ghost use Rattle.session.specs.Session.{Session, is_open, is_transferring, may_send, refuses};
 ghost use Rattle.session.specs.Session.{outcome_of, timed_out, confirmed, pulled, sent, taken};
-ghost use Rattle.session.specs.Session.{from_queue};
+ghost use Rattle.session.specs.Session.{from_queue, opened, closed};
 ghost use Rattle.session.specs.declared.kinds.FrameOrigin.TheVariants.{Queue, Own};
 ghost use Rattle.session.specs.History.{IsNumbered, sent_frames, received_count, reached};
 ghost use Rattle.session.specs.History.{still_unacknowledged, is_started, verdict_on};
@@ -23,6 +23,7 @@ ghost use Rattle.apci.specs.declared.apdu.Apdu.TheVariants.{I, S, U};
 ghost use Rattle.apci.specs.declared.apdu.Uf.TheVariants.{StartAct, StartCon, StopAct, StopCon};
 ghost use Rattle.apci.specs.declared.apdu.Uf.TheVariants.{TestAct, TestCon};
 ghost use Rattle.session.specs.Laws.{AfterEachRun, Acknowledges, MatchesAcknowledged};
+ghost use Rattle.session.specs.Laws.{newly_acknowledged_by};
 ghost use Rattle.session.specs.Rules.{KeepsRules};
 ghost use Rattle.session.specs.SessionLaws.{SessionLaws};
 ghost use Rattle.session.specs.Ends.{after_confirm, after_pull, IsConfirmed, IsInTime, IsSilent};
@@ -52,11 +53,13 @@ pub fn reached_is_least()
     ensures least { (n nr m : ℕ) → n ≤ m → m % 32768 ≡ nr % 32768 → reached n nr ≤ m }
 {}
 
-/// The frames that go out bear the counts of the I frames sent and received, modulo 32768 (5.1).
+/// The frames that go out bear the counts of the I frames sent and received, modulo 32768; so does
+/// the S frame that is due (5.1).
 pub fn frames_are_numbered()
     ensures gone { AfterEachRun (λ p s h. IsNumbered h) }
     ensures next_sent { AfterEachRun (λ p s h. s.next_sent ≡ length (sent_frames h) % 32768) }
     ensures next_received { AfterEachRun (λ p s h. s.next_received ≡ received_count h % 32768) }
+    ensures supervisory { (h : History) → acknowledgement_of h ≡ S (received_count h % 32768) }
 {}
 
 /// At most k I frames are unacknowledged, and one may go out exactly where data transfer runs and
@@ -65,6 +68,18 @@ pub fn window_is_kept()
     ensures at_most_k { AfterEachRun (λ p s h. length (still_unacknowledged h) ≤ p.k) }
     ensures may_send { AfterEachRun (λ p s h.
         may_send s ≡ (is_started h && nat_lt (length (still_unacknowledged h)) p.k)) }
+{}
+
+/// Each I frame that went out is acknowledged once: the oldest are, as many as are counted, and the
+/// others wait. Of these a frame that comes acknowledges the oldest and leaves the others (5.1).
+pub fn frames_are_acknowledged_once()
+    ensures waiting { (h : History) →
+        take (acknowledged_count h) (sent_frames h) ++ still_unacknowledged h ≡ sent_frames h }
+    ensures left { (frame : Apdu) (now : ℕ) (h : History) →
+        newly_acknowledged_by frame h ++ still_unacknowledged (Came frame now ∷ h)
+        ≡ still_unacknowledged h }
+    ensures sent { AfterEachRun (λ p s h. acknowledged_count h ≤ length (sent_frames h)) }
+    ensures kept { AfterEachRun (λ p s h. s.unacknowledged ≡ still_unacknowledged h) }
 {}
 
 /// A frame closes the connection by the first of its faults, and else acknowledges what its N(R)
@@ -77,9 +92,12 @@ pub fn frames_are_judged()
         MatchesAcknowledged [] (taken frame now s) }
 {}
 
-/// A frame neither opens nor closes a connection, and without one nothing is due and nothing goes
-/// out.
+/// A connection is open from its opening on until it ends, whatever comes or goes out. A frame
+/// neither opens nor closes it, and without one nothing is due and nothing goes out.
 pub fn connections_begin_by_open()
+    ensures begins { (now : ℕ) (s : Session) → is_open (opened now s) ≡ true }
+    ensures ends { (s : Session) → is_open (closed s) ≡ false }
+    ensures is { AfterEachRun (λ p s h. is_open s ≡ is_open_history h) }
     ensures take { (frame : Apdu) (now : ℕ) (s : Session) →
         is_open (taken frame now s) ≡ is_open s }
     ensures without { (now : ℕ) (s : Session) → is_open s ≡ false → IsSilent now s }
@@ -199,7 +217,8 @@ pub fn data_transfer_runs_from_start_to_stop()
 
 /// Each STARTDT act and each TESTFR act asks for one confirmation, whatever the state of the
 /// connection, and each that goes out is one of these (5.2, 5.3). So a session confirms it at once:
-/// a second STARTDT act too, and a TESTFR act that crosses one of its own.
+/// a second STARTDT act too, and a TESTFR act that crosses one of its own. A pending STOPDT act has
+/// its S frame before it, and where nothing is owed and no stop is pending nothing is due.
 pub fn each_act_is_confirmed()
     ensures due { (h : History) → confirmations_due h ≡ filter_map asks_for h }
     ensures gone { (h : History) → confirmations_sent h ≡ filter_map confirms h }
@@ -207,6 +226,13 @@ pub fn each_act_is_confirmed()
         (confirmed (taken (U StartAct) now s)).0 ≡ Some (U StartCon) }
     ensures test { (now : ℕ) (s : Session) → is_open s ≡ true → IsConfirmed s →
         (confirmed (taken (U TestAct) now s)).0 ≡ Some (U TestCon) }
+    ensures owed { (function : Uf) (h : History) → confirmation_owed h ≡ Some function →
+        is_stop_pending h ≡ false → confirmation_of h ≡ Some (U function) }
+    ensures owed_while_stopping { (function : Uf) (h : History) →
+        confirmation_owed h ≡ Some function → unconfirmed_moments h ≡ [] →
+        confirmation_of h ≡ Some (U function) }
+    ensures nothing { (h : History) → confirmation_owed h ≡ None → is_stop_pending h ≡ false →
+        confirmation_of h ≡ None }
 {}
 
 /// A STOPDT act is pending from when it came until a STOPDT con goes out or a STARTDT act comes,
@@ -231,6 +257,9 @@ pub fn a_stop_is_confirmed_once_all_is_acknowledged()
     ensures then { (h : History) → is_stop_pending h ≡ true →
         length (sent_frames h) ≤ acknowledged_count h → unconfirmed_moments h ≡ [] →
         confirmation_owed h ≡ None → confirmation_of h ≡ Some (U StopCon) }
+    ensures waits { (h : History) → is_stop_pending h ≡ true →
+        acknowledged_count h < length (sent_frames h) → unconfirmed_moments h ≡ [] →
+        confirmation_owed h ≡ None → confirmation_of h ≡ None }
     ensures supervisory { (h : History) → is_stop_pending h ≡ true →
         0 < length (unconfirmed_moments h) → confirmation_of h ≡ Some (acknowledgement_of h) }
 {}
@@ -254,6 +283,10 @@ pub fn silence_counts_from_the_latest_frame()
         last_frame (since ++ Refused now ∷ before) ≡ now }
     ensures opened { (since before : History) (now : ℕ) → HasNo breaks_silence since →
         last_frame (since ++ Opened now ∷ before) ≡ now }
+    ensures going { (frame : Apdu) (now : ℕ) (h : History) →
+        last_frame (Went frame now ∷ h) ≡ last_frame h }
+    ensures sending { (ns nr now : ℕ) (kind : FrameOrigin) (h : History) →
+        last_frame (Sent ns nr kind now ∷ h) ≡ last_frame h }
 {}
 
 /// The I frames that wait for an acknowledgement are all those that came since an I frame or an S
@@ -273,7 +306,7 @@ pub fn each_data_frame_counts()
 {}
 
 /// The latest N(R) says how many frames are acknowledged, modulo 32768, whatever comes or goes out
-/// behind it; without one none is (5.1).
+/// behind it: the least such number that isn't below the count before. Without one none is (5.1).
 pub fn the_latest_receive_number_counts()
     ensures data { (since before : History) (ns nr now : ℕ) (asdu : ArrayVec ℕ) →
         HasNo bears_receive_number since →
@@ -281,6 +314,14 @@ pub fn the_latest_receive_number_counts()
     ensures supervisory { (since before : History) (nr now : ℕ) →
         HasNo bears_receive_number since →
         acknowledged_count (since ++ Came (S nr) now ∷ before) % 32768 ≡ nr % 32768 }
+    ensures least_data { (since before : History) (ns nr now : ℕ) (asdu : ArrayVec ℕ) →
+        HasNo bears_receive_number since →
+        acknowledged_count (since ++ Came (I ns nr asdu) now ∷ before)
+        ≡ reached (acknowledged_count before) nr }
+    ensures least_supervisory { (since before : History) (nr now : ℕ) →
+        HasNo bears_receive_number since →
+        acknowledged_count (since ++ Came (S nr) now ∷ before)
+        ≡ reached (acknowledged_count before) nr }
     ensures at_first { (h : History) → HasNo bears_receive_number h →
         acknowledged_count h ≡ 0 }
 {}
