@@ -35,17 +35,17 @@ test t1 now moment h at late =
     (has_passed t1 now (moment_of (outstanding_test h)))
     (ap (λ (o : Option ℕ). has_passed t1 now (moment_of o)) at ∙ passed)
 
-young : (t1 now : ℕ) (frames : List Unacknowledged) (tested : Option ℕ)
+none_is_late : (t1 now : ℕ) (frames : List Unacknowledged) (tested : Option ℕ)
     → AllByRecursion (λ frame. now - frame.moment < t1) (take 1 frames)
     → AllByRecursion (λ moment. now - moment < t1) (option_to_list tested)
     → (has_passed t1 now (moments_of frames) || has_passed t1 now (moment_of tested)) ≡ false
-young t1 now [] None frames_young test_young = refl
-young t1 now [] (Some moment) frames_young test_young = lt-leb t1 (now - moment) test_young.0
-young t1 now (oldest ∷ others) None frames_young test_young =
+none_is_late t1 now [] None frames_young test_young = refl
+none_is_late t1 now [] (Some moment) frames_young test_young = lt-leb t1 (now - moment) test_young.0
+none_is_late t1 now (oldest ∷ others) None frames_young test_young =
     let waits : nat_le t1 (now - oldest.moment) ≡ false =
     lt-leb t1 (now - oldest.moment) frames_young.0 in
     rw waits refl
-young t1 now (oldest ∷ others) (Some moment) frames_young test_young =
+none_is_late t1 now (oldest ∷ others) (Some moment) frames_young test_young =
     let waits : nat_le t1 (now - oldest.moment) ≡ false =
     lt-leb t1 (now - oldest.moment) frames_young.0 in
     let tested : nat_le t1 (now - moment) ≡ false = lt-leb t1 (now - moment) test_young.0 in
@@ -55,7 +55,7 @@ pub not_yet : (t1 now : ℕ) (h : History)
     → AllByRecursion (λ frame. now - frame.moment < t1) (take 1 (still_unacknowledged h))
     → AllByRecursion (λ moment. now - moment < t1) (option_to_list (outstanding_test h))
     → has_timed_out t1 now h ≡ false
-not_yet t1 now h = young t1 now (still_unacknowledged h) (outstanding_test h)
+not_yet t1 now h = none_is_late t1 now (still_unacknowledged h) (outstanding_test h)
 
 pub t2_due : (w t2 t3 now moment : ℕ) (h : History) (others : List ℕ)
     → unconfirmed_moments h ≡ moment ∷ others
@@ -124,15 +124,15 @@ soon false b c is = refl
 pub no_test : (w t2 t3 now : ℕ) (h : History) → is_acknowledgement_due w t2 now h ≡ false
     → now - last_frame h < t3
     → frame_due w t2 t3 now h ≡ None
-no_test w t2 t3 now h undue young =
+no_test w t2 t3 now h undue recent =
     other_due (is_acknowledgement_due w t2 now h) (is_test_due t3 now h) (acknowledgement_of h)
     undue
     ∙ soon (is_open h) (is_none (outstanding_test h)) (nat_le t3 (now - last_frame h))
-    (lt-leb t3 (now - last_frame h) young)
+    (lt-leb t3 (now - last_frame h) recent)
 
-tested : (a b c : Bool) → b ≡ false → (if a && b && c then Some (U TestAct) else None) ≡ None
-tested true b c is = rw is refl
-tested false b c is = refl
+one_out : (a b c : Bool) → b ≡ false → (if a && b && c then Some (U TestAct) else None) ≡ None
+one_out true b c is = rw is refl
+one_out false b c is = refl
 
 pub one_test : (w t2 t3 now moment : ℕ) (h : History) → is_acknowledgement_due w t2 now h ≡ false
     → outstanding_test h ≡ Some moment
@@ -140,5 +140,5 @@ pub one_test : (w t2 t3 now moment : ℕ) (h : History) → is_acknowledgement_d
 one_test w t2 t3 now moment h undue out =
     other_due (is_acknowledgement_due w t2 now h) (is_test_due t3 now h) (acknowledgement_of h)
     undue
-    ∙ tested (is_open h) (is_none (outstanding_test h)) (nat_le t3 (now - last_frame h))
+    ∙ one_out (is_open h) (is_none (outstanding_test h)) (nat_le t3 (now - last_frame h))
     (ap (λ (o : Option ℕ). is_none o) out)

@@ -213,6 +213,9 @@ pub fn data_transfer_runs_from_start_to_stop()
     ensures stopped { (since before : History) (now : ℕ) → HasNo switches since →
         is_started (since ++ Came (U StopAct) now ∷ before) ≡ false }
     ensures at_first { (h : History) → HasNo switches h → is_started h ≡ false }
+    ensures others { (now : ℕ) (h : History) →
+        AllByRecursion (λ function. is_started (Came (U function) now ∷ h) ≡ is_started h)
+        (StartCon ∷ StopCon ∷ TestAct ∷ TestCon ∷ []) }
 {}
 
 /// Each STARTDT act and each TESTFR act asks for one confirmation, whatever the state of the
@@ -245,6 +248,9 @@ pub fn a_stop_is_pending_until_its_confirmation()
     ensures forgotten { (since before : History) (now : ℕ) → HasNo is_about_a_stop since →
         is_stop_pending (since ++ Came (U StartAct) now ∷ before) ≡ false }
     ensures at_first { (h : History) → HasNo is_about_a_stop h → is_stop_pending h ≡ false }
+    ensures others { (now : ℕ) (h : History) →
+        AllByRecursion (λ function. is_stop_pending (Came (U function) now ∷ h)
+        ≡ is_stop_pending h) (StartCon ∷ StopCon ∷ TestAct ∷ TestCon ∷ []) }
 {}
 
 /// A STOPDT con goes out once each I frame that went out is acknowledged, own answers too, and each
@@ -272,6 +278,9 @@ pub fn a_test_waits_for_its_confirmation()
     ensures answered { (since before : History) (now : ℕ) → HasNo is_about_a_test since →
         outstanding_test (since ++ Came (U TestCon) now ∷ before) ≡ None }
     ensures at_first { (h : History) → HasNo is_about_a_test h → outstanding_test h ≡ None }
+    ensures others { (now : ℕ) (h : History) →
+        AllByRecursion (λ function. outstanding_test (Came (U function) now ∷ h)
+        ≡ outstanding_test h) (StartAct ∷ StartCon ∷ StopAct ∷ StopCon ∷ TestAct ∷ []) }
 {}
 
 /// t3 counts from the latest frame that came, of whatever format, and from the opening where none
@@ -303,6 +312,13 @@ pub fn each_data_frame_counts()
         unconfirmed_moments h ≡ reverse (filter_map data_moment h) }
     ensures received { (h : History) → received_count h ≡ length (filter_map data_moment h) }
     ensures sent { (h : History) → sent_frames h ≡ reverse (filter_map data_sent h) }
+    ensures one_more_sent { (ns nr now : ℕ) (kind : FrameOrigin) (h : History) →
+        sent_frames (Sent ns nr kind now ∷ h)
+        ≡ sent_frames h ++ record { kind = kind; moment = now } ∷ [] }
+    ensures one_more_received { (ns nr now : ℕ) (asdu : ArrayVec ℕ) (h : History) →
+        received_count (Came (I ns nr asdu) now ∷ h) ≡ suc (received_count h) }
+    ensures one_more_waits { (ns nr now : ℕ) (asdu : ArrayVec ℕ) (h : History) →
+        unconfirmed_moments (Came (I ns nr asdu) now ∷ h) ≡ unconfirmed_moments h ++ now ∷ [] }
 {}
 
 /// The latest N(R) says how many frames are acknowledged, modulo 32768, whatever comes or goes out
