@@ -172,10 +172,10 @@ pub fn origins_are_counted_apart()
 {}
 
 /// Whatever t1, t2, t3 and w are set to: t1 has run out from the moment on at which the oldest
-/// unacknowledged frame, or the test, is so old, and not while each of them that there is is
-/// younger. An S frame is due from the moment on at which the oldest received frame is t2 old, or w
-/// have come, and not before. Where none is, a test is due if no frame has come for t3 and no test
-/// is out, and else nothing is (5.2, 5.5).
+/// unacknowledged frame, or the test, is so old. While both are younger, or there is none, it
+/// hasn't. An S frame is due from the moment on at which the oldest received frame is t2 old, or w
+/// have come, and not before. Where no S frame is, a test is due if no frame has come for t3 and
+/// no test is out. Else nothing is due (5.2, 5.5).
 pub fn timers_run_as_set()
     ensures frame { (t1 now : ℕ) (h : History) (oldest : Unacknowledged)
         (others : List Unacknowledged) → still_unacknowledged h ≡ oldest ∷ others →
@@ -206,7 +206,8 @@ pub fn timers_run_as_set()
 {}
 
 /// Data transfer runs from a STARTDT act that came until a STOPDT act comes, whatever else comes or
-/// goes out between them, and not before the first STARTDT act (5.3).
+/// goes out between them, and not before the first STARTDT act. No other U frame starts or stops it
+/// (5.3).
 pub fn data_transfer_runs_from_start_to_stop()
     ensures started { (since before : History) (now : ℕ) → HasNo switches since →
         is_started (since ++ Came (U StartAct) now ∷ before) ≡ true }
@@ -358,9 +359,9 @@ pub fn frames_are_taken_in_sequence()
 {}
 
 /// A frame that isn't taken has the cause of its first fault. An I frame has `Stopped` where data
-/// transfer doesn't run; else `SendNumber` where its N(S) isn't the count of the I frames that
-/// came, modulo 32768; else `ReceiveNumber` where its N(R) acknowledges a frame twice or one that
-/// wasn't sent. For an S frame that is the only cause (5.1, 5.3).
+/// transfer doesn't run. It has `SendNumber` where it runs, but N(S) isn't the count of the I
+/// frames that came, modulo 32768. It has `ReceiveNumber` where only N(R) is wrong: it acknowledges
+/// a frame twice, or one that wasn't sent. An S frame has no other cause than this (5.1, 5.3).
 pub fn each_close_has_its_cause()
     ensures stopped { (ns nr : ℕ) (asdu : ArrayVec ℕ) (h : History) → is_started h ≡ false →
         verdict_on (I ns nr asdu) h ≡ Close Stopped }
