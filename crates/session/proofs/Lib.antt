@@ -11,3 +11,4 @@ pub mod Timers
 pub mod Saying
 pub mod Sequences
 pub mod Stops
+pub mod Acknowledged

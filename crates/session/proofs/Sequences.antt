@@ -4,7 +4,7 @@ use Rattle.std.proofs.Common.{nat_le}
 use Rattle.std.proofs.Common.{nat_lt, List, [], ◌∷◌, ◌++◌, length, Option, Some, None, refl, ap}
 use Rattle.std.proofs.Common.{sym}
 use Rattle.std.proofs.Common.{◌∙◌, arith}
-use Rattle.std.proofs.lemmas.Bool.{le-leb, leb-true, eqb-true, eq-eqb}
+use Rattle.std.proofs.lemmas.Bool.{le-leb, leb-true, eqb-true, eq-eqb, ne_eqb}
 use Rattle.arrayvec.specs.ArrayVec.{ArrayVec}
 use Rattle.apci.specs.declared.apdu.Apdu.{Apdu}
 use Rattle.apci.specs.declared.apdu.Apdu.TheVariants.{I, S, U}
@@ -75,6 +75,22 @@ latest_supervisory since before nr now none =
     (Came (S nr) now ∷ before) none)
     ∙ reached_equal (acknowledged_count before) nr
 
+pub least_data : (since before : History) (ns nr now : ℕ) (asdu : ArrayVec ℕ)
+    → HasNo bears_receive_number since
+    → acknowledged_count (since ++ Came (I ns nr asdu) now ∷ before)
+    ≡ reached (acknowledged_count before) nr
+least_data since before ns nr now asdu none =
+    through acknowledged_count bears_receive_number acknowledged_step since
+    (Came (I ns nr asdu) now ∷ before) none
+
+pub least_supervisory : (since before : History) (nr now : ℕ)
+    → HasNo bears_receive_number since
+    → acknowledged_count (since ++ Came (S nr) now ∷ before)
+    ≡ reached (acknowledged_count before) nr
+least_supervisory since before nr now none =
+    through acknowledged_count bears_receive_number acknowledged_step since
+    (Came (S nr) now ∷ before) none
+
 -- ---- which frames are taken
 
 reaches : (nr : ℕ) (h : History)
@@ -137,3 +153,43 @@ supervisory_taken nr h = (
       (one_of_them (nat_le (reached (acknowledged_count h) nr) (length (sent_frames h))) is),
   λ a. ap (λ (b : Bool). cond (not b) (Close ReceiveNumber) Nothing) (reached_by nr h a),
 )
+
+-- ---- the causes of a close
+
+not_valid : (b : Bool) → (b ≡ true → ⊥) → b ≡ false
+not_valid true never = absurd (never refl)
+not_valid false never = refl
+
+unreached : (nr : ℕ) (h : History) → (Acknowledges nr h → ⊥)
+    → nat_le (reached (acknowledged_count h) nr) (length (sent_frames h)) ≡ false
+unreached nr h never = not_valid
+    (nat_le (reached (acknowledged_count h) nr) (length (sent_frames h)))
+    (λ within. never (reaches nr h within))
+
+pub stopped : (ns nr : ℕ) (asdu : ArrayVec ℕ) (h : History) → is_started h ≡ false
+    → verdict_on (I ns nr asdu) h ≡ Close Stopped
+stopped ns nr asdu h runs_not = rw runs_not refl
+
+pub send_number : (ns nr : ℕ) (asdu : ArrayVec ℕ) (h : History) → is_started h ≡ true
+    → (ns ≡ received_count h % 32768 → ⊥)
+    → verdict_on (I ns nr asdu) h ≡ Close SendNumber
+send_number ns nr asdu h runs other =
+    let differs : (ns == received_count h % 32768) ≡ false =
+    ne_eqb ns (received_count h % 32768) other in
+    rw (runs, differs) refl
+
+pub receive_number : (ns nr : ℕ) (asdu : ArrayVec ℕ) (h : History) → is_started h ≡ true
+    → ns ≡ received_count h % 32768
+    → (Acknowledges nr h → ⊥)
+    → verdict_on (I ns nr asdu) h ≡ Close ReceiveNumber
+receive_number ns nr asdu h runs next never =
+    let beyond : nat_le (reached (acknowledged_count h) nr) (length (sent_frames h)) ≡ false =
+    unreached nr h never in
+    let same : (ns == received_count h % 32768) ≡ true =
+    eq-eqb ns (received_count h % 32768) next in
+    rw (runs, same, beyond) refl
+
+pub supervisory_number : (nr : ℕ) (h : History) → (Acknowledges nr h → ⊥)
+    → verdict_on (S nr) h ≡ Close ReceiveNumber
+supervisory_number nr h never =
+    ap (λ (b : Bool). cond (not b) (Close ReceiveNumber) Nothing) (unreached nr h never)

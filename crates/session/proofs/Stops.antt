@@ -2,7 +2,7 @@
 use Rattle.std.proofs.Common.{◌≡◌, ℕ, ◌-◌, ◌≤◌, ◌<◌, ◌==◌, ◌&&◌, Bool, true, false, cond, nat_lt}
 use Rattle.std.proofs.Common.{List}
 use Rattle.std.proofs.Common.{[], ◌∷◌, length, drop, Option, Some, None, refl, ap, sym, ◌∙◌, arith}
-use Rattle.std.proofs.lemmas.Bool.{eqb-true, eq-eqb, ltb-false, lt-ltb}
+use Rattle.std.proofs.lemmas.Bool.{eqb-true, eq-eqb, ne_eqb, ltb-false, lt-ltb}
 use Rattle.std.proofs.lemmas.List.{length-drop, nil_from_length}
 use Rattle.apci.specs.declared.apdu.Apdu.{Apdu}
 use Rattle.apci.specs.declared.apdu.Apdu.TheVariants.{I, S, U}
@@ -96,3 +96,36 @@ supervisory h pending some =
     let more : nat_lt 0 (length (unconfirmed_moments h)) ≡ true =
     lt-ltb 0 (length (unconfirmed_moments h)) some in
     rw (pending, more) refl
+
+pub waits : (h : History) → is_stop_pending h ≡ true
+    → acknowledged_count h < length (sent_frames h)
+    → unconfirmed_moments h ≡ []
+    → confirmation_owed h ≡ None
+    → confirmation_of h ≡ None
+waits h pending some none due_not =
+    let left : (length (still_unacknowledged h) == 0) ≡ false =
+    ne_eqb (length (still_unacknowledged h)) 0
+    (λ e. absurd (omega (arith, e, some, length-drop (acknowledged_count h) (sent_frames h)))) in
+    rw (pending, none, due_not, left) refl
+
+pub owed : (function : Uf) (h : History) → confirmation_owed h ≡ Some function
+    → is_stop_pending h ≡ false
+    → confirmation_of h ≡ Some (U function)
+owed function h due pending_not = rw (pending_not, due) refl
+
+no_frame : (b : Bool) (due : Apdu) (moments : List ℕ) (other : Option Apdu) → moments ≡ []
+    → cond (b && nat_lt 0 (length moments)) (Some due) other ≡ other
+no_frame true due moments other none = rw none refl
+no_frame false due moments other none = refl
+
+pub owed_while_stopping : (function : Uf) (h : History) → confirmation_owed h ≡ Some function
+    → unconfirmed_moments h ≡ []
+    → confirmation_of h ≡ Some (U function)
+owed_while_stopping function h due none =
+    no_frame (is_stop_pending h) (acknowledgement_of h) (unconfirmed_moments h)
+    (function_of (confirmation_owed h) (stop_confirmation_of h)) none
+    ∙ ap (λ (owed : Option Uf). function_of owed (stop_confirmation_of h)) due
+
+pub nothing : (h : History) → confirmation_owed h ≡ None → is_stop_pending h ≡ false
+    → confirmation_of h ≡ None
+nothing h due_not pending_not = rw (pending_not, due_not) refl

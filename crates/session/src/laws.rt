@@ -10,7 +10,7 @@ ghost use Rattle.session.specs.declared.kinds.FrameOrigin.{FrameOrigin};
 ghost use Rattle.session.specs.declared.kinds.Unacknowledged.{Unacknowledged};
 ghost use Rattle.session.specs.Session.{Session, is_open, is_transferring, may_send, refuses};
 ghost use Rattle.session.specs.Session.{outcome_of, timed_out, confirmed, pulled, sent, taken};
-ghost use Rattle.session.specs.Session.{from_queue};
+ghost use Rattle.session.specs.Session.{from_queue, opened, closed};
 ghost use Rattle.session.specs.declared.kinds.FrameOrigin.TheVariants.{Queue, Own};
 ghost use Rattle.session.specs.History.{IsNumbered, sent_frames, received_count, reached};
 ghost use Rattle.session.specs.History.{still_unacknowledged, is_started, verdict_on};
@@ -23,6 +23,7 @@ ghost use Rattle.apci.specs.declared.apdu.Apdu.TheVariants.{I, S, U};
 ghost use Rattle.apci.specs.declared.apdu.Uf.TheVariants.{StartAct, StartCon, StopAct, StopCon};
 ghost use Rattle.apci.specs.declared.apdu.Uf.TheVariants.{TestAct, TestCon};
 ghost use Rattle.session.specs.Laws.{AfterEachRun, Acknowledges, MatchesAcknowledged};
+ghost use Rattle.session.specs.Laws.{newly_acknowledged_by};
 ghost use Rattle.session.specs.Rules.{KeepsRules};
 ghost use Rattle.session.specs.SessionLaws.{SessionLaws};
 ghost use Rattle.session.specs.Ends.{after_confirm, after_pull, IsConfirmed, IsInTime, IsSilent};
@@ -30,10 +31,12 @@ ghost use Rattle.session.specs.Ends.{AreInOrder};
 ghost use Rattle.session.specs.Examples.{IsRight, number_examples, transfer_examples};
 ghost use Rattle.session.specs.Examples.{timer_examples};
 ghost use Rattle.std.specs.List.{AllByRecursion, filter_map};
-ghost use Rattle.std.specs.Prelude.{reverse};
+ghost use Rattle.std.specs.Prelude.{reverse, take, ◌-◌};
 ghost use Rattle.arrayvec.specs.ArrayVec.{ArrayVec};
 ghost use Rattle.apci.specs.declared.apdu.Uf.{Uf};
-ghost use Rattle.session.specs.declared.kinds.Taken.TheVariants.{Nothing, Asdu};
+ghost use Rattle.session.specs.declared.kinds.Taken.TheVariants.{Nothing, Asdu, Close};
+ghost use Rattle.session.specs.declared.kinds.Close.TheVariants.{SendNumber, ReceiveNumber};
+ghost use Rattle.session.specs.declared.kinds.Close.TheVariants.{Stopped};
 ghost use Rattle.session.specs.History.{Opened, Came, Refused, Sent, Went, acknowledged_count};
 ghost use Rattle.session.specs.History.{is_stop_pending};
 ghost use Rattle.session.specs.Said.{HasNo, switches, is_about_a_stop, is_about_a_test};
@@ -50,11 +53,13 @@ pub fn reached_is_least()
     ensures least { (n nr m : ℕ) → n ≤ m → m % 32768 ≡ nr % 32768 → reached n nr ≤ m }
 {}
 
-/// The frames that go out bear the counts of the I frames sent and received, modulo 32768 (5.1).
+/// The frames that go out bear the counts of the I frames sent and received, modulo 32768; so does
+/// the S frame that is due (5.1).
 pub fn frames_are_numbered()
     ensures gone { AfterEachRun (λ p s h. IsNumbered h) }
     ensures next_sent { AfterEachRun (λ p s h. s.next_sent ≡ length (sent_frames h) % 32768) }
     ensures next_received { AfterEachRun (λ p s h. s.next_received ≡ received_count h % 32768) }
+    ensures supervisory { (h : History) → acknowledgement_of h ≡ S (received_count h % 32768) }
 {}
 
 /// At most k I frames are unacknowledged, and one may go out exactly where data transfer runs and
@@ -63,6 +68,18 @@ pub fn window_is_kept()
     ensures at_most_k { AfterEachRun (λ p s h. length (still_unacknowledged h) ≤ p.k) }
     ensures may_send { AfterEachRun (λ p s h.
         may_send s ≡ (is_started h && nat_lt (length (still_unacknowledged h)) p.k)) }
+{}
+
+/// Each I frame that went out is acknowledged once: the oldest are, as many as are counted, and the
+/// others wait. Of these a frame that comes acknowledges the oldest and leaves the others (5.1).
+pub fn frames_are_acknowledged_once()
+    ensures waiting { (h : History) →
+        take (acknowledged_count h) (sent_frames h) ++ still_unacknowledged h ≡ sent_frames h }
+    ensures left { (frame : Apdu) (now : ℕ) (h : History) →
+        newly_acknowledged_by frame h ++ still_unacknowledged (Came frame now ∷ h)
+        ≡ still_unacknowledged h }
+    ensures sent { AfterEachRun (λ p s h. acknowledged_count h ≤ length (sent_frames h)) }
+    ensures kept { AfterEachRun (λ p s h. s.unacknowledged ≡ still_unacknowledged h) }
 {}
 
 /// A frame closes the connection by the first of its faults, and else acknowledges what its N(R)
@@ -75,9 +92,12 @@ pub fn frames_are_judged()
         MatchesAcknowledged [] (taken frame now s) }
 {}
 
-/// A frame neither opens nor closes a connection, and without one nothing is due and nothing goes
-/// out.
+/// A connection is open from its opening on until it ends, whatever comes or goes out. A frame
+/// neither opens nor closes it, and without one nothing is due and nothing goes out.
 pub fn connections_begin_by_open()
+    ensures begins { (now : ℕ) (s : Session) → is_open (opened now s) ≡ true }
+    ensures ends { (s : Session) → is_open (closed s) ≡ false }
+    ensures is { AfterEachRun (λ p s h. is_open s ≡ is_open_history h) }
     ensures take { (frame : Apdu) (now : ℕ) (s : Session) →
         is_open (taken frame now s) ≡ is_open s }
     ensures without { (now : ℕ) (s : Session) → is_open s ≡ false → IsSilent now s }
@@ -152,47 +172,57 @@ pub fn origins_are_counted_apart()
 {}
 
 /// Whatever t1, t2, t3 and w are set to: t1 has run out from the moment on at which the oldest
-/// unacknowledged frame, or the test, is so old, and not before. An S frame is due from the moment
-/// on at which the oldest received frame is t2 old, or w have come, and not before; and a test if
-/// no frame has come for t3 (5.2, 5.5).
+/// unacknowledged frame, or the test, is so old. While both are younger, or there is none, it
+/// hasn't. An S frame is due from the moment on at which the oldest received frame is t2 old, or w
+/// have come, and not before. Where no S frame is, a test is due if no frame has come for t3 and
+/// no test is out. Else nothing is due (5.2, 5.5).
 pub fn timers_run_as_set()
     ensures frame { (t1 now : ℕ) (h : History) (oldest : Unacknowledged)
         (others : List Unacknowledged) → still_unacknowledged h ≡ oldest ∷ others →
         oldest.moment + t1 ≤ now → has_timed_out t1 now h ≡ true }
     ensures test { (t1 now moment : ℕ) (h : History) → outstanding_test h ≡ Some moment →
         moment + t1 ≤ now → has_timed_out t1 now h ≡ true }
-    ensures not_yet { (t1 now : ℕ) (h : History) (oldest : Unacknowledged)
-        (others : List Unacknowledged) → still_unacknowledged h ≡ oldest ∷ others →
-        outstanding_test h ≡ None → now < oldest.moment + t1 → oldest.moment ≤ now →
+    ensures not_yet { (t1 now : ℕ) (h : History) →
+        AllByRecursion (λ frame. now - frame.moment < t1) (take 1 (still_unacknowledged h)) →
+        AllByRecursion (λ moment. now - moment < t1) (option_to_list (outstanding_test h)) →
         has_timed_out t1 now h ≡ false }
     ensures t2 { (w t2 t3 now moment : ℕ) (h : History) (others : List ℕ) →
         unconfirmed_moments h ≡ moment ∷ others → moment + t2 ≤ now →
         frame_due w t2 t3 now h ≡ Some (acknowledgement_of h) }
     ensures w { (w t2 t3 now : ℕ) (h : History) → w ≤ length (unconfirmed_moments h) →
         frame_due w t2 t3 now h ≡ Some (acknowledgement_of h) }
-    ensures early { (w t2 now moment : ℕ) (h : History) (others : List ℕ) →
-        unconfirmed_moments h ≡ moment ∷ others → length (unconfirmed_moments h) < w →
-        now < moment + t2 → moment ≤ now → is_acknowledgement_due w t2 now h ≡ false }
-    ensures t3 { (w t2 t3 now : ℕ) (h : History) → 0 < w → is_open_history h ≡ true →
-        unconfirmed_moments h ≡ [] → outstanding_test h ≡ None → last_frame h + t3 ≤ now →
+    ensures early { (w t2 now : ℕ) (h : History) → length (unconfirmed_moments h) < w →
+        AllByRecursion (λ moment. now - moment < t2) (take 1 (unconfirmed_moments h)) →
+        is_acknowledgement_due w t2 now h ≡ false }
+    ensures t3 { (w t2 t3 now : ℕ) (h : History) → is_acknowledgement_due w t2 now h ≡ false →
+        is_open_history h ≡ true → outstanding_test h ≡ None → last_frame h + t3 ≤ now →
         frame_due w t2 t3 now h ≡ Some (U TestAct) }
-    ensures no_test { (w t2 t3 now : ℕ) (h : History) → 0 < w → unconfirmed_moments h ≡ [] →
-        now < last_frame h + t3 → last_frame h ≤ now → frame_due w t2 t3 now h ≡ None }
+    ensures no_test { (w t2 t3 now : ℕ) (h : History) →
+        is_acknowledgement_due w t2 now h ≡ false → now - last_frame h < t3 →
+        frame_due w t2 t3 now h ≡ None }
+    ensures one_test { (w t2 t3 now moment : ℕ) (h : History) →
+        is_acknowledgement_due w t2 now h ≡ false → outstanding_test h ≡ Some moment →
+        frame_due w t2 t3 now h ≡ None }
 {}
 
 /// Data transfer runs from a STARTDT act that came until a STOPDT act comes, whatever else comes or
-/// goes out between them, and not before the first STARTDT act (5.3).
+/// goes out between them, and not before the first STARTDT act. No other U frame starts or stops it
+/// (5.3).
 pub fn data_transfer_runs_from_start_to_stop()
     ensures started { (since before : History) (now : ℕ) → HasNo switches since →
         is_started (since ++ Came (U StartAct) now ∷ before) ≡ true }
     ensures stopped { (since before : History) (now : ℕ) → HasNo switches since →
         is_started (since ++ Came (U StopAct) now ∷ before) ≡ false }
     ensures at_first { (h : History) → HasNo switches h → is_started h ≡ false }
+    ensures others { (now : ℕ) (h : History) →
+        AllByRecursion (λ function. is_started (Came (U function) now ∷ h) ≡ is_started h)
+        (StartCon ∷ StopCon ∷ TestAct ∷ TestCon ∷ []) }
 {}
 
 /// Each STARTDT act and each TESTFR act asks for one confirmation, whatever the state of the
 /// connection, and each that goes out is one of these (5.2, 5.3). So a session confirms it at once:
-/// a second STARTDT act too, and a TESTFR act that crosses one of its own.
+/// a second STARTDT act too, and a TESTFR act that crosses one of its own. A pending STOPDT act has
+/// its S frame before it, and where nothing is owed and no stop is pending nothing is due.
 pub fn each_act_is_confirmed()
     ensures due { (h : History) → confirmations_due h ≡ filter_map asks_for h }
     ensures gone { (h : History) → confirmations_sent h ≡ filter_map confirms h }
@@ -200,6 +230,13 @@ pub fn each_act_is_confirmed()
         (confirmed (taken (U StartAct) now s)).0 ≡ Some (U StartCon) }
     ensures test { (now : ℕ) (s : Session) → is_open s ≡ true → IsConfirmed s →
         (confirmed (taken (U TestAct) now s)).0 ≡ Some (U TestCon) }
+    ensures owed { (function : Uf) (h : History) → confirmation_owed h ≡ Some function →
+        is_stop_pending h ≡ false → confirmation_of h ≡ Some (U function) }
+    ensures owed_while_stopping { (function : Uf) (h : History) →
+        confirmation_owed h ≡ Some function → unconfirmed_moments h ≡ [] →
+        confirmation_of h ≡ Some (U function) }
+    ensures nothing { (h : History) → confirmation_owed h ≡ None → is_stop_pending h ≡ false →
+        confirmation_of h ≡ None }
 {}
 
 /// A STOPDT act is pending from when it came until a STOPDT con goes out or a STARTDT act comes,
@@ -212,6 +249,9 @@ pub fn a_stop_is_pending_until_its_confirmation()
     ensures forgotten { (since before : History) (now : ℕ) → HasNo is_about_a_stop since →
         is_stop_pending (since ++ Came (U StartAct) now ∷ before) ≡ false }
     ensures at_first { (h : History) → HasNo is_about_a_stop h → is_stop_pending h ≡ false }
+    ensures others { (now : ℕ) (h : History) →
+        AllByRecursion (λ function. is_stop_pending (Came (U function) now ∷ h)
+        ≡ is_stop_pending h) (StartCon ∷ StopCon ∷ TestAct ∷ TestCon ∷ []) }
 {}
 
 /// A STOPDT con goes out once each I frame that went out is acknowledged, own answers too, and each
@@ -224,6 +264,9 @@ pub fn a_stop_is_confirmed_once_all_is_acknowledged()
     ensures then { (h : History) → is_stop_pending h ≡ true →
         length (sent_frames h) ≤ acknowledged_count h → unconfirmed_moments h ≡ [] →
         confirmation_owed h ≡ None → confirmation_of h ≡ Some (U StopCon) }
+    ensures waits { (h : History) → is_stop_pending h ≡ true →
+        acknowledged_count h < length (sent_frames h) → unconfirmed_moments h ≡ [] →
+        confirmation_owed h ≡ None → confirmation_of h ≡ None }
     ensures supervisory { (h : History) → is_stop_pending h ≡ true →
         0 < length (unconfirmed_moments h) → confirmation_of h ≡ Some (acknowledgement_of h) }
 {}
@@ -236,6 +279,9 @@ pub fn a_test_waits_for_its_confirmation()
     ensures answered { (since before : History) (now : ℕ) → HasNo is_about_a_test since →
         outstanding_test (since ++ Came (U TestCon) now ∷ before) ≡ None }
     ensures at_first { (h : History) → HasNo is_about_a_test h → outstanding_test h ≡ None }
+    ensures others { (now : ℕ) (h : History) →
+        AllByRecursion (λ function. outstanding_test (Came (U function) now ∷ h)
+        ≡ outstanding_test h) (StartAct ∷ StartCon ∷ StopAct ∷ StopCon ∷ TestAct ∷ []) }
 {}
 
 /// t3 counts from the latest frame that came, of whatever format, and from the opening where none
@@ -247,6 +293,10 @@ pub fn silence_counts_from_the_latest_frame()
         last_frame (since ++ Refused now ∷ before) ≡ now }
     ensures opened { (since before : History) (now : ℕ) → HasNo breaks_silence since →
         last_frame (since ++ Opened now ∷ before) ≡ now }
+    ensures going { (frame : Apdu) (now : ℕ) (h : History) →
+        last_frame (Went frame now ∷ h) ≡ last_frame h }
+    ensures sending { (ns nr now : ℕ) (kind : FrameOrigin) (h : History) →
+        last_frame (Sent ns nr kind now ∷ h) ≡ last_frame h }
 {}
 
 /// The I frames that wait for an acknowledgement are all those that came since an I frame or an S
@@ -263,10 +313,17 @@ pub fn each_data_frame_counts()
         unconfirmed_moments h ≡ reverse (filter_map data_moment h) }
     ensures received { (h : History) → received_count h ≡ length (filter_map data_moment h) }
     ensures sent { (h : History) → sent_frames h ≡ reverse (filter_map data_sent h) }
+    ensures one_more_sent { (ns nr now : ℕ) (kind : FrameOrigin) (h : History) →
+        sent_frames (Sent ns nr kind now ∷ h)
+        ≡ sent_frames h ++ record { kind = kind; moment = now } ∷ [] }
+    ensures one_more_received { (ns nr now : ℕ) (asdu : ArrayVec ℕ) (h : History) →
+        received_count (Came (I ns nr asdu) now ∷ h) ≡ suc (received_count h) }
+    ensures one_more_waits { (ns nr now : ℕ) (asdu : ArrayVec ℕ) (h : History) →
+        unconfirmed_moments (Came (I ns nr asdu) now ∷ h) ≡ unconfirmed_moments h ++ now ∷ [] }
 {}
 
 /// The latest N(R) says how many frames are acknowledged, modulo 32768, whatever comes or goes out
-/// behind it; without one none is (5.1).
+/// behind it: the least such number that isn't below the count before. Without one none is (5.1).
 pub fn the_latest_receive_number_counts()
     ensures data { (since before : History) (ns nr now : ℕ) (asdu : ArrayVec ℕ) →
         HasNo bears_receive_number since →
@@ -274,6 +331,14 @@ pub fn the_latest_receive_number_counts()
     ensures supervisory { (since before : History) (nr now : ℕ) →
         HasNo bears_receive_number since →
         acknowledged_count (since ++ Came (S nr) now ∷ before) % 32768 ≡ nr % 32768 }
+    ensures least_data { (since before : History) (ns nr now : ℕ) (asdu : ArrayVec ℕ) →
+        HasNo bears_receive_number since →
+        acknowledged_count (since ++ Came (I ns nr asdu) now ∷ before)
+        ≡ reached (acknowledged_count before) nr }
+    ensures least_supervisory { (since before : History) (nr now : ℕ) →
+        HasNo bears_receive_number since →
+        acknowledged_count (since ++ Came (S nr) now ∷ before)
+        ≡ reached (acknowledged_count before) nr }
     ensures at_first { (h : History) → HasNo bears_receive_number h →
         acknowledged_count h ≡ 0 }
 {}
@@ -291,6 +356,22 @@ pub fn frames_are_taken_in_sequence()
         (verdict_on (S nr) h ≡ Nothing → AcknowledgesSent nr h)
         × (AcknowledgesSent nr h → verdict_on (S nr) h ≡ Nothing) }
     ensures function { (f : Uf) (h : History) → verdict_on (U f) h ≡ Nothing }
+{}
+
+/// A frame that isn't taken has the cause of its first fault. An I frame has `Stopped` where data
+/// transfer doesn't run. It has `SendNumber` where it runs, but N(S) isn't the count of the I
+/// frames that came, modulo 32768. It has `ReceiveNumber` where only N(R) is wrong: it acknowledges
+/// a frame twice, or one that wasn't sent. An S frame has no other cause than this (5.1, 5.3).
+pub fn each_close_has_its_cause()
+    ensures stopped { (ns nr : ℕ) (asdu : ArrayVec ℕ) (h : History) → is_started h ≡ false →
+        verdict_on (I ns nr asdu) h ≡ Close Stopped }
+    ensures send_number { (ns nr : ℕ) (asdu : ArrayVec ℕ) (h : History) → is_started h ≡ true →
+        (ns ≡ received_count h % 32768 → ⊥) → verdict_on (I ns nr asdu) h ≡ Close SendNumber }
+    ensures receive_number { (ns nr : ℕ) (asdu : ArrayVec ℕ) (h : History) →
+        is_started h ≡ true → ns ≡ received_count h % 32768 → (AcknowledgesSent nr h → ⊥) →
+        verdict_on (I ns nr asdu) h ≡ Close ReceiveNumber }
+    ensures supervisory { (nr : ℕ) (h : History) → (AcknowledgesSent nr h → ⊥) →
+        verdict_on (S nr) h ≡ Close ReceiveNumber }
 {}
 
 /// Connections worked by hand: which numbers frames bear and when they may go out, what a frame

@@ -20,3 +20,12 @@ returns-clause-received c = received_one_by_one
 
 pub returns-clause-sent : goal.returns-clause-sent
 returns-clause-sent c = sent_one_by_one
+
+pub returns-clause-one_more_sent : goal.returns-clause-one_more_sent
+returns-clause-one_more_sent c = λ ns nr now kind h. refl
+
+pub returns-clause-one_more_received : goal.returns-clause-one_more_received
+returns-clause-one_more_received c = λ ns nr now asdu h. refl
+
+pub returns-clause-one_more_waits : goal.returns-clause-one_more_waits
+returns-clause-one_more_waits c = λ ns nr now asdu h. refl

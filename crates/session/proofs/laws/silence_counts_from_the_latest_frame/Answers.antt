@@ -1,4 +1,4 @@
-use Rattle.std.proofs.Common.{◌∷◌}
+use Rattle.std.proofs.Common.{◌∷◌, refl}
 use Rattle.session.specs.History.{Opened, Came, Refused, last_frame}
 use Rattle.session.specs.Said.{breaks_silence}
 use Rattle.session.proofs.Saying.{through, silence_step}
@@ -15,3 +15,9 @@ returns-clause-refused c = λ since before now none.
 pub returns-clause-opened : goal.returns-clause-opened
 returns-clause-opened c = λ since before now none.
     through last_frame breaks_silence silence_step since (Opened now ∷ before) none
+
+pub returns-clause-going : goal.returns-clause-going
+returns-clause-going c = λ frame now h. refl
+
+pub returns-clause-sending : goal.returns-clause-sending
+returns-clause-sending c = λ ns nr now kind h. refl

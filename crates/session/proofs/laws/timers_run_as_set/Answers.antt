@@ -1,4 +1,5 @@
 use Rattle.session.proofs.Timers.{frame, test, not_yet, t2_due, w_due, early, t3_due, no_test}
+use Rattle.session.proofs.Timers.{one_test}
 use Rattle.session.proofs.laws.timers_run_as_set.Goals as goal
 
 pub returns : goal.returns
@@ -11,4 +12,5 @@ returns c = record {
   early = early;
   t3 = t3_due;
   no_test = no_test;
+  one_test = one_test;
 }
