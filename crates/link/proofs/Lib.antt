@@ -36,6 +36,7 @@ pub mod Leaving
 pub mod Resting
 pub mod Flagging
 pub mod LatestFlags
+pub mod LatestLinks
 pub mod OneMore
 pub mod GapsReported
 pub mod EndedGaps

@@ -98,6 +98,7 @@ pub use laws::leave::{polls_wait_for_leave, rests_mean};
 pub use laws::life::{
     answers_show_what_waits, station_is_an_outstation, station_serves_each_request,
 };
+pub use laws::links::links_are_what_the_latest_exchange_makes_them;
 pub use laws::precedence::commands_go_before_polls;
 pub use laws::refinement::{
     commands_are_accepted, each_service_acts_once, frame_count_bits_alternate, reports_are_learnt,
