@@ -3,14 +3,14 @@ use Rattle.std.proofs.Common.{◌≡◌, ◌<◌, ℕ, List, map, length, Bool, 
 use Rattle.std.proofs.Common.{sym, ap, subst, ◌∙◌}
 use Rattle.std.specs.Prelude.{◌⊎◌, slice_get, option_map}
 use Rattle.std.proofs.Common.{inl, inr}
-use Rattle.std.proofs.lemmas.List.{get_or-set_same, get_or-set_other, length-set}
+use Rattle.std.proofs.lemmas.List.{get_or-set_same, get_or-set_other, length-set, length-map}
 use Rattle.std.proofs.lemmas.Option.{slice_get-map, get_or_from_slice_get}
 use Rattle.std.proofs.lemmas.Bool.{cases_eq}
 use Rattle.link.specs.Answers.{Asked, Status, Reset, Counted}
 use Rattle.link.specs.Procedure.{LinkSettings, Link, Down, Available, Next, Held, MaySend}
 use Rattle.link.specs.Procedure.{after_silence}
 use Rattle.link.specs.Turns.{StationState, no_station, station_at}
-use Rattle.link.specs.Primary.{Primary, Outstanding}
+use Rattle.link.specs.Primary.{Primary, Outstanding, station_down}
 use Rattle.link.specs.Matching.{IsAllowed}
 use Rattle.link.specs.declared.seat.ResumedStation.{ResumedStation}
 use Rattle.link.specs.Carried.{station_left, released_from, released, station_carried, seated}
@@ -123,3 +123,27 @@ flags_released p k = go p.outstanding
       set_view (λ (s : StationState). s.dfc) p.stations p.turn
           (station_left p.settings (station_at p.stations p.turn) o.request) refl k,
     )
+
+pub seats_number : (settings : LinkSettings) (seats : List ResumedStation) (p : Primary)
+    → length (reseated settings seats p).stations ≡ length seats
+seats_number settings seats p =
+    length-map (λ (s : ResumedStation). seated settings.retries s.address p.stations s.before) seats
+
+seated_address : (retries address : ℕ) (stations : List StationState) (before : Option ℕ)
+    → (seated retries address stations before).address ≡ address
+seated_address retries address stations None = refl
+seated_address retries address stations (Some k) = refl
+
+pub seats_address : (settings : LinkSettings) (seats : List ResumedStation) (p : Primary) (i : ℕ)
+    (seat : ResumedStation) → slice_get seats i ≡ Some seat
+    → (station_at (reseated settings seats p).stations i).address ≡ seat.address
+seats_address settings seats p i seat there =
+    ap (λ (s : StationState). s.address) (seats_stay settings seats p i seat there)
+    ∙ seated_address settings.retries seat.address p.stations seat.before
+
+pub seats_new : (settings : LinkSettings) (seats : List ResumedStation) (p : Primary) (i : ℕ)
+    (seat : ResumedStation) → slice_get seats i ≡ Some seat → seat.before ≡ None
+    → station_at (reseated settings seats p).stations i ≡ station_down seat.address
+seats_new settings seats p i seat there new =
+    seats_stay settings seats p i seat there
+    ∙ ap (λ (b : Option ℕ). seated settings.retries seat.address p.stations b) new

@@ -37,6 +37,8 @@ pub mod Resting
 pub mod Flagging
 pub mod LatestFlags
 pub mod LatestLinks
+pub mod Logging
+pub mod Stationed
 pub mod OneMore
 pub mod GapsReported
 pub mod EndedGaps

@@ -16,9 +16,7 @@ ghost use Rattle.link.specs.declared.outcome.Outcome.TheVariants as outcome;
 /// answers it, the exchange is over. Octets that aren't a whole frame yet say nothing, and with
 /// those that follow they say what all of them say at once. A request that goes out is awaited
 /// from that moment on, whichever station it is to, and the first octets that come are the first
-/// of its answer. Behind octets that begin no frame, or a frame that doesn't answer the request,
-/// nothing is heard any more until that is over, in whatever pieces it comes: an answer that comes
-/// late is no answer to the next request, nor is what stands behind it.
+/// of its answer.
 pub fn answers_are_heard()
     ensures asked { (p : Primary) (now : ℕ) (may_poll : Bool) (waiting : CommandsWaiting)
         (s : Sending) → sending p may_poll waiting ≡ Some s →
@@ -49,6 +47,12 @@ pub fn answers_are_heard()
         p.outstanding ≡ Some o → o.arrived ≡ Some before → front (before ++ first) ≡ More →
         received_outcome front (received front p first) second
         ≡ received_outcome front p (first ++ second) }
+{}
+
+/// Only what stands first is heard. Behind octets that begin no frame, or a whole frame that
+/// doesn't answer the request, nothing is heard of that request any more, in whatever pieces it
+/// comes. So an answer that comes too late, and what follows it, answers no later request.
+pub fn only_the_first_frame_is_heard()
     ensures noise { (front : List ℕ → Front) (p : Primary) (o : Outstanding)
         (before first last : List ℕ) (later : List (List ℕ)) (place : ℕ) (why : Why) →
         p.outstanding ≡ Some o → o.arrived ≡ Some before →

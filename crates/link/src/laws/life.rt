@@ -1,18 +1,22 @@
 //! What holds of a station's whole life.
 ghost use Rattle.std.specs.Prelude.{◌≡◌, ◌<◌, ◌+◌, ◌^◌, ◌∷◌, ◌++◌, [], ℕ, Bool, false, List};
-ghost use Rattle.std.specs.Prelude.{length, Some};
+ghost use Rattle.std.specs.Prelude.{length, Option, Some, None};
 ghost use Rattle.ft12.specs.declared.frame.LinkSize.{LinkSize};
+ghost use Rattle.ft12.specs.Spelling.{IsLineFrame};
 ghost use Rattle.link.specs.Answers.{Frame, Class1, Class2, Command, Counted};
 ghost use Rattle.link.specs.Requests.{Asks, Unknown, reading_of};
 ghost use Rattle.link.specs.Outstation.{OutstationRun, ServingRun, all_done};
 ghost use Rattle.link.specs.Delivery.{reports, commands};
-ghost use Rattle.link.specs.Secondary.{Secondary, outstation_of};
+ghost use Rattle.link.specs.Secondary.{Secondary, outstation_of, IsFrameReceived};
+ghost use Rattle.link.specs.Secondary.{ReceivesOctets};
 ghost use Rattle.link.specs.Tidings.{IsNew, IsNewReading, bit_of, answer_after, Wait1, Wait2};
 ghost use Rattle.link.specs.Tidings.{do_wait, ShowsFlags, oldest, IsAnsweredBy};
 ghost use Rattle.link.specs.Tidings.{taken_or_busy, not_implemented};
 ghost use Rattle.link.specs.Life.{Call, Receive, after, requests_received, turns_in, given1};
 ghost use Rattle.link.specs.Life.{given2};
 ghost use Rattle.link.specs.Life.{reported1, reported2, u64_saturate};
+
+use ft12::no_spelling_begins_another;
 
 /// Whatever it is called for, a station runs as the outstation that a primary counts on, and
 /// receives each request to it. It gives the reports of each class in order, each once. Its address
@@ -77,3 +81,16 @@ pub fn station_serves_each_request()
         reading_of address frame ≡ Unknown → Wait1 size address calls waiting →
         answer_after size address calls granted frame ≡ Some (not_implemented address waiting) }
 {}
+
+/// A station hears each whole frame, however long it is: octets that are a frame are received as
+/// that frame, and others change nothing and have no answer.
+pub fn stations_hear_whole_frames()
+    ensures whole { (s new : Secondary) (frame : Frame) (octets : List ℕ) (answer : Option Frame) →
+        IsLineFrame s.size frame octets → ReceivesOctets s octets answer new →
+        IsFrameReceived s frame answer new }
+    ensures other { (s new : Secondary) (octets : List ℕ) (answer : Option Frame) →
+        ((frame : Frame) → IsLineFrame s.size frame octets → ⊥) →
+        ReceivesOctets s octets answer new → (answer ≡ None) × (new ≡ s) }
+{
+    no_spelling_begins_another();
+}

@@ -1,4 +1,4 @@
-use Rattle.link.proofs.Hearing.{whole, over, part, pieces, goes_out, noise, other}
+use Rattle.link.proofs.Hearing.{whole, over, part, pieces, goes_out}
 use Rattle.link.proofs.laws.hearing.answers_are_heard.Goals as goal
 
 pub returns : goal.returns
@@ -8,6 +8,4 @@ returns c = record {
   over = λ front p o octets frame n answer. over front p o octets frame n answer;
   part = λ front p o before octets. part front p o before octets;
   pieces = pieces;
-  noise = noise;
-  other = other;
 }
