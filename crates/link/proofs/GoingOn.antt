@@ -127,7 +127,7 @@ flags_released p k = go p.outstanding
 pub seats_number : (settings : LinkSettings) (seats : List ResumedStation) (p : Primary)
     → length (reseated settings seats p).stations ≡ length seats
 seats_number settings seats p =
-    length-map (λ (s : ResumedStation). seated settings.retries s.address p.stations s.before) seats
+    length-map seats (λ (s : ResumedStation). seated settings.retries s.address p.stations s.before)
 
 seated_address : (retries address : ℕ) (stations : List StationState) (before : Option ℕ)
     → (seated retries address stations before).address ≡ address

@@ -96,15 +96,15 @@ pub goes_out : (p : Primary) (now : ℕ) (may_poll : Bool) (waiting : CommandsWa
 goes_out p now may_poll waiting s is = go p.outstanding is
   where
     by : (c : Option Chosen) → sending_by c ≡ Some s → IsAwaitedIn (after_choice p now c) s now
-    by None e = absurd (search e)
+    by None e = cc
     by (Some c) e =
-        subst (λ (m : Sending). IsAwaitedIn (after_choice p now (Some c)) m now) (search e)
-        (refl, refl)
+        let same : record { station = c.station; request = c.wanted.request } ≡ s = cc in
+        subst (λ (m : Sending). IsAwaitedIn (after_choice p now (Some c)) m now) same (refl, refl)
 
     go : (o : Option Outstanding) → sending_from p o may_poll waiting ≡ Some s →
         IsAwaitedIn (asked_from p o now may_poll waiting) s now
     go None e = by (choice p may_poll waiting) e
-    go (Some o) e = absurd (search e)
+    go (Some o) e = cc
 
 -- Nothing is heard any more of the request.
 record IsDeaf (p : Primary) : Type 0 where

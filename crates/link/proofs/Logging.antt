@@ -53,13 +53,14 @@ passes answer_ms at ended (Some x) =
 marks : (station : ℕ) (xs : List OpenExchange) →
     map first_of (latest_marked station xs) ≡ map first_of xs
 marks station [] = refl
-marks station (x ∷ xs) = go ((x.station == station) && not (has_one_with station xs))
+marks station (x ∷ xs) =
+    go ((x.station == station) && not (has_one_with station xs)) (marks station xs)
   where
-    go : (b : Bool) →
+    go : (b : Bool) → map first_of (latest_marked station xs) ≡ map first_of xs →
         map first_of (if b then marked x ∷ xs else x ∷ latest_marked station xs)
         ≡ first_of x ∷ map first_of xs
-    go true = refl
-    go false = ap (λ (ys : List Sent). first_of x ∷ ys) (marks station xs)
+    go true later = refl
+    go false later = ap (λ (ys : List Sent). first_of x ∷ ys) later
 
 gives_up : (station : ℕ) (ended : List OpenExchange) (current : Option OpenExchange) →
     firsts (given_up_from station ended current)
@@ -103,22 +104,24 @@ pub with_one : (front : List ℕ → Front) (station : ℕ) (xs : List OpenExcha
     ≡ map (λ (x : OpenExchange). (view front x).exchange)
     (filter (λ (x : OpenExchange). x.station == station) xs)
 with_one front station [] = refl
-with_one front station (x ∷ xs) = go (x.station == station)
+with_one front station (x ∷ xs) = go (x.station == station) (with_one front station xs)
   where
     go : (b : Bool) →
+        with_station station (views front xs)
+        ≡ map (λ (y : OpenExchange). (view front y).exchange)
+        (filter (λ (y : OpenExchange). y.station == station) xs) →
         (if b then (view front x).exchange ∷ with_station station (views front xs)
         else with_station station (views front xs))
         ≡ map (λ (y : OpenExchange). (view front y).exchange)
         (if b then x ∷ filter (λ (y : OpenExchange). y.station == station) xs
         else filter (λ (y : OpenExchange). y.station == station) xs)
-    go true = ap (λ (ys : List Exchange). (view front x).exchange ∷ ys)
-        (with_one front station xs)
-    go false = with_one front station xs
+    go true later = ap (λ (ys : List Exchange). (view front x).exchange ∷ ys) later
+    go false later = later
 
 pub grows : (octets : List ℕ) (x : OpenExchange) → x.closed ≡ false → x.given_up ≡ false →
     (received_octets octets x).octets ≡ x.octets ++ octets
-grows octets x open stands =
-    ap (λ (b : Bool). if b || x.given_up then x.octets else x.octets ++ octets) open
+grows octets x waits stands =
+    ap (λ (b : Bool). if b || x.given_up then x.octets else x.octets ++ octets) waits
     ∙ ap (λ (b : Bool). if false || b then x.octets else x.octets ++ octets) stands
 
 pub says : (front : List ℕ → Front) (address : ℕ) (x : OpenExchange) (frame : Frame) (n : ℕ) →
