@@ -38,6 +38,7 @@ pub mod Flagging
 pub mod LatestFlags
 pub mod LatestLinks
 pub mod Logging
+pub mod Told
 pub mod Stationed
 pub mod OneMore
 pub mod GapsReported

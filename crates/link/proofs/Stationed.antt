@@ -159,9 +159,11 @@ one_call address s (Report2 true report) at = at
 one_call address s (Report2 false report) at = at
 one_call address s (Receive granted None) at = at
 one_call address s (Receive granted (Some frame)) at =
-    let kept = reading_own granted s (reading_of s.address frame) (there address s at) in
-    (kept.address ∙ at.0, subst (λ (a : ℕ). AreItsOwn a
-    (received_reading granted s (reading_of s.address frame)).state.last) at.0 kept.last)
+    let kept = reading_own granted s (reading_of s.address frame) (there address s at) in (
+      kept.address ∙ at.0,
+      subst (λ (a : ℕ). AreItsOwn a
+          (received_reading granted s (reading_of s.address frame)).state.last) at.0 kept.last,
+    )
 
 all_calls : (address : ℕ) (s : Secondary) (calls : List Call) → IsAt address s →
     IsAt address (after s calls)

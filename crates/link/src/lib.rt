@@ -93,7 +93,9 @@ pub use laws::carrying::{
 };
 pub use laws::commands::{commands_are_those_that_wait, one_command_at_a_time};
 pub use laws::flags::{flags_are_heeded, flags_are_those_of_the_latest_answer};
-pub use laws::gaps::{gaps_are_ended_sessions, gaps_are_lost_polls, gaps_are_reported};
+pub use laws::gaps::{
+    gaps_are_ended_sessions, gaps_are_lost_polls, gaps_are_reported, gaps_are_told_with_starts,
+};
 pub use laws::hearing::{answers_are_heard, only_the_first_frame_is_heard};
 pub use laws::leave::{polls_wait_for_leave, rests_mean};
 pub use laws::life::{
@@ -101,7 +103,7 @@ pub use laws::life::{
     station_serves_each_request, stations_hear_whole_frames,
 };
 pub use laws::links::links_are_what_the_latest_exchange_makes_them;
-pub use laws::logging::each_request_is_an_exchange;
+pub use laws::logging::{each_request_is_an_exchange, reports_are_data_of_answers};
 pub use laws::precedence::commands_go_before_polls;
 pub use laws::refinement::{
     commands_are_accepted, each_service_acts_once, frame_count_bits_alternate, reports_are_learnt,
