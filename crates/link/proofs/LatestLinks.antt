@@ -1,6 +1,6 @@
 -- The link to a station is what its latest exchange makes of it.
-use Rattle.std.proofs.Common.{◌≡◌, ◌≢◌, ℕ, Bool, true, false, not, List, [], ◌∷◌, ◌++◌, Option, Some}
-use Rattle.std.proofs.Common.{None, refl, ap, subst, ◌∙◌, if◌then◌else◌}
+use Rattle.std.proofs.Common.{◌≡◌, ◌≢◌, ℕ, Bool, true, false, not, List, [], ◌∷◌, ◌++◌, Option}
+use Rattle.std.proofs.Common.{Some, None, refl, ap, ◌∙◌, if◌then◌else◌}
 use Rattle.link.specs.Answers.{Service, Asked, Status, Reset, Counted, Answer, Ready, Confirmed}
 use Rattle.link.specs.Answers.{Busy, Report, NoData, Unable}
 use Rattle.link.specs.Exchanges.{Exchange, answer_to}
@@ -51,7 +51,8 @@ module _ (settings : LinkSettings) (station : ℕ) (link : Link) (before : List 
       x.request ≡ Counted fcb service → answer_to station x ≡ Some answer → answer ≢ Unable →
       link_after settings station link (before ++ x ∷ []) ≡ Next (not fcb)
   served fcb service answer stands asks says is =
-      latest ∙ behind settings station x earlier (Counted fcb service) (Some answer) stands asks says
+      latest
+      ∙ behind settings station x earlier (Counted fcb service) (Some answer) stands asks says
       ∙ served_by fcb service answer earlier is
 
   pub unable : x.request ≢ Reset → answer_to station x ≡ Some Unable →

@@ -2,15 +2,15 @@
 use Rattle.std.specs.Prelude.{◌==◌}
 use Rattle.std.specs.List.{filter}
 use Rattle.std.proofs.Common.{◌≡◌, ℕ, Bool, true, false, not, ◌&&◌, ◌||◌, List, [], ◌∷◌, ◌++◌}
-use Rattle.std.proofs.Common.{map, Option, Some}
-use Rattle.std.proofs.Common.{None, option_and_then, refl, sym, ap, ◌∙◌, if◌then◌else◌, append_assoc}
+use Rattle.std.proofs.Common.{map, Option, Some, None, option_and_then, refl, sym, ap, ◌∙◌}
+use Rattle.std.proofs.Common.{if◌then◌else◌, append_assoc}
 use Rattle.std.proofs.lemmas.List.{append-nil, map-append}
 use Rattle.ft12.specs.declared.frame.Front.{Front}
 use Rattle.ft12.specs.declared.frame.Front.TheVariants.{Whole, More, Never}
 use Rattle.link.specs.Answers.{Frame, Answer, Ready, Confirmed, Busy, Report, NoData, Unable}
 use Rattle.link.specs.Answers.{answer_of}
 use Rattle.link.specs.Exchanges.{Exchange, Exchanges, OpenExchange, Sending, all_of, as_list}
-use Rattle.link.specs.Exchanges.{answer_to, begun_by, given_up_at, given_up_from, has_one_with}
+use Rattle.link.specs.Exchanges.{answer_to, begun_by, given_up_from, has_one_with}
 use Rattle.link.specs.Exchanges.{latest_marked, marked, received_current, received_octets}
 use Rattle.link.specs.Exchanges.{LineExchange, report_by, reports_of}
 use Rattle.link.specs.Exchanges.{timed_current, view, views, whole_of, with_station}

@@ -1,5 +1,5 @@
 //! An answer is heard, however it comes.
-ghost use Rattle.std.specs.Prelude.{◌≡◌, ◌++◌, [], ℕ, Bool, false, List, Option, Some, None};
+ghost use Rattle.std.specs.Prelude.{◌≡◌, ◌++◌, [], ℕ, Bool, false, List, Some, None};
 ghost use Rattle.ft12.specs.declared.frame.Front.{Front};
 ghost use Rattle.ft12.specs.declared.frame.Front.TheVariants.{Whole, More, Never};
 ghost use Rattle.ft12.specs.declared.frame.Why.{Why};
@@ -50,8 +50,8 @@ pub fn answers_are_heard()
 {}
 
 /// Only what stands first is heard. Behind octets that begin no frame, or a whole frame that
-/// doesn't answer the request, nothing is heard of that request any more, in whatever pieces it
-/// comes. So an answer that comes too late, and what follows it, answers no later request.
+/// doesn't answer the request, nothing is heard any more of its answer, in whatever pieces that
+/// comes. So no answer is picked out of what comes behind noise, or behind another station's frame.
 pub fn only_the_first_frame_is_heard()
     ensures noise { (front : List ℕ → Front) (p : Primary) (o : Outstanding)
         (before first last : List ℕ) (later : List (List ℕ)) (place : ℕ) (why : Why) →

@@ -12,8 +12,8 @@ ghost use Rattle.link.specs.Secondary.{ReceivesOctets};
 ghost use Rattle.link.specs.Tidings.{IsNew, IsNewReading, bit_of, answer_after, Wait1, Wait2};
 ghost use Rattle.link.specs.Tidings.{do_wait, ShowsFlags, oldest, IsAnsweredBy};
 ghost use Rattle.link.specs.Tidings.{taken_or_busy, not_implemented, IsSecondaryFrame};
-ghost use Rattle.link.specs.Life.{Call, Receive, called, after, requests_received, turns_in, given1};
-ghost use Rattle.link.specs.Life.{given2};
+ghost use Rattle.link.specs.Life.{Call, Receive, called, after, requests_received, turns_in};
+ghost use Rattle.link.specs.Life.{given1, given2};
 ghost use Rattle.link.specs.Life.{reported1, reported2, u64_saturate};
 
 use ft12::no_spelling_begins_another;
