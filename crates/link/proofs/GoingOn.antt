@@ -1,20 +1,20 @@
 -- A station that goes on keeps its frame count bit, and its seat.
-use Rattle.std.proofs.Common.{◌≡◌, ◌<◌, ℕ, List, map, length, Bool, false, Option, Some, None, refl}
-use Rattle.std.proofs.Common.{sym, ap, subst, ◌∙◌}
+use Rattle.std.proofs.Common.{◌≡◌, ◌≢◌, ◌<◌, ℕ, List, map, length, Bool, false, Option, Some, None}
+use Rattle.std.proofs.Common.{refl, sym, ap, subst, ◌∙◌}
 use Rattle.std.specs.Prelude.{◌⊎◌, slice_get, option_map}
 use Rattle.std.proofs.Common.{inl, inr}
-use Rattle.std.proofs.lemmas.List.{get_or-set_same, get_or-set_other, length-set}
+use Rattle.std.proofs.lemmas.List.{get_or-set_same, get_or-set_other, length-set, length-map}
 use Rattle.std.proofs.lemmas.Option.{slice_get-map, get_or_from_slice_get}
 use Rattle.std.proofs.lemmas.Bool.{cases_eq}
 use Rattle.link.specs.Answers.{Asked, Status, Reset, Counted}
 use Rattle.link.specs.Procedure.{LinkSettings, Link, Down, Available, Next, Held, MaySend}
-use Rattle.link.specs.Procedure.{after_silence}
+use Rattle.link.specs.Procedure.{after_silence, is_held, is_service, missed_so_far}
 use Rattle.link.specs.Turns.{StationState, no_station, station_at}
-use Rattle.link.specs.Primary.{Primary, Outstanding}
+use Rattle.link.specs.Primary.{Primary, Outstanding, station_down}
 use Rattle.link.specs.Matching.{IsAllowed}
 use Rattle.link.specs.declared.seat.ResumedStation.{ResumedStation}
 use Rattle.link.specs.Carried.{station_left, released_from, released, station_carried, seated}
-use Rattle.link.specs.Carried.{reseated, bit_of, service_of}
+use Rattle.link.specs.Carried.{reseated, bit_of, link_carried, service_of}
 use Rattle.link.specs.Answers.{Service}
 use Rattle.link.proofs.Links.{set_view}
 
@@ -123,3 +123,86 @@ flags_released p k = go p.outstanding
       set_view (λ (s : StationState). s.dfc) p.stations p.turn
           (station_left p.settings (station_at p.stations p.turn) o.request) refl k,
     )
+
+pub seats_number : (settings : LinkSettings) (seats : List ResumedStation) (p : Primary)
+    → length (reseated settings seats p).stations ≡ length seats
+seats_number settings seats p =
+    length-map seats (λ (s : ResumedStation). seated settings.retries s.address p.stations s.before)
+
+seated_address : (retries address : ℕ) (stations : List StationState) (before : Option ℕ)
+    → (seated retries address stations before).address ≡ address
+seated_address retries address stations None = refl
+seated_address retries address stations (Some k) = refl
+
+pub seats_address : (settings : LinkSettings) (seats : List ResumedStation) (p : Primary) (i : ℕ)
+    (seat : ResumedStation) → slice_get seats i ≡ Some seat
+    → (station_at (reseated settings seats p).stations i).address ≡ seat.address
+seats_address settings seats p i seat there =
+    ap (λ (s : StationState). s.address) (seats_stay settings seats p i seat there)
+    ∙ seated_address settings.retries seat.address p.stations seat.before
+
+pub seats_new : (settings : LinkSettings) (seats : List ResumedStation) (p : Primary) (i : ℕ)
+    (seat : ResumedStation) → slice_get seats i ≡ Some seat → seat.before ≡ None
+    → station_at (reseated settings seats p).stations i ≡ station_down seat.address
+seats_new settings seats p i seat there new =
+    seats_stay settings seats p i seat there
+    ∙ ap (λ (b : Option ℕ). seated settings.retries seat.address p.stations b) new
+
+-- the station of an exchange that is broken off
+left_there : (p : Primary) (o : Outstanding) → p.turn < length p.stations
+    → p.outstanding ≡ Some o
+    → station_at (released p).stations p.turn
+    ≡ station_left p.settings (station_at p.stations p.turn) o.request
+left_there p o within out =
+    ap (λ (x : Option Outstanding). station_at (released_from p x).stations p.turn) out
+    ∙ get_or-set_same p.stations p.turn
+    (station_left p.settings (station_at p.stations p.turn) o.request) no_station within
+
+pub held_as_before : (p : Primary) (o : Outstanding) (fcb : Bool) (service : Service)
+    → p.turn < length p.stations → p.outstanding ≡ Some o → o.request ≡ Counted fcb service
+    → (station_at (released p).stations p.turn).link
+    ≡ Held fcb service (missed_so_far (station_at p.stations p.turn).link)
+held_as_before p o fcb service within out is =
+    ap (λ (s : StationState). s.link) (left_there p o within out)
+    ∙ ap (λ (r : Asked). after_silence p.settings r false (station_at p.stations p.turn).link) is
+
+down_left : (settings : LinkSettings) (link : Link) (request : Asked)
+    → is_service request ≡ false → after_silence settings request false link ≡ Down
+down_left settings link Status starts = refl
+down_left settings link Reset starts = refl
+down_left settings link (Counted fcb service) starts = cc
+
+pub start_broken_off : (p : Primary) (o : Outstanding) → p.turn < length p.stations
+    → p.outstanding ≡ Some o → is_service o.request ≡ false
+    → (station_at (released p).stations p.turn).link ≡ Down
+start_broken_off p o within out starts =
+    ap (λ (s : StationState). s.link) (left_there p o within out)
+    ∙ down_left p.settings (station_at p.stations p.turn).link o.request starts
+
+pub others_released : (p : Primary) (k : ℕ) → k ≢ p.turn
+    → station_at (released p).stations k ≡ station_at p.stations k
+others_released p k other = go p.outstanding
+  where
+    go : (o : Option Outstanding)
+        → station_at (released_from p o).stations k ≡ station_at p.stations k
+    go None = refl
+    go (Some o) =
+        get_or-set_other p.stations p.turn k
+        (station_left p.settings (station_at p.stations p.turn) o.request) no_station other
+
+pub nothing_outstanding : (p : Primary) → (released p).outstanding ≡ None
+nothing_outstanding p = go p.outstanding refl
+  where
+    go : (o : Option Outstanding) → p.outstanding ≡ o → (released_from p o).outstanding ≡ None
+    go None is = is
+    go (Some o) is = refl
+
+pub link_goes_on : (retries address : ℕ) (s : StationState) → is_held s.link ≡ false
+    → (station_carried retries address s).link ≡ s.link
+link_goes_on retries address s free = go s.link free
+  where
+    go : (link : Link) → is_held link ≡ false → link_carried retries link ≡ link
+    go Down free = refl
+    go Available free = refl
+    go (Next fcb) free = refl
+    go (Held fcb service missed) free = cc

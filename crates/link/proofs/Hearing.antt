@@ -1,15 +1,19 @@
 -- An answer is heard, in whatever pieces it comes.
-use Rattle.std.proofs.Common.{◌≡◌, ℕ, List, [], ◌++◌, Option, Some, None, refl, ap, sym, ◌∙◌}
+use Rattle.std.proofs.Common.{◌≡◌, ℕ, Bool, false, List, [], ◌∷◌, ◌++◌, Option, Some, None, refl}
+use Rattle.std.proofs.Common.{ap, sym, subst, ◌∙◌}
 use Rattle.std.proofs.Common.{append_assoc}
 use Rattle.ft12.specs.declared.frame.Front.{Front}
-use Rattle.ft12.specs.declared.frame.Front.TheVariants.{Whole, More}
+use Rattle.ft12.specs.declared.frame.Front.TheVariants.{Whole, More, Never}
+use Rattle.ft12.specs.declared.frame.Why.{Why}
 use Rattle.link.specs.Answers.{Frame, Answer, answer_of}
-use Rattle.link.specs.Exchanges.{whole_of}
-use Rattle.link.specs.Turns.{station_at}
+use Rattle.link.specs.Exchanges.{Sending, whole_of}
+use Rattle.link.specs.Hearing.{received_all}
+use Rattle.link.specs.Turns.{Chosen, CommandsWaiting, station_at}
 use Rattle.link.specs.Primary.{Primary, Outstanding, received, received_from}
 use Rattle.link.specs.Primary.{received_after, received_outcome, outcome_from, outcome_after}
 use Rattle.link.specs.Primary.{outcome_at, outcome_of, turn_gap, with_gap, with_octets, awaits}
-use Rattle.link.specs.Primary.{said_by, took, open_octets}
+use Rattle.link.specs.Primary.{said_by, took, open_octets, choice, after_choice, asked, asked_from}
+use Rattle.link.specs.Primary.{sending, sending_by, sending_from}
 use Rattle.link.specs.declared.outcome.Outcome.TheVariants as outcome
 
 module _ (front : List ℕ → Front) (p : Primary) (o : Outstanding) where
@@ -73,3 +77,103 @@ pieces front p o before first second out arrived more =
     ∙ ap (λ (xs : List ℕ). outcome_at p o (whole_of (front xs)))
     (append_assoc before first second)
     ∙ sym (learnt front p o before (first ++ second) out arrived)
+
+-- a request that is awaited from this moment on, with no octets so far
+abbrev awaiting : Sending → (now : ℕ) → Outstanding
+awaiting s now = record {
+  request = s.request;
+  since = now;
+  arrived = Some [];
+  has_octets = false;
+}
+
+abbrev IsAwaitedIn : Primary → Sending → (now : ℕ) → Type 0
+IsAwaitedIn q s now = (q.turn ≡ s.station) × (q.outstanding ≡ Some (awaiting s now))
+
+pub goes_out : (p : Primary) (now : ℕ) (may_poll : Bool) (waiting : CommandsWaiting)
+    (s : Sending) → sending p may_poll waiting ≡ Some s →
+    IsAwaitedIn (asked p now may_poll waiting) s now
+goes_out p now may_poll waiting s is = go p.outstanding is
+  where
+    by : (c : Option Chosen) → sending_by c ≡ Some s → IsAwaitedIn (after_choice p now c) s now
+    by None e = cc
+    by (Some c) e =
+        let same : record { station = c.station; request = c.wanted.request } ≡ s = cc in
+        subst (λ (m : Sending). IsAwaitedIn (after_choice p now (Some c)) m now) same (refl, refl)
+
+    go : (o : Option Outstanding) → sending_from p o may_poll waiting ≡ Some s →
+        IsAwaitedIn (asked_from p o now may_poll waiting) s now
+    go None e = by (choice p may_poll waiting) e
+    go (Some o) e = cc
+
+-- Nothing is heard any more of the request.
+record IsDeaf (p : Primary) : Type 0 where
+  o : Outstanding
+  out : p.outstanding ≡ Some o
+  deaf : o.arrived ≡ None
+
+deaf_hears : (front : List ℕ → Front) (p : Primary) (octets : List ℕ) → IsDeaf p →
+    received_outcome front p octets ≡ outcome.None
+deaf_hears front p octets d =
+    ap (λ (x : Option Outstanding). outcome_from front p x octets) d.out
+    ∙ ap (λ (x : Option (List ℕ)). outcome_after front p d.o x octets) d.deaf
+
+deaf_stays : (front : List ℕ → Front) (p : Primary) (octets : List ℕ) → IsDeaf p →
+    IsDeaf (received front p octets)
+deaf_stays front p octets d = record {
+  o = record (with_octets octets d.o) { arrived = None };
+  out =
+      ap (λ (q : Primary). q.outstanding)
+      (ap (λ (x : Option Outstanding). received_from front p x octets) d.out
+      ∙ ap (λ (x : Option (List ℕ)). received_after front p (with_octets octets d.o) x octets)
+      d.deaf);
+  deaf = refl;
+}
+
+deaf_for_all : (front : List ℕ → Front) (p : Primary) (later : List (List ℕ))
+    (last : List ℕ) → IsDeaf p →
+    received_outcome front (received_all front p later) last ≡ outcome.None
+deaf_for_all front p [] last d = deaf_hears front p last d
+deaf_for_all front p (piece ∷ pieces) last d =
+    deaf_for_all front (received front p piece) pieces last (deaf_stays front p piece d)
+
+module _ (front : List ℕ → Front) (p : Primary) (o : Outstanding)
+    (before first last : List ℕ) (later : List (List ℕ)) where
+  abbrev NothingIsHeard : Type 0
+  NothingIsHeard =
+      (received_outcome front p first ≡ outcome.None)
+      × (received_outcome front (received_all front (received front p first) later) last
+      ≡ outcome.None)
+
+  pub noise : (place : ℕ) (why : Why) → p.outstanding ≡ Some o → o.arrived ≡ Some before →
+      front (before ++ first) ≡ Never place why → NothingIsHeard
+  noise place why out arrived is = (
+    learnt front p o before first out arrived
+        ∙ ap (λ (f : Front). outcome_at p o (whole_of f)) is,
+    deaf_for_all front (received front p first) later last (record {
+      o = record (with_octets first o) { arrived = None };
+      out =
+          ap (λ (q : Primary). q.outstanding) (left front p o before first out arrived
+          ∙ ap (λ (f : Front). took p (with_octets first o) (open_octets (before ++ first) f)
+          (whole_of f)) is);
+      deaf = refl;
+    }),
+  )
+
+  pub other : (frame : Frame) (n : ℕ) → p.outstanding ≡ Some o → o.arrived ≡ Some before →
+      front (before ++ first) ≡ Whole frame n →
+      answer_of (station_at p.stations p.turn).address o.request frame ≡ None → NothingIsHeard
+  other frame n out arrived is says = (
+    learnt front p o before first out arrived
+        ∙ ap (λ (f : Front). outcome_at p o (whole_of f)) is
+        ∙ ap (λ (a : Option Answer). with_gap (turn_gap p) (outcome_of p.turn o.request a)) says,
+    deaf_for_all front (received front p first) later last (record {
+      o = record (with_octets first o) { arrived = None };
+      out =
+          ap (λ (q : Primary). q.outstanding) (left front p o before first out arrived
+          ∙ ap (λ (f : Front). took p (with_octets first o) (open_octets (before ++ first) f)
+          (whole_of f)) is
+          ∙ ap (λ (a : Option Answer). said_by p (with_octets first o) frame a) says);
+      deaf = refl;
+    }),
+  )

@@ -36,6 +36,10 @@ pub mod Leaving
 pub mod Resting
 pub mod Flagging
 pub mod LatestFlags
+pub mod LatestLinks
+pub mod Logging
+pub mod Told
+pub mod Stationed
 pub mod OneMore
 pub mod GapsReported
 pub mod EndedGaps

@@ -12,6 +12,7 @@ use Rattle.link.specs.Primary.{outcome_of, acd_of, dfc_of}
 use Rattle.link.specs.declared.outcome.Outcome.TheVariants as outcome
 use Rattle.link.specs.Requests.{short_by, data_by, comes_to, reading_of, Foreign}
 use Rattle.link.specs.Tables.{row, answer_in, outcome_row, outcome_in, data_row, single_row}
+use Rattle.link.specs.Tables.{data_outcome_row}
 
 self_comes : (station octet : ℕ) → octet / 64 % 2 ≡ 0 → comes_from station octet station ≡ true
 self_comes station octet e = rw (e, eq-eqb station station refl) refl
@@ -111,6 +112,23 @@ data_frames station request octet body e f =
     (self_comes station octet e)
     ∙ ap (λ (n : ℕ). if n == 8 then data_answer request body.items else None) f
     ∙ data_rows request body.items
+
+pub data_outcomes : (index station : ℕ) (request : Asked) (octet : ℕ) (body : ArrayVec ℕ)
+    → octet / 64 % 2 ≡ 0 → octet % 16 ≡ 8
+    → outcome_of index request (answer_of station request (Data octet station body))
+    ≡ data_outcome_row index request body.items
+data_outcomes index station request octet body e f =
+    ap (λ (a : Option Answer). outcome_of index request a)
+    (data_frames station request octet body e f)
+    ∙ go request
+  where
+    go : (r : Asked)
+        → outcome_of index r (data_row r body.items) ≡ data_outcome_row index r body.items
+    go Status = refl
+    go Reset = refl
+    go (Counted fcb Class1) = refl
+    go (Counted fcb Class2) = refl
+    go (Counted fcb (Command asdu)) = refl
 
 and_no : (b : Bool) → (b && false) ≡ false
 and_no true = refl

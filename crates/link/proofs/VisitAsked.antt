@@ -51,10 +51,10 @@ with-at i (x ∷ xs) =
     (same_place i)
     ∙ ap (λ (es : List Exchange). x ∷ es) (with-at i xs)
 
-link-append : (settings : LinkSettings) (a : ℕ) (link : Link) (xs ys : List Exchange) →
+pub link_append : (settings : LinkSettings) (a : ℕ) (link : Link) (xs ys : List Exchange) →
     link_after settings a link (xs ++ ys) ≡ link_after settings a (link_after settings a link xs) ys
-link-append settings a link [] ys = refl
-link-append settings a link (x ∷ xs) ys = link-append settings a (after settings a x link) xs ys
+link_append settings a link [] ys = refl
+link_append settings a link (x ∷ xs) ys = link_append settings a (after settings a x link) xs ys
 
 pub one_longer : (xs : List Exchange) (x : Exchange) (n : ℕ) → length xs ≡ n → length (xs ++ x ∷ [])
     ≡ suc n
@@ -194,7 +194,7 @@ link_now : (front : List ℕ → Front) (addresses : List ℕ) (p : Primary) (e 
 link_now front addresses p e many v t free =
     let a = slice_index addresses p.turn in
     let xs = v.before ++ shown front e.current in
-    sym (link-append p.settings a Down (with_station p.turn (line_of v.earlier)) xs)
+    sym (link_append p.settings a Down (with_station p.turn (line_of v.earlier)) xs)
     ∙ ap (λ (ys : List Exchange). link_after p.settings a Down
     (with_station p.turn (line_of v.earlier) ++ ys))
     (sym (with-at p.turn xs))

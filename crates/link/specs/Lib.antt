@@ -34,3 +34,5 @@ pub mod Bits
 pub mod Repeats
 pub mod Timing
 pub mod OneVisit
+pub mod Hearing
+pub mod Sent

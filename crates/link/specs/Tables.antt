@@ -50,6 +50,16 @@ data_row (Counted fcb (Command octets)) asdu = None
 data_row Status asdu = None
 data_row Reset asdu = None
 
+-- What the caller learns of it: a report of the station with this index, octet by octet.
+abbrev pub data_outcome_row : (station : ℕ) → Asked → List ℕ → Outcome
+data_outcome_row station (Counted fcb Class1) asdu =
+    outcome.Report station (record { items = asdu })
+data_outcome_row station (Counted fcb Class2) asdu =
+    outcome.Report station (record { items = asdu })
+data_outcome_row station (Counted fcb (Command octets)) asdu = outcome.None
+data_outcome_row station Status asdu = outcome.None
+data_outcome_row station Reset asdu = outcome.None
+
 -- the single character E5
 abbrev pub single_row : Asked → Option Answer
 single_row Status = None

@@ -1,10 +1,11 @@
 -- What a secondary station shows of the reports that wait (IEC 60870-5-2, 5.1: ACD and DFC; the
 -- procedures of a secondary station), over whole lives: the reports that it was given, those that
 -- it gave out, and its answers. That DFC is never set is its own choice.
-use Rattle.std.specs.Prelude.{◌≡◌, ◌≢◌, ℕ, Bool, true, false, List, [], ◌∷◌, ◌++◌, Option, Some}
-use Rattle.std.specs.Prelude.{None}
+use Rattle.std.specs.Prelude.{◌≡◌, ◌≢◌, ◌<◌, ℕ, Bool, true, false, List, [], ◌∷◌, ◌++◌, Option}
+use Rattle.std.specs.Prelude.{Some, None}
 use Rattle.ft12.specs.declared.frame.LinkSize.{LinkSize}
-use Rattle.link.specs.Answers.{Frame, Fixed, Asked, Status, Reset, Counted, Answer, Confirmed, Busy}
+use Rattle.link.specs.Answers.{Frame, Single, Fixed, Data, Asked, Status, Reset, Counted}
+use Rattle.link.specs.Answers.{Answer, Confirmed, Busy}
 use Rattle.link.specs.Answers.{Report, NoData, Says}
 use Rattle.link.specs.Flags.{flags_in}
 use Rattle.link.specs.Requests.{Reading, Foreign, Unknown, Asks, reading_of}
@@ -94,3 +95,10 @@ taken_or_busy false = Busy
 abbrev pub not_implemented : (address : ℕ) → (waiting : List (List ℕ)) → Frame
 not_implemented address [] = Fixed 0x0F address
 not_implemented address (report ∷ reports) = Fixed 0x2F address
+
+-- The frame is the single character, or has this address, with bits 7 and 6 of its control octet
+-- clear.
+abbrev pub IsSecondaryFrame : (address : ℕ) → Frame → Type 0
+IsSecondaryFrame address Single = Unit {0}
+IsSecondaryFrame address (Fixed control there) = (there ≡ address) × (control < 64)
+IsSecondaryFrame address (Data control there body) = (there ≡ address) × (control < 64)

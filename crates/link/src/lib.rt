@@ -87,17 +87,23 @@ pub use laws::at_once::{
 };
 pub use laws::bursts::polls_go_on;
 pub use laws::carrying::{
-    frame_count_bits_go_on, giving_up_is_for_one_station, giving_up_is_logged, sessions_go_on,
-    the_latest_exchange_is_marked,
+    frame_count_bits_go_on, giving_up_is_for_one_station, giving_up_is_logged,
+    seats_have_their_addresses, sessions_go_on, the_latest_exchange_is_marked,
+    what_is_broken_off_is_held,
 };
 pub use laws::commands::{commands_are_those_that_wait, one_command_at_a_time};
 pub use laws::flags::{flags_are_heeded, flags_are_those_of_the_latest_answer};
-pub use laws::gaps::{gaps_are_ended_sessions, gaps_are_lost_polls, gaps_are_reported};
-pub use laws::hearing::answers_are_heard;
+pub use laws::gaps::{
+    gaps_are_ended_sessions, gaps_are_lost_polls, gaps_are_reported, gaps_are_told_with_starts,
+};
+pub use laws::hearing::{answers_are_heard, only_the_first_frame_is_heard};
 pub use laws::leave::{polls_wait_for_leave, rests_mean};
 pub use laws::life::{
-    answers_show_what_waits, station_is_an_outstation, station_serves_each_request,
+    answers_are_those_of_a_secondary_station, answers_show_what_waits, station_is_an_outstation,
+    station_serves_each_request, stations_hear_whole_frames,
 };
+pub use laws::links::links_are_what_the_latest_exchange_makes_them;
+pub use laws::logging::{each_request_is_an_exchange, reports_are_data_of_answers};
 pub use laws::precedence::commands_go_before_polls;
 pub use laws::refinement::{
     commands_are_accepted, each_service_acts_once, frame_count_bits_alternate, reports_are_learnt,

@@ -1,13 +1,14 @@
 //! What giving up the link to a station does to the line.
 ghost use Rattle.std.specs.Prelude.{◌≡◌, ◌≢◌, ◌<◌, ℕ, Bool, true, false, List, length, slice_get};
-ghost use Rattle.std.specs.Prelude.{Some, min};
+ghost use Rattle.std.specs.Prelude.{Some, None, min};
 ghost use Rattle.ft12.specs.declared.frame.Front.{Front};
 ghost use Rattle.ft12.specs.declared.frame.LinkSize.{LinkSize};
 ghost use Rattle.ft12.specs.Fronts.{front_of};
 ghost use Rattle.link.specs.Exchanges.{Exchanges, given_up_at, reports_of_exchanges};
 ghost use Rattle.link.specs.Gaps.{exchanges_at, gaps_at};
 ghost use Rattle.link.specs.Marks.{latest_given_up};
-ghost use Rattle.link.specs.Procedure.{LinkSettings, Held};
+ghost use Rattle.link.specs.Procedure.{LinkSettings, Down, Held, is_held, is_service};
+ghost use Rattle.link.specs.Procedure.{missed_so_far};
 ghost use Rattle.link.specs.Turns.{StationState, station_at};
 ghost use Rattle.link.specs.Answers.{Service, Counted};
 ghost use Rattle.link.specs.Primary.{Primary, Outstanding};
@@ -65,6 +66,44 @@ pub fn frame_count_bits_go_on()
     ensures released_flags { (p : Primary) (k : ℕ) →
         ((station_at (released p).stations k).acd ≡ (station_at p.stations k).acd)
         × ((station_at (released p).stations k).dfc ≡ (station_at p.stations k).dfc) }
+{}
+
+/// A restart counts nothing as unanswered. A service whose exchange is broken off is held, as often
+/// unanswered as it was before. Where the exchange was to start the link, the link is down, so the
+/// status comes first. No other station changes. A link that holds no service goes on as it is.
+pub fn what_is_broken_off_is_held()
+    ensures service { (p : Primary) (o : Outstanding) (fcb : Bool) (service : Service) →
+        p.turn < length p.stations → p.outstanding ≡ Some o → o.request ≡ Counted fcb service →
+        (station_at (released p).stations p.turn).link
+        ≡ Held fcb service (missed_so_far (station_at p.stations p.turn).link) }
+    ensures start { (p : Primary) (o : Outstanding) → p.turn < length p.stations →
+        p.outstanding ≡ Some o → is_service o.request ≡ false →
+        (station_at (released p).stations p.turn).link ≡ Down }
+    ensures others { (p : Primary) (k : ℕ) → k ≢ p.turn →
+        station_at (released p).stations k ≡ station_at p.stations k }
+    ensures over { (p : Primary) → (released p).outstanding ≡ None }
+    ensures carried { (retries address : ℕ) (s : StationState) → is_held s.link ≡ false →
+        (station_carried retries address s).link ≡ s.link }
+{}
+
+/// At new settings each seat has one station, with the address that is set for it, in the order of
+/// the seats. One that wasn't there before begins with its link down, without flags and without a
+/// session.
+pub fn seats_have_their_addresses()
+    ensures number { (settings : LinkSettings) (seats : List ResumedStation) (p : Primary) →
+        length (reseated settings seats p).stations ≡ length seats }
+    ensures address { (settings : LinkSettings) (seats : List ResumedStation) (p : Primary) (i : ℕ)
+        (seat : ResumedStation) → slice_get seats i ≡ Some seat →
+        (station_at (reseated settings seats p).stations i).address ≡ seat.address }
+    ensures new { (settings : LinkSettings) (seats : List ResumedStation) (p : Primary) (i : ℕ)
+        (seat : ResumedStation) → slice_get seats i ≡ Some seat → seat.before ≡ None →
+        station_at (reseated settings seats p).stations i ≡ record {
+          address = seat.address;
+          link = Down;
+          acd = false;
+          dfc = false;
+          session = record { number = 0; has_gap = false };
+        } }
 {}
 
 /// What is known of a station's session outlives a restart: where its link is given up, where an

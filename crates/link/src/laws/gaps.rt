@@ -1,18 +1,22 @@
 //! Gaps reported: which answered resets end a session whose last report may be lost.
 ghost use Rattle.std.specs.Prelude.{◌≡◌, ◌⊎◌, ◌++◌, ◌∷◌, ℕ, true, false, List, length, Option};
-ghost use Rattle.std.specs.Prelude.{None};
+ghost use Rattle.std.specs.Prelude.{Some, None};
 ghost use Rattle.std.specs.List.{AllByRecursion};
 ghost use Rattle.ft12.specs.declared.frame.LinkSize.{LinkSize};
 ghost use Rattle.ft12.specs.Fronts.{front_of};
+ghost use Rattle.std.specs.Io.Iter.{u64_saturate};
+ghost use Rattle.link.specs.Answers.{Service};
 ghost use Rattle.link.specs.Delivery.{IsHonest, sessions, is_gap, is_reset, pending_after};
 ghost use Rattle.link.specs.Exchanges.{Exchange, Exchanges, Sending, received_current};
 ghost use Rattle.link.specs.Exchanges.{timed_current};
 ghost use Rattle.link.specs.Exchanges.{answer_to, begun_by};
 ghost use Rattle.link.specs.Gaps.{gaps_in, gaps_at, ended_with_gap, HasNoOutcome, is_by_the_way};
+ghost use Rattle.link.specs.Gaps.{gap_numbered};
 ghost use Rattle.link.specs.Leave.{is_poll_request};
 ghost use Rattle.link.specs.Outstation.{Turn};
 ghost use Rattle.link.specs.Procedure.{LinkSettings, Down, KeepsFrameCountBit, is_service};
-ghost use Rattle.link.specs.Primary.{Primary, received, received_outcome};
+ghost use Rattle.link.specs.Primary.{Primary, Outcome, received, received_outcome, with_gap};
+ghost use Rattle.link.specs.declared.outcome.Outcome.TheVariants as outcome;
 ghost use Rattle.link.specs.Matching.{Matches, gap_in_outcome};
 
 use ft12::front_is_computed;
@@ -73,4 +77,16 @@ pub fn gaps_are_lost_polls()
     ensures none { (station : ℕ) (xs : List Exchange) →
         AllByRecursion (λ y. is_by_the_way station y ≡ true) xs →
         is_gap (pending_after station None xs) ≡ false }
+{}
+
+/// A gap is told with the start that ends its session, by the session's number, at whichever
+/// station, and changes no other outcome.
+pub fn gaps_are_told_with_starts()
+    ensures start { (station session : ℕ) → with_gap (Some session) (outcome.Started station)
+        ≡ outcome.StartedGap station session }
+    ensures none { (o : Outcome) → with_gap None o ≡ o }
+    ensures others { (gap : Option ℕ) (o : Outcome) →
+        ((station : ℕ) → o ≡ outcome.Started station → ⊥) → with_gap gap o ≡ o }
+    ensures number { (number : ℕ) (pending : Option Service) → is_gap pending ≡ true →
+        gap_numbered number pending ≡ Some (u64_saturate number) }
 {}

@@ -1,18 +1,22 @@
 //! What holds of a station's whole life.
 ghost use Rattle.std.specs.Prelude.{◌≡◌, ◌<◌, ◌+◌, ◌^◌, ◌∷◌, ◌++◌, [], ℕ, Bool, false, List};
-ghost use Rattle.std.specs.Prelude.{length, Some};
+ghost use Rattle.std.specs.Prelude.{length, Option, Some, None};
 ghost use Rattle.ft12.specs.declared.frame.LinkSize.{LinkSize};
+ghost use Rattle.ft12.specs.Spelling.{IsLineFrame};
 ghost use Rattle.link.specs.Answers.{Frame, Class1, Class2, Command, Counted};
 ghost use Rattle.link.specs.Requests.{Asks, Unknown, reading_of};
 ghost use Rattle.link.specs.Outstation.{OutstationRun, ServingRun, all_done};
 ghost use Rattle.link.specs.Delivery.{reports, commands};
-ghost use Rattle.link.specs.Secondary.{Secondary, outstation_of};
+ghost use Rattle.link.specs.Secondary.{Secondary, outstation_of, received_reading};
+ghost use Rattle.link.specs.Secondary.{ReceivesOctets};
 ghost use Rattle.link.specs.Tidings.{IsNew, IsNewReading, bit_of, answer_after, Wait1, Wait2};
 ghost use Rattle.link.specs.Tidings.{do_wait, ShowsFlags, oldest, IsAnsweredBy};
-ghost use Rattle.link.specs.Tidings.{taken_or_busy, not_implemented};
-ghost use Rattle.link.specs.Life.{Call, Receive, after, requests_received, turns_in, given1};
-ghost use Rattle.link.specs.Life.{given2};
+ghost use Rattle.link.specs.Tidings.{taken_or_busy, not_implemented, IsSecondaryFrame};
+ghost use Rattle.link.specs.Life.{Call, Receive, called, after, requests_received, turns_in};
+ghost use Rattle.link.specs.Life.{given1, given2};
 ghost use Rattle.link.specs.Life.{reported1, reported2, u64_saturate};
+
+use ft12::no_spelling_begins_another;
 
 /// Whatever it is called for, a station runs as the outstation that a primary counts on, and
 /// receives each request to it. It gives the reports of each class in order, each once. Its address
@@ -76,4 +80,27 @@ pub fn station_serves_each_request()
         (frame : Frame) (waiting : List (List ℕ)) →
         reading_of address frame ≡ Unknown → Wait1 size address calls waiting →
         answer_after size address calls granted frame ≡ Some (not_implemented address waiting) }
+{}
+
+/// A station hears each whole frame, however long it is, and whatever its address: octets that are
+/// a frame are a call that receives it, with memory or without. Others change nothing, and have no
+/// answer.
+pub fn stations_hear_whole_frames()
+    ensures whole { (s new : Secondary) (frame : Frame) (octets : List ℕ) (answer : Option Frame) →
+        IsLineFrame s.size frame octets → ReceivesOctets s octets answer new →
+        (granted : Bool) × (new ≡ called s (Receive granted (Some frame)))
+        × (answer ≡ (received_reading granted s (reading_of s.address frame)).turn.answer) }
+    ensures other { (s new : Secondary) (octets : List ℕ) (answer : Option Frame) →
+        ((frame : Frame) → IsLineFrame s.size frame octets → ⊥) →
+        ReceivesOctets s octets answer new → (answer ≡ None) × (new ≡ s) }
+{
+    no_spelling_begins_another();
+}
+
+/// Each answer of a station, a repeated one too, is the single character, or has the station's
+/// address and a control octet with bits 7 and 6 clear: the reserved one, and PRM.
+pub fn answers_are_those_of_a_secondary_station()
+    ensures { (size : LinkSize) (address : ℕ) (calls : List Call) (granted : Bool)
+        (frame answer : Frame) → answer_after size address calls granted frame ≡ Some answer →
+        IsSecondaryFrame address answer }
 {}

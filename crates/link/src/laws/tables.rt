@@ -8,6 +8,7 @@ ghost use Rattle.link.specs.Primary.{outcome_of, acd_of, dfc_of};
 ghost use Rattle.link.specs.Requests.{request_frame, reading_of, Foreign, Unknown, Asks};
 ghost use Rattle.link.specs.Secondary.{data_frame};
 ghost use Rattle.link.specs.Tables.{row, answer_in, outcome_row, outcome_in, data_row, single_row};
+ghost use Rattle.link.specs.Tables.{data_outcome_row};
 ghost use Rattle.link.specs.Tables.{plain_row, counted_row, reading_in};
 
 /// For each request, each of the sixteen functions of a secondary station is an answer that its
@@ -24,6 +25,10 @@ pub fn answers_are_whole()
     ensures user_data { (station : ℕ) (request : Asked) (octet : ℕ) (body : ArrayVec ℕ) →
         octet / 64 % 2 ≡ 0 → octet % 16 ≡ 8 →
         answer_of station request (Data octet station body) ≡ data_row request body.items }
+    ensures reports { (index station : ℕ) (request : Asked) (octet : ℕ) (body : ArrayVec ℕ) →
+        octet / 64 % 2 ≡ 0 → octet % 16 ≡ 8 →
+        outcome_of index request (answer_of station request (Data octet station body))
+        ≡ data_outcome_row index request body.items }
     ensures other_data { (station : ℕ) (request : Asked) (octet : ℕ) (body : ArrayVec ℕ) →
         (octet % 16 ≡ 8 → ⊥) → answer_of station request (Data octet station body) ≡ None }
     ensures single { (station : ℕ) (request : Asked) →

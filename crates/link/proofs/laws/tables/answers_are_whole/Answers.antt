@@ -1,4 +1,5 @@
-use Rattle.link.proofs.Tabled.{fixed, outcome_for, data_frames, other_data, singles, foreign, flags}
+use Rattle.link.proofs.Tabled.{fixed, outcome_for, data_frames, data_outcomes, other_data, singles}
+use Rattle.link.proofs.Tabled.{foreign, flags}
 use Rattle.link.proofs.laws.tables.answers_are_whole.Goals as goal
 
 pub returns-clause-fixed : goal.returns-clause-fixed
@@ -9,6 +10,9 @@ returns-clause-outcome_for c = outcome_for
 
 pub returns-clause-user_data : goal.returns-clause-user_data
 returns-clause-user_data c = data_frames
+
+pub returns-clause-reports : goal.returns-clause-reports
+returns-clause-reports c = data_outcomes
 
 pub returns-clause-other_data : goal.returns-clause-other_data
 returns-clause-other_data c = other_data

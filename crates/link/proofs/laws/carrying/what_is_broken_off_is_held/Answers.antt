@@ -1,0 +1,11 @@
+use Rattle.link.proofs.GoingOn as on
+use Rattle.link.proofs.laws.carrying.what_is_broken_off_is_held.Goals as goal
+
+pub returns : goal.returns
+returns c = record {
+  service = on.held_as_before;
+  start = on.start_broken_off;
+  others = on.others_released;
+  over = on.nothing_outstanding;
+  carried = on.link_goes_on;
+}

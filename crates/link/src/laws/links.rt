@@ -1,0 +1,40 @@
+//! What the link to a station is.
+ghost use Rattle.std.specs.Prelude.{◌≡◌, ◌≢◌, ◌++◌, ◌∷◌, [], ℕ, Bool, true, false, not, List, Some};
+ghost use Rattle.std.specs.Prelude.{None};
+ghost use Rattle.link.specs.Answers.{Service, Status, Reset, Counted, Answer, Ready, Confirmed};
+ghost use Rattle.link.specs.Answers.{Unable};
+ghost use Rattle.link.specs.Exchanges.{Exchange, answer_to};
+ghost use Rattle.link.specs.Procedure.{LinkSettings, Link, Down, Available, Next, link_after};
+ghost use Rattle.link.specs.Procedure.{is_service};
+
+/// The link to a station is what its latest exchange makes of it, whichever station it is, and
+/// whatever came before. It can be reset behind a status that was answered. It is up behind a reset
+/// that was confirmed, and the first service has FCB 1. It is up behind a service that was served,
+/// and the next one has the other bit. It is down behind a status or a reset without an answer,
+/// behind what couldn't be served, and where it was given up. So a station whose reset was
+/// confirmed is up, and nothing else takes its link down but silence.
+/// (`repeats_are_as_many_as_set` says when a service without an answer does.)
+pub fn links_are_what_the_latest_exchange_makes_them()
+    ensures ready { (settings : LinkSettings) (station : ℕ) (link : Link) (before : List Exchange)
+        (x : Exchange) → x.given_up ≡ false → x.request ≡ Status →
+        answer_to station x ≡ Some Ready →
+        link_after settings station link (before ++ x ∷ []) ≡ Available }
+    ensures reset { (settings : LinkSettings) (station : ℕ) (link : Link) (before : List Exchange)
+        (x : Exchange) → x.given_up ≡ false → x.request ≡ Reset →
+        answer_to station x ≡ Some Confirmed →
+        link_after settings station link (before ++ x ∷ []) ≡ Next true }
+    ensures served { (settings : LinkSettings) (station : ℕ) (link : Link) (before : List Exchange)
+        (x : Exchange) (fcb : Bool) (service : Service) (answer : Answer) →
+        x.given_up ≡ false → x.request ≡ Counted fcb service →
+        answer_to station x ≡ Some answer → answer ≢ Unable →
+        link_after settings station link (before ++ x ∷ []) ≡ Next (not fcb) }
+    ensures unable { (settings : LinkSettings) (station : ℕ) (link : Link) (before : List Exchange)
+        (x : Exchange) → x.request ≢ Reset → answer_to station x ≡ Some Unable →
+        link_after settings station link (before ++ x ∷ []) ≡ Down }
+    ensures silent { (settings : LinkSettings) (station : ℕ) (link : Link) (before : List Exchange)
+        (x : Exchange) → is_service x.request ≡ false → answer_to station x ≡ None →
+        link_after settings station link (before ++ x ∷ []) ≡ Down }
+    ensures given_up { (settings : LinkSettings) (station : ℕ) (link : Link)
+        (before : List Exchange) (x : Exchange) → x.given_up ≡ true →
+        link_after settings station link (before ++ x ∷ []) ≡ Down }
+{}
