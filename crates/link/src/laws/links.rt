@@ -11,9 +11,8 @@ ghost use Rattle.link.specs.Procedure.{is_service};
 /// whatever came before. It can be reset behind a status that was answered. It is up behind a reset
 /// that was confirmed, and the first service has FCB 1. It is up behind a service that was served,
 /// and the next one has the other bit. It is down behind a status or a reset without an answer,
-/// behind what couldn't be served, and where it was given up. So a station whose reset was
-/// confirmed is up, and nothing else takes its link down but silence.
-/// (`repeats_are_as_many_as_set` says when a service without an answer does.)
+/// behind a request that the station couldn't serve, and where it was given up.
+/// (`repeats_are_as_many_as_set` says when a service without an answer takes it down.)
 pub fn links_are_what_the_latest_exchange_makes_them()
     ensures ready { (settings : LinkSettings) (station : ℕ) (link : Link) (before : List Exchange)
         (x : Exchange) → x.given_up ≡ false → x.request ≡ Status →
