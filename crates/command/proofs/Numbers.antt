@@ -468,7 +468,7 @@ form a b = (
       rw p refl),
 )
 
-no_tag : (kind : ℕ) → ((58 ≤ kind) × (kind ≤ 62) → ⊥) → has_tag kind ≡ false
+pub no_tag : (kind : ℕ) → ((58 ≤ kind) × (kind ≤ 62) → ⊥) → has_tag kind ≡ false
 no_tag kind other =
     let a : (kind == 58) ≡ false = unequal kind 58 (λ e. other (omega (arith, e), omega (arith, e)))
     in
