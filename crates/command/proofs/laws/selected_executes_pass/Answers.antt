@@ -1,3 +1,4 @@
+use Rattle.command.proofs.Confirming.{then_selected}
 use Rattle.command.proofs.Converse.{is_let, is_forwarded}
 use Rattle.command.proofs.Lasting.{lasts}
 use Rattle.command.proofs.laws.selected_executes_pass.Goals as goal
@@ -19,3 +20,7 @@ returns-clause-lasts c =
     λ stations sizes select_ms max_age_ms calls call xs now goes_on no_select no_con unused
     selected. lasts sizes stations select_ms max_age_ms calls call xs now goes_on no_select no_con
     unused selected
+
+pub returns-clause-confirmed : goal.returns-clause-confirmed
+returns-clause-confirmed c = λ stations sizes select_ms max_age_ms earlier.
+    then_selected stations sizes select_ms max_age_ms earlier
