@@ -30,7 +30,7 @@ ghost use Rattle.command.specs.NewestTags.{TagsAreRead, NewestIsBorne, SendingsA
 ghost use Rattle.command.specs.History.{GivesOwnAnswers, own_kept, own_sent, KeepsOwnAnswers};
 ghost use Rattle.command.specs.History.{AnswersWholly, IsGuarded, forwarded_in_all, sent_in_all};
 ghost use Rattle.command.specs.Passing.{FindsPlaces, of_others};
-ghost use Rattle.command.specs.Calls.{Call, Cut, run};
+ghost use Rattle.command.specs.Calls.{Call, Judge, Cut, run};
 ghost use Rattle.command.specs.UsedUp.{uses_up, is_select_for, is_acceptance_by};
 ghost use Rattle.command.specs.UsedUp.{is_confirmation_for, of_connection, NoneIs, IsHeldBack};
 ghost use Rattle.command.specs.Confirming.{IsThenSelected};
@@ -182,8 +182,8 @@ pub fn selections_let_one_execute_through()
 /// selected execute is refused for no want of a selection: one that is live lets it through. So it
 /// is forwarded where there are places for it. Until its time has
 /// passed nothing ends a selection but the end of its connection, another select of its type and
-/// addresses, and what uses these up. So a malformed deactivation leaves it as it is. Another
-/// confirmation renews it.
+/// addresses, and what uses these up. So a malformed deactivation leaves it as it is, and so does a
+/// select that isn't forwarded. Another confirmation renews it.
 pub fn selected_executes_pass()
     ensures selected { AtEachMoment (λ stations sizes select_ms max_age_ms now s h.
         (xs : List ℕ) (wall : Option ℕ) →
@@ -205,6 +205,14 @@ pub fn selected_executes_pass()
         (run stations sizes select_ms max_age_ms (call ∷ calls)).history }
     ensures confirmed { (stations : List StationInfo) (sizes : Sizes) (select_ms max_age_ms : ℕ)
         (earlier : List Call) → IsThenSelected stations sizes select_ms max_age_ms earlier }
+    ensures outlasts { (stations : List StationInfo) (sizes : Sizes) (select_ms max_age_ms : ℕ)
+        (calls : List Call) (xs ys : List ℕ) (came now : ℕ) (wall : Option ℕ) (a : List ℕ) →
+        selects ys ≡ true →
+        (judged ys came wall (run stations sizes select_ms max_age_ms calls).state).0 ≡ Some a →
+        IsSelected sizes stations select_ms max_age_ms xs now
+        (run stations sizes select_ms max_age_ms calls).history →
+        IsSelected sizes stations select_ms max_age_ms xs now
+        (run stations sizes select_ms max_age_ms (Judge ys came wall ∷ calls)).history }
 {}
 
 /// No two selections are of one target, and each is the select that stands for its target, as far
