@@ -1,6 +1,6 @@
 -- A command that is forwarded to a station for which nothing waits is the next that goes out.
-use Rattle.std.proofs.Common.{◌≡◌, ℕ, ◌+◌, ◌≤◌, Bool, true, false, List, [], ◌∷◌, ◌++◌, length}
-use Rattle.std.proofs.Common.{drop, refl, sym, subst, ap, ◌∙◌, arith, rules}
+use Rattle.std.proofs.Common.{◌≡◌, ℕ, ◌≤◌, Bool, true, false, List, [], ◌∷◌, ◌++◌, length}
+use Rattle.std.proofs.Common.{drop, refl, ap, ◌∙◌, arith, rules}
 use Rattle.std.specs.Prelude.{Option, Some, None, if◌then◌else◌, option_map, slice_get}
 use Rattle.std.specs.Option.{option_map_or}
 use Rattle.std.proofs.lemmas.List.{length-drop, drop-append-le}
@@ -12,7 +12,6 @@ use Rattle.command.specs.State.{oldest, octets_waiting}
 use Rattle.command.specs.History.{Judged, History, first, is_for, forwarded_to, sent_count}
 use Rattle.command.specs.History.{next_for}
 use Rattle.command.specs.Calls.{Call, run}
-use Rattle.command.proofs.Keeps.{KeepsQueue}
 use Rattle.command.proofs.Sendings.{none_waits}
 use Rattle.command.proofs.Runs.{run_holds}
 

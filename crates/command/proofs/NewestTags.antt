@@ -1,9 +1,8 @@
 -- The newest command's tag is borne, whatever its addresses are.
 use Rattle.std.proofs.Common.{◌≡◌, ℕ, zero, suc, ◌<◌, ◌≤◌, ◌⊎◌, inl, inr, Bool, true, false, List}
-use Rattle.std.proofs.Common.{[], ◌∷◌, ◌++◌, length, take, drop, refl, sym, subst, ap, ◌∙◌, arith}
+use Rattle.std.proofs.Common.{[], ◌∷◌, ◌++◌, length, take, refl, sym, ap, ◌∙◌, arith}
 use Rattle.std.proofs.Common.{rules}
-use Rattle.std.specs.Prelude.{Option, Some, None, if◌then◌else◌, slice_index}
-use Rattle.std.specs.List.{AllByRecursion}
+use Rattle.std.specs.Prelude.{Option, Some, None, if◌then◌else◌}
 use Rattle.asdu.specs.Asdu.{AsduValue, Info}
 use Rattle.asdu.specs.declared.sizes.Sizes.{Sizes}
 use Rattle.command.specs.declared.station.StationInfo.{StationInfo}
@@ -18,7 +17,7 @@ use Rattle.command.specs.Calls.{Cut, Due, run, after_sending, after_answer}
 use Rattle.command.specs.NewestTags.{TagsAreRead, NoneHas, NewestIsBorne, SendingsAreNoted}
 use Rattle.command.proofs.Numbers.{no_tag}
 use Rattle.command.proofs.Sendings.{none_waits}
-use Rattle.command.proofs.Runs.{run_holds, next_is_of}
+use Rattle.command.proofs.Runs.{run_holds}
 use Rattle.command.proofs.Coming.{is_next}
 
 pub tags_read : TagsAreRead
@@ -125,7 +124,8 @@ module _ (sizes : Sizes) (stations : List StationInfo) (ms age : ℕ) where
   stays calls (Lose k) goes_on other = refl
   stays calls (Mirror v now) goes_on other = refl
   stays calls (Own octets) goes_on other = refl
-  stays calls SendOwn goes_on other = by (first_answer (run stations sizes ms age calls).state.answers)
+  stays calls SendOwn goes_on other =
+      by (first_answer (run stations sizes ms age calls).state.answers)
     where
       by : (o : Option (List ℕ))
           → all (after_answer o (run stations sizes ms age calls)).history ≡ all (history calls)
