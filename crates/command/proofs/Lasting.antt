@@ -1,7 +1,7 @@
 -- A selection lasts: what neither selects, nor confirms, nor uses up its target leaves it as it is.
 use Rattle.std.proofs.Common.{◌≡◌, ℕ, ◌-◌, ◌&&◌, ◌||◌, Bool, true, false, not, List, ◌∷◌}
 use Rattle.std.proofs.Common.{length}
-use Rattle.std.proofs.Common.{refl, ap, ◌∙◌}
+use Rattle.std.proofs.Common.{refl, ap, ◌∙◌, rules}
 use Rattle.std.specs.Prelude.{Option, Some, None, if◌then◌else◌, is_none, nat_lt}
 use Rattle.std.proofs.lemmas.Bool.{and_parts}
 use Rattle.asdu.specs.declared.sizes.Sizes.{Sizes}
@@ -19,7 +19,7 @@ use Rattle.command.specs.History.{IsSelected}
 use Rattle.command.specs.Calls.{Call, Judge, PutOnLine, Accept, Busy, Lose, Mirror, Own, SendOwn}
 use Rattle.command.specs.Calls.{Cut, Due, Run, run, after_sending, after_answer}
 use Rattle.command.specs.UsedUp.{is_select_for, is_confirmation_for, uses_up}
-use Rattle.command.proofs.UsedUp.{clash, are_one, none_confirmed, standing_is_one}
+use Rattle.command.proofs.UsedUp.{clash, are_one, none_confirmed, standing_is_one, ending_is_none}
 
 no_select_chosen : (a b s : Bool) → s ≡ false → (a && (b && s)) ≡ false
 no_select_chosen true true s is = is
@@ -143,3 +143,41 @@ module _ (sizes : Sizes) (stations : List StationInfo) (ms age : ℕ) where
           lasts_by xs now (after calls).history (Answered octets) refl (λ z at. refl) is
   lasts calls Cut xs now goes_on no_select no_con unused is = absurd (goes_on refl)
   lasts calls (Due m) xs now goes_on no_select no_con unused is = is
+
+  -- ---- a select that is refused
+
+  refused_stays : (xs ys : List ℕ) (now : ℕ) (wall : Option ℕ) (a : List ℕ) (h : History)
+      → selects ys ≡ true
+      → standing sizes stations ms age xs (Judged now wall ys (Some a) ∷ h)
+      ≡ standing sizes stations ms age xs h
+  refused_stays xs ys now wall a h selecting =
+      by (is_of_target sizes stations ms age xs wall ys)
+    where
+      ends : (is_deactivating ys || executes ys) ≡ false
+      ends = not_so (is_deactivating ys || executes ys) (λ e. never (selects ys) selecting
+          (ending_is_none ys e))
+        where
+          never : (b : Bool) → b ≡ true → b ≡ false → ⊥
+          never true f g = search (rules, g)
+          never false f g = search (rules, f)
+
+      by : (n : Bool)
+          → (if not n then standing sizes stations ms age xs h
+          else (if is_deactivating ys || executes ys then None
+          else standing sizes stations ms age xs h))
+          ≡ standing sizes stations ms age xs h
+      by false = refl
+      by true = ap (λ (d : Bool). if d then None else standing sizes stations ms age xs h) ends
+
+  pub outlasts : (calls : List Call) (xs ys : List ℕ) (came now : ℕ) (wall : Option ℕ)
+      (a : List ℕ)
+      → selects ys ≡ true
+      → (judged ys came wall (after calls).state).0 ≡ Some a
+      → selected xs now (after calls).history
+      → selected xs now (after (Judge ys came wall ∷ calls)).history
+  outlasts calls xs ys came now wall a selecting refused is =
+      lasts_by xs now (after calls).history
+      (Judged came wall ys (judged ys came wall (after calls).state).0)
+      (ap (λ (b : Option (List ℕ)).
+      standing sizes stations ms age xs (Judged came wall ys b ∷ (after calls).history)) refused
+      ∙ refused_stays xs ys came wall a (after calls).history selecting) (λ z at. refl) is

@@ -1,4 +1,6 @@
 pub mod Codes
+pub mod Coming
+pub mod Confirming
 pub mod Kept
 pub mod Spelled
 pub mod Machine
@@ -32,6 +34,7 @@ pub mod Outlived
 pub mod Faultless
 pub mod UsedUp
 pub mod Lasting
+pub mod NewestTags
 pub mod Numbers
 pub mod Outcomes
 pub mod Order

@@ -1,5 +1,5 @@
 -- What the octets of a command say is the same whatever its numbers are.
-use Rattle.std.proofs.Common.{◌≡◌, ℕ, zero, suc, ◌+◌, ◌-◌, ◌%◌, ◌^◌, ◌<◌, ◌≤◌, ◌⊎◌, inl, inr}
+use Rattle.std.proofs.Common.{◌≡◌, ℕ, zero, suc, ◌-◌, ◌%◌, ◌^◌, ◌<◌, ◌≤◌, ◌⊎◌, inl, inr}
 use Rattle.std.proofs.Common.{◌++◌, Bool, true, false, not, List, [], ◌∷◌, refl, sym, ap, ◌∙◌}
 use Rattle.std.proofs.Common.{arith}
 use Rattle.std.specs.Prelude.{◌==◌, ◌&&◌, ◌||◌, nat_lt, nat_le, slice_get, Some, length}
@@ -468,7 +468,7 @@ form a b = (
       rw p refl),
 )
 
-no_tag : (kind : ℕ) → ((58 ≤ kind) × (kind ≤ 62) → ⊥) → has_tag kind ≡ false
+pub no_tag : (kind : ℕ) → ((58 ≤ kind) × (kind ≤ 62) → ⊥) → has_tag kind ≡ false
 no_tag kind other =
     let a : (kind == 58) ≡ false = unequal kind 58 (λ e. other (omega (arith, e), omega (arith, e)))
     in

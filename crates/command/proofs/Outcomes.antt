@@ -20,6 +20,7 @@ use Rattle.command.specs.Numbers.{Numbers, command_with, TimesAreKept, Confirmat
 use Rattle.command.specs.Numbers.{one_octet, set_point, one_octet_tagged, set_point_tagged}
 use Rattle.command.specs.Numbers.{CausesAreGiven, IsKnown}
 use Rattle.command.proofs.Numbers.{both_true, both_false, three_equal, three_only, six, eight}
+use Rattle.command.proofs.Numbers.{no_tag}
 
 -- ---- confirmations
 
@@ -210,6 +211,10 @@ fresh most wall xs is =
     go true false = refl
     go false b = refl
 
+not_active : (a b c : Bool) → b ≡ false → (a && b && c) ≡ false
+not_active true b c is = ap (λ (d : Bool). d && c) is
+not_active false b c is = refl
+
 pub times_hold : TimesAreKept
 times_hold = record {
   passes = λ select_ms max_age_ms came con now soon early.
@@ -224,4 +229,11 @@ times_hold = record {
       (let p : nat_lt (con - came) select_ms ≡ false = le-ltb (con - came) select_ms late in
       rw p refl);
   fresh = fresh;
+  untagged = λ most wall kind rest other.
+      ap (λ (b : Bool). b && is_activation (kind ∷ rest)
+      && not (is_fresh most wall (verdict_of (tag_of (kind ∷ rest))))) (no_tag kind other);
+  deactivation = λ most wall kind n rest is.
+      not_active (has_tag kind) (n.cause % 64 == 6)
+      (not (is_fresh most wall (verdict_of (tag_of (command_with kind n rest)))))
+      (eight n.cause is).0;
 }

@@ -64,7 +64,7 @@ deactivation_is_none ys h = by (is_activation ys) refl
         off true b = refl
         off false b = refl
 
-ending_is_none : (ys : List ℕ) → (is_deactivating ys || executes ys) ≡ true → selects ys ≡ false
+pub ending_is_none : (ys : List ℕ) → (is_deactivating ys || executes ys) ≡ true → selects ys ≡ false
 ending_is_none ys h = by (is_deactivating ys) refl h
   where
     by : (d : Bool) → is_deactivating ys ≡ d → (d || executes ys) ≡ true → selects ys ≡ false

@@ -7,6 +7,7 @@ pub mod Stations
 pub mod State
 pub mod Judging
 pub mod Mirrors
+pub mod NewestTags
 pub mod Fields
 pub mod History
 pub mod Selections
@@ -23,3 +24,4 @@ pub mod Refusals
 pub mod Carried
 pub mod Passing
 pub mod UsedUp
+pub mod Confirming

@@ -5,12 +5,12 @@ use Rattle.std.specs.Prelude.{None, is_none}
 use Rattle.std.specs.List.{AllByRecursion, list_any}
 use Rattle.asdu.specs.declared.sizes.Sizes.{Sizes}
 use Rattle.command.specs.declared.station.StationInfo.{StationInfo}
-use Rattle.command.specs.Standard.{selects, executes, is_deactivating, have_one_target, station_of}
+use Rattle.command.specs.Standard.{selects, executes, is_deactivating, have_one_target}
 use Rattle.command.specs.Standard.{must_be_selected, cause_of_fault, refuses_command}
 use Rattle.command.specs.Standard.{is_positive_confirmation, is_object_of}
 use Rattle.command.specs.Judging.{judged}
-use Rattle.command.specs.Calls.{Call, Judge, PutOnLine, Accept, Busy, Lose, Mirror, Own, SendOwn}
-use Rattle.command.specs.Calls.{Cut, Due, run}
+use Rattle.command.specs.Calls.{Call, Judge, Accept, Mirror}
+use Rattle.command.specs.Calls.{Cut, run}
 
 -- the calls since the latest end of a connection
 abbrev pub of_connection : List Call → List Call

@@ -25,13 +25,15 @@ ghost use Rattle.command.specs.Standard.{IsRefusal};
 ghost use Rattle.command.specs.Rules.{rules_for, not_selected, no_place};
 ghost use Rattle.command.specs.Order.{IsJudgedInOrder, AgesAreTold};
 ghost use Rattle.command.specs.History.{ForwardsCommands, next_octets, SendsFreshCommands};
-ghost use Rattle.command.specs.History.{mirror_tag, ExecutesAreSelected, IsSelected};
+ghost use Rattle.command.specs.History.{History, mirror_tag, ExecutesAreSelected, IsSelected};
+ghost use Rattle.command.specs.NewestTags.{TagsAreRead, NewestIsBorne, SendingsAreNoted};
 ghost use Rattle.command.specs.History.{GivesOwnAnswers, own_kept, own_sent, KeepsOwnAnswers};
 ghost use Rattle.command.specs.History.{AnswersWholly, IsGuarded, forwarded_in_all, sent_in_all};
 ghost use Rattle.command.specs.Passing.{FindsPlaces, of_others};
-ghost use Rattle.command.specs.Calls.{Call, Cut, run};
+ghost use Rattle.command.specs.Calls.{Call, Judge, Cut, run};
 ghost use Rattle.command.specs.UsedUp.{uses_up, is_select_for, is_acceptance_by};
 ghost use Rattle.command.specs.UsedUp.{is_confirmation_for, of_connection, NoneIs, IsHeldBack};
+ghost use Rattle.command.specs.Confirming.{IsThenSelected};
 ghost use Rattle.command.specs.Selections.{AreDistinct, IsStanding, IsInTime};
 ghost use Rattle.command.specs.Examples.{OctetExamples, IsRight, WaitsSo, rule_examples};
 ghost use Rattle.command.specs.Examples.{selection_examples, line_examples, tag_examples, BearsIt};
@@ -125,11 +127,18 @@ pub fn faultless_commands_pass()
 
 /// The tag with which a station's answer to a command is passed on is that of the newest first
 /// sending of its type and addresses, among the latest sixteen of the open connection; there is
-/// none where that command came without one, and where the answer hasn't one object.
+/// none where that command came without one, and where the answer hasn't one object. A command is
+/// noted as it came when it goes out, whatever its station and its addresses. So it is the newest
+/// until fifteen others went out behind it, or its connection ends.
 pub fn mirrors_bear_the_newest_tag()
-    ensures { AfterEachRun (λ stations sizes select_ms max_age_ms s h. (v : AsduValue) →
+    ensures among { AfterEachRun (λ stations sizes select_ms max_age_ms s h. (v : AsduValue) →
         option_map (λ tag. tag.0) (tag_for v v.infos s)
         ≡ mirror_tag sizes stations select_ms max_age_ms v v.infos h) }
+    ensures borne { (stations : List StationInfo) (sizes : Sizes) (select_ms max_age_ms : ℕ)
+        (h : History) → NewestIsBorne sizes stations select_ms max_age_ms h }
+    ensures noted { (stations : List StationInfo) (sizes : Sizes) (select_ms max_age_ms : ℕ)
+        (calls : List Call) → SendingsAreNoted sizes stations select_ms max_age_ms calls }
+    ensures tags { TagsAreRead }
 {}
 
 /// Before each forwarded execute to a station that asks for selects its select stands: the latest
@@ -168,11 +177,13 @@ pub fn selections_let_one_execute_through()
         IsHeldBack stations sizes select_ms max_age_ms calls xs }
 {}
 
-/// Where moments never fall, a selected execute is refused for no want of a selection: one that is
-/// live lets it through. So it is forwarded where there are places for it. Until its time has
+/// A select that went out, and that its station accepted on its line and confirmed in time, selects
+/// its execute: so it is for each station, each type and each address. Where moments never fall, a
+/// selected execute is refused for no want of a selection: one that is live lets it through. So it
+/// is forwarded where there are places for it. Until its time has
 /// passed nothing ends a selection but the end of its connection, another select of its type and
-/// addresses, and what uses these up. So a malformed deactivation leaves it as it is. Another
-/// confirmation renews it.
+/// addresses, and what uses these up. So a malformed deactivation leaves it as it is, and so does a
+/// select that isn't forwarded. Another confirmation renews it.
 pub fn selected_executes_pass()
     ensures selected { AtEachMoment (λ stations sizes select_ms max_age_ms now s h.
         (xs : List ℕ) (wall : Option ℕ) →
@@ -192,6 +203,16 @@ pub fn selected_executes_pass()
         (run stations sizes select_ms max_age_ms calls).history →
         IsSelected sizes stations select_ms max_age_ms xs now
         (run stations sizes select_ms max_age_ms (call ∷ calls)).history }
+    ensures confirmed { (stations : List StationInfo) (sizes : Sizes) (select_ms max_age_ms : ℕ)
+        (earlier : List Call) → IsThenSelected stations sizes select_ms max_age_ms earlier }
+    ensures outlasts { (stations : List StationInfo) (sizes : Sizes) (select_ms max_age_ms : ℕ)
+        (calls : List Call) (xs ys : List ℕ) (came now : ℕ) (wall : Option ℕ) (a : List ℕ) →
+        selects ys ≡ true →
+        (judged ys came wall (run stations sizes select_ms max_age_ms calls).state).0 ≡ Some a →
+        IsSelected sizes stations select_ms max_age_ms xs now
+        (run stations sizes select_ms max_age_ms calls).history →
+        IsSelected sizes stations select_ms max_age_ms xs now
+        (run stations sizes select_ms max_age_ms (Judge ys came wall ∷ calls)).history }
 {}
 
 /// No two selections are of one target, and each is the select that stands for its target, as far
