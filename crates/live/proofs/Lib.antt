@@ -32,5 +32,6 @@ pub mod Cuts
 pub mod Runs
 pub mod Refused
 pub mod Sorted
+pub mod Told
 pub mod CallSums
 pub mod Plain

@@ -14,6 +14,7 @@ ghost use Rattle.live.specs.OctetStreams.{FitsBuffer, IsNew, attempted, noted, l
 ghost use Rattle.live.specs.OctetStreams.{Wrote};
 ghost use Rattle.live.specs.Streams.{ReadsOnce, ReadsLine, DropsWaiting, WritesAll, WritesFront};
 ghost use Rattle.live.specs.Streams.{called, Waits};
+ghost use Rattle.live.specs.Telling.{Tells, told_unless};
 ghost use Rattle.live.specs.declared.ends.Presence.TheVariants.{There};
 
 use crate::allow_list::AllowList;
@@ -457,17 +458,25 @@ impl<'a, R: Net<Listener = TcpListener, Stream = TcpStream> + Eprint> CentreList
 impl<R: Eprint, T: SystemListener + Drop> CentreListener<'_, R, T> {
     /// Says once that no connection can be accepted, as with too few descriptors.
     fn say_shut(&mut self, fault: &io::Error)
-        ensures { self.new ≡ record self.old { is_shut = true } }
+        ensures said { record { told = T.told self.new.listener; is_shut = self.new.is_shut }
+            ≡ told_unless self.old.is_shut fault.now
+            (record { told = T.told self.old.listener; is_shut = self.old.is_shut }) }
+        ensures arrivals { T.arrivals self.new.listener ≡ T.arrivals self.old.listener }
+        ensures refused { self.new.refused ≡ self.old.refused }
     {
         if !self.is_shut {
-            let _ = eprintln!(self.rt; "connections can't be accepted: {fault}");
+            self.listener.tell(self.rt, fault);
+            self.is_shut = true;
         }
-        self.is_shut = true;
     }
 
     /// Asks for the next who waits. Who may not connect is refused.
     fn take_one(&mut self, allow_list: &AllowList) -> Arrived
-        ensures { TakesOne allow_list.now (T.arrivals self.old.listener) self.old.refused result
+        ensures tells { Tells (T.arrivals self.old.listener)
+            (record { told = T.told self.old.listener; is_shut = self.old.is_shut })
+            (T.arrivals self.new.listener)
+            (record { told = T.told self.new.listener; is_shut = self.new.is_shut }) }
+        ensures takes { TakesOne allow_list.now (T.arrivals self.old.listener) self.old.refused result
             (T.arrivals self.new.listener) self.new.refused }
     {
         match self.listener.accept_next() {
@@ -498,7 +507,11 @@ impl<R: Eprint, T: SystemListener + Drop> CentreListener<'_, R, T> {
 
     /// Asks for all who wait, and answers the newest who may connect. Who may not is refused.
     fn take_waiting(&mut self, allow_list: &AllowList) -> Option<(IpAddr, TcpStream)>
-        ensures { TakesWaiting allow_list.now (T.arrivals self.old.listener) self.old.refused
+        ensures tells { Tells (T.arrivals self.old.listener)
+            (record { told = T.told self.old.listener; is_shut = self.old.is_shut })
+            (T.arrivals self.new.listener)
+            (record { told = T.told self.new.listener; is_shut = self.new.is_shut }) }
+        ensures takes { TakesWaiting allow_list.now (T.arrivals self.old.listener) self.old.refused
             result (T.arrivals self.new.listener) self.new.refused }
     {
         let mut newest = None;
@@ -534,6 +547,10 @@ impl<R: Net<Listener = TcpListener, Stream = TcpStream> + Eprint, T: SystemListe
         ensures takes { AcceptsNewest allow_list.now (T.arrivals self.old.listener)
             self.old.refused (option_map (λ accepted. accepted.address) result)
             (T.arrivals self.new.listener) self.new.refused }
+        ensures tells { Tells (T.arrivals self.old.listener)
+            (record { told = T.told self.old.listener; is_shut = self.old.is_shut })
+            (T.arrivals self.new.listener)
+            (record { told = T.told self.new.listener; is_shut = self.new.is_shut }) }
     {
         let (address, stream) = self.take_waiting(allow_list)?;
         let stream = CentreSocket::new(stream).ok()?;

@@ -1,6 +1,6 @@
 use Rattle.live.proofs.Redials.{drop_waits, octets_wait, put_waits, quiet_waits, reached_waits}
 use Rattle.live.proofs.Redials.{still_waits}
-use Rattle.live.proofs.laws.tries_lie_farther_apart_while_nothing_comes.Goals as goal
+use Rattle.live.proofs.laws.tries.tries_lie_farther_apart_while_nothing_comes.Goals as goal
 
 pub returns-clause-reached : goal.returns-clause-reached
 returns-clause-reached c = reached_waits

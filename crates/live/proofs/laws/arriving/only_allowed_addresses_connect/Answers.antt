@@ -1,5 +1,5 @@
 use Rattle.live.proofs.Allowed.{kept_out, put_out}
-use Rattle.live.proofs.laws.only_allowed_addresses_connect.Goals as goal
+use Rattle.live.proofs.laws.arriving.only_allowed_addresses_connect.Goals as goal
 
 pub returns-clause-events : goal.returns-clause-events
 returns-clause-events c = kept_out

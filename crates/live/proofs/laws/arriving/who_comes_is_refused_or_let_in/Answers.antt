@@ -1,5 +1,5 @@
 use Rattle.live.proofs.Sorted.{fault_came, guest_came, nobody_came, peer_plain, stranger_came}
-use Rattle.live.proofs.laws.who_comes_is_refused_or_let_in.Goals as goal
+use Rattle.live.proofs.laws.arriving.who_comes_is_refused_or_let_in.Goals as goal
 
 pub returns-clause-nobody : goal.returns-clause-nobody
 returns-clause-nobody c = nobody_came

@@ -1,5 +1,5 @@
 use Rattle.live.proofs.Refused.{event_since, action_still, run_since}
-use Rattle.live.proofs.laws.only_strangers_are_refused.Goals as goal
+use Rattle.live.proofs.laws.arriving.only_strangers_are_refused.Goals as goal
 
 pub returns-clause-events : goal.returns-clause-events
 returns-clause-events c = event_since

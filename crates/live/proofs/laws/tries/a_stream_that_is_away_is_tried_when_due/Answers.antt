@@ -1,7 +1,7 @@
 use Rattle.live.proofs.Redials.{asks_on, begins_at_once, begins_later, drops_away, puts_away}
 use Rattle.live.proofs.Redials.{drops_there, puts_there, reached_new, waits_undue}
 use Rattle.live.proofs.Tries.{away_quiet, looks_there}
-use Rattle.live.proofs.laws.a_stream_that_is_away_is_tried_when_due.Goals as goal
+use Rattle.live.proofs.laws.tries.a_stream_that_is_away_is_tried_when_due.Goals as goal
 
 pub returns-clause-first : goal.returns-clause-first
 returns-clause-first c = begins_at_once

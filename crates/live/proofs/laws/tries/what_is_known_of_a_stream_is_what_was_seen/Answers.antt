@@ -1,5 +1,5 @@
 use Rattle.live.proofs.Redials.{fails_away, gone_away, octets_receiving, quiet_stays, reached_there}
-use Rattle.live.proofs.laws.what_is_known_of_a_stream_is_what_was_seen.Goals as goal
+use Rattle.live.proofs.laws.tries.what_is_known_of_a_stream_is_what_was_seen.Goals as goal
 
 pub returns-clause-reached : goal.returns-clause-reached
 returns-clause-reached c = reached_there
