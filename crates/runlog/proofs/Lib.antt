@@ -10,5 +10,6 @@ pub mod RowLemmas
 pub mod Passings
 pub mod Connections
 pub mod ConnectionLines
+pub mod Others
 pub mod Walls
 pub mod Failures

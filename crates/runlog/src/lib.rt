@@ -25,7 +25,8 @@
 //!
 //! Which connection is open is known, whatever passes
 //! ([`connections_are_known_from_their_opening_to_their_end`]), and each step of one is logged, or
-//! counted by a later line ([`each_step_of_a_connection_is_logged_or_counted`]). Of a line it is
+//! counted by a later line ([`each_step_of_a_connection_is_logged_or_counted`]), and no other event
+//! or action is logged as one ([`nothing_else_is_logged_as_a_step_of_a_connection`]). Of a line it is
 //! logged where it goes and where it is back
 //! ([`a_line_is_logged_where_it_goes_and_where_it_is_back`]), and so is what has failed at the end
 //! ([`failures_are_logged_at_the_end`]). The wall clock is shown as it goes on
@@ -63,7 +64,7 @@ mod word_examples;
 
 pub use connection_laws::{
     connections_are_known_from_their_opening_to_their_end,
-    each_step_of_a_connection_is_logged_or_counted, the_wall_clock_goes_on_between_its_events,
+    each_step_of_a_connection_is_logged_or_counted, nothing_else_is_logged_as_a_step_of_a_connection, the_wall_clock_goes_on_between_its_events,
 };
 pub use content::Skip;
 pub use ends::OpenConnection;
