@@ -15,21 +15,21 @@ use Rattle.runlog.specs.declared.note.LogLine.{LogLine}
 use Rattle.runlog.specs.declared.note.Note.{Note}
 use Rattle.runlog.specs.declared.note.Note.TheVariants as note
 
-free_after : (before : Option ℕ) (now : ℕ) → IsSecondAfter before now
+pub free_after : (before : Option ℕ) (now : ℕ) → IsSecondAfter before now
     → is_free_after before now ≡ true
 free_after None now is = refl
 free_after (Some before) now is = let le : before + 1000 ≤ now = is in grind (arith, le)
 
-away_so : (b : Bool) → seen_as b presence.Away ≡ presence.Away
+pub away_so : (b : Bool) → seen_as b presence.Away ≡ presence.Away
 away_so true = refl
 away_so false = refl
 
-receiving_so : (b : Bool) → seen_as b presence.Receiving ≡ presence.Receiving
+pub receiving_so : (b : Bool) → seen_as b presence.Receiving ≡ presence.Receiving
 receiving_so true = refl
 receiving_so false = refl
 
 -- what is asked of a limit
-abbrev line_asked : Bool → Note → Limit → ℕ → Limit × Option LogLine
+abbrev pub line_asked : Bool → Note → Limit → ℕ → Limit × Option LogLine
 line_asked b what l now =
     if b then ((asked_by b l now).0, line_by what now (asked_by b l now).1) else (l, None)
 

@@ -13,3 +13,4 @@ pub mod ConnectionLines
 pub mod Others
 pub mod Walls
 pub mod Failures
+pub mod Seen
