@@ -33,5 +33,6 @@ pub mod Runs
 pub mod Refused
 pub mod Sorted
 pub mod Told
+pub mod Reaches
 pub mod CallSums
 pub mod Plain

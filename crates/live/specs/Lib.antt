@@ -19,3 +19,4 @@ pub mod Cuts
 pub mod Runs
 pub mod CallSums
 pub mod Telling
+pub mod Reaching

@@ -48,6 +48,9 @@
 //! Before a request is written what has come from the line is dropped, since it is no answer to it,
 //! and how many octets that were is counted ([`late_octets_are_those_that_were_dropped`]).
 //!
+//! That nobody can be accepted is told at the first fault, and not again until somebody has come
+//! ([`that_nobody_can_be_accepted_is_told_once`]).
+//!
 //! One call to a stream of the system is read as one fact about its answer: octets, quiet or gone,
 //! and taken only where all was taken; a look at the line goes on until its octets end as a line
 //! frame does, none come, or 15 times; of a write in two calls a stream takes the octets once, in
@@ -66,6 +69,7 @@ mod laws;
 #[cfg(test)]
 mod memory;
 mod port;
+mod reach;
 mod redial;
 mod run_port;
 mod sockets;

@@ -195,11 +195,13 @@ station_apart standing.Nothing asking.Status now w = asked_apart now w
 station_apart standing.Nothing (asking.Counted bit) now w = up_apart now w
 station_apart standing.Nothing asking.Other now w = tt
 station_apart standing.Nothing asking.Missed now w = missed_apart now w
-station_apart standing.Asked asking.Status now w = silent_apart (is_unanswered w) standing.Unanswered now w
+station_apart standing.Asked asking.Status now w =
+    silent_apart (is_unanswered w) standing.Unanswered now w
 station_apart standing.Asked (asking.Counted bit) now w = up_apart now w
 station_apart standing.Asked asking.Other now w = tt
 station_apart standing.Asked asking.Missed now w = missed_apart now w
-station_apart standing.Down asking.Status now w = silent_apart (is_unanswered w) standing.Unanswered now w
+station_apart standing.Down asking.Status now w =
+    silent_apart (is_unanswered w) standing.Unanswered now w
 station_apart standing.Down (asking.Counted bit) now w = up_apart now w
 station_apart standing.Down asking.Other now w = tt
 station_apart standing.Down asking.Missed now w = missed_apart now w
@@ -208,7 +210,8 @@ station_apart standing.Unanswered (asking.Counted bit) now w = up_apart now w
 station_apart standing.Unanswered asking.Other now w = tt
 station_apart standing.Unanswered asking.Missed now w = missed_apart now w
 station_apart standing.Up asking.Status now w = down_apart now w
-station_apart standing.Up (asking.Counted bit) now w = silent_apart (is_unanswered w) standing.Silent now w
+station_apart standing.Up (asking.Counted bit) now w =
+    silent_apart (is_unanswered w) standing.Silent now w
 station_apart standing.Up asking.Other now w = tt
 station_apart standing.Up asking.Missed now w = missed_apart now w
 station_apart standing.Silent asking.Status now w = down_apart now w

@@ -49,9 +49,11 @@ pub queue_fills : (w : QueueWatch) (taken places now : ℕ) → w.is_full ≡ fa
 queue_fills w taken places now was few second =
     let look = queue_look false true taken places now w was (few_free taken places few) in
     let full = ap (λ b. queue_logged true (line_asked b note.QueueFull w.full now).1
-        (record w { full = (line_asked b note.QueueFull w.full now).0 }))
-        (free_after w.full.logged now second) in
-    (ap (λ x. x.1) look ∙ ap (λ x. x.1) full, ap (λ x. x.0.is_full) look ∙ ap (λ x. x.0.is_full) full)
+    (record w { full = (line_asked b note.QueueFull w.full now).0 }))
+    (free_after w.full.logged now second) in (
+      ap (λ x. x.1) look ∙ ap (λ x. x.1) full,
+      ap (λ x. x.0.is_full) look ∙ ap (λ x. x.0.is_full) full,
+    )
 
 pub queue_frees : (w : QueueWatch) (taken places now : ℕ) → w.is_full ≡ true
     → 3 ≤ places - taken → IsSecondAfter w.free.logged now
@@ -61,8 +63,8 @@ pub queue_frees : (w : QueueWatch) (taken places now : ℕ) → w.is_full ≡ tr
 queue_frees w taken places now was free second =
     let look = queue_look true false taken places now w was (three_free taken places free) in
     let all = ap (λ b. queue_logged false (line_asked b note.QueueFree w.free now).1
-        (record w { free = (line_asked b note.QueueFree w.free now).0 }))
-        (free_after w.free.logged now second) in
+    (record w { free = (line_asked b note.QueueFree w.free now).0 }))
+    (free_after w.free.logged now second) in
     (ap (λ x. x.1) look ∙ ap (λ x. x.1) all, ap (λ x. x.0.is_full) look ∙ ap (λ x. x.0.is_full) all)
 
 pub still_full : (w : QueueWatch) (taken places now : ℕ) → w.is_full ≡ true
@@ -97,8 +99,8 @@ refused_so s w now more second =
     let what : Note = note.RefusedPeers (s.count - w.logged) s.last in
     let look = ap (λ b. listener_by b s now w) (more_came s.count w.logged more) in
     let all = ap (λ b. listener_logged s.count (line_asked b what w.limit now).1
-        (record w { limit = (line_asked b what w.limit now).0 }))
-        (free_after w.limit.logged now second) in
+    (record w { limit = (line_asked b what w.limit now).0 }))
+    (free_after w.limit.logged now second) in
     (ap (λ x. x.1) look ∙ ap (λ x. x.1) all, ap (λ x. x.0.logged) look ∙ ap (λ x. x.0.logged) all)
 
 pub nobody_so : (s : RefusedPeers) (w : ListenerWatch) (now : ℕ) → s.count ≤ w.logged

@@ -21,13 +21,15 @@ loop-preserved g c =
     let P : Option Comer → Type 0 =
     λ n. TakesSo c.args.allow_list.now (g.T.SystemListener.arrivals c.args.self.now.listener)
     c.args.self.now.refused n (c.loop.counter + 1)
-    (g.T.SystemListener.arrivals c.take_one.new.self.listener) c.take_one.new.self.refused in
-    (elim c.match-take_one.branch [
-      | in-Allowed w ↦ subst P (sym w.newest-is)
-          (let_in _ _ _ _ _ _ _ _ _ _ _ c.loop.invariant.0 w.in-Allowed.ensures.takes)
-      | in-Other w ↦ subst P (sym w.newest-is)
-          (other _ _ _ _ _ _ _ _ _ c.loop.invariant.0 w.in-Other.ensures.takes)
-    ], tells_more _ _ _ _ _ _ c.loop.invariant.1 c.take_one.ensures.tells)
+    (g.T.SystemListener.arrivals c.take_one.new.self.listener) c.take_one.new.self.refused in (
+      elim c.match-take_one.branch [
+        | in-Allowed w ↦ subst P (sym w.newest-is)
+            (let_in _ _ _ _ _ _ _ _ _ _ _ c.loop.invariant.0 w.in-Allowed.ensures.takes)
+        | in-Other w ↦ subst P (sym w.newest-is)
+            (other _ _ _ _ _ _ _ _ _ c.loop.invariant.0 w.in-Other.ensures.takes)
+      ],
+      tells_more _ _ _ _ _ _ c.loop.invariant.1 c.take_one.ensures.tells,
+    )
 
 pub returns-clause-takes : goal.returns-clause-takes
 returns-clause-takes g c = enough _ _ _ _ _ _ _ (search rules) c.loop.invariant.0
