@@ -4,7 +4,7 @@ pub(crate) mod arriving;
 pub(crate) mod tries;
 
 ghost use Rattle.std.specs.Prelude.{◌⊎◌, ◌≡◌, ◌≢◌, All, IfSome, None, ◌+◌, ◌-◌, ◌<◌, ◌≤◌, ℕ, List};
-ghost use Rattle.std.specs.Prelude.{[], ◌∷◌, length, Some, true, false};
+ghost use Rattle.std.specs.Prelude.{[], ◌∷◌, length, take, Some, true, false};
 ghost use Rattle.gateway.specs.declared.ports.Next.{Next};
 ghost use Rattle.live.specs.Ends.{LiveEnds, LogsTurn, LogsPut};
 ghost use Rattle.live.specs.Law.{AtMoment, AtBytes, AtClock, AtBegun, IsWaitedOut, AtRounds};
@@ -15,7 +15,8 @@ ghost use Rattle.live.specs.Runs.{IsInRun, WallFirst};
 ghost use Rattle.live.specs.declared.ends.CutCause.TheVariants.{Gone, NotTaken};
 ghost use Rattle.gateway.specs.Log.{Closed, LineOut, Output};
 ghost use Rattle.live.specs.InTurn.{BeginsBehind, LooksBefore, IsLookedAt, begins_behind};
-ghost use Rattle.live.specs.InTurn.{EachRoundLooks, GivesOctets, HoldsOctets, level_rounds};
+ghost use Rattle.live.specs.InTurn.{EachRoundLooks, GivesOctets, HoldsFound, HoldsOctets};
+ghost use Rattle.live.specs.InTurn.{level_rounds};
 ghost use Rattle.live.specs.declared.source.EventSource.TheVariants.{Line};
 ghost use Rattle.session.specs.declared.kinds.Close.{Close};
 ghost use Rattle.session.specs.declared.kinds.Close.TheVariants.{Replaced};
@@ -91,14 +92,16 @@ pub fn the_round_goes_on_behind_the_last_event()
 /// looked at, up to the one where it was found, and for a tick all three were. So they were in each
 /// round before. Octets that are held come before any look. Where an event's moment is more than
 /// 50 ms behind the clock when a round begins, the line is looked at. Where it is so behind the
-/// round a tick is given, and octets that came are held. It is so only where an exchange would have
-/// been over for 50 ms, and the line hasn't been looked at for `answer_ms` behind its request.
+/// round a tick is given, and octets that came are held: all that the look at the connection gave,
+/// behind looks at the sources before it. It is so only where an exchange would have been over for
+/// 50 ms, and the line hasn't been looked at for `answer_ms` behind its request.
 pub fn no_source_hides_another()
     ensures round { (old new : LiveEnds) (event : Next) (buf : List ℕ) →
         LogsTurn old event buf new → old.is_cut_due ≡ false → old.held ≡ [] →
         is_wall event ≡ false → AtRounds old.clock new.clock (λ begun quiet now.
         begins_behind old.timing begun quiet ≡ false →
-        LooksBefore begun quiet event old.first old new ⊎ HoldsOctets event new.timing now) }
+        LooksBefore begun quiet event old.first old new
+        ⊎ HoldsFound begun quiet event buf old.first old new now) }
     ensures rounds { (old new : LiveEnds) (event : Next) (buf : List ℕ) →
         LogsTurn old event buf new → is_wall event ≡ false →
         AtRounds old.clock new.clock (λ begun quiet now. EachRoundLooks quiet event old new) }
@@ -106,7 +109,8 @@ pub fn no_source_hides_another()
         LogsTurn old event buf new → old.is_cut_due ≡ false → old.held ≢ [] →
         is_wall event ≡ false → AtRounds old.clock new.clock (λ begun quiet now.
         (level_rounds old.timing quiet ≡ 0) × (begins_behind old.timing begun quiet ≡ false →
-        GivesOctets event (length old.held) ⊎ HoldsOctets event new.timing now)) }
+        GivesOctets event (length old.held)
+        ⊎ HoldsOctets event (take (length old.held) buf) new.timing new.held now)) }
     ensures line { (old new : LiveEnds) (event : Next) (buf : List ℕ) →
         LogsTurn old event buf new → old.is_cut_due ≡ false → is_wall event ≡ false →
         AtRounds old.clock new.clock (λ begun quiet now.
