@@ -5,11 +5,16 @@ pub(crate) mod tries;
 
 ghost use Rattle.std.specs.Prelude.{◌⊎◌, ◌≡◌, ◌≢◌, All, IfSome, None, ◌+◌, ◌-◌, ◌<◌, ◌≤◌, ℕ, List};
 ghost use Rattle.std.specs.Prelude.{[], ◌∷◌, length, take, Some, true, false};
+ghost use Rattle.std.specs.Prelude.{◌*◌, ◌^◌, Ok, Err};
+ghost use Rattle.std.specs.Time.{instant_nanos};
+ghost use Rattle.std.specs.declared.io.Error.{Error};
+ghost use Rattle.std.specs.declared.time.Instant.{Instant};
 ghost use Rattle.gateway.specs.declared.ports.Next.{Next};
 ghost use Rattle.live.specs.Ends.{LiveEnds, LogsTurn, LogsPut};
 ghost use Rattle.live.specs.Law.{AtMoment, AtBytes, AtClock, AtBegun, IsWaitedOut, AtRounds};
 ghost use Rattle.live.specs.Law.{first_of, IsTickDue, IfTick, AtWall, IsEve, IsOneOf};
 ghost use Rattle.live.specs.Law.{IsWrittenBehind, AsksNothing, is_cut};
+ghost use Rattle.live.specs.Clocks.{moment_by};
 ghost use Rattle.live.specs.Cuts.{CutsFirst, shuts_nothing};
 ghost use Rattle.live.specs.Runs.{IsInRun, WallFirst};
 ghost use Rattle.live.specs.declared.ends.CutCause.TheVariants.{Gone, NotTaken};
@@ -317,6 +322,16 @@ pub fn a_look_gives_what_its_calls_brought()
         Came old (octets_of got buf) new }
     ensures once { (old new : Calls) (got : Got) (buf : List ℕ) → ReadsOnce old got buf new →
         Came old (octets_of got buf) new }
+{}
+
+/// The system's clock has gone on by so many ms where the system's own has, since the start. Where
+/// that can't be read, the moment before is given again.
+pub fn a_clock_goes_on_with_the_systems()
+    ensures goes_on { (first ms last : ℕ) (start now : Instant) →
+        instant_nanos now ≡ instant_nanos start + ms * 1000000 → first + ms < 2 ^ 64 →
+        moment_by first start last (Ok now) ≡ first + ms }
+    ensures unread { (first last : ℕ) (start : Instant) (fault : Error) →
+        moment_by first start last (Err fault) ≡ last }
 {}
 
 /// What the words of these laws count, by worked examples: the octets and requests of a log, those

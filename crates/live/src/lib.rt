@@ -60,6 +60,7 @@
 
 mod allow_list;
 mod arrivals;
+mod clock;
 #[cfg(test)]
 mod configured;
 mod ends;
@@ -96,9 +97,10 @@ pub use laws::tries::{
     tries_lie_farther_apart_while_nothing_comes, what_is_known_of_a_stream_is_what_was_seen,
 };
 pub use laws::{
-    a_close_shuts_the_connection, a_cut_has_its_reason, a_cut_shuts_the_connection,
-    a_cut_that_is_due_comes_next, a_line_that_is_waited_out_holds_no_moment,
-    a_look_gives_what_its_calls_brought, a_moment_is_held_only_before_the_end_of_an_exchange,
+    a_clock_goes_on_with_the_systems, a_close_shuts_the_connection, a_cut_has_its_reason,
+    a_cut_shuts_the_connection, a_cut_that_is_due_comes_next,
+    a_line_that_is_waited_out_holds_no_moment, a_look_gives_what_its_calls_brought,
+    a_moment_is_held_only_before_the_end_of_an_exchange,
     a_request_is_written_and_timed_behind_what_waits, a_run_begins_with_the_wall_clock,
     a_run_that_goes_on_begins_with_a_cut, a_tick_has_a_reason,
     an_exchange_that_is_over_gives_an_event_at_once, late_octets_are_those_that_were_dropped,

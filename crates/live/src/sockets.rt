@@ -9,7 +9,7 @@ ghost use Rattle.std.specs.Net.Addr.{IsCanonicalOf, MatchIp};
 ghost use Rattle.std.specs.Net.Socket.{socket_ip};
 ghost use Rattle.live.specs.AllowLists.{Allows, IsPlain, RefusesStrangers, nobody};
 ghost use Rattle.live.specs.Arrivals.{AcceptsNewest, TakesOne, TakesWaiting};
-ghost use Rattle.live.specs.Clocks.{BeginsAt};
+ghost use Rattle.live.specs.Clocks.{BeginsAt, GoesOn};
 ghost use Rattle.live.specs.OctetStreams.{FitsBuffer, IsNew, attempted, noted, looked, Dropped};
 ghost use Rattle.live.specs.OctetStreams.{Wrote};
 ghost use Rattle.live.specs.Streams.{ReadsOnce, ReadsLine, DropsWaiting, WritesAll, WritesFront};
@@ -22,6 +22,7 @@ ghost use Rattle.live.specs.declared.ends.Presence.TheVariants.{There};
 
 use crate::allow_list::AllowList;
 use crate::arrivals::{Arrived, SystemListener};
+use crate::clock::{HostInstants, SystemInstants};
 use crate::ends::{
     Accepted, Got, Listener, OctetStream, Presence, Reached, RefusedPeers, RunClock,
 };
@@ -603,8 +604,9 @@ impl<R: Net<Listener = TcpListener, Stream = TcpStream> + Eprint, T: SystemListe
 /// The system's clock that never goes back, from a first moment at its start. Where it can't be
 /// read the last moment is given again.
 #[derive(Drop)]
-pub struct SystemClock<'a, R> {
+pub struct SystemClock<'a, R, I: SystemInstants + Drop = HostInstants> {
     rt: &'a R,
+    instants: I,
     start: Instant,
     /// The moment at its start, in ms.
     first: u64,
@@ -633,6 +635,7 @@ impl<'a, R: std::rt::Clock> SystemClock<'a, R> {
     {
         Ok(SystemClock {
             rt,
+            instants: HostInstants {},
             start: Instant::now(rt)?,
             first,
             now: first,
@@ -640,7 +643,7 @@ impl<'a, R: std::rt::Clock> SystemClock<'a, R> {
     }
 }
 
-impl<R: std::rt::Clock> RunClock for SystemClock<'_, R> {
+impl<R: std::rt::Clock, I: SystemInstants + Drop> RunClock for SystemClock<'_, R, I> {
     ghost moments = { λ _. None };
 
     ghost walls = { λ _. None };
@@ -650,8 +653,12 @@ impl<R: std::rt::Clock> RunClock for SystemClock<'_, R> {
         // No moment is before the first one.
         ensures from { self.old.first ≤ self.old.now → self.old.first ≤ result }
         ensures last { self.new.now ≡ result }
+        ensures start { self.new.start ≡ self.old.start }
+        ensures goes_on { GoesOn self.old.first self.old.start (I.instants self.old.instants)
+            self.old.now (I.instants self.new.instants) result }
     {
-        if let Ok(passed) = self.start.elapsed(self.rt) {
+        if let Ok(now) = self.instants.now(self.rt) {
+            let passed = now.duration_since(self.start);
             let passed = u64::try_from(passed.as_millis()).unwrap_or(u64::MAX);
             self.now = self.first.saturating_add(passed);
         }
