@@ -1,8 +1,7 @@
 -- What passes and is no step of a connection isn't logged as one.
 use Rattle.std.proofs.Common.{◌≡◌, ℕ, ◌==◌, Bool, true, false, List, [], ◌∷◌, Option, Some, None}
-use Rattle.std.proofs.Common.{refl, sym, ap, subst, ◌∙◌, take}
+use Rattle.std.proofs.Common.{refl, sym, subst, take}
 use Rattle.std.specs.Prelude.{IfSome, slice_get, if◌then◌else◌}
-use Rattle.session.specs.declared.kinds.Close.{Close}
 use Rattle.gateway.specs.Log.{Output, LineOut, TcpOut, Closed, GapOut}
 use Rattle.gateway.specs.declared.ports.Next.{Next}
 use Rattle.gateway.specs.declared.ports.Next.TheVariants as next
@@ -16,15 +15,15 @@ use Rattle.runlog.specs.Ends.{line_logged, line_seen, line_tried, listener_logge
 use Rattle.runlog.specs.Ends.{listener_tried, presence_noted, seen_as}
 use Rattle.runlog.specs.Exchange as exchange
 use Rattle.runlog.specs.Limits.{asked, is_free, is_minute_after}
-use Rattle.runlog.specs.Passing.{Came, IsOfOthers, Nothing, Opens, Cuts, Closes, Starts, Stops}
-use Rattle.runlog.specs.Passing.{Went, is_of_connection, passed, Step, step_of}
+use Rattle.runlog.specs.Passing.{Came, IsOfOthers, Nothing}
+use Rattle.runlog.specs.Passing.{Went, is_of_connection, passed, step_of}
 use Rattle.runlog.specs.Stations as stations
-use Rattle.runlog.specs.Stations.{again_by, asking_logged, counted, gap_at, is_unanswered, line_in}
-use Rattle.runlog.specs.Stations.{logged_again, logged_asked, logged_down, logged_missed}
-use Rattle.runlog.specs.Stations.{logged_silent, logged_up, silent_by, station_asked, station_by}
-use Rattle.runlog.specs.Stations.{station_logged, still_silent, unanswered_by}
+use Rattle.runlog.specs.Stations.{again_by, counted, gap_at, is_unanswered, line_in}
+use Rattle.runlog.specs.Stations.{logged_asked, logged_down, logged_missed}
+use Rattle.runlog.specs.Stations.{logged_up, silent_by, station_asked, station_by}
+use Rattle.runlog.specs.Stations.{station_logged, unanswered_by}
 use Rattle.runlog.specs.Watching.{Watching, at, late_noted, line_received, received, seen}
-use Rattle.runlog.specs.Watching.{unless_logged, walled, with_line, with_listener, exchanged}
+use Rattle.runlog.specs.Watching.{unless_logged, walled, with_line, exchanged}
 use Rattle.runlog.specs.declared.ends.LineLogged.{LineLogged}
 use Rattle.runlog.specs.declared.ends.LineLogged.TheVariants as logged
 use Rattle.runlog.specs.declared.ends.LineWatch.{LineWatch}

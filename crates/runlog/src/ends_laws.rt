@@ -1,6 +1,6 @@
 //! Laws of what is logged of the queue and of who was refused, of since when a line stands so, and
 //! of octets that one connection leaves behind.
-ghost use Rattle.std.specs.Prelude.{◌≡◌, ◌≢◌, ℕ, ◌+◌, ◌-◌, ◌<◌, ◌≤◌, List, [], Option, Some, None};
+ghost use Rattle.std.specs.Prelude.{◌≡◌, ◌≢◌, ℕ, ◌-◌, ◌<◌, ◌≤◌, List, [], Option, Some, None};
 ghost use Rattle.std.specs.Prelude.{true, false};
 ghost use Rattle.std.specs.declared.net.ip_addr.IpAddr.{IpAddr};
 ghost use Rattle.session.specs.declared.kinds.Close.{Close};
