@@ -1,5 +1,6 @@
 -- No source hides another: they are looked at in turn.
 use Rattle.std.proofs.Common.{◌≡◌, ◌≢◌, ℕ, ◌+◌, ◌≤◌, true, false, Bool, List, [], ◌∷◌, length}
+use Rattle.std.proofs.Common.{take}
 use Rattle.std.proofs.Common.{Option, Some, None, refl, sym, ap, subst, arith, ◌∙◌, ◌⊎◌, inl, inr}
 use Rattle.gateway.specs.declared.ports.Next.{Next}
 use Rattle.gateway.specs.declared.ports.Next.TheVariants as next
@@ -14,7 +15,7 @@ use Rattle.live.specs.Ends.{looking, clock_read_at, turn_by, sources_by, held_by
 use Rattle.live.specs.Ends.{nothing_more}
 use Rattle.live.specs.InTurn.{IsLookedAt, LooksBefore, LooksUpToLine, level_rounds, EachRoundLooks}
 use Rattle.live.specs.InTurn.{BeginsBehind}
-use Rattle.live.specs.InTurn.{GivesOctets, HoldsOctets, begins_behind}
+use Rattle.live.specs.InTurn.{GivesOctets, HoldsFound, HoldsOctets, begins_behind}
 use Rattle.live.proofs.SourceLooks.{Looked, InRound, in_round, line_more}
 use Rattle.live.proofs.EachRound.{Stays, more_more, more_more_at, quiet_stays, held_level}
 use Rattle.live.proofs.EachRound.{each_behind, taken_each}
@@ -254,12 +255,23 @@ logged_before (next.Tick now) t q s log old new h = h
 logged_before (next.Wall now number) t q s log old new h = tt
 logged_before next.Done t q s log old new h = tt
 
-either_before : (event : Next) (t : ℕ) (q : List ℕ) (s : EventSource) (log : Log)
+either_before : (event : Next) (t : ℕ) (q buf : List ℕ) (s : EventSource) (log : Log)
     (old new : LiveEnds) (now : ℕ)
-    → LooksBefore t q event s old (as_logged log new) ⊎ HoldsOctets event new.timing now
-    → LooksBefore t q event s old new ⊎ HoldsOctets event new.timing now
-either_before event t q s log old new now (inl h) = inl (logged_before event t q s log old new h)
-either_before event t q s log old new now (inr h) = inr h
+    → LooksBefore t q event s old (as_logged log new)
+    ⊎ HoldsFound t q event buf s old (as_logged log new) now
+    → LooksBefore t q event s old new ⊎ HoldsFound t q event buf s old new now
+either_before event t q buf s log old new now (inl h) =
+    inl (logged_before event t q s log old new h)
+either_before event t q buf s log old new now (inr h) =
+    inr (h.0, h.1, logged_before (next.Bytes now h.0) t q s log old new h.2)
+
+-- nor what is held
+held_before : (n m len t : ℕ) (q held : List ℕ) (s : EventSource) (old e : LiveEnds)
+    → LooksBefore t q (next.Bytes n len) s old e
+    → LooksBefore t q (next.Bytes m len) s old (record e { held = held })
+held_before n m len t q held Listener old e h = h
+held_before n m len t q held Connection old e h = tt
+held_before n m len t q held Line old e h = h
 
 -- octets that come too late are held
 taken_before : (b : Bool) (n t now : ℕ) (q : List ℕ) (s : EventSource) (buf : List ℕ)
@@ -267,11 +279,13 @@ taken_before : (b : Bool) (n t now : ℕ) (q : List ℕ) (s : EventSource) (buf 
     (old e : LiveEnds) → is_behind e.timing now ≡ b
     → LooksBefore t q (event_at n f) s old e
     → (let p = taken_by b buf f e in
-    LooksBefore t q (event_at n p.0) s old p.1 ⊎ HoldsOctets (event_at n p.0) p.1.timing now)
+    LooksBefore t q (event_at n p.0) s old p.1
+    ⊎ HoldsFound t q (event_at n p.0) buf s old p.1 now)
 taken_before false n t now q s buf f old e is h = inl h
 taken_before true n t now q s buf None old e is h = inl h
 taken_before true n t now q s buf (Some found.Open) old e is h = inl h
-taken_before true n t now q s buf (Some (found.Bytes len)) old e is h = inr is
+taken_before true n t now q s buf (Some (found.Bytes len)) old e is h =
+    inr (len, (is, refl), held_before n now len t q (take len buf) s old e h)
 taken_before true n t now q s buf (Some found.Cut) old e is h = inl h
 taken_before true n t now q s buf (Some (found.Line len)) old e is h = inl h
 taken_before true n t now q s buf (Some found.Fault) old e is h = inl h
@@ -279,7 +293,8 @@ taken_before true n t now q s buf (Some found.Fault) old e is h = inl h
 round_at : (old new : LiveEnds) (event : Next) (buf : List ℕ) (t : TurnsToEnds old event buf new)
     (q : List ℕ) → RoundsOf (looking (clock_read_at t.first old)) q t.looks.begun t.looks.before
     → old.is_cut_due ≡ false → old.held ≡ [] → is_behind t.looks.before.timing t.looks.begun ≡ false
-    → LooksBefore t.looks.begun q event old.first old new ⊎ HoldsOctets event new.timing t.now
+    → LooksBefore t.looks.begun q event old.first old new
+    ⊎ HoldsFound t.looks.begun q event buf old.first old new t.now
 round_at old new event buf t q rounds due none level =
     let l = t.looks in
     let start = looking (clock_read_at t.first old) in
@@ -293,10 +308,11 @@ round_at old new event buf t q rounds due none level =
     subst R (sym l.done) (same_before n l.begun t.first t.now q old.first t.f old l.found
     (compose n l.begun q old.first t.f start l.before l.found k looked_so)) in
     let P : Next → Type 0 =
-    λ e. LooksBefore l.begun q e old.first old new ⊎ HoldsOctets e new.timing t.now in
+    λ e. LooksBefore l.begun q e old.first old new
+    ⊎ HoldsFound l.begun q e buf old.first old new t.now in
     let Q : Option SourceEvent × LiveEnds → Type 0 =
     λ p. LooksBefore l.begun q (event_at n p.0) old.first old p.1
-    ⊎ HoldsOctets (event_at n p.0) p.1.timing t.now in
+    ⊎ HoldsFound l.begun q (event_at n p.0) buf old.first old p.1 t.now in
     subst P (sym t.given.given) (subst Q (sym t.given.ends)
     (taken_before (is_behind t.found.timing t.now) n l.begun t.now q old.first buf t.f old t.found
     refl here))
@@ -305,14 +321,16 @@ round_by : (old new : LiveEnds) (event : Next) (buf : List ℕ) (log : Log)
     → Turns old event buf (as_logged log new) → old.is_cut_due ≡ false → old.held ≡ []
     → is_wall event ≡ false → AtRounds old.clock new.clock (λ begun quiet now.
     begins_behind old.timing begun quiet ≡ false →
-    LooksBefore begun quiet event old.first old new ⊎ HoldsOctets event new.timing now)
+    LooksBefore begun quiet event old.first old new
+    ⊎ HoldsFound begun quiet event buf old.first old new now)
 round_by old new event buf log (inl t) due none dark =
     let wrong : true ≡ false = wall_of old event (as_logged log new) t dark in absurd (cc)
 round_by old new event buf log (inr t) due none dark =
     at_rounds old event buf (as_logged log new) t (λ begun quiet now.
     begins_behind old.timing begun quiet ≡ false →
-    LooksBefore begun quiet event old.first old new ⊎ HoldsOctets event new.timing now)
-    (λ before b level. either_before event t.looks.begun b.quiet old.first log old new t.now
+    LooksBefore begun quiet event old.first old new
+    ⊎ HoldsFound begun quiet event buf old.first old new now)
+    (λ before b level. either_before event t.looks.begun b.quiet buf old.first log old new t.now
     (round_at old (as_logged log new) event buf t b.quiet b.rounds due none
     (ap (λ (k : Timing). is_behind k t.looks.begun) b.reads ∙ level)))
 
@@ -320,7 +338,8 @@ pub in_turns : (old new : LiveEnds) (event : Next) (buf : List ℕ) → LogsTurn
     → old.is_cut_due ≡ false → old.held ≡ []
     → is_wall event ≡ false → AtRounds old.clock new.clock (λ begun quiet now.
     begins_behind old.timing begun quiet ≡ false →
-    LooksBefore begun quiet event old.first old new ⊎ HoldsOctets event new.timing now)
+    LooksBefore begun quiet event old.first old new
+    ⊎ HoldsFound begun quiet event buf old.first old new now)
 in_turns old new event buf l due none dark =
     round_by old new event buf old.log l.turns due none dark
 
@@ -365,14 +384,16 @@ held_found (octet ∷ octets) t a buf e some = refl
 taken_octets : (b : Bool) (n now : ℕ) (buf : List ℕ) (len : ℕ) (e : LiveEnds)
     → is_behind e.timing now ≡ b
     → (let p = taken_by b buf (Some (found.Bytes len)) e in
-    GivesOctets (event_at n p.0) len ⊎ HoldsOctets (event_at n p.0) p.1.timing now)
+    GivesOctets (event_at n p.0) len
+    ⊎ HoldsOctets (event_at n p.0) (take len buf) p.1.timing p.1.held now)
 taken_octets false n now buf len e is = inl refl
-taken_octets true n now buf len e is = inr is
+taken_octets true n now buf len e is = inr (is, refl)
 
 held_at : (old new : LiveEnds) (event : Next) (buf : List ℕ) (t : TurnsToEnds old event buf new)
     (q : List ℕ) → RoundsOf (looking (clock_read_at t.first old)) q t.looks.begun t.looks.before
     → old.is_cut_due ≡ false → old.held ≢ [] → is_behind t.looks.before.timing t.looks.begun ≡ false
-    → GivesOctets event (length old.held) ⊎ HoldsOctets event new.timing t.now
+    → GivesOctets event (length old.held)
+    ⊎ HoldsOctets event (take (length old.held) buf) new.timing new.held t.now
 held_at old new event buf t q rounds due some level =
     let l = t.looks in
     let n = moment_at new.timing t.now in
@@ -385,9 +406,11 @@ held_at old new event buf t q rounds due some level =
     ∙ ap (λ (h : List ℕ). Some (found.Bytes (length h))) k.held) in
     let late = is_behind t.found.timing t.now in
     let ends = t.given.ends ∙ ap (λ f. taken_by late buf f t.found) octets in
-    let P : Next → Type 0 = λ e. GivesOctets e count ⊎ HoldsOctets e new.timing t.now in
+    let P : Next → Type 0 = λ e. GivesOctets e count
+    ⊎ HoldsOctets e (take count buf) new.timing new.held t.now in
     let Q : Option SourceEvent × LiveEnds → Type 0 =
-    λ p. GivesOctets (event_at n p.0) count ⊎ HoldsOctets (event_at n p.0) p.1.timing t.now in
+    λ p. GivesOctets (event_at n p.0) count
+    ⊎ HoldsOctets (event_at n p.0) (take count buf) p.1.timing p.1.held t.now in
     subst P (sym t.given.given) (subst Q (sym ends)
     (taken_octets late n t.now buf count t.found refl))
 
@@ -395,13 +418,15 @@ held_turns : (old new : LiveEnds) (event : Next) (buf : List ℕ) → Turns old 
     → old.is_cut_due ≡ false → old.held ≢ [] → is_wall event ≡ false
     → AtRounds old.clock new.clock (λ begun quiet now.
     (level_rounds old.timing quiet ≡ 0) × (begins_behind old.timing begun quiet ≡ false →
-    GivesOctets event (length old.held) ⊎ HoldsOctets event new.timing now))
+    GivesOctets event (length old.held)
+    ⊎ HoldsOctets event (take (length old.held) buf) new.timing new.held now))
 held_turns old new event buf (inl t) due some dark =
     let wrong : true ≡ false = wall_of old event new t dark in absurd (cc)
 held_turns old new event buf (inr t) due some dark =
     at_rounds old event buf new t (λ begun quiet now.
     (level_rounds old.timing quiet ≡ 0) × (begins_behind old.timing begun quiet ≡ false →
-    GivesOctets event (length old.held) ⊎ HoldsOctets event new.timing now))
+    GivesOctets event (length old.held)
+    ⊎ HoldsOctets event (take (length old.held) buf) new.timing new.held now))
     (λ before b. (
       held_level (looking (clock_read_at t.first old)) b.quiet t.looks.begun
           t.looks.before b.rounds some,
@@ -413,7 +438,8 @@ pub held_in_turn : (old new : LiveEnds) (event : Next) (buf : List ℕ) → Logs
     → old.is_cut_due ≡ false → old.held ≢ [] → is_wall event ≡ false
     → AtRounds old.clock new.clock (λ begun quiet now.
     (level_rounds old.timing quiet ≡ 0) × (begins_behind old.timing begun quiet ≡ false →
-    GivesOctets event (length old.held) ⊎ HoldsOctets event new.timing now))
+    GivesOctets event (length old.held)
+    ⊎ HoldsOctets event (take (length old.held) buf) new.timing new.held now))
 held_in_turn old new event buf l due some dark =
     held_turns old (as_logged old.log new) event buf l.turns due some dark
 

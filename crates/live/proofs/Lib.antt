@@ -32,5 +32,7 @@ pub mod Cuts
 pub mod Runs
 pub mod Refused
 pub mod Sorted
+pub mod Told
+pub mod Reaches
 pub mod CallSums
 pub mod Plain

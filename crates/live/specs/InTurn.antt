@@ -1,6 +1,6 @@
 -- Which sources were looked at for an event (this gateway's own profile).
 use Rattle.std.specs.Prelude.{◌≡◌, ℕ, ◌+◌, ◌≤◌, List, [], ◌∷◌, length, Bool, true, Option, Some}
-use Rattle.std.specs.Prelude.{None, if◌then◌else◌}
+use Rattle.std.specs.Prelude.{None, take, if◌then◌else◌}
 use Rattle.live.specs.Ends.{LiveEnds, Peer}
 use Rattle.live.specs.Timing.{is_behind, line_looked_at}
 use Rattle.live.specs.declared.source.EventSource.{EventSource}
@@ -101,10 +101,18 @@ BeginsBehind (next.Wall now number) before first = first ≡ before
 BeginsBehind (next.Tick now) before first = Unit {0}
 BeginsBehind next.Done before first = Unit {0}
 
--- A tick, since octets that came bear a moment more than 50 ms behind the clock: they are held.
-abbrev pub HoldsOctets : Next → (new : Timing) → (now : ℕ) → Type 0
-HoldsOctets (next.Tick moment) new now = is_behind new now ≡ true
-HoldsOctets event new now = ⊥
+-- A tick, since octets that came bear a moment more than 50 ms behind the clock: these are held.
+abbrev pub HoldsOctets : Next → (front : List ℕ) → (new : Timing) → (held : List ℕ) → (now : ℕ)
+    → Type 0
+HoldsOctets (next.Tick moment) front new held now = (is_behind new now ≡ true) × (held ≡ front)
+HoldsOctets event front new held now = ⊥
+
+-- They came at a look at the connection, before which the sources before it were looked at.
+abbrev pub HoldsFound : (begun : ℕ) → (quiet : List ℕ) → Next → (buf : List ℕ)
+    → (first : EventSource) → (old new : LiveEnds) → (now : ℕ) → Type 0
+HoldsFound begun quiet event buf first old new now =
+    (count : ℕ) × HoldsOctets event (take count buf) new.timing new.held now
+    × LooksBefore begun quiet (next.Bytes now count) first old new
 
 -- the event gives so many octets of the connection
 abbrev pub GivesOctets : Next → (count : ℕ) → Type 0

@@ -18,3 +18,5 @@ pub mod Sights
 pub mod Cuts
 pub mod Runs
 pub mod CallSums
+pub mod Telling
+pub mod Reaching

@@ -1,19 +1,32 @@
 //! Who comes to a listener of the system.
 
 use std::io;
+use std::io::Eprint;
 use std::net::{IpAddr, OpenListener, SocketAddr, TcpListener, TcpStream};
 
-/// A listener, as the system has it. One that notes its calls adds the answer of each.
+/// A listener, as the system has it. One that notes its calls adds the answer of each, and each
+/// fault that is told.
 pub trait SystemListener {
     ghost use Rattle.std.specs.Prelude.{◌≡◌, [], ◌∷◌};
     ghost use Rattle.live.specs.Arrivals.{Arrivals, arrived};
+    ghost use Rattle.live.specs.Telling.{ToldFaults, one_more_told};
 
     /// What the system answered so far, the newest first, where it notes that.
     ghost arrivals: { Self → Arrivals };
 
+    /// The faults by which it was told that nobody can be accepted, the newest first, where it
+    /// notes them.
+    ghost told: { Self → ToldFaults };
+
     /// The next who waits.
     fn accept_next(&mut self) -> io::Result<(TcpStream, SocketAddr)>
-        ensures { arrivals self.new ≡ arrived (result ∷ []) (arrivals self.old) };
+        ensures asked { arrivals self.new ≡ arrived (result ∷ []) (arrivals self.old) }
+        ensures silent { told self.new ≡ told self.old };
+
+    /// Tells on standard error that nobody can be accepted.
+    fn tell<R: Eprint>(&mut self, rt: &R, fault: &io::Error)
+        ensures told { told self.new ≡ one_more_told fault.now (told self.old) }
+        ensures unasked { arrivals self.new ≡ arrivals self.old };
 }
 
 impl SystemListener for TcpListener {
@@ -21,9 +34,16 @@ impl SystemListener for TcpListener {
 
     ghost arrivals = { λ _. None };
 
+    ghost told = { λ _. None };
+
     // What the system answers to it no clause of the kit's call says.
     fn accept_next(&mut self) -> io::Result<(TcpStream, SocketAddr)> {
         self.accept()
+    }
+
+    // What stands on standard error no clause of the kit's call says either.
+    fn tell<R: Eprint>(&mut self, rt: &R, fault: &io::Error) {
+        let _ = eprintln!(rt; "connections can't be accepted: {fault}");
     }
 }
 

@@ -1,31 +1,27 @@
 //! Laws of the port over live ends, in the terms of the clock, the requests and the looks at the
 //! line.
+pub(crate) mod arriving;
+pub(crate) mod tries;
+
 ghost use Rattle.std.specs.Prelude.{◌⊎◌, ◌≡◌, ◌≢◌, All, IfSome, None, ◌+◌, ◌-◌, ◌<◌, ◌≤◌, ℕ, List};
-ghost use Rattle.std.specs.Prelude.{[], ◌∷◌, length, min, Option, Some, Ok, Err, Bool, true, false};
-ghost use Rattle.std.specs.Prelude.{◌↔◌, ◌^◌, is_some};
-ghost use Rattle.std.specs.Prelude.{Vec};
-ghost use Rattle.std.specs.declared.net.ip_addr.IpAddr.{IpAddr};
-ghost use Rattle.std.specs.declared.alloc.Global.{Global};
+ghost use Rattle.std.specs.Prelude.{[], ◌∷◌, length, take, Some, true, false};
+ghost use Rattle.std.specs.Prelude.{◌*◌, ◌^◌, Ok, Err};
+ghost use Rattle.std.specs.Time.{instant_nanos};
+ghost use Rattle.std.specs.declared.io.Error.{Error};
+ghost use Rattle.std.specs.declared.time.Instant.{Instant};
 ghost use Rattle.gateway.specs.declared.ports.Next.{Next};
 ghost use Rattle.live.specs.Ends.{LiveEnds, LogsTurn, LogsPut};
-ghost use Rattle.live.specs.Law.{AtMoment, AtBytes, AtClock, AtBegun, IsWaitedOut, KeepsOut};
-ghost use Rattle.live.specs.Law.{AtRounds, first_of, IsTickDue, IfTick, AtWall, IsEve, IsOneOf};
-ghost use Rattle.live.specs.Law.{IsWrittenBehind, AsksNothing, is_cut, peer_of};
+ghost use Rattle.live.specs.Law.{AtMoment, AtBytes, AtClock, AtBegun, IsWaitedOut, AtRounds};
+ghost use Rattle.live.specs.Law.{first_of, IsTickDue, IfTick, AtWall, IsEve, IsOneOf};
+ghost use Rattle.live.specs.Law.{IsWrittenBehind, AsksNothing, is_cut};
+ghost use Rattle.live.specs.Clocks.{moment_by};
 ghost use Rattle.live.specs.Cuts.{CutsFirst, shuts_nothing};
 ghost use Rattle.live.specs.Runs.{IsInRun, WallFirst};
 ghost use Rattle.live.specs.declared.ends.CutCause.TheVariants.{Gone, NotTaken};
-ghost use Rattle.live.specs.AllowLists.{Allows, IsPlain, RefusesStrangers};
-ghost use Rattle.live.specs.Arrivals.{Arrival, Comer, IsPeerOf, Sorts};
-ghost use Rattle.live.specs.declared.allow_list.AllowList.{AllowList};
-ghost use Rattle.std.specs.declared.io.Error.{Error};
-ghost use Rattle.std.specs.declared.net.socket_addr.SocketAddr.{SocketAddr};
-ghost use Rattle.std.specs.declared.net.tcp.TcpStream.{TcpStream};
-ghost use Rattle.live.specs.Sights.{ShowsEnds};
-ghost use Rattle.live.specs.declared.watched.EndsSight.{EndsSight};
-ghost use Rattle.live.specs.declared.allow_list.AllowList.TheVariants.{Anyone, Only};
 ghost use Rattle.gateway.specs.Log.{Closed, LineOut, Output};
 ghost use Rattle.live.specs.InTurn.{BeginsBehind, LooksBefore, IsLookedAt, begins_behind};
-ghost use Rattle.live.specs.InTurn.{EachRoundLooks, GivesOctets, HoldsOctets, level_rounds};
+ghost use Rattle.live.specs.InTurn.{EachRoundLooks, GivesOctets, HoldsFound, HoldsOctets};
+ghost use Rattle.live.specs.InTurn.{level_rounds};
 ghost use Rattle.live.specs.declared.source.EventSource.TheVariants.{Line};
 ghost use Rattle.session.specs.declared.kinds.Close.{Close};
 ghost use Rattle.session.specs.declared.kinds.Close.TheVariants.{Replaced};
@@ -36,13 +32,8 @@ ghost use Rattle.live.specs.Late.{dropped_of, gone_of, CountsLate};
 ghost use Rattle.live.specs.Streams.{Calls, Came, ReadsLine, ReadsOnce, octets_of};
 ghost use Rattle.live.specs.Timing.{is_behind};
 ghost use Rattle.live.specs.Walls.{is_wall};
-ghost use Rattle.live.specs.Redial.{Redial, clock_read_at, IsPut, HasDropped, BeginsTry};
-ghost use Rattle.live.specs.Redial.{Asked, DialCall, IsRedialled};
 ghost use Rattle.live.specs.declared.ends.Got.{Got};
-ghost use Rattle.live.specs.declared.ends.Got.TheVariants.{Octets, Quiet};
-ghost use Rattle.live.specs.declared.ends.Presence.TheVariants.{There, Away, Receiving};
-ghost use Rattle.live.specs.OctetStreams.{IsNew, StreamHistory, WasGone, WasQuiet, looked, noted};
-ghost use Rattle.live.specs.OctetStreams.{Dropped, Wrote};
+ghost use Rattle.live.specs.OctetStreams.{IsNew, WasGone, WasQuiet, looked};
 ghost use Rattle.live.specs.declared.timing.Timing.{Timing};
 ghost use Rattle.live.specs.declared.timing.WrittenRequest.{WrittenRequest};
 
@@ -106,14 +97,16 @@ pub fn the_round_goes_on_behind_the_last_event()
 /// looked at, up to the one where it was found, and for a tick all three were. So they were in each
 /// round before. Octets that are held come before any look. Where an event's moment is more than
 /// 50 ms behind the clock when a round begins, the line is looked at. Where it is so behind the
-/// round a tick is given, and octets that came are held. It is so only where an exchange would have
-/// been over for 50 ms, and the line hasn't been looked at for `answer_ms` behind its request.
+/// round a tick is given, and octets that came are held: all that the look at the connection gave,
+/// behind looks at the sources before it. It is so only where an exchange would have been over for
+/// 50 ms, and the line hasn't been looked at for `answer_ms` behind its request.
 pub fn no_source_hides_another()
     ensures round { (old new : LiveEnds) (event : Next) (buf : List ℕ) →
         LogsTurn old event buf new → old.is_cut_due ≡ false → old.held ≡ [] →
         is_wall event ≡ false → AtRounds old.clock new.clock (λ begun quiet now.
         begins_behind old.timing begun quiet ≡ false →
-        LooksBefore begun quiet event old.first old new ⊎ HoldsOctets event new.timing now) }
+        LooksBefore begun quiet event old.first old new
+        ⊎ HoldsFound begun quiet event buf old.first old new now) }
     ensures rounds { (old new : LiveEnds) (event : Next) (buf : List ℕ) →
         LogsTurn old event buf new → is_wall event ≡ false →
         AtRounds old.clock new.clock (λ begun quiet now. EachRoundLooks quiet event old new) }
@@ -121,7 +114,8 @@ pub fn no_source_hides_another()
         LogsTurn old event buf new → old.is_cut_due ≡ false → old.held ≢ [] →
         is_wall event ≡ false → AtRounds old.clock new.clock (λ begun quiet now.
         (level_rounds old.timing quiet ≡ 0) × (begins_behind old.timing begun quiet ≡ false →
-        GivesOctets event (length old.held) ⊎ HoldsOctets event new.timing now)) }
+        GivesOctets event (length old.held)
+        ⊎ HoldsOctets event (take (length old.held) buf) new.timing new.held now)) }
     ensures line { (old new : LiveEnds) (event : Next) (buf : List ℕ) →
         LogsTurn old event buf new → old.is_cut_due ≡ false → is_wall event ≡ false →
         AtRounds old.clock new.clock (λ begun quiet now.
@@ -222,70 +216,6 @@ pub fn looks_ask_nothing()
         (new.timing.request ≡ old.timing.request) × (new.timing.answer_ms ≡ old.timing.answer_ms) }
 {}
 
-/// Only allowed addresses connect: an event that opens a connection opens one of an address on the
-/// allow list, and who is refused leaves the open connection as it was. A connection stays open
-/// until it is cut, shut, or replaced by another: the gateway learns of each end but of those that
-/// it makes.
-pub fn only_allowed_addresses_connect()
-    ensures events { (old new : LiveEnds) (event : Next) (buf : List ℕ) →
-        LogsTurn old event buf new → KeepsOut old event new }
-    ensures put { (old new : LiveEnds) (moment : ℕ) (action : Output) →
-        LogsPut old moment action new → shuts_nothing action ≡ true →
-        peer_of new ≡ peer_of old }
-{}
-
-/// Nobody is refused but those who may not connect, and only looks at the listener refuse them. So
-/// it is at each event, and from the beginning of a run to any moment of it.
-pub fn only_strangers_are_refused()
-    ensures events { (old new : LiveEnds) (event : Next) (buf : List ℕ) →
-        LogsTurn old event buf new →
-        RefusesStrangers old.allow_list old.refusals new.refusals }
-    ensures put { (old new : LiveEnds) (moment : ℕ) (action : Output) →
-        LogsPut old moment action new → new.refusals ≡ old.refusals }
-    ensures run { (start end : LiveEnds) → LiveRun start end →
-        RefusesStrangers start.allow_list start.refusals end.refusals }
-{}
-
-/// What is shown of those who were refused in a run, where the listener notes them: how many they
-/// are, as far as 64 bits count, and which of them came last.
-pub fn who_was_refused_is_shown()
-    ensures nobody { (start end : LiveEnds) (sight : EndsSight) →
-        start.refusals ≡ record { peers = Some []; said = record { count = 0; last = None } } →
-        LiveRun start end → ShowsEnds end sight → end.refusals.peers ≡ Some [] →
-        sight.refused ≡ record { count = 0; last = None } }
-    ensures peers { (start end : LiveEnds) (sight : EndsSight) (peer : IpAddr)
-        (before : List IpAddr) →
-        start.refusals ≡ record { peers = Some []; said = record { count = 0; last = None } } →
-        LiveRun start end → ShowsEnds end sight → end.refusals.peers ≡ Some (peer ∷ before) →
-        (sight.refused.count ≡ min (length (peer ∷ before)) (2 ^ 64 - 1))
-        × (sight.refused.last ≡ Some peer) }
-{}
-
-/// Whoever comes and may not connect is refused, and whoever may is let in, by the answers of the
-/// system alone; of those who may the newest stays. An IPv4 address that is written as an IPv6 one
-/// counts as that IPv4 address.
-pub fn who_comes_is_refused_or_let_in()
-    ensures nobody { (allow_list : AllowList) (refused : List IpAddr) (newest : Option Comer) →
-        Sorts allow_list [] refused newest → (refused ≡ []) × (newest ≡ None) }
-    ensures refused { (allow_list : AllowList) (answers : List Arrival) (refused : List IpAddr)
-        (newest : Option Comer) (stream : TcpStream) (socket : SocketAddr) →
-        Sorts allow_list (Ok (stream, socket) ∷ answers) refused newest →
-        ((peer : IpAddr) → IsPeerOf socket peer → Allows allow_list peer → ⊥) →
-        (peer : IpAddr) × (before : List IpAddr) × IsPeerOf socket peer
-        × (refused ≡ peer ∷ before) × Sorts allow_list answers before newest }
-    ensures let_in { (allow_list : AllowList) (answers : List Arrival) (refused : List IpAddr)
-        (newest : Option Comer) (stream : TcpStream) (socket : SocketAddr) →
-        Sorts allow_list (Ok (stream, socket) ∷ answers) refused newest →
-        ((peer : IpAddr) → IsPeerOf socket peer → Allows allow_list peer) →
-        (peer : IpAddr) × (before : Option Comer) × IsPeerOf socket peer
-        × (newest ≡ Some (peer, stream)) × Sorts allow_list answers refused before }
-    ensures others { (allow_list : AllowList) (answers : List Arrival) (refused : List IpAddr)
-        (newest : Option Comer) (fault : Error) →
-        Sorts allow_list (Err fault ∷ answers) refused newest →
-        Sorts allow_list answers refused newest }
-    ensures plain { (socket : SocketAddr) (peer : IpAddr) → IsPeerOf socket peer → IsPlain peer }
-{}
-
 /// Two events that follow each other never both give the wall clock: whatever the gateway stalls,
 /// the ends are looked at in between.
 pub fn the_ends_are_looked_at_between_wall_moments()
@@ -347,17 +277,6 @@ pub fn looks_at_the_line_are_timed_by_the_clock()
         LogsTurn old event buf new → is_wall event ≡ true → new.timing ≡ old.timing }
 {}
 
-/// Who may connect, by examples: anyone where that is said, else who has one of the addresses that
-/// stand on the list, and nobody where none stands there.
-pub fn allowed_addresses_by_example()
-    ensures anyone { (address : IpAddr) → Allows Anyone address }
-    ensures two { (list : Vec IpAddr Global) (first second address : IpAddr) →
-        list.items ≡ first ∷ second ∷ [] →
-        Allows (Only list) address ↔ (address ≡ first) ⊎ (address ≡ second) }
-    ensures nobody { (list : Vec IpAddr Global) (address : IpAddr) → list.items ≡ [] →
-        Allows (Only list) address → ⊥ }
-{}
-
 /// The log has what passed at the streams. After any run in which nothing had been logged before,
 /// where the line and the connection note what happens at them: the octets that came from the line,
 /// by the log, are those that its stream gave, and each request that went there was handed to it,
@@ -405,94 +324,14 @@ pub fn a_look_gives_what_its_calls_brought()
         Came old (octets_of got buf) new }
 {}
 
-/// A stream that is away is tried at once, and then as soon as its wait has passed since the last
-/// try began, but never before. For each try the dialler is called once. At each look it is asked
-/// about a try that goes on, and no other begins. Meanwhile the stream is quiet, and takes and
-/// drops nothing. One that is there gives, takes and drops what its stream does. One that has gone
-/// is kept no longer, and one that is reached begins with nothing in it.
-pub fn a_stream_that_is_away_is_tried_when_due()
-    ensures first { (old new : Redial) (got : Got) (buf : List ℕ) → IsRedialled old got buf new →
-        old.stream ≡ None → old.is_trying ≡ false → old.tried ≡ None →
-        AtClock new.clock (λ now. BeginsTry now old new) }
-    ensures later { (old new : Redial) (got : Got) (buf : List ℕ) (last : ℕ) →
-        IsRedialled old got buf new → old.stream ≡ None → old.is_trying ≡ false →
-        old.tried ≡ Some last → AtClock new.clock (λ now. old.wait ≤ now - last →
-        BeginsTry now old new) }
-    ensures undue { (old new : Redial) (got : Got) (buf : List ℕ) (last : ℕ) →
-        IsRedialled old got buf new → old.stream ≡ None → old.is_trying ≡ false →
-        old.tried ≡ Some last → AtClock new.clock (λ now. now - last < old.wait →
-        new ≡ clock_read_at now old) }
-    ensures asked { (old new : Redial) (got : Got) (buf : List ℕ) → IsRedialled old got buf new →
-        old.stream ≡ None → old.is_trying ≡ true → (new.tried ≡ old.tried)
-        × IfSome old.calls (λ before. new.calls ≡ Some (Asked (is_some new.stream) ∷ before)) }
-    ensures quiet { (old new : Redial) (got : Got) (buf : List ℕ) → IsRedialled old got buf new →
-        old.stream ≡ None → got ≡ Quiet }
-    ensures put { (old new : Redial) (octets : List ℕ) (is_taken : Bool) →
-        IsPut old octets is_taken new → old.stream ≡ None → (is_taken ≡ false) × (new ≡ old) }
-    ensures dropped { (old new : Redial) (count : ℕ) → HasDropped old count new →
-        old.stream ≡ None → (count ≡ 0) × (new ≡ old) }
-    ensures there { (old new : Redial) (got : Got) (buf : List ℕ) (history : StreamHistory) →
-        IsRedialled old got buf new → old.stream ≡ Some history →
-        IfSome new.stream (λ now. now ≡ noted history (looked got buf)) }
-    ensures written { (old new : Redial) (octets : List ℕ) (is_taken : Bool)
-        (history : StreamHistory) → IsPut old octets is_taken new → old.stream ≡ Some history →
-        new ≡ record old { stream = Some (noted history (Wrote octets is_taken)) } }
-    ensures waiting { (old new : Redial) (count : ℕ) (history : StreamHistory) →
-        HasDropped old count new → old.stream ≡ Some history →
-        new ≡ record old { stream = Some (noted history (Dropped count)) } }
-    ensures fresh { (old new : Redial) (got : Got) (buf : List ℕ) → IsRedialled old got buf new →
-        old.stream ≡ None → IfSome new.stream IsNew }
-{}
-
-/// A try that has ended goes on no longer. By it a stream is there, or the dialler noted that it
-/// reached none. One that hasn't ended goes on, and nothing more is known of the stream then.
-pub fn a_try_goes_on_until_it_ends()
-    ensures ended { (old new : Redial) (got : Got) (buf : List ℕ) (tries : List Bool)
-        (reached : Bool) → IsRedialled old got buf new → old.stream ≡ None →
-        old.tries ≡ Some tries → new.tries ≡ Some (reached ∷ tries) →
-        (new.is_trying ≡ false) × (is_some new.stream ≡ reached) }
-    ensures goes_on { (old new : Redial) (got : Got) (buf : List ℕ) (tries : List Bool)
-        (calls : List DialCall) (call : DialCall) → IsRedialled old got buf new →
-        old.stream ≡ None → old.tries ≡ Some tries → new.tries ≡ Some tries →
-        old.calls ≡ Some calls → new.calls ≡ Some (call ∷ calls) →
-        (new.is_trying ≡ true) × (new.stream ≡ None) × (new.presence ≡ old.presence) }
-{}
-
-/// Behind each stream that was reached the wait for the next try is twice as long, up to 30 s. By
-/// octets that come it is a second again. Nothing else changes it.
-pub fn tries_lie_farther_apart_while_nothing_comes()
-    ensures reached { (old new : Redial) (got : Got) (buf : List ℕ) → IsRedialled old got buf new →
-        old.stream ≡ None → IfSome new.stream (λ _.
-        (old.wait ≤ 15000 → new.wait ≡ old.wait + old.wait)
-        × (15000 ≤ old.wait → new.wait ≡ 30000)) }
-    ensures away { (old new : Redial) (got : Got) (buf : List ℕ) → IsRedialled old got buf new →
-        old.stream ≡ None → new.stream ≡ None → new.wait ≡ old.wait }
-    ensures octets { (old new : Redial) (len : ℕ) (buf : List ℕ) →
-        IsRedialled old (Octets len) buf new → new.wait ≡ 1000 }
-    ensures quiet { (old new : Redial) (buf : List ℕ) (history : StreamHistory) →
-        IsRedialled old Quiet buf new → old.stream ≡ Some history → new.wait ≡ old.wait }
-    ensures put { (old new : Redial) (octets : List ℕ) (is_taken : Bool) →
-        IsPut old octets is_taken new → new.wait ≡ old.wait }
-    ensures dropped { (old new : Redial) (count : ℕ) → HasDropped old count new →
-        new.wait ≡ old.wait }
-{}
-
-/// What is known of a stream that is reached again. It is there once it was reached, and receiving
-/// once octets came. It is away where it has gone, and where a try ended without it.
-pub fn what_is_known_of_a_stream_is_what_was_seen()
-    ensures reached { (old new : Redial) (got : Got) (buf : List ℕ) → IsRedialled old got buf new →
-        old.stream ≡ None → IfSome new.stream (λ _. new.presence ≡ There) }
-    ensures failed { (old new : Redial) (got : Got) (buf : List ℕ) (tries : List Bool) →
-        IsRedialled old got buf new → old.stream ≡ None → old.tries ≡ Some tries →
-        new.tries ≡ Some (false ∷ tries) → new.presence ≡ Away }
-    ensures octets { (old new : Redial) (len : ℕ) (buf : List ℕ) →
-        IsRedialled old (Octets len) buf new → new.presence ≡ Receiving }
-    ensures gone { (old new : Redial) (got : Got) (buf : List ℕ) (history : StreamHistory) →
-        IsRedialled old got buf new → old.stream ≡ Some history → new.stream ≡ None →
-        new.presence ≡ Away }
-    ensures quiet { (old new : Redial) (buf : List ℕ) (history : StreamHistory) →
-        IsRedialled old Quiet buf new → old.stream ≡ Some history → new.stream ≢ None →
-        new.presence ≡ old.presence }
+/// The system's clock has gone on by so many ms where the system's own has, since the start. Where
+/// that can't be read, the moment before is given again.
+pub fn a_clock_goes_on_with_the_systems()
+    ensures goes_on { (first ms last : ℕ) (start now : Instant) →
+        instant_nanos now ≡ instant_nanos start + ms * 1000000 → first + ms < 2 ^ 64 →
+        moment_by first start last (Ok now) ≡ first + ms }
+    ensures unread { (first last : ℕ) (start : Instant) (fault : Error) →
+        moment_by first start last (Err fault) ≡ last }
 {}
 
 /// What the words of these laws count, by worked examples: the octets and requests of a log, those

@@ -48,6 +48,9 @@
 //! Before a request is written what has come from the line is dropped, since it is no answer to it,
 //! and how many octets that were is counted ([`late_octets_are_those_that_were_dropped`]).
 //!
+//! That nobody can be accepted is told at the first fault, and not again until somebody has come
+//! ([`that_nobody_can_be_accepted_is_told_once`]).
+//!
 //! One call to a stream of the system is read as one fact about its answer: octets, quiet or gone,
 //! and taken only where all was taken; a look at the line goes on until its octets end as a line
 //! frame does, none come, or 15 times; of a write in two calls a stream takes the octets once, in
@@ -57,6 +60,7 @@
 
 mod allow_list;
 mod arrivals;
+mod clock;
 #[cfg(test)]
 mod configured;
 mod ends;
@@ -66,6 +70,7 @@ mod laws;
 #[cfg(test)]
 mod memory;
 mod port;
+mod reach;
 mod redial;
 mod run_port;
 mod sockets;
@@ -82,24 +87,30 @@ pub use allow_list::AllowList;
 pub use ends::{
     Accepted, CutCause, Got, Listener, OctetStream, Presence, Reached, RefusedPeers, RunClock,
 };
+pub use laws::arriving::{
+    allowed_addresses_by_example, only_allowed_addresses_connect, only_strangers_are_refused,
+    that_nobody_can_be_accepted_is_told_once, who_comes_is_refused_or_let_in,
+    who_was_refused_is_shown,
+};
+pub use laws::tries::{
+    a_stream_that_is_away_is_tried_when_due, a_try_goes_on_until_it_ends,
+    tries_lie_farther_apart_while_nothing_comes, what_is_known_of_a_stream_is_what_was_seen,
+};
 pub use laws::{
-    a_close_shuts_the_connection, a_cut_has_its_reason, a_cut_shuts_the_connection,
-    a_cut_that_is_due_comes_next, a_line_that_is_waited_out_holds_no_moment,
-    a_look_gives_what_its_calls_brought, a_moment_is_held_only_before_the_end_of_an_exchange,
+    a_clock_goes_on_with_the_systems, a_close_shuts_the_connection, a_cut_has_its_reason,
+    a_cut_shuts_the_connection, a_cut_that_is_due_comes_next,
+    a_line_that_is_waited_out_holds_no_moment, a_look_gives_what_its_calls_brought,
+    a_moment_is_held_only_before_the_end_of_an_exchange,
     a_request_is_written_and_timed_behind_what_waits, a_run_begins_with_the_wall_clock,
-    a_run_that_goes_on_begins_with_a_cut, a_stream_that_is_away_is_tried_when_due,
-    a_tick_has_a_reason, a_try_goes_on_until_it_ends, allowed_addresses_by_example,
+    a_run_that_goes_on_begins_with_a_cut, a_tick_has_a_reason,
     an_exchange_that_is_over_gives_an_event_at_once, late_octets_are_those_that_were_dropped,
     looks_ask_nothing, looks_at_the_line_are_timed_by_the_clock,
     looks_for_an_event_begin_within_100_ms, no_exchange_ends_unread, no_source_hides_another,
-    only_allowed_addresses_connect, only_strangers_are_refused,
     the_ends_are_looked_at_between_wall_moments, the_line_fails_where_its_stream_is_gone,
     the_log_has_what_passed, the_round_goes_on_behind_the_last_event,
     the_wall_clock_is_given_each_second, the_wall_clock_is_that_of_its_moment,
-    tries_lie_farther_apart_while_nothing_comes, what_is_known_of_a_stream_is_what_was_seen,
     what_is_noted_is_noted_to_the_end, what_passed_by_example,
-    what_the_centre_sent_is_given_in_time, who_comes_is_refused_or_let_in,
-    who_was_refused_is_shown,
+    what_the_centre_sent_is_given_in_time,
 };
 pub use port::Live;
 pub use redial::{Dialled, Dialler, Redialled};

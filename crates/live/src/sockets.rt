@@ -9,18 +9,24 @@ ghost use Rattle.std.specs.Net.Addr.{IsCanonicalOf, MatchIp};
 ghost use Rattle.std.specs.Net.Socket.{socket_ip};
 ghost use Rattle.live.specs.AllowLists.{Allows, IsPlain, RefusesStrangers, nobody};
 ghost use Rattle.live.specs.Arrivals.{AcceptsNewest, TakesOne, TakesWaiting};
-ghost use Rattle.live.specs.Clocks.{BeginsAt};
+ghost use Rattle.live.specs.Clocks.{BeginsAt, GoesOn};
 ghost use Rattle.live.specs.OctetStreams.{FitsBuffer, IsNew, attempted, noted, looked, Dropped};
 ghost use Rattle.live.specs.OctetStreams.{Wrote};
 ghost use Rattle.live.specs.Streams.{ReadsOnce, ReadsLine, DropsWaiting, WritesAll, WritesFront};
 ghost use Rattle.live.specs.Streams.{called, Waits};
+ghost use Rattle.live.specs.Telling.{Tells, told_unless};
+ghost use Rattle.live.specs.Reaching.{AtPath, Began, LookedUp, TriesOn, step_noted};
+ghost use Rattle.live.specs.Redial.{IfReached, ended};
+ghost use Rattle.std.specs.Prelude.{◌⊎◌, ◌++◌, List, ℕ, codes};
 ghost use Rattle.live.specs.declared.ends.Presence.TheVariants.{There};
 
 use crate::allow_list::AllowList;
 use crate::arrivals::{Arrived, SystemListener};
+use crate::clock::{HostInstants, SystemInstants};
 use crate::ends::{
     Accepted, Got, Listener, OctetStream, Presence, Reached, RefusedPeers, RunClock,
 };
+use crate::reach::{HostReach, SystemReach};
 use crate::redial::{Dialled, Dialler};
 use crate::stream::{
     SocketStream, SystemStream, drop_waiting, read_line, read_once, write_in_two, write_once,
@@ -28,8 +34,7 @@ use crate::stream::{
 use std::io::{Eprint, ErrorKind};
 use std::marker::Model;
 use std::net::{
-    HostAddrs, IpAddr, Net, OpenListener, OpenStream, SocketAddr, TcpListener, TcpStream,
-    ToSocketAddrs,
+    IpAddr, Net, OpenListener, OpenStream, SocketAddr, TcpListener, TcpStream, ToSocketAddrs,
 };
 use std::os::unix::net::UnixStream;
 use std::time::{Duration, Instant, SystemTime};
@@ -47,6 +52,9 @@ const WRITE_MS: u64 = 20;
 /// How long it is tried to reach the line, in ms, at each address of its host.
 // A connect that is lost is sent again by the system after one second and after three.
 const REACH_MS: u64 = 5000;
+
+/// How many addresses of a host are tried at the most: the system gives no more.
+const MOST_ADDRESSES: u32 = 32;
 
 /// How many connections are accepted at the most at one look at the listener.
 // An end where somebody connects without a pause; who is left is accepted at the next look.
@@ -170,11 +178,10 @@ struct Connecting {
 /// goes on between the looks, for some seconds at each address that HOST has. A name is looked up
 /// at each try, for which the system may wait.
 #[derive(Drop)]
-pub struct LineDialler<'a, R> {
+pub struct LineDialler<'a, R, W: SystemReach + Drop = HostReach> {
     rt: &'a R,
     place: &'a str,
-    /// The addresses of its host that are still to be tried.
-    addresses: Option<HostAddrs>,
+    reach: W,
     connecting: Option<Connecting>,
 }
 
@@ -182,29 +189,56 @@ impl<'a, R: Net<Stream = TcpStream> + std::rt::Clock> LineDialler<'a, R> {
     /// One for the line at this place, which is tried by the first call of `dial`.
     pub fn new(rt: &'a R, place: &'a str) -> LineDialler<'a, R>
         ensures place { result.place.now ≡ place.entry.now }
-        ensures untried { result.addresses ≡ None }
         ensures idle { result.connecting ≡ None }
     {
         LineDialler {
             rt,
             place,
-            addresses: None,
+            reach: HostReach::new(),
             connecting: None,
         }
     }
+}
 
+impl<'a, R: Net<Stream = TcpStream> + std::rt::Clock, W: SystemReach + Drop> LineDialler<'a, R, W> {
     /// Begins a connect to the next address that lets it.
-    fn connect_next(&mut self) -> Dialled<LineSocket> {
-        let Some(addresses) = &mut self.addresses else {
-            return Dialled::Failed;
-        };
-        for address in addresses {
-            if let Ok(connecting) = connect_at(self.rt, address) {
+    fn connect_next(&mut self) -> Dialled<LineSocket>
+        ensures place { self.new.place.now ≡ self.old.place.now }
+        ensures tries { TriesOn result (W.steps self.old.reach) (W.steps self.new.reach) }
+    {
+        for _ in 0..MOST_ADDRESSES {
+            let Some(address) = self.reach.next_address() else {
+                return Dialled::Failed;
+            };
+            if let Ok(connecting) = self.connect_at(address) {
                 self.connecting = Some(connecting);
                 return Dialled::Pending;
             }
         }
         Dialled::Failed
+    }
+
+    /// Begins a connect to this address.
+    fn connect_at(&mut self, address: SocketAddr) -> io::Result<Connecting>
+        ensures place { self.new.place.now ≡ self.old.place.now }
+        ensures began { W.steps self.new.reach
+            ≡ step_noted (Began address) (W.steps self.old.reach) }
+    {
+        Ok(Connecting {
+            stream: self.reach.begin(self.rt, address)?,
+            since: Instant::now(self.rt)?,
+        })
+    }
+
+    /// Connects to the socket at this path.
+    fn connect_path(&mut self, path: &str) -> io::Result<LineSocket>
+        ensures place { self.new.place.now ≡ self.old.place.now }
+        ensures began { W.steps self.new.reach
+            ≡ step_noted (AtPath path.now) (W.steps self.old.reach) }
+    {
+        let stream = UnixStream::from(self.reach.begin_at(self.rt, path)?);
+        stream.set_nonblocking(false)?;
+        LineSocket::over_unix(stream)
     }
 
     /// Its time is over.
@@ -216,25 +250,11 @@ impl<'a, R: Net<Stream = TcpStream> + std::rt::Clock> LineDialler<'a, R> {
     }
 }
 
-fn connect_at<R: Net + std::rt::Clock>(rt: &R, address: SocketAddr) -> io::Result<Connecting> {
-    Ok(Connecting {
-        stream: mio::net::TcpStream::connect(rt, address)?,
-        since: Instant::now(rt)?,
-    })
-}
-
 /// A connect that came through, as a line.
 fn line_of(stream: mio::net::TcpStream) -> io::Result<LineSocket> {
     let stream = TcpStream::from(stream);
     stream.set_nonblocking(false)?;
     LineSocket::over_tcp(stream)
-}
-
-/// A line at this path.
-fn line_at<R: Net>(rt: &R, path: &str) -> io::Result<LineSocket> {
-    let stream = UnixStream::from(mio::net::UnixStream::connect(rt, path)?);
-    stream.set_nonblocking(false)?;
-    LineSocket::over_unix(stream)
 }
 
 /// What became of a try that has ended.
@@ -245,23 +265,39 @@ fn dialled(line: io::Result<LineSocket>) -> Dialled<LineSocket> {
     }
 }
 
-impl<R: Net<Stream = TcpStream> + std::rt::Clock> Dialler for LineDialler<'_, R> {
+impl<R: Net<Stream = TcpStream> + std::rt::Clock, W: SystemReach + Drop> Dialler
+    for LineDialler<'_, R, W> {
     type Stream = LineSocket;
 
     ghost tries = { λ _. None };
 
-    fn dial(&mut self) -> Dialled<LineSocket> {
+    fn dial(&mut self) -> Dialled<LineSocket>
+        ensures fresh { IfReached result (λ _. IsNew None) }
+        ensures noted { None ≡ ended None result }
+        ensures place { self.new.place.now ≡ self.old.place.now }
+        ensures path { (path : List ℕ) → self.old.place.now ≡ codes "unix:" ++ path →
+            W.steps self.new.reach ≡ step_noted (AtPath path) (W.steps self.old.reach) }
+        ensures host { (host : List ℕ) → self.old.place.now ≡ codes "tcp:" ++ host →
+            TriesOn result (step_noted (LookedUp host) (W.steps self.old.reach))
+            (W.steps self.new.reach) }
+    {
         if let Some(path) = self.place.strip_prefix("unix:") {
-            return dialled(line_at(self.rt, path));
+            return dialled(self.connect_path(path));
         }
-        let Some(place) = self.place.strip_prefix("tcp:") else {
+        let Some(host) = self.place.strip_prefix("tcp:") else {
             return Dialled::Failed;
         };
-        self.addresses = place.to_socket_addrs(self.rt).ok();
+        self.reach.look_up(self.rt, host);
         self.connect_next()
     }
 
-    fn ask(&mut self) -> Dialled<LineSocket> {
+    fn ask(&mut self) -> Dialled<LineSocket>
+        ensures fresh { IfReached result (λ _. IsNew None) }
+        ensures noted { None ≡ ended None result }
+        ensures place { self.new.place.now ≡ self.old.place.now }
+        ensures asks { (W.steps self.new.reach ≡ W.steps self.old.reach)
+            ⊎ TriesOn result (W.steps self.old.reach) (W.steps self.new.reach) }
+    {
         let Some(connecting) = self.connecting.take() else {
             return Dialled::Failed;
         };
@@ -278,7 +314,9 @@ impl<R: Net<Stream = TcpStream> + std::rt::Clock> Dialler for LineDialler<'_, R>
         self.connect_next()
     }
 
-    fn pause(&mut self) {
+    fn pause(&mut self)
+        ensures { self.new ≡ self.old }
+    {
         thread::sleep(self.rt, Duration::from_millis(LOOK_MS));
     }
 }
@@ -457,18 +495,26 @@ impl<'a, R: Net<Listener = TcpListener, Stream = TcpStream> + Eprint> CentreList
 impl<R: Eprint, T: SystemListener + Drop> CentreListener<'_, R, T> {
     /// Says once that no connection can be accepted, as with too few descriptors.
     fn say_shut(&mut self, fault: &io::Error)
-        ensures { self.new ≡ record self.old { is_shut = true } }
+        ensures said { record { told = T.told self.new.listener; is_shut = self.new.is_shut }
+            ≡ told_unless self.old.is_shut fault.now
+            (record { told = T.told self.old.listener; is_shut = self.old.is_shut }) }
+        ensures arrivals { T.arrivals self.new.listener ≡ T.arrivals self.old.listener }
+        ensures refused { self.new.refused ≡ self.old.refused }
     {
         if !self.is_shut {
-            let _ = eprintln!(self.rt; "connections can't be accepted: {fault}");
+            self.listener.tell(self.rt, fault);
+            self.is_shut = true;
         }
-        self.is_shut = true;
     }
 
     /// Asks for the next who waits. Who may not connect is refused.
     fn take_one(&mut self, allow_list: &AllowList) -> Arrived
-        ensures { TakesOne allow_list.now (T.arrivals self.old.listener) self.old.refused result
-            (T.arrivals self.new.listener) self.new.refused }
+        ensures tells { Tells (T.arrivals self.old.listener)
+            (record { told = T.told self.old.listener; is_shut = self.old.is_shut })
+            (T.arrivals self.new.listener)
+            (record { told = T.told self.new.listener; is_shut = self.new.is_shut }) }
+        ensures takes { TakesOne allow_list.now (T.arrivals self.old.listener)
+            self.old.refused result (T.arrivals self.new.listener) self.new.refused }
     {
         match self.listener.accept_next() {
             Ok((stream, address)) => {
@@ -498,7 +544,11 @@ impl<R: Eprint, T: SystemListener + Drop> CentreListener<'_, R, T> {
 
     /// Asks for all who wait, and answers the newest who may connect. Who may not is refused.
     fn take_waiting(&mut self, allow_list: &AllowList) -> Option<(IpAddr, TcpStream)>
-        ensures { TakesWaiting allow_list.now (T.arrivals self.old.listener) self.old.refused
+        ensures tells { Tells (T.arrivals self.old.listener)
+            (record { told = T.told self.old.listener; is_shut = self.old.is_shut })
+            (T.arrivals self.new.listener)
+            (record { told = T.told self.new.listener; is_shut = self.new.is_shut }) }
+        ensures takes { TakesWaiting allow_list.now (T.arrivals self.old.listener) self.old.refused
             result (T.arrivals self.new.listener) self.new.refused }
     {
         let mut newest = None;
@@ -534,6 +584,10 @@ impl<R: Net<Listener = TcpListener, Stream = TcpStream> + Eprint, T: SystemListe
         ensures takes { AcceptsNewest allow_list.now (T.arrivals self.old.listener)
             self.old.refused (option_map (λ accepted. accepted.address) result)
             (T.arrivals self.new.listener) self.new.refused }
+        ensures tells { Tells (T.arrivals self.old.listener)
+            (record { told = T.told self.old.listener; is_shut = self.old.is_shut })
+            (T.arrivals self.new.listener)
+            (record { told = T.told self.new.listener; is_shut = self.new.is_shut }) }
     {
         let (address, stream) = self.take_waiting(allow_list)?;
         let stream = CentreSocket::new(stream).ok()?;
@@ -550,8 +604,9 @@ impl<R: Net<Listener = TcpListener, Stream = TcpStream> + Eprint, T: SystemListe
 /// The system's clock that never goes back, from a first moment at its start. Where it can't be
 /// read the last moment is given again.
 #[derive(Drop)]
-pub struct SystemClock<'a, R> {
+pub struct SystemClock<'a, R, I: SystemInstants + Drop = HostInstants> {
     rt: &'a R,
+    instants: I,
     start: Instant,
     /// The moment at its start, in ms.
     first: u64,
@@ -580,6 +635,7 @@ impl<'a, R: std::rt::Clock> SystemClock<'a, R> {
     {
         Ok(SystemClock {
             rt,
+            instants: HostInstants {},
             start: Instant::now(rt)?,
             first,
             now: first,
@@ -587,7 +643,7 @@ impl<'a, R: std::rt::Clock> SystemClock<'a, R> {
     }
 }
 
-impl<R: std::rt::Clock> RunClock for SystemClock<'_, R> {
+impl<R: std::rt::Clock, I: SystemInstants + Drop> RunClock for SystemClock<'_, R, I> {
     ghost moments = { λ _. None };
 
     ghost walls = { λ _. None };
@@ -597,8 +653,12 @@ impl<R: std::rt::Clock> RunClock for SystemClock<'_, R> {
         // No moment is before the first one.
         ensures from { self.old.first ≤ self.old.now → self.old.first ≤ result }
         ensures last { self.new.now ≡ result }
+        ensures start { self.new.start ≡ self.old.start }
+        ensures goes_on { GoesOn self.old.first self.old.start (I.instants self.old.instants)
+            self.old.now (I.instants self.new.instants) result }
     {
-        if let Ok(passed) = self.start.elapsed(self.rt) {
+        if let Ok(now) = self.instants.now(self.rt) {
+            let passed = now.duration_since(self.start);
             let passed = u64::try_from(passed.as_millis()).unwrap_or(u64::MAX);
             self.now = self.first.saturating_add(passed);
         }

@@ -1,6 +1,6 @@
 -- Where it is logged that the line goes, and that it is back.
 use Rattle.std.proofs.Common.{◌≡◌, ℕ, ◌+◌, ◌-◌, ◌<◌, ◌≤◌, Bool, true, false, Option, Some, None}
-use Rattle.std.proofs.Common.{refl}
+use Rattle.std.proofs.Common.{refl, sym}
 use Rattle.std.proofs.Common.{ap, ◌∙◌, nat_le, arith}
 use Rattle.std.specs.Prelude.{if◌then◌else◌}
 use Rattle.live.specs.declared.ends.Presence.TheVariants as presence
@@ -15,21 +15,21 @@ use Rattle.runlog.specs.declared.note.LogLine.{LogLine}
 use Rattle.runlog.specs.declared.note.Note.{Note}
 use Rattle.runlog.specs.declared.note.Note.TheVariants as note
 
-free_after : (before : Option ℕ) (now : ℕ) → IsSecondAfter before now
+pub free_after : (before : Option ℕ) (now : ℕ) → IsSecondAfter before now
     → is_free_after before now ≡ true
 free_after None now is = refl
 free_after (Some before) now is = let le : before + 1000 ≤ now = is in grind (arith, le)
 
-away_so : (b : Bool) → seen_as b presence.Away ≡ presence.Away
+pub away_so : (b : Bool) → seen_as b presence.Away ≡ presence.Away
 away_so true = refl
 away_so false = refl
 
-receiving_so : (b : Bool) → seen_as b presence.Receiving ≡ presence.Receiving
+pub receiving_so : (b : Bool) → seen_as b presence.Receiving ≡ presence.Receiving
 receiving_so true = refl
 receiving_so false = refl
 
 -- what is asked of a limit
-abbrev line_asked : Bool → Note → Limit → ℕ → Limit × Option LogLine
+abbrev pub line_asked : Bool → Note → Limit → ℕ → Limit × Option LogLine
 line_asked b what l now =
     if b then ((asked_by b l now).0, line_by what now (asked_by b l now).1) else (l, None)
 
@@ -143,3 +143,40 @@ still_so w now before is last le =
     (a_minute now before w.away.logged last le)
     ∙ line_of_away logged.Lost note.LineNotThere now (presence_noted presence.Away now w)
     (second_of now before w.away.logged last le)
+
+-- the line of a look at which it is there, and gave nothing before
+quiet_look : (now : ℕ) (w : LineWatch) → w.logged ≡ logged.Lost → w.is_receiving ≡ false
+    → (line_seen presence.There now w).1
+    ≡ (line_changed (line_change logged.Lost presence.There (is_minute_after w.away.logged now))
+    false now (presence_noted presence.There now w)).1
+quiet_look now w is quiet =
+    ap (λ b. (line_seen_so (seen_as b presence.There) now w).1) quiet
+    ∙ ap (λ l. (line_changed (line_change l presence.There
+    (is_minute_after w.away.logged now)) false now (presence_noted presence.There now w)).1) is
+
+pub there_so : (w : LineWatch) (now before : ℕ) → w.logged ≡ logged.Lost → w.is_receiving ≡ false
+    → w.away.logged ≡ Some before → before + 60000 ≤ now → IsSecondAfter w.there.logged now
+    → (line_seen presence.There now w).1
+    ≡ Some (record { moment = now; note = note.LineReachedAgain; left_out = w.there.left_out })
+there_so w now before is quiet last le second =
+    quiet_look now w is quiet
+    ∙ ap (λ m. (line_changed (line_change logged.Lost presence.There m) false now
+    (presence_noted presence.There now w)).1)
+    (a_minute now before w.away.logged last le)
+    ∙ line_of_there logged.There note.LineReachedAgain now
+    (presence_noted presence.There now w) second
+
+pub not_yet_so : (w : LineWatch) (now before : ℕ) → w.logged ≡ logged.Lost
+    → w.is_receiving ≡ false → w.away.logged ≡ Some before → now < before + 60000
+    → (line_seen presence.There now w).1 ≡ None
+not_yet_so w now before is quiet last lt =
+    quiet_look now w is quiet
+    ∙ ap (λ m. (line_changed (line_change logged.Lost presence.There m) false now
+    (presence_noted presence.There now w)).1)
+    (no_minute now before w.away.logged last lt)
+
+pub anew_so : (w : LineWatch) (now : ℕ) → w.is_receiving ≡ true
+    → line_seen presence.There now w ≡ line_seen presence.Away now w
+anew_so w now was =
+    ap (λ b. line_seen_so (seen_as b presence.There) now w) was
+    ∙ sym (ap (λ p. line_seen_so p now w) (away_so w.is_receiving))

@@ -10,5 +10,7 @@ pub mod RowLemmas
 pub mod Passings
 pub mod Connections
 pub mod ConnectionLines
+pub mod Others
 pub mod Walls
 pub mod Failures
+pub mod Seen

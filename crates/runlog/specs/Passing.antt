@@ -1,7 +1,7 @@
 -- What passes a run that is watched, the newest first; and what an operator knows by it of the
 -- connections, of their lines and of the wall clock (docs/TEXTS.md, docs/STATUS.md).
 use Rattle.std.specs.Prelude.{◌≡◌, ◌≢◌, ℕ, ◌+◌, ◌<◌, ◌≤◌, Bool, true, false, List, [], ◌∷◌}
-use Rattle.std.specs.Prelude.{Option, Some, None, bytes_eq, if◌then◌else◌}
+use Rattle.std.specs.Prelude.{Option, Some, None, IfSome, bytes_eq, if◌then◌else◌}
 use Rattle.std.specs.declared.net.ip_addr.IpAddr.{IpAddr}
 use Rattle.session.specs.declared.kinds.Close.{Close}
 use Rattle.session.specs.declared.kinds.Close.TheVariants as close
@@ -122,6 +122,19 @@ pub data IsLoggedAs : Step → StepKind → (now : ℕ) → Note → Type 0 wher
       → IsLoggedAs (Closes now cause) Closing now (note.Closed cause)
   AsStarted : (now : ℕ) → IsLoggedAs (Starts now) Starting now note.Started
   AsStopped : (now : ℕ) → IsLoggedAs (Stops now) Stopping now note.Stopped
+
+-- a line that tells of a connection
+abbrev pub is_of_connection : Note → Bool
+is_of_connection (note.Opened peer) = true
+is_of_connection note.Started = true
+is_of_connection note.Stopped = true
+is_of_connection (note.Cut cause) = true
+is_of_connection (note.Closed cause) = true
+is_of_connection what = false
+
+-- no line, or one that tells of something else
+abbrev pub IsOfOthers : Option LogLine → Type 0
+IsOfOthers line = IfSome line (λ (l : LogLine). is_of_connection l.note ≡ false)
 
 abbrev pub is_of : StepKind → Step → Bool
 is_of Opening (Opens now peer) = true

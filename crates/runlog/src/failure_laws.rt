@@ -1,5 +1,5 @@
 //! Laws of failures: where they are logged, and where it is logged that they are over.
-ghost use Rattle.std.specs.Prelude.{◌≡◌, ℕ, ◌+◌, ◌<◌, ◌≤◌, Some, None};
+ghost use Rattle.std.specs.Prelude.{◌≡◌, ℕ, ◌+◌, ◌<◌, ◌≤◌, Some, None, true, false};
 ghost use Rattle.live.specs.declared.ends.Presence.TheVariants as presence;
 ghost use Rattle.live.specs.declared.watched.Failure.TheVariants as failure;
 ghost use Rattle.live.specs.declared.watched.Notice.{Notice};
@@ -14,8 +14,10 @@ ghost use Rattle.runlog.specs.declared.note.Note.TheVariants as note;
 ghost use Rattle.runlog.specs.declared.note.Trouble.TheVariants.{StateUnusable};
 
 /// A line that goes is logged at the first look at which it is away, and not again for a minute;
-/// then each minute. Where octets come from it, it is logged that it is back. Lines of either kind
-/// are a second apart.
+/// then each minute. Where octets come from it, it is logged that it is back; where it is there
+/// without octets, once a minute has passed since it was logged as away, and not before. A line
+/// that gave octets and is there without any was away in between. Lines of either kind are a second
+/// apart.
 pub fn a_line_is_logged_where_it_goes_and_where_it_is_back()
     ensures lost { (w : LineWatch) (now : ℕ) → w.logged ≡ logged.There →
         IsSecondAfter w.away.logged now → (line_seen presence.Away now w).1
@@ -36,6 +38,19 @@ pub fn a_line_is_logged_where_it_goes_and_where_it_is_back()
           note = note.LineReachedAgain;
           left_out = w.there.left_out;
         }) }
+    ensures there { (w : LineWatch) (now before : ℕ) → w.logged ≡ logged.Lost →
+        w.is_receiving ≡ false → w.away.logged ≡ Some before → before + 60000 ≤ now →
+        IsSecondAfter w.there.logged now → (line_seen presence.There now w).1
+        ≡ Some (record {
+          moment = now;
+          note = note.LineReachedAgain;
+          left_out = w.there.left_out;
+        }) }
+    ensures not_yet { (w : LineWatch) (now before : ℕ) → w.logged ≡ logged.Lost →
+        w.is_receiving ≡ false → w.away.logged ≡ Some before → now < before + 60000 →
+        (line_seen presence.There now w).1 ≡ None }
+    ensures anew { (w : LineWatch) (now : ℕ) → w.is_receiving ≡ true →
+        line_seen presence.There now w ≡ line_seen presence.Away now w }
     ensures reached { (w : LineWatch) (now : ℕ) → w.logged ≡ logged.NotThere →
         IsSecondAfter w.there.logged now → (line_seen presence.Receiving now w).1
         ≡ Some (record { moment = now; note = note.LineReached; left_out = w.there.left_out }) }

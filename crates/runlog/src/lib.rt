@@ -25,11 +25,16 @@
 //!
 //! Which connection is open is known, whatever passes
 //! ([`connections_are_known_from_their_opening_to_their_end`]), and each step of one is logged, or
-//! counted by a later line ([`each_step_of_a_connection_is_logged_or_counted`]). Of a line it is
-//! logged where it goes and where it is back
-//! ([`a_line_is_logged_where_it_goes_and_where_it_is_back`]), and so is what has failed at the end
-//! ([`failures_are_logged_at_the_end`]). The wall clock is shown as it goes on
-//! ([`the_wall_clock_goes_on_between_its_events`]). What becomes of a command, and each
+//! counted by a later line ([`each_step_of_a_connection_is_logged_or_counted`]), and no other
+//! event or action is logged as one ([`nothing_else_is_logged_as_a_step_of_a_connection`]). No
+//! octets of one are read on the next ([`nothing_of_a_connection_is_read_on_the_next`]). Of a line
+//! it is logged where it goes and where it is back
+//! ([`a_line_is_logged_where_it_goes_and_where_it_is_back`]), and it is known since when
+//! ([`a_line_stands_so_since_the_look_that_found_it_so`]). So is what has failed at the end
+//! ([`failures_are_logged_at_the_end`]), who was refused ([`who_was_refused_is_logged`]), and
+//! where the queue fills and is free again
+//! ([`the_queue_is_logged_where_it_fills_and_where_it_is_free_again`]). The wall clock is shown as
+//! it goes on ([`the_wall_clock_goes_on_between_its_events`]). What becomes of a command, and each
 //! mishap, is logged for the station that it befell ([`what_becomes_of_commands_is_logged`]), and
 //! nothing that may be logged waits ([`nothing_waits_that_may_be_logged`]). That a line's UTC time
 //! is right, and what standard error does with it, is no matter of a proof.
@@ -38,6 +43,7 @@
 mod connection_laws;
 mod content;
 mod ends;
+mod ends_laws;
 mod examples;
 mod exchange;
 mod failure_laws;
@@ -63,10 +69,15 @@ mod word_examples;
 
 pub use connection_laws::{
     connections_are_known_from_their_opening_to_their_end,
-    each_step_of_a_connection_is_logged_or_counted, the_wall_clock_goes_on_between_its_events,
+    each_step_of_a_connection_is_logged_or_counted,
+    nothing_else_is_logged_as_a_step_of_a_connection, the_wall_clock_goes_on_between_its_events,
 };
 pub use content::Skip;
 pub use ends::OpenConnection;
+pub use ends_laws::{
+    a_line_stands_so_since_the_look_that_found_it_so, nothing_of_a_connection_is_read_on_the_next,
+    the_queue_is_logged_where_it_fills_and_where_it_is_free_again, who_was_refused_is_logged,
+};
 pub use examples::{
     commands_by_example, late_answers_by_example, log_lines_by_example, moments_by_example,
     standings_by_example, stations_by_example,

@@ -1,4 +1,5 @@
-use Rattle.runlog.proofs.Failures.{back_so, between_so, first_so, lost_so, reached_so, still_so}
+use Rattle.runlog.proofs.Failures.{anew_so, back_so, between_so, first_so, lost_so, not_yet_so}
+use Rattle.runlog.proofs.Failures.{reached_so, still_so, there_so}
 use Rattle.runlog.proofs.failure_laws.a_line_is_logged_where_it_goes_and_where_it_is_back.Goals as goal
 
 pub returns-clause-lost : goal.returns-clause-lost
@@ -18,3 +19,12 @@ returns-clause-back c = back_so
 
 pub returns-clause-reached : goal.returns-clause-reached
 returns-clause-reached c = reached_so
+
+pub returns-clause-there : goal.returns-clause-there
+returns-clause-there c = there_so
+
+pub returns-clause-not_yet : goal.returns-clause-not_yet
+returns-clause-not_yet c = not_yet_so
+
+pub returns-clause-anew : goal.returns-clause-anew
+returns-clause-anew c = anew_so

@@ -1,0 +1,17 @@
+use Rattle.live.proofs.Sorted.{fault_came, guest_came, nobody_came, peer_plain, stranger_came}
+use Rattle.live.proofs.laws.arriving.who_comes_is_refused_or_let_in.Goals as goal
+
+pub returns-clause-nobody : goal.returns-clause-nobody
+returns-clause-nobody c = nobody_came
+
+pub returns-clause-refused : goal.returns-clause-refused
+returns-clause-refused c = stranger_came
+
+pub returns-clause-let_in : goal.returns-clause-let_in
+returns-clause-let_in c = guest_came
+
+pub returns-clause-others : goal.returns-clause-others
+returns-clause-others c = fault_came
+
+pub returns-clause-plain : goal.returns-clause-plain
+returns-clause-plain c = peer_plain

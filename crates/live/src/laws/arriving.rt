@@ -1,0 +1,119 @@
+//! Laws of those who come to the listener.
+ghost use Rattle.std.specs.Prelude.{◌⊎◌, ◌≡◌, None, ◌-◌, ℕ, List, [], ◌∷◌, length, min, Option};
+ghost use Rattle.std.specs.Prelude.{Some, Ok, Err, true, false, ◌↔◌, ◌^◌, ◌++◌, Vec, All};
+ghost use Rattle.std.specs.declared.net.ip_addr.IpAddr.{IpAddr};
+ghost use Rattle.std.specs.declared.alloc.Global.{Global};
+ghost use Rattle.gateway.specs.declared.ports.Next.{Next};
+ghost use Rattle.live.specs.Ends.{LiveEnds, LogsTurn, LogsPut};
+ghost use Rattle.live.specs.Law.{KeepsOut, peer_of};
+ghost use Rattle.live.specs.Cuts.{shuts_nothing};
+ghost use Rattle.live.specs.AllowLists.{Allows, IsPlain, RefusesStrangers};
+ghost use Rattle.live.specs.Arrivals.{Arrival, Comer, GoesOn, IsPeerOf, Sorts};
+ghost use Rattle.live.specs.Telling.{IsNoComer, ShutsOut, Telling, one_more_told, told_by};
+ghost use Rattle.std.specs.IoError.{error_kind};
+ghost use Rattle.std.specs.declared.io.ErrorKind.TheVariants.{WouldBlock};
+ghost use Rattle.live.specs.declared.allow_list.AllowList.{AllowList};
+ghost use Rattle.std.specs.declared.io.Error.{Error};
+ghost use Rattle.std.specs.declared.net.socket_addr.SocketAddr.{SocketAddr};
+ghost use Rattle.std.specs.declared.net.tcp.TcpStream.{TcpStream};
+ghost use Rattle.live.specs.Sights.{ShowsEnds};
+ghost use Rattle.live.specs.declared.watched.EndsSight.{EndsSight};
+ghost use Rattle.live.specs.declared.allow_list.AllowList.TheVariants.{Anyone, Only};
+ghost use Rattle.gateway.specs.Log.{Output};
+ghost use Rattle.live.specs.Passed.{LiveRun};
+
+/// Only allowed addresses connect: an event that opens a connection opens one of an address on the
+/// allow list, and who is refused leaves the open connection as it was. A connection stays open
+/// until it is cut, shut, or replaced by another: the gateway learns of each end but of those that
+/// it makes.
+pub fn only_allowed_addresses_connect()
+    ensures events { (old new : LiveEnds) (event : Next) (buf : List ℕ) →
+        LogsTurn old event buf new → KeepsOut old event new }
+    ensures put { (old new : LiveEnds) (moment : ℕ) (action : Output) →
+        LogsPut old moment action new → shuts_nothing action ≡ true →
+        peer_of new ≡ peer_of old }
+{}
+
+/// Nobody is refused but those who may not connect, and only looks at the listener refuse them. So
+/// it is at each event, and from the beginning of a run to any moment of it.
+pub fn only_strangers_are_refused()
+    ensures events { (old new : LiveEnds) (event : Next) (buf : List ℕ) →
+        LogsTurn old event buf new →
+        RefusesStrangers old.allow_list old.refusals new.refusals }
+    ensures put { (old new : LiveEnds) (moment : ℕ) (action : Output) →
+        LogsPut old moment action new → new.refusals ≡ old.refusals }
+    ensures run { (start end : LiveEnds) → LiveRun start end →
+        RefusesStrangers start.allow_list start.refusals end.refusals }
+{}
+
+/// What is shown of those who were refused in a run, where the listener notes them: how many they
+/// are, as far as 64 bits count, and which of them came last.
+pub fn who_was_refused_is_shown()
+    ensures nobody { (start end : LiveEnds) (sight : EndsSight) →
+        start.refusals ≡ record { peers = Some []; said = record { count = 0; last = None } } →
+        LiveRun start end → ShowsEnds end sight → end.refusals.peers ≡ Some [] →
+        sight.refused ≡ record { count = 0; last = None } }
+    ensures peers { (start end : LiveEnds) (sight : EndsSight) (peer : IpAddr)
+        (before : List IpAddr) →
+        start.refusals ≡ record { peers = Some []; said = record { count = 0; last = None } } →
+        LiveRun start end → ShowsEnds end sight → end.refusals.peers ≡ Some (peer ∷ before) →
+        (sight.refused.count ≡ min (length (peer ∷ before)) (2 ^ 64 - 1))
+        × (sight.refused.last ≡ Some peer) }
+{}
+
+/// Whoever comes and may not connect is refused, and whoever may is let in, by the answers of the
+/// system alone; of those who may the newest stays. An IPv4 address that is written as an IPv6 one
+/// counts as that IPv4 address.
+pub fn who_comes_is_refused_or_let_in()
+    ensures nobody { (allow_list : AllowList) (refused : List IpAddr) (newest : Option Comer) →
+        Sorts allow_list [] refused newest → (refused ≡ []) × (newest ≡ None) }
+    ensures refused { (allow_list : AllowList) (answers : List Arrival) (refused : List IpAddr)
+        (newest : Option Comer) (stream : TcpStream) (socket : SocketAddr) →
+        Sorts allow_list (Ok (stream, socket) ∷ answers) refused newest →
+        ((peer : IpAddr) → IsPeerOf socket peer → Allows allow_list peer → ⊥) →
+        (peer : IpAddr) × (before : List IpAddr) × IsPeerOf socket peer
+        × (refused ≡ peer ∷ before) × Sorts allow_list answers before newest }
+    ensures let_in { (allow_list : AllowList) (answers : List Arrival) (refused : List IpAddr)
+        (newest : Option Comer) (stream : TcpStream) (socket : SocketAddr) →
+        Sorts allow_list (Ok (stream, socket) ∷ answers) refused newest →
+        ((peer : IpAddr) → IsPeerOf socket peer → Allows allow_list peer) →
+        (peer : IpAddr) × (before : Option Comer) × IsPeerOf socket peer
+        × (newest ≡ Some (peer, stream)) × Sorts allow_list answers refused before }
+    ensures others { (allow_list : AllowList) (answers : List Arrival) (refused : List IpAddr)
+        (newest : Option Comer) (fault : Error) →
+        Sorts allow_list (Err fault ∷ answers) refused newest →
+        Sorts allow_list answers refused newest }
+    ensures plain { (socket : SocketAddr) (peer : IpAddr) → IsPeerOf socket peer → IsPlain peer }
+{}
+
+/// Who may connect, by examples: anyone where that is said, else who has one of the addresses that
+/// stand on the list, and nobody where none stands there.
+pub fn allowed_addresses_by_example()
+    ensures anyone { (address : IpAddr) → Allows Anyone address }
+    ensures two { (list : Vec IpAddr Global) (first second address : IpAddr) →
+        list.items ≡ first ∷ second ∷ [] →
+        Allows (Only list) address ↔ (address ≡ first) ⊎ (address ≡ second) }
+    ensures nobody { (list : Vec IpAddr Global) (address : IpAddr) → list.items ≡ [] →
+        Allows (Only list) address → ⊥ }
+{}
+
+/// That nobody can be accepted is told at the first fault that says so, and not again until
+/// somebody has come. Nothing is told where nobody waits, where somebody came, where he has gone
+/// again and where a signal broke the call off. So it is answer by answer, in their order.
+pub fn that_nobody_can_be_accepted_is_told_once()
+    ensures first { (t : Telling) (fault : Error) → t.is_shut ≡ false → ShutsOut fault →
+        told_by (Err fault ∷ []) t ≡ record {
+          told = one_more_told fault t.told;
+          is_shut = true;
+        } }
+    ensures again { (t : Telling) (answers : List Arrival) → t.is_shut ≡ true →
+        All IsNoComer answers → told_by answers t ≡ t }
+    ensures came { (t : Telling) (comer : TcpStream × SocketAddr) →
+        told_by (Ok comer ∷ []) t ≡ record t { is_shut = false } }
+    ensures waits { (t : Telling) (fault : Error) → error_kind fault ≡ WouldBlock →
+        told_by (Err fault ∷ []) t ≡ t }
+    ensures goes_on { (t : Telling) (fault : Error) → GoesOn (Err fault) →
+        told_by (Err fault ∷ []) t ≡ t }
+    ensures in_turn { (t : Telling) (later answers : List Arrival) →
+        told_by (later ++ answers) t ≡ told_by later (told_by answers t) }
+{}

@@ -1,0 +1,100 @@
+//! Laws of a stream that is reached again where it has gone.
+ghost use Rattle.std.specs.Prelude.{◌≡◌, ◌≢◌, IfSome, None, ◌+◌, ◌-◌, ◌<◌, ◌≤◌, ℕ, List, ◌∷◌, Some};
+ghost use Rattle.std.specs.Prelude.{Bool, true, false, is_some};
+ghost use Rattle.live.specs.Law.{AtClock};
+ghost use Rattle.live.specs.Redial.{Redial, clock_read_at, IsPut, HasDropped, BeginsTry, Asked};
+ghost use Rattle.live.specs.Redial.{DialCall, IsRedialled};
+ghost use Rattle.live.specs.declared.ends.Got.{Got};
+ghost use Rattle.live.specs.declared.ends.Got.TheVariants.{Octets, Quiet};
+ghost use Rattle.live.specs.declared.ends.Presence.TheVariants.{There, Away, Receiving};
+ghost use Rattle.live.specs.OctetStreams.{IsNew, StreamHistory, looked, noted, Dropped, Wrote};
+
+/// A stream that is away is tried at once, and then as soon as its wait has passed since the last
+/// try began, but never before. For each try the dialler is called once. At each look it is asked
+/// about a try that goes on, and no other begins. Meanwhile the stream is quiet, and takes and
+/// drops nothing. One that is there gives, takes and drops what its stream does. One that has gone
+/// is kept no longer, and one that is reached begins with nothing in it.
+pub fn a_stream_that_is_away_is_tried_when_due()
+    ensures first { (old new : Redial) (got : Got) (buf : List ℕ) → IsRedialled old got buf new →
+        old.stream ≡ None → old.is_trying ≡ false → old.tried ≡ None →
+        AtClock new.clock (λ now. BeginsTry now old new) }
+    ensures later { (old new : Redial) (got : Got) (buf : List ℕ) (last : ℕ) →
+        IsRedialled old got buf new → old.stream ≡ None → old.is_trying ≡ false →
+        old.tried ≡ Some last → AtClock new.clock (λ now. old.wait ≤ now - last →
+        BeginsTry now old new) }
+    ensures undue { (old new : Redial) (got : Got) (buf : List ℕ) (last : ℕ) →
+        IsRedialled old got buf new → old.stream ≡ None → old.is_trying ≡ false →
+        old.tried ≡ Some last → AtClock new.clock (λ now. now - last < old.wait →
+        new ≡ clock_read_at now old) }
+    ensures asked { (old new : Redial) (got : Got) (buf : List ℕ) → IsRedialled old got buf new →
+        old.stream ≡ None → old.is_trying ≡ true → (new.tried ≡ old.tried)
+        × IfSome old.calls (λ before. new.calls ≡ Some (Asked (is_some new.stream) ∷ before)) }
+    ensures quiet { (old new : Redial) (got : Got) (buf : List ℕ) → IsRedialled old got buf new →
+        old.stream ≡ None → got ≡ Quiet }
+    ensures put { (old new : Redial) (octets : List ℕ) (is_taken : Bool) →
+        IsPut old octets is_taken new → old.stream ≡ None → (is_taken ≡ false) × (new ≡ old) }
+    ensures dropped { (old new : Redial) (count : ℕ) → HasDropped old count new →
+        old.stream ≡ None → (count ≡ 0) × (new ≡ old) }
+    ensures there { (old new : Redial) (got : Got) (buf : List ℕ) (history : StreamHistory) →
+        IsRedialled old got buf new → old.stream ≡ Some history →
+        IfSome new.stream (λ now. now ≡ noted history (looked got buf)) }
+    ensures written { (old new : Redial) (octets : List ℕ) (is_taken : Bool)
+        (history : StreamHistory) → IsPut old octets is_taken new → old.stream ≡ Some history →
+        new ≡ record old { stream = Some (noted history (Wrote octets is_taken)) } }
+    ensures waiting { (old new : Redial) (count : ℕ) (history : StreamHistory) →
+        HasDropped old count new → old.stream ≡ Some history →
+        new ≡ record old { stream = Some (noted history (Dropped count)) } }
+    ensures fresh { (old new : Redial) (got : Got) (buf : List ℕ) → IsRedialled old got buf new →
+        old.stream ≡ None → IfSome new.stream IsNew }
+{}
+
+/// A try that has ended goes on no longer. By it a stream is there, or the dialler noted that it
+/// reached none. One that hasn't ended goes on, and nothing more is known of the stream then.
+pub fn a_try_goes_on_until_it_ends()
+    ensures ended { (old new : Redial) (got : Got) (buf : List ℕ) (tries : List Bool)
+        (reached : Bool) → IsRedialled old got buf new → old.stream ≡ None →
+        old.tries ≡ Some tries → new.tries ≡ Some (reached ∷ tries) →
+        (new.is_trying ≡ false) × (is_some new.stream ≡ reached) }
+    ensures goes_on { (old new : Redial) (got : Got) (buf : List ℕ) (tries : List Bool)
+        (calls : List DialCall) (call : DialCall) → IsRedialled old got buf new →
+        old.stream ≡ None → old.tries ≡ Some tries → new.tries ≡ Some tries →
+        old.calls ≡ Some calls → new.calls ≡ Some (call ∷ calls) →
+        (new.is_trying ≡ true) × (new.stream ≡ None) × (new.presence ≡ old.presence) }
+{}
+
+/// Behind each stream that was reached the wait for the next try is twice as long, up to 30 s. By
+/// octets that come it is a second again. Nothing else changes it.
+pub fn tries_lie_farther_apart_while_nothing_comes()
+    ensures reached { (old new : Redial) (got : Got) (buf : List ℕ) → IsRedialled old got buf new →
+        old.stream ≡ None → IfSome new.stream (λ _.
+        (old.wait ≤ 15000 → new.wait ≡ old.wait + old.wait)
+        × (15000 ≤ old.wait → new.wait ≡ 30000)) }
+    ensures away { (old new : Redial) (got : Got) (buf : List ℕ) → IsRedialled old got buf new →
+        old.stream ≡ None → new.stream ≡ None → new.wait ≡ old.wait }
+    ensures octets { (old new : Redial) (len : ℕ) (buf : List ℕ) →
+        IsRedialled old (Octets len) buf new → new.wait ≡ 1000 }
+    ensures quiet { (old new : Redial) (buf : List ℕ) (history : StreamHistory) →
+        IsRedialled old Quiet buf new → old.stream ≡ Some history → new.wait ≡ old.wait }
+    ensures put { (old new : Redial) (octets : List ℕ) (is_taken : Bool) →
+        IsPut old octets is_taken new → new.wait ≡ old.wait }
+    ensures dropped { (old new : Redial) (count : ℕ) → HasDropped old count new →
+        new.wait ≡ old.wait }
+{}
+
+/// What is known of a stream that is reached again. It is there once it was reached, and receiving
+/// once octets came. It is away where it has gone, and where a try ended without it.
+pub fn what_is_known_of_a_stream_is_what_was_seen()
+    ensures reached { (old new : Redial) (got : Got) (buf : List ℕ) → IsRedialled old got buf new →
+        old.stream ≡ None → IfSome new.stream (λ _. new.presence ≡ There) }
+    ensures failed { (old new : Redial) (got : Got) (buf : List ℕ) (tries : List Bool) →
+        IsRedialled old got buf new → old.stream ≡ None → old.tries ≡ Some tries →
+        new.tries ≡ Some (false ∷ tries) → new.presence ≡ Away }
+    ensures octets { (old new : Redial) (len : ℕ) (buf : List ℕ) →
+        IsRedialled old (Octets len) buf new → new.presence ≡ Receiving }
+    ensures gone { (old new : Redial) (got : Got) (buf : List ℕ) (history : StreamHistory) →
+        IsRedialled old got buf new → old.stream ≡ Some history → new.stream ≡ None →
+        new.presence ≡ Away }
+    ensures quiet { (old new : Redial) (buf : List ℕ) (history : StreamHistory) →
+        IsRedialled old Quiet buf new → old.stream ≡ Some history → new.stream ≢ None →
+        new.presence ≡ old.presence }
+{}

@@ -1,0 +1,91 @@
+//! Laws of what is logged of the queue and of who was refused, of since when a line stands so, and
+//! of octets that one connection leaves behind.
+ghost use Rattle.std.specs.Prelude.{◌≡◌, ◌≢◌, ℕ, ◌-◌, ◌<◌, ◌≤◌, List, [], Option, Some, None};
+ghost use Rattle.std.specs.Prelude.{true, false};
+ghost use Rattle.std.specs.declared.net.ip_addr.IpAddr.{IpAddr};
+ghost use Rattle.session.specs.declared.kinds.Close.{Close};
+ghost use Rattle.session.specs.declared.kinds.Close.TheVariants as close;
+ghost use Rattle.gateway.specs.Log.{Closed};
+ghost use Rattle.gateway.specs.State.{State};
+ghost use Rattle.gateway.specs.declared.ports.Next.TheVariants as next;
+ghost use Rattle.live.specs.declared.ends.Presence.TheVariants as presence;
+ghost use Rattle.live.specs.declared.ends.RefusedPeers.{RefusedPeers};
+ghost use Rattle.live.specs.declared.watched.EndsSight.{EndsSight};
+ghost use Rattle.runlog.specs.Ends.{line_seen, listener_seen};
+ghost use Rattle.runlog.specs.Inbox.{Inbox, judged};
+ghost use Rattle.runlog.specs.Limits.{IsSecondAfter};
+ghost use Rattle.runlog.specs.Passing.{Came, Went, passed};
+ghost use Rattle.runlog.specs.Watching.{Watching, queue_seen};
+ghost use Rattle.runlog.specs.declared.ends.LineWatch.{LineWatch};
+ghost use Rattle.runlog.specs.declared.ends.ListenerWatch.{ListenerWatch};
+ghost use Rattle.runlog.specs.declared.note.Note.TheVariants as note;
+ghost use Rattle.runlog.specs.declared.queue.QueueWatch.{QueueWatch};
+
+/// That the queue is full is logged at the look at which fewer than three of its places are free,
+/// and that it is free again at the one at which three are. Nothing is logged while it stays so.
+pub fn the_queue_is_logged_where_it_fills_and_where_it_is_free_again()
+    ensures full { (w : QueueWatch) (taken places now : ℕ) → w.is_full ≡ false →
+        places - taken < 3 → IsSecondAfter w.full.logged now →
+        ((queue_seen taken places now w).1
+        ≡ Some (record { moment = now; note = note.QueueFull; left_out = w.full.left_out }))
+        × ((queue_seen taken places now w).0.is_full ≡ true) }
+    ensures free { (w : QueueWatch) (taken places now : ℕ) → w.is_full ≡ true →
+        3 ≤ places - taken → IsSecondAfter w.free.logged now →
+        ((queue_seen taken places now w).1
+        ≡ Some (record { moment = now; note = note.QueueFree; left_out = w.free.left_out }))
+        × ((queue_seen taken places now w).0.is_full ≡ false) }
+    ensures still_full { (w : QueueWatch) (taken places now : ℕ) → w.is_full ≡ true →
+        places - taken < 3 → queue_seen taken places now w ≡ (w, None) }
+    ensures still_free { (w : QueueWatch) (taken places now : ℕ) → w.is_full ≡ false →
+        3 ≤ places - taken → queue_seen taken places now w ≡ (w, None) }
+{}
+
+/// Those who were refused are logged where some came since the line before: how many, and the
+/// address of the last. Nothing is logged where nobody came.
+pub fn who_was_refused_is_logged()
+    ensures some { (s : RefusedPeers) (w : ListenerWatch) (now : ℕ) → w.logged < s.count →
+        IsSecondAfter w.limit.logged now → ((listener_seen s now w).1 ≡ Some (record {
+          moment = now;
+          note = note.RefusedPeers (s.count - w.logged) s.last;
+          left_out = w.limit.left_out;
+        })) × ((listener_seen s now w).0.logged ≡ s.count) }
+    ensures none { (s : RefusedPeers) (w : ListenerWatch) (now : ℕ) → s.count ≤ w.logged →
+        listener_seen s now w ≡ (w, None) }
+{}
+
+/// A line is there since the look at which it was there first, and away since the one at which it
+/// was away first. It is away, too, before it was tried.
+pub fn a_line_stands_so_since_the_look_that_found_it_so()
+    ensures came { (w : LineWatch) (now : ℕ) → w.presence ≡ presence.Away →
+        (line_seen presence.Receiving now w).0.since ≡ now }
+    ensures first { (w : LineWatch) (now : ℕ) → w.presence ≡ presence.Untried →
+        (line_seen presence.Receiving now w).0.since ≡ now }
+    ensures gone { (w : LineWatch) (now : ℕ) → w.presence ≡ presence.Receiving →
+        (line_seen presence.Away now w).0.since ≡ now }
+    ensures lost { (w : LineWatch) (now : ℕ) → w.presence ≡ presence.There →
+        (line_seen presence.Away now w).0.since ≡ now }
+    ensures receiving { (w : LineWatch) (now : ℕ) → w.presence ≡ presence.Receiving →
+        (line_seen presence.Receiving now w).0.since ≡ w.since }
+    ensures there { (w : LineWatch) (now : ℕ) → w.presence ≡ presence.There →
+        (line_seen presence.Receiving now w).0.since ≡ w.since }
+    ensures away { (w : LineWatch) (now : ℕ) → w.presence ≡ presence.Away →
+        (line_seen presence.Away now w).0.since ≡ w.since }
+    ensures untried { (w : LineWatch) (now : ℕ) → w.presence ≡ presence.Untried →
+        (line_seen presence.Away now w).0.since ≡ w.since }
+{}
+
+/// Half an APDU of one connection is no beginning of one on the next: nothing has come yet where
+/// one is opened, and nothing is left where it is cut. What came in the step in which the gateway
+/// closes it went nowhere, but the close of the one whose place another took changes nothing.
+pub fn nothing_of_a_connection_is_read_on_the_next()
+    ensures opened { (w : Watching) (now : ℕ) (octets : List ℕ) (s : EndsSight) →
+        (passed (Came (next.Open now) octets s) w).0.inbox.octets ≡ [] }
+    ensures cut { (w : Watching) (now : ℕ) (octets : List ℕ) (s : EndsSight) →
+        (passed (Came (next.Cut now) octets s) w).0.inbox.octets ≡ [] }
+    ensures closed { (w : Watching) (now : ℕ) (cause : Close) → cause ≢ close.Replaced →
+        (passed (Went now (Closed cause)) w).0.inbox.is_closed ≡ true }
+    ensures replaced { (w : Watching) (now : ℕ) →
+        (passed (Went now (Closed close.Replaced)) w).0.inbox ≡ w.inbox }
+    ensures left { (s : State) (peer : Option IpAddr) (b : Inbox) → b.is_closed ≡ true →
+        (judged s peer b).octets ≡ [] }
+{}
