@@ -31,3 +31,7 @@ pub mod Parts
 pub mod HasCome
 mod Examples
 pub mod Answers
+pub mod Faults
+pub mod Octets
+pub mod GivenOnce
+pub mod FullPieces

@@ -38,5 +38,12 @@ pub use laws::{
     each_session_is_known, losses_are_reported, losses_have_gaps, nothing_is_lost,
     silence_is_no_reset,
 };
-pub use passed_on::{answers_are_passed_on_as_they_came, answers_bear_the_tag_of_their_command};
-pub use received::{pieces_are_acknowledged_with_their_frames, what_has_come_is_one_run};
+pub use passed_on::{
+    answers_are_passed_on_as_they_came, answers_bear_the_tag_of_their_command,
+    each_answer_is_given_once, pieces_bear_as_many_objects_as_fit,
+    reports_of_monitor_types_are_passed_on,
+};
+pub use received::{
+    frames_have_the_faults_of_their_history, octets_are_those_of_their_connection,
+    pieces_are_acknowledged_with_their_frames, what_has_come_is_one_run,
+};
