@@ -8,12 +8,12 @@ ghost use Rattle.asdu.specs.InformationObjects.{InformationObject, objects_of};
 ghost use Rattle.asdu.specs.Layout.{HaveOneHead, IsObjectOf};
 ghost use Rattle.asdu.specs.Sizes.{tcp};
 ghost use Rattle.asdu.specs.declared.sizes.Sizes.{Sizes};
-ghost use Rattle.asdu.specs.Translation.{AllButLast};
+ghost use Rattle.asdu.specs.Translation.{report_pieces, AllButLast};
 ghost use Rattle.elements.specs.Types.{row};
 ghost use Rattle.command.specs.History.{History, Mirrored};
 ghost use Rattle.gateway.specs.Counting.{is_answer_code};
 ghost use Rattle.gateway.specs.Given.{IsGivenOn};
-ghost use Rattle.gateway.specs.Objects.{monitor_objects, pieces_of_report};
+ghost use Rattle.gateway.specs.Objects.{monitor_objects, parts_of, pieces_of_report};
 ghost use Rattle.gateway.specs.Reports.{Setup};
 ghost use Rattle.gateway.specs.Tags.{AreTagged};
 ghost use Rattle.gateway.specs.Works.{IsPassedOn};
@@ -21,7 +21,7 @@ ghost use Rattle.delivery.specs.Answers.{answer_form, most_objects, AreGiven, Is
 
 use asdu::{
     monitor_reports_are_passed_on, objects_are_those_of_the_asdu, objects_have_all_their_parts,
-    octets_stand_where_the_standard_has_them, one_asdu_one_spelling,
+    octets_stand_where_the_standard_has_them, one_asdu_one_spelling, pieces_carry_the_report,
     tagged_types_are_thirteen_above, tags_stand_behind_the_element,
 };
 
@@ -129,11 +129,18 @@ pub fn reports_of_monitor_types_are_passed_on()
     ensures passed { (sizes : Sizes) (u : AsduValue) (report : List ℕ) → IsAsdu sizes u report →
         (row u.kind).monitor ≡ true → (slice_index report 2 % 128 ≡ 108 → ⊥) →
         monitor_objects sizes report ≡ objects_of sizes report }
+    ensures pieces { (sizes : Sizes) (u : AsduValue) (report : List ℕ) → IsAsdu sizes u report →
+        (row u.kind).monitor ≡ true → (slice_index report 2 % 128 ≡ 108 → ⊥) →
+        (pieces_of_report sizes report ≡ report_pieces u)
+        × (parts_of sizes report ≡ length (pieces_of_report sizes report)) }
     ensures kept_back { (sizes : Sizes) (u : AsduValue) (report : List ℕ) →
         IsAsdu sizes u report → ((row u.kind).monitor ≡ false) ⊎ (slice_index report 2 % 128 ≡ 108) →
-        (monitor_objects sizes report ≡ []) × (pieces_of_report sizes report ≡ []) }
+        (monitor_objects sizes report ≡ []) × (pieces_of_report sizes report ≡ [])
+        × (parts_of sizes report ≡ 0) }
 {
     monitor_reports_are_passed_on();
+    pieces_carry_the_report();
     objects_are_those_of_the_asdu();
+    objects_have_all_their_parts();
     octets_stand_where_the_standard_has_them();
 }
