@@ -35,3 +35,6 @@ pub mod Faults
 pub mod Octets
 pub mod GivenOnce
 pub mod FullPieces
+pub mod Heeded
+pub mod Replacing
+pub mod Ruled

@@ -1,6 +1,6 @@
 -- A station's answer to a command, as it goes to the control centre octet by octet (IEC
 -- 60870-5-101, 7.1 and 7.2, in the sizes of IEC 60870-5-104, 5.1 and 7).
-use Rattle.std.specs.Prelude.{◌≡◌, ℕ, ◌+◌, ◌==◌, ◌&&◌, ◌||◌, nat_le, if◌then◌else◌, Bool, true}
+use Rattle.std.specs.Prelude.{◌≡◌, ℕ, ◌+◌, ◌%◌, ◌≤◌, ◌==◌, ◌&&◌, ◌||◌, nat_le, if◌then◌else◌, Bool, true}
 use Rattle.std.specs.Prelude.{false, List, [], ◌∷◌, ◌++◌, drop, slice_index, Option, Some, None}
 use Rattle.asdu.specs.declared.sizes.CauseSize.{CauseSize}
 use Rattle.asdu.specs.declared.sizes.CauseSize.TheVariants as causes
@@ -12,7 +12,11 @@ use Rattle.asdu.specs.declared.sizes.Sizes.{Sizes}
 use Rattle.asdu.specs.Asdu.{AsduValue, IsAsdu}
 use Rattle.asdu.specs.Layout.{common_address_place, objects_place, address_octets}
 use Rattle.command.specs.History.{History, Mirrored, Offered, mirror_tag}
+use Rattle.link.specs.declared.outcome.Outcome.{Outcome}
+use Rattle.link.specs.declared.outcome.Outcome.TheVariants as outcome
+use Rattle.gateway.specs.Counting.{is_answer_code}
 use Rattle.gateway.specs.Reports.{Setup}
+use Rattle.gateway.specs.Works.{IsPassedOn}
 
 -- the cause octet as it came, with P/N and the test bit, and the originator, which is 0 where
 -- causes of the line have one octet (7.2.3)
@@ -81,6 +85,32 @@ pub data AreGiven (pieces : List (List ℕ)) (before after : History) : Type 0 w
   UpTo : (done : List (List ℕ)) → (x : List ℕ) → (rest : List (List ℕ)) →
       pieces ≡ done ++ x ∷ rest → after ≡ Offered x false ∷ all_given done before →
       AreGiven pieces before after
+
+-- Of an answer with more objects such ASDUs are handed over as carry it.
+pub record IsGivenInPieces (p : Setup) (at : ℕ) (report : List ℕ) (before after : History)
+    : Type 0
+  where
+    pub value : AsduValue
+    pub pieces : List (List ℕ)
+    pub passed : IsPassedOn p.sizes value report pieces
+    pub given : AreGiven pieces (Mirrored at value ∷ before) after
+
+-- what a station said, where its type is a command's: 45 to 49, and 100 (7.2.1.1)
+abbrev pub answer_in : Outcome → Option (List ℕ)
+answer_in (outcome.Report station asdu) =
+    if is_answer_code (slice_index asdu.items 0) then Some asdu.items else None
+answer_in other = None
+
+-- What becomes of a station's answer: while data transfer runs it is given to the control centre,
+-- and while it is stopped only its selections are looked at (IEC 60870-5-104, 5.3; profile).
+pub record IsHeeded (p : Setup) (is_started : Bool) (at : ℕ) (report : List ℕ)
+    (before after : History) : Type 0 where
+  pub one : is_started ≡ true → slice_index report 1 % 128 ≡ 1 →
+      IsGivenOnce p at report before after
+  pub more : is_started ≡ true → 2 ≤ slice_index report 1 % 128 →
+      IsGivenInPieces p at report before after
+  pub stopped : is_started ≡ false →
+      (value : AsduValue) × IsAsdu p.sizes value report × (after ≡ Mirrored at value ∷ before)
 
 -- ---- How many objects an ASDU has
 

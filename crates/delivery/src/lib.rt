@@ -40,10 +40,11 @@ pub use laws::{
 };
 pub use passed_on::{
     answers_are_passed_on_as_they_came, answers_bear_the_tag_of_their_command,
-    each_answer_is_given_once, pieces_bear_as_many_objects_as_fit,
+    answers_of_stations_are_heeded, each_answer_is_given_once, pieces_bear_as_many_objects_as_fit,
     reports_of_monitor_types_are_passed_on,
 };
 pub use received::{
+    a_replaced_connection_is_reported, connections_keep_the_rules_of_the_session,
     frames_have_the_faults_of_their_history, octets_are_those_of_their_connection,
     pieces_are_acknowledged_with_their_frames, what_has_come_is_one_run,
 };

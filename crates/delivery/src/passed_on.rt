@@ -10,20 +10,26 @@ ghost use Rattle.asdu.specs.Sizes.{tcp};
 ghost use Rattle.asdu.specs.declared.sizes.Sizes.{Sizes};
 ghost use Rattle.asdu.specs.Translation.{report_pieces, AllButLast};
 ghost use Rattle.elements.specs.Types.{row};
-ghost use Rattle.command.specs.History.{History, Mirrored};
+ghost use Rattle.session.specs.History.{is_started};
+ghost use Rattle.command.specs.History.{History};
 ghost use Rattle.gateway.specs.Counting.{is_answer_code};
 ghost use Rattle.gateway.specs.Given.{IsGivenOn};
 ghost use Rattle.gateway.specs.Objects.{monitor_objects, parts_of, pieces_of_report};
+ghost use Rattle.gateway.specs.Course.{Course, IsLeft, Runs};
+ghost use Rattle.gateway.specs.Log.{Log, Came, LineIn, latest};
 ghost use Rattle.gateway.specs.Reports.{Setup};
+ghost use Rattle.gateway.specs.Serial.{answer_outcome};
 ghost use Rattle.gateway.specs.Tags.{AreTagged};
 ghost use Rattle.gateway.specs.Works.{IsPassedOn};
-ghost use Rattle.delivery.specs.Answers.{answer_form, most_objects, AreGiven, IsGivenOnce};
+ghost use Rattle.delivery.specs.Answers.{answer_form, answer_in, most_objects, IsGivenOnce, IsHeeded};
+ghost use Rattle.delivery.specs.Answers.{IsGivenInPieces};
 
 use asdu::{
     monitor_reports_are_passed_on, objects_are_those_of_the_asdu, objects_have_all_their_parts,
     octets_stand_where_the_standard_has_them, one_asdu_one_spelling, pieces_carry_the_report,
     tagged_types_are_thirteen_above, tags_stand_behind_the_element,
 };
+use gateway::{answers_have_the_types_of_commands, what_is_due_is_given};
 
 /// A station's answer to a command is passed on as it came. With one object it is one ASDU, octet
 /// by octet: the type, SQ and number, the cause octet with P/N and the test bit, the originator,
@@ -93,13 +99,32 @@ pub fn each_answer_is_given_once()
         IsGivenOnce p at report before after }
     ensures more { (p : Setup) (at : ℕ) (report : List ℕ) (before after : History) →
         IsGivenOn p at report before after → 2 ≤ slice_index report 1 % 128 →
-        (u : AsduValue) × (pieces : List (List ℕ)) × IsPassedOn p.sizes u report pieces
-        × AreGiven pieces (Mirrored at u ∷ before) after }
+        IsGivenInPieces p at report before after }
 {
     answers_are_passed_on_as_they_came();
     answers_bear_the_tag_of_their_command();
     octets_stand_where_the_standard_has_them();
     objects_have_all_their_parts();
+}
+
+/// On each log: where the line's octets bring a station's answer to a command, that is given to the
+/// control centre as `each_answer_is_given_once` says, while data transfer runs. While it is stopped
+/// nothing of it is. Nothing else becomes of commands with this answer.
+pub fn answers_of_stations_are_heeded()
+    ensures { (p : Setup) (log : Log) (at : ℕ) (octets : List ℕ) (c : Course) →
+        Runs p (Came at (LineIn octets) ∷ log) c →
+        (before : Course) × (left : Course) × Runs p log before × IsLeft p log before left
+        × ((report : List ℕ) (v : AsduValue) →
+        answer_in (answer_outcome octets left.works.serial) ≡ Some report →
+        IsAsdu p.sizes v report →
+        IsHeeded p (is_started left.talk) (latest (Came at (LineIn octets) ∷ log)) report
+        left.works.history c.works.history) }
+{
+    each_answer_is_given_once();
+    what_is_due_is_given();
+    answers_have_the_types_of_commands();
+    objects_are_those_of_the_asdu();
+    octets_stand_where_the_standard_has_them();
 }
 
 /// How many objects each ASDU of an answer has: each but the last has 60, or 40 where they are set

@@ -1,15 +1,20 @@
 //! What the control centre has received, over closes and new connections.
 ghost use Rattle.std.specs.Prelude.{◌≡◌, ◌+◌, ℕ, List, [], ◌∷◌, ◌++◌, length, take, true, false};
+ghost use Rattle.std.specs.Prelude.{None};
 ghost use Rattle.apci.specs.declared.apdu.Apdu.{Apdu};
 ghost use Rattle.session.specs.History as talk;
+ghost use Rattle.session.specs.declared.kinds.Close.TheVariants.{Replaced};
+ghost use Rattle.session.specs.Rules.{KeepsRules};
 ghost use Rattle.gateway.specs.Agrees.{pieces_of};
 ghost use Rattle.gateway.specs.Connections.{present, past, received_before};
-ghost use Rattle.gateway.specs.Course.{came_frames, here_of};
+ghost use Rattle.gateway.specs.Course.{Course, came_frames, here_of, Runs};
 ghost use Rattle.gateway.specs.Frames.{Connection, Sent, acknowledged_count, acknowledged_reports};
 ghost use Rattle.gateway.specs.Frames.{first_unacknowledged, objects_of_frames, transfers};
 ghost use Rattle.gateway.specs.Frames.{i_frames, fault_of};
-ghost use Rattle.gateway.specs.Log.{Log, LogEntry, Input, Came, Opened};
+ghost use Rattle.gateway.specs.Log.{Log, LogEntry, Input, Output, Came, Went, Opened, Closed};
+ghost use Rattle.gateway.specs.Log.{latest};
 ghost use Rattle.gateway.specs.Reports.{Setup, taken_objects};
+ghost use Rattle.gateway.specs.Traffic.{IsFaithful, IsAtRest, HasRested};
 ghost use Rattle.delivery.specs.Delivery.{Delivers};
 ghost use Rattle.delivery.specs.Octets.{Ends, GoesOn, AreActions, is_opening, lacks_place};
 ghost use Rattle.delivery.specs.Octets.{octets_in, octets_out};
@@ -89,4 +94,32 @@ pub fn frames_have_the_faults_of_their_history()
     ensures fault { (h : talk.History) (frame : Apdu) →
         fault_of (length (talk.sent_frames h)) (came_frames h) frame
         ≡ close_by (talk.verdict_on frame h) }
+{}
+
+/// A connection that a new one replaces is reported as closed with cause 7: the first that goes out
+/// behind an opening is this close, if a connection was open when it came, and a step that rests
+/// has reported it. Cause 7 is reported at no other place.
+pub fn a_replaced_connection_is_reported()
+    ensures reported { (p : Setup) (log newer before : Log) (now at : ℕ) (action : Output) →
+        IsFaithful p log → log ≡ newer ++ Went now action ∷ Came at Opened ∷ before →
+        (present before).is_open ≡ true → action ≡ Closed Replaced }
+    ensures nowhere_else { (p : Setup) (log newer older : Log) (now : ℕ) → IsFaithful p log →
+        log ≡ newer ++ Went now (Closed Replaced) ∷ older →
+        (at : ℕ) × (before : Log) × (older ≡ Came at Opened ∷ before)
+        × ((present before).is_open ≡ true) }
+    ensures rested { (p : Setup) (before : Log) (at : ℕ) → HasRested p (Came at Opened ∷ before) →
+        (present before).is_open ≡ false }
+{}
+
+/// What is said on a connection keeps the rules of IEC 60870-5-104 (5.1 to 5.5) as `session` states
+/// them, with the k, w, t1, t2 and t3 that are set: each frame that came was free of faults, each
+/// frame that went out bore the counts, and each S or U frame was due. Once a step rests, neither a
+/// confirmation, an S frame nor a test is due, and no answer is late.
+pub fn connections_keep_the_rules_of_the_session()
+    ensures rules { (p : Setup) (log : Log) (c : Course) → Runs p log c →
+        KeepsRules p.session c.talk }
+    ensures rested { (p : Setup) (log : Log) → IsAtRest p log →
+        (c : Course) × Runs p log c × (talk.confirmation_of c.talk ≡ None)
+        × (talk.frame_due p.session.w p.session.t2 p.session.t3 (latest log) c.talk ≡ None)
+        × (talk.has_timed_out p.session.t1 (latest log) c.talk ≡ false) }
 {}

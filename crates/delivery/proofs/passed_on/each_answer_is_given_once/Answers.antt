@@ -48,9 +48,10 @@ returns-clause-more c = λ p at report before after g n.
     let plain : g.pieces ≡ g.plain = untagged
     c.answers_bear_the_tag_of_their_command.ensures.more_objects g.tag g.plain g.pieces many
     g.tagged in
-    (
-      g.value,
-      g.pieces,
-      subst (λ (l : List (List ℕ)). IsPassedOn p.sizes g.value report l) (sym plain) g.passed,
-      given g.pieces _ after g.given,
-    )
+    record {
+      value = g.value;
+      pieces = g.pieces;
+      passed = subst (λ (l : List (List ℕ)). IsPassedOn p.sizes g.value report l) (sym plain)
+          g.passed;
+      given = given g.pieces _ after g.given;
+    }
