@@ -1,20 +1,16 @@
 -- A station's answer is given once, with the tag of its command, in ASDUs of as many objects as
 -- fit.
-use Rattle.std.specs.Prelude.{◌&&◌, nat_le, slice_index, map, option_map, if◌then◌else◌}
-use Rattle.std.specs.List.{flat_map, AllByRecursion}
+use Rattle.std.specs.Prelude.{◌&&◌, nat_le, slice_index, option_map, if◌then◌else◌}
 use Rattle.std.proofs.Common.{◌≡◌, ℕ, ◌+◌, ◌%◌, ◌<◌, ◌≤◌, ◌⊎◌, inl, inr, Bool, true, false}
-use Rattle.std.proofs.Common.{Option, Some, None, List, [], ◌∷◌, ◌++◌, length, drop, refl, ap, sym}
-use Rattle.std.proofs.Common.{subst, ◌∙◌, arith, length-append}
+use Rattle.std.proofs.Common.{Option, Some, None, List, [], ◌∷◌, ◌++◌, drop, refl, ap}
+use Rattle.std.proofs.Common.{subst, ◌∙◌}
 use Rattle.std.proofs.lemmas.Bool.{leb-true, leb-false}
 use Rattle.elements.specs.declared.tag.Cp56.{Cp56}
-use Rattle.asdu.specs.Sizes.{tcp}
-use Rattle.asdu.specs.declared.sizes.Sizes.{Sizes}
-use Rattle.asdu.specs.InformationObjects.{objects_of}
 use Rattle.command.specs.History.{History, Mirrored, Offered, mirror_tag}
 use Rattle.gateway.specs.Given.{AreHandedOver, IsGivenOn}
 use Rattle.gateway.specs.Reports.{Setup}
 use Rattle.gateway.specs.Tags.{AreTagged}
-use Rattle.delivery.specs.Answers.{answer_form, form_with, all_given, AreGiven, IsGivenOnce}
+use Rattle.delivery.specs.Answers.{answer_form, form_with, AreGiven, IsGivenOnce}
 use Rattle.delivery.specs.Answers.AreGiven.{All, UpTo}
 
 -- ---- Each once
@@ -34,12 +30,14 @@ given (x ∷ xs) before after (inr h) = more (given xs (Offered x true ∷ befor
 -- what holds of an answer with one object: with a tag and types 45 to 49, with a tag and another
 -- type, and without
 abbrev pub TaggedLaw : Type 0
-TaggedLaw = (tag : Cp56) (x : List ℕ) (pieces : List (List ℕ)) → AreTagged (Some tag) (x ∷ []) pieces
+TaggedLaw = (tag : Cp56) (x : List ℕ) (pieces : List (List ℕ))
+    → AreTagged (Some tag) (x ∷ []) pieces
     → 45 ≤ slice_index x 0 → slice_index x 0 ≤ 49 → slice_index x 1 % 128 ≡ 1
     → pieces ≡ ((slice_index x 0 + 13) ∷ (drop 1 x ++ tag.0)) ∷ []
 
 abbrev pub OthersLaw : Type 0
-OthersLaw = (tag : Cp56) (x : List ℕ) (pieces : List (List ℕ)) → AreTagged (Some tag) (x ∷ []) pieces
+OthersLaw = (tag : Cp56) (x : List ℕ) (pieces : List (List ℕ))
+    → AreTagged (Some tag) (x ∷ []) pieces
     → (slice_index x 0 < 45) ⊎ (49 < slice_index x 0) → pieces ≡ x ∷ []
 
 module _ (tagged : TaggedLaw) (others : OthersLaw) where

@@ -1,12 +1,12 @@
 -- A station's answer to a command is known by its type, and given on while data transfer runs.
 use Rattle.std.specs.Prelude.{slice_index, map, if◌then◌else◌}
-use Rattle.std.proofs.Common.{◌≡◌, ℕ, ◌%◌, ◌≤◌, Bool, true, false, Option, Some, None, List, []}
+use Rattle.std.proofs.Common.{◌≡◌, ℕ, ◌%◌, ◌≤◌, Bool, true, false, Some, None, List, []}
 use Rattle.std.proofs.Common.{◌∷◌, length, refl, ap, sym, subst, ◌∙◌, arith}
 use Rattle.elements.specs.Types.{row}
 use Rattle.elements.specs.declared.types.TypeId.{TypeId}
 use Rattle.asdu.specs.declared.sizes.Sizes.{Sizes}
 use Rattle.asdu.specs.Asdu.{AsduValue, Info, IsAsdu}
-use Rattle.asdu.specs.InformationObjects.{InformationObject, object_in, objects_of}
+use Rattle.asdu.specs.InformationObjects.{InformationObject, object_in}
 use Rattle.command.specs.History.{History, Mirrored}
 use Rattle.link.specs.declared.outcome.Outcome.{Outcome}
 use Rattle.link.specs.declared.outcome.Outcome.TheVariants as outcome

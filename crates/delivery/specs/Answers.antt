@@ -1,6 +1,7 @@
 -- A station's answer to a command, as it goes to the control centre octet by octet (IEC
 -- 60870-5-101, 7.1 and 7.2, in the sizes of IEC 60870-5-104, 5.1 and 7).
-use Rattle.std.specs.Prelude.{◌≡◌, ℕ, ◌+◌, ◌%◌, ◌≤◌, ◌==◌, ◌&&◌, ◌||◌, nat_le, if◌then◌else◌, Bool, true}
+use Rattle.std.specs.Prelude.{◌≡◌, ℕ, ◌+◌, ◌%◌, ◌≤◌, ◌==◌, ◌&&◌, ◌||◌, nat_le, if◌then◌else◌, Bool}
+use Rattle.std.specs.Prelude.{true}
 use Rattle.std.specs.Prelude.{false, List, [], ◌∷◌, ◌++◌, drop, slice_index, Option, Some, None}
 use Rattle.asdu.specs.declared.sizes.CauseSize.{CauseSize}
 use Rattle.asdu.specs.declared.sizes.CauseSize.TheVariants as causes

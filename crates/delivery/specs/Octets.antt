@@ -1,7 +1,6 @@
 -- Which octets are a connection's (IEC 60870-5-104, 5; which event begins and ends one is this
 -- gateway's own profile). Nothing here is borrowed from the gateway's channels.
 use Rattle.std.specs.Prelude.{◌≡◌, Bool, true, false, List, [], ◌∷◌, ◌++◌, ℕ}
-use Rattle.session.specs.declared.kinds.Close.{Close}
 use Rattle.session.specs.declared.kinds.Close.TheVariants.{OwnAnswers, Replaced}
 use Rattle.gateway.specs.Log.{Log, LogEntry, Came, Went, Opened, CutOff, TcpIn, TcpOut, Closed}
 

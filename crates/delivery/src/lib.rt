@@ -11,7 +11,15 @@
 //! the gateway's course logs of the line and of commands is what the octets of the log show; and
 //! [`selections_end_in_time`], by the log's moments. What a station says of a command goes on as it
 //! came ([`answers_are_passed_on_as_they_came`]), with the command's tag
-//! ([`answers_bear_the_tag_of_their_command`]).
+//! ([`answers_bear_the_tag_of_their_command`]), once ([`each_answer_is_given_once`]; on each log
+//! [`answers_of_stations_are_heeded`]) and in ASDUs of as many objects as fit
+//! ([`pieces_bear_as_many_objects_as_fit`]). What stations report goes on by its type
+//! ([`reports_of_monitor_types_are_passed_on`]).
+//!
+//! What the gateway's definitions take for granted of a connection is said here too: which octets
+//! are its own ([`octets_are_those_of_their_connection`]), what closes it
+//! ([`frames_have_the_faults_of_their_history`], [`a_replaced_connection_is_reported`]), and that
+//! it keeps the rules ([`connections_keep_the_rules_of_the_session`]).
 //!
 //! Their premises are of the line alone: serial answers are neither late nor altered unseen
 //! (`IsHonest`), and for the first law no link reset is caused (`IsSteady`; the start of a link is

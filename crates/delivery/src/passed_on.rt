@@ -21,7 +21,8 @@ ghost use Rattle.gateway.specs.Reports.{Setup};
 ghost use Rattle.gateway.specs.Serial.{answer_outcome};
 ghost use Rattle.gateway.specs.Tags.{AreTagged};
 ghost use Rattle.gateway.specs.Works.{IsPassedOn};
-ghost use Rattle.delivery.specs.Answers.{answer_form, answer_in, most_objects, IsGivenOnce, IsHeeded};
+ghost use Rattle.delivery.specs.Answers.{answer_form, answer_in, most_objects, IsGivenOnce};
+ghost use Rattle.delivery.specs.Answers.{IsHeeded};
 ghost use Rattle.delivery.specs.Answers.{IsGivenInPieces};
 
 use asdu::{
@@ -108,8 +109,8 @@ pub fn each_answer_is_given_once()
 }
 
 /// On each log: where the line's octets bring a station's answer to a command, that is given to the
-/// control centre as `each_answer_is_given_once` says, while data transfer runs. While it is stopped
-/// nothing of it is. Nothing else becomes of commands with this answer.
+/// control centre while data transfer runs, as `each_answer_is_given_once` says. While it is
+/// stopped nothing of it is given. Nothing else becomes of commands with this answer.
 pub fn answers_of_stations_are_heeded()
     ensures { (p : Setup) (log : Log) (at : ℕ) (octets : List ℕ) (c : Course) →
         Runs p (Came at (LineIn octets) ∷ log) c →
@@ -159,7 +160,8 @@ pub fn reports_of_monitor_types_are_passed_on()
         (pieces_of_report sizes report ≡ report_pieces u)
         × (parts_of sizes report ≡ length (pieces_of_report sizes report)) }
     ensures kept_back { (sizes : Sizes) (u : AsduValue) (report : List ℕ) →
-        IsAsdu sizes u report → ((row u.kind).monitor ≡ false) ⊎ (slice_index report 2 % 128 ≡ 108) →
+        IsAsdu sizes u report →
+        ((row u.kind).monitor ≡ false) ⊎ (slice_index report 2 % 128 ≡ 108) →
         (monitor_objects sizes report ≡ []) × (pieces_of_report sizes report ≡ [])
         × (parts_of sizes report ≡ 0) }
 {

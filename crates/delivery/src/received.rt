@@ -69,11 +69,19 @@ pub fn pieces_are_acknowledged_with_their_frames()
 /// octets before the latest event are those that the connection had when it came.
 pub fn octets_are_those_of_their_connection()
     ensures begun { (now : ℕ) (since before : Log) → GoesOn since →
-        present (since ++ Came now Opened ∷ before) ≡ record { is_open = true;
-        sent = octets_out since; received = octets_in since; lacked_place = false } }
+        present (since ++ Came now Opened ∷ before) ≡ record {
+          is_open = true;
+          sent = octets_out since;
+          received = octets_in since;
+          lacked_place = false;
+        } }
     ensures ended { (now : ℕ) (entry : LogEntry) (since before : Log) → GoesOn since → Ends entry →
-        past (entry ∷ (since ++ Came now Opened ∷ before)) ≡ record { is_open = true;
-        sent = octets_out since; received = octets_in since; lacked_place = lacks_place entry }
+        past (entry ∷ (since ++ Came now Opened ∷ before)) ≡ record {
+          is_open = true;
+          sent = octets_out since;
+          received = octets_in since;
+          lacked_place = lacks_place entry;
+        }
         ∷ past (Came now Opened ∷ before) }
     ensures closed { (entry : LogEntry) (since before : Log) → GoesOn since → Ends entry →
         is_opening entry ≡ false → ((present (since ++ entry ∷ before)).is_open ≡ false)

@@ -13,8 +13,7 @@ returns c = λ p log at octets d r.
       one = c.each_answer_is_given_once.ensures.one;
       more = c.each_answer_is_given_once.ensures.more;
     } in
-    let due = c.what_is_due_is_given.ensures.stations p log at octets d r in
-    (
+    let due = c.what_is_due_is_given.ensures.stations p log at octets d r in (
       due.0,
       due.1,
       due.2,

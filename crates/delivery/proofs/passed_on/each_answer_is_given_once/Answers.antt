@@ -1,9 +1,8 @@
-use Rattle.std.specs.Prelude.{slice_index, option_map}
-use Rattle.std.proofs.Common.{◌≡◌, ℕ, ◌%◌, ◌≤◌, List, [], ◌∷◌, ◌++◌, length, ap, sym, subst, ◌∙◌}
+use Rattle.std.specs.Prelude.{slice_index}
+use Rattle.std.proofs.Common.{◌≡◌, ℕ, ◌%◌, ◌≤◌, List, [], ◌∷◌, length, ap, sym, subst, ◌∙◌}
 use Rattle.std.proofs.Common.{Option, arith}
 use Rattle.std.specs.List.{flat_map, AllByRecursion}
 use Rattle.std.proofs.lemmas.List.{append-nil}
-use Rattle.elements.specs.declared.tag.Cp56.{Cp56}
 use Rattle.asdu.specs.InformationObjects.{InformationObject, objects_of}
 use Rattle.asdu.specs.Sizes.{tcp}
 use Rattle.asdu.specs.Translation.{IsPiece}

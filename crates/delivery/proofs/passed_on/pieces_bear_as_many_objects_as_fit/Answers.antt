@@ -1,8 +1,8 @@
 use Rattle.std.specs.Prelude.{slice_index}
-use Rattle.std.proofs.Common.{◌≡◌, ℕ, ◌%◌, ◌≤◌, List, length, ap, sym, subst, ◌∙◌, arith}
+use Rattle.std.proofs.Common.{◌≡◌, ℕ, ◌%◌, ◌≤◌, List, length, sym, ◌∙◌, arith}
 use Rattle.asdu.specs.InformationObjects.{objects_of}
 use Rattle.asdu.specs.Sizes.{tcp}
-use Rattle.asdu.specs.Translation.{IsPiece, piece_size}
+use Rattle.asdu.specs.Translation.{IsPiece}
 use Rattle.asdu.specs.Writing.{with_infos}
 use Rattle.delivery.specs.Answers.{most_objects}
 use Rattle.delivery.proofs.FullPieces.{most_is, each_but_last, each_one}
@@ -23,8 +23,7 @@ returns-clause-each c = λ sizes u report pieces h answers.
     let one : (piece : List ℕ) → IsPiece u piece → (1 ≤ slice_index piece 1 % 128)
     × (slice_index piece 1 % 128 ≤ most_objects (slice_index report 0) (slice_index report 1))
     × (length (objects_of tcp piece) ≡ slice_index piece 1 % 128) = λ piece k.
-    let number = laid.number tcp (with_infos u k.infos) piece k.spells in
-    (
+    let number = laid.number tcp (with_infos u k.infos) piece k.spells in (
       omega (arith, number, k.spells.value.some),
       omega (arith, number, k.size, most),
       c.objects_have_all_their_parts.ensures.number tcp (with_infos u k.infos) piece k.spells

@@ -1,6 +1,6 @@
 use Rattle.std.specs.Prelude.{slice_index, ◌==◌, if◌then◌else◌}
 use Rattle.std.proofs.Common.{◌≡◌, ℕ, ◌%◌, ◌⊎◌, Bool, false, List, [], length, ap, sym}
-use Rattle.std.proofs.Common.{Option, Some, subst, ◌∙◌, arith}
+use Rattle.std.proofs.Common.{Option, subst, ◌∙◌, arith}
 use Rattle.std.proofs.lemmas.Bool.{ne_eqb}
 use Rattle.elements.specs.Types.{row, type_of}
 use Rattle.elements.specs.declared.types.TypeId.{TypeId}
@@ -39,8 +39,7 @@ returns-clause-pieces c = λ sizes u report is kind other.
     ∙ ap (λ (t : Option TypeId). typed_pieces sizes t report) (type_of-IsAsdu sizes u report is)
     ∙ ap report_pieces (value_at-IsAsdu sizes u report is) in
     let count : parts_of sizes report ≡ parts sizes report =
-    ap (λ (b : Bool). if b then 0 else parts sizes report) some in
-    (
+    ap (λ (b : Bool). if b then 0 else parts sizes report) some in (
       pieces,
       count ∙ sym (c.pieces_carry_the_report.ensures.number sizes u report is)
           ∙ sym (ap (λ (l : List (List ℕ)). length l) pieces),
@@ -51,8 +50,7 @@ returns-clause-kept_back c = λ sizes u report is why.
     let cause = c.octets_stand_where_the_standard_has_them.ensures.cause sizes u report is in
     let none : monitor_objects sizes report ≡ [] =
     c.monitor_reports_are_passed_on.ensures.kept_back sizes u report is
-    (subst (λ (n : ℕ). ((row u.kind).monitor ≡ false) ⊎ (n % 128 ≡ 108)) cause why) in
-    (
+    (subst (λ (n : ℕ). ((row u.kind).monitor ≡ false) ⊎ (n % 128 ≡ 108)) cause why) in (
       none,
       ap (λ (os : List InformationObject).
           if length os == 0 then [] else typed_pieces sizes (type_of (slice_index report 0)) report)
