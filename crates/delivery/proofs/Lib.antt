@@ -38,3 +38,4 @@ pub mod FullPieces
 pub mod Heeded
 pub mod Replacing
 pub mod Ruled
+pub mod GapsOn
