@@ -22,8 +22,8 @@
 //! ([`frames_have_the_faults_of_their_history`], [`a_replaced_connection_is_reported`]), and that
 //! it keeps the rules ([`connections_keep_the_rules_of_the_session`]).
 //!
-//! The premises of these laws are of the line alone: serial answers are neither late nor altered unseen
-//! (`IsHonest`), and for the first law no link reset is caused (`IsSteady`; the start of a link is
+//! The premises of the laws on a log are of the line alone: serial answers are neither late nor
+//! altered unseen (`IsHonest`), and for the first law no link reset is caused (`IsSteady`; the start of a link is
 //! no such reset, and where unanswered services are held silence never is one, while a restart that
 //! gives up a command is: [`silence_is_no_reset`]). Of the control centre and of TCP nothing is
 //! asked, but that what came on all connections is one run only where it acknowledges no frame that
