@@ -23,14 +23,15 @@
 //! it keeps the rules ([`connections_keep_the_rules_of_the_session`]).
 //!
 //! The premises of the laws on a log are of the line alone: serial answers are neither late nor
-//! altered unseen (`IsHonest`), and for the first law no link reset is caused (`IsSteady`; the start of a link is
-//! no such reset, and where unanswered services are held silence never is one, while a restart that
-//! gives up a command is: [`silence_is_no_reset`]). Of the control centre and of TCP nothing is
-//! asked, but that what came on all connections is one run only where it acknowledges no frame that
-//! hasn't come. The laws on commands speak of settings whose stations are found by their link
-//! addresses (`IsSetUp`), as those of each gateway are ([`settings_are_set_up`]). All laws hold of
-//! the lives of a gateway together: a restart is an event of the log. What they don't say: that a
-//! report is ever polled, or that a command is ever put on the line or accepted.
+//! altered unseen (`IsHonest`), and for the first law no link reset is caused (`IsSteady`; the
+//! start of a link is no such reset, and where unanswered services are held silence never is one,
+//! while a restart that gives up a command is: [`silence_is_no_reset`]). Of the control centre and
+//! of TCP nothing is asked, but that what came on all connections is one run only where it
+//! acknowledges no frame that hasn't come. The laws on commands speak of settings whose stations
+//! are found by their link addresses (`IsSetUp`), as those of each gateway are
+//! ([`settings_are_set_up`]). All laws hold of the lives of a gateway together: a restart is an
+//! event of the log. What they don't say: that a report is ever polled, or that a command is ever
+//! put on the line or accepted.
 #![tactic(auto)]
 
 // Apart from the gateway, of which it needs the log and `IsFaithful` alone: so the gateway's chain
