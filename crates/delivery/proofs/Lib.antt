@@ -31,3 +31,11 @@ pub mod Parts
 pub mod HasCome
 mod Examples
 pub mod Answers
+pub mod Faults
+pub mod Octets
+pub mod GivenOnce
+pub mod FullPieces
+pub mod Heeded
+pub mod Replacing
+pub mod Ruled
+pub mod GapsOn

@@ -7,3 +7,4 @@ pub mod Sessions
 pub mod Selections
 pub mod Received
 pub mod Answers
+pub mod Octets

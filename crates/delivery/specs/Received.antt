@@ -1,7 +1,11 @@
 -- What the control centre has received of what was handed to TCP (IEC 60870-5-104, 5.1 and 5.2).
-use Rattle.std.specs.Prelude.{◌≡◌, ℕ, ◌+◌, ◌≤◌, List, [], ◌∷◌, ◌++◌, length, take, drop}
+use Rattle.std.specs.Prelude.{◌≡◌, ℕ, ◌+◌, ◌≤◌, List, [], ◌∷◌, ◌++◌, length, take, drop, Option}
+use Rattle.std.specs.Prelude.{Some, None}
 use Rattle.asdu.specs.InformationObjects.{InformationObject}
 use Rattle.apci.specs.declared.apdu.Apdu.{Apdu}
+use Rattle.session.specs.declared.kinds.Close.{Close}
+use Rattle.session.specs.declared.kinds.Taken.{Taken}
+use Rattle.session.specs.declared.kinds.Taken.TheVariants.{Nothing, Asdu, Close as Closes}
 use Rattle.gateway.specs.Connections.{Channel}
 use Rattle.gateway.specs.Frames.{Connection, Sent, IsNumberedFrom, acknowledged_count}
 use Rattle.gateway.specs.Frames.{data_frames, first_unacknowledged, objects_of_frames}
@@ -64,3 +68,9 @@ pub record IsOneRun (taken : List InformationObject) (connections : List Connect
     (came : List (List Sent)) : Type 0 where
   pub run : received_on connections came ≡ take (length (received_on connections came)) taken
   pub acknowledged : first_unacknowledged connections ≤ length (received_on connections came)
+
+-- the cause to close the connection that a frame leads to, if any (5.1 and 5.3)
+abbrev pub close_by : Taken → Option Close
+close_by (Closes cause) = Some cause
+close_by Asdu = None
+close_by Nothing = None

@@ -1,11 +1,11 @@
 -- Sessions of a station's link, from one answered reset to the next (IEC 60870-5-2, link reset in
 -- unbalanced transmission), as an operator learns of them (this gateway's own profile).
-use Rattle.std.specs.Prelude.{◌≡◌, ◌⊎◌, ℕ, suc, ◌+◌, ◌-◌, List, [], ◌∷◌, length, None}
+use Rattle.std.specs.Prelude.{◌≡◌, ◌⊎◌, ℕ, suc, ◌+◌, ◌-◌, List, [], ◌∷◌, ◌++◌, length, None}
 use Rattle.std.specs.Prelude.{if◌then◌else◌}
 use Rattle.std.specs.Io.Iter.{u64_saturate}
 use Rattle.link.specs.Outstation.{Turn, all_done}
 use Rattle.link.specs.Delivery.{Session, learnt, reports, is_gap, pending_after, IsAllOrButLast}
-use Rattle.gateway.specs.Log.{Log}
+use Rattle.gateway.specs.Log.{Log, Went, GapOut}
 use Rattle.gateway.specs.Reports.{Setup, address_at}
 use Rattle.delivery.specs.Delivery.{sessions_of}
 
@@ -70,3 +70,10 @@ counts_of station ss = record {
 -- the counts of a log, for a station that took these turns
 abbrev pub session_counts : Setup → Log → ℕ → List Turn → SessionCounts
 session_counts p log i turns = counts_of (address_at p.addresses i) (sessions_of p log i turns)
+
+-- the gaps that a log reports, each with the number of its station and of its session, the oldest
+-- first
+abbrev pub gaps_on : Log → List (ℕ × ℕ)
+gaps_on [] = []
+gaps_on (Went now (GapOut station session) ∷ log) = gaps_on log ++ (station, session) ∷ []
+gaps_on (entry ∷ log) = gaps_on log

@@ -14,7 +14,8 @@ ghost use Rattle.gateway.specs.Traffic.{IsFaithful, HasRested};
 ghost use Rattle.delivery.specs.Delivery.{IsHonest, IsSteady, reports_from, Delivers};
 ghost use Rattle.delivery.specs.Delivery.{before_sessions, sessions_of, IsIdle, IsOneLife};
 ghost use Rattle.delivery.specs.Sessions.{ended, given_in, taken_in, session_counts};
-ghost use Rattle.delivery.specs.Sessions.{LoseAsReported};
+ghost use Rattle.delivery.specs.Sessions.{LoseAsReported, gaps_on};
+ghost use Rattle.delivery.specs.Merges.{values_of};
 
 use crate::commands::each_command_is_given_once;
 use link::{
@@ -85,6 +86,12 @@ pub fn losses_are_reported()
     gaps_are_ended_sessions();
     giving_up_is_logged();
 }
+
+/// Each gap is reported under the number of its own station: what is reported of a station are, of
+/// all gaps of the log, those with its number, in their order, each by the number of its session.
+pub fn gaps_are_reported_by_their_station()
+    ensures { (i : ℕ) (log : Log) → gaps_reported i log ≡ values_of i (gaps_on log) }
+{}
 
 /// Of the reports that the outstation gave in sessions that ended, at most as many were not taken
 /// as there are gaps: a session without a gap loses none, and one with a gap at most its last.

@@ -4,24 +4,34 @@
 //! Laws over every log of a gateway ([`gateway::drive`] promises that its log is faithful), with no
 //! body, since they hold of definitions. Upwards: [`nothing_is_lost`], and
 //! [`each_session_is_known`] for links that are reset on the way, where [`losses_are_reported`] as
-//! gaps and [`losses_have_gaps`] says how many gaps there are at most. What comes of it to the
-//! control centre is one run, over closes and new connections: [`what_has_come_is_one_run`]. A
-//! piece is acknowledged with its frame: [`pieces_are_acknowledged_with_their_frames`].
+//! gaps ([`gaps_are_reported_by_their_station`]) and [`losses_have_gaps`] says how many gaps there
+//! are at most. What comes of it to the control centre is one run, over closes and new connections:
+//! [`what_has_come_is_one_run`]. A piece is acknowledged with its frame:
+//! [`pieces_are_acknowledged_with_their_frames`].
 //! Downwards: [`each_command_is_given_once`]. Between them: [`the_course_is_the_logs`], that what
 //! the gateway's course logs of the line and of commands is what the octets of the log show; and
 //! [`selections_end_in_time`], by the log's moments. What a station says of a command goes on as it
 //! came ([`answers_are_passed_on_as_they_came`]), with the command's tag
-//! ([`answers_bear_the_tag_of_their_command`]).
+//! ([`answers_bear_the_tag_of_their_command`]), once ([`each_answer_is_given_once`]; on each log
+//! [`answers_of_stations_are_heeded`]) and in ASDUs of as many objects as fit
+//! ([`pieces_bear_as_many_objects_as_fit`]). What stations report goes on by its type
+//! ([`reports_of_monitor_types_are_passed_on`]).
 //!
-//! Their premises are of the line alone: serial answers are neither late nor altered unseen
-//! (`IsHonest`), and for the first law no link reset is caused (`IsSteady`; the start of a link is
-//! no such reset, and where unanswered services are held silence never is one, while a restart that
-//! gives up a command is: [`silence_is_no_reset`]). Of the control centre and of TCP nothing is
-//! asked, but that what came on all connections is one run only where it acknowledges no frame that
-//! hasn't come. The laws on commands speak of settings whose stations are found by their link
-//! addresses (`IsSetUp`), as those of each gateway are ([`settings_are_set_up`]). All laws hold of
-//! the lives of a gateway together: a restart is an event of the log. What they don't say: that a
-//! report is ever polled, or that a command is ever put on the line or accepted.
+//! What the gateway's definitions take for granted of a connection is said here too: which octets
+//! are its own ([`octets_are_those_of_their_connection`]), what closes it
+//! ([`frames_have_the_faults_of_their_history`], [`a_replaced_connection_is_reported`]), and that
+//! it keeps the rules ([`connections_keep_the_rules_of_the_session`]).
+//!
+//! The premises of the laws on a log are of the line alone: serial answers are neither late nor
+//! altered unseen (`IsHonest`), and for the first law no link reset is caused (`IsSteady`; the
+//! start of a link is no such reset, and where unanswered services are held silence never is one,
+//! while a restart that gives up a command is: [`silence_is_no_reset`]). Of the control centre and
+//! of TCP nothing is asked, but that what came on all connections is one run only where it
+//! acknowledges no frame that hasn't come. The laws on commands speak of settings whose stations
+//! are found by their link addresses (`IsSetUp`), as those of each gateway are
+//! ([`settings_are_set_up`]). All laws hold of the lives of a gateway together: a restart is an
+//! event of the log. What they don't say: that a report is ever polled, or that a command is ever
+//! put on the line or accepted.
 #![tactic(auto)]
 
 // Apart from the gateway, of which it needs the log and `IsFaithful` alone: so the gateway's chain
@@ -35,8 +45,16 @@ pub use commands::{
     each_command_is_given_once, selections_end_in_time, settings_are_set_up, the_course_is_the_logs,
 };
 pub use laws::{
-    each_session_is_known, losses_are_reported, losses_have_gaps, nothing_is_lost,
-    silence_is_no_reset,
+    each_session_is_known, gaps_are_reported_by_their_station, losses_are_reported,
+    losses_have_gaps, nothing_is_lost, silence_is_no_reset,
 };
-pub use passed_on::{answers_are_passed_on_as_they_came, answers_bear_the_tag_of_their_command};
-pub use received::{pieces_are_acknowledged_with_their_frames, what_has_come_is_one_run};
+pub use passed_on::{
+    answers_are_passed_on_as_they_came, answers_bear_the_tag_of_their_command,
+    answers_of_stations_are_heeded, each_answer_is_given_once, pieces_bear_as_many_objects_as_fit,
+    reports_of_monitor_types_are_passed_on,
+};
+pub use received::{
+    a_replaced_connection_is_reported, connections_keep_the_rules_of_the_session,
+    frames_have_the_faults_of_their_history, octets_are_those_of_their_connection,
+    pieces_are_acknowledged_with_their_frames, what_has_come_is_one_run,
+};

@@ -1,6 +1,6 @@
 //! What a station says of a command, as it goes to the control centre.
 ghost use Rattle.std.specs.Prelude.{◌≡◌, ◌<◌, ◌≤◌, ◌+◌, ◌%◌, ◌⊎◌, ℕ, List, [], ◌∷◌, ◌++◌};
-ghost use Rattle.std.specs.Prelude.{length, drop, slice_get, slice_index, Some, None};
+ghost use Rattle.std.specs.Prelude.{length, drop, slice_get, slice_index, Some, None, true, false};
 ghost use Rattle.std.specs.List.{flat_map, AllByRecursion};
 ghost use Rattle.elements.specs.declared.tag.Cp56.{Cp56};
 ghost use Rattle.asdu.specs.Asdu.{AsduValue, Info, IsAsdu};
@@ -8,15 +8,29 @@ ghost use Rattle.asdu.specs.InformationObjects.{InformationObject, objects_of};
 ghost use Rattle.asdu.specs.Layout.{HaveOneHead, IsObjectOf};
 ghost use Rattle.asdu.specs.Sizes.{tcp};
 ghost use Rattle.asdu.specs.declared.sizes.Sizes.{Sizes};
+ghost use Rattle.asdu.specs.Translation.{report_pieces, AllButLast};
+ghost use Rattle.elements.specs.Types.{row};
+ghost use Rattle.session.specs.History.{is_started};
+ghost use Rattle.command.specs.History.{History};
+ghost use Rattle.gateway.specs.Counting.{is_answer_code};
+ghost use Rattle.gateway.specs.Given.{IsGivenOn};
+ghost use Rattle.gateway.specs.Objects.{monitor_objects, parts_of, pieces_of_report};
+ghost use Rattle.gateway.specs.Course.{Course, IsLeft, Runs};
+ghost use Rattle.gateway.specs.Log.{Log, Came, LineIn, latest};
+ghost use Rattle.gateway.specs.Reports.{Setup};
+ghost use Rattle.gateway.specs.Serial.{answer_outcome};
 ghost use Rattle.gateway.specs.Tags.{AreTagged};
 ghost use Rattle.gateway.specs.Works.{IsPassedOn};
-ghost use Rattle.delivery.specs.Answers.{answer_form};
+ghost use Rattle.delivery.specs.Answers.{answer_form, answer_in, most_objects, IsGivenOnce};
+ghost use Rattle.delivery.specs.Answers.{IsHeeded};
+ghost use Rattle.delivery.specs.Answers.{IsGivenInPieces};
 
 use asdu::{
-    objects_are_those_of_the_asdu, objects_have_all_their_parts,
-    octets_stand_where_the_standard_has_them, one_asdu_one_spelling,
+    monitor_reports_are_passed_on, objects_are_those_of_the_asdu, objects_have_all_their_parts,
+    octets_stand_where_the_standard_has_them, one_asdu_one_spelling, pieces_carry_the_report,
     tagged_types_are_thirteen_above, tags_stand_behind_the_element,
 };
+use gateway::{answers_have_the_types_of_commands, what_is_due_is_given};
 
 /// A station's answer to a command is passed on as it came. With one object it is one ASDU, octet
 /// by octet: the type, SQ and number, the cause octet with P/N and the test bit, the originator,
@@ -71,4 +85,89 @@ pub fn answers_bear_the_tag_of_their_command()
     octets_stand_where_the_standard_has_them();
     tagged_types_are_thirteen_above();
     tags_stand_behind_the_element();
+}
+
+/// Of each answer of a station to a command the control centre is given what the station said, once
+/// (IEC 60870-5-101, 7.2.3). An answer with one object is one ASDU: the answer as it came, with the
+/// time tag of the newest command of its type and addresses that went to the line on the
+/// connection, where that command came with one (IEC 60870-5-104, 8). An answer with more objects
+/// is given by ASDUs that have its type, its SQ, its cause octet and, joined, its objects, without
+/// a tag. Each is handed over once and in its order, right behind what became of commands before:
+/// all of them, or up to one that has no place.
+pub fn each_answer_is_given_once()
+    ensures one { (p : Setup) (at : ℕ) (report : List ℕ) (before after : History) →
+        IsGivenOn p at report before after → slice_index report 1 % 128 ≡ 1 →
+        IsGivenOnce p at report before after }
+    ensures more { (p : Setup) (at : ℕ) (report : List ℕ) (before after : History) →
+        IsGivenOn p at report before after → 2 ≤ slice_index report 1 % 128 →
+        IsGivenInPieces p at report before after }
+{
+    answers_are_passed_on_as_they_came();
+    answers_bear_the_tag_of_their_command();
+    octets_stand_where_the_standard_has_them();
+    objects_have_all_their_parts();
+}
+
+/// On each log: where the line's octets bring a station's answer to a command, that is given to the
+/// control centre while data transfer runs, as `each_answer_is_given_once` says. While it is
+/// stopped nothing of it is given. Nothing else becomes of commands with this answer.
+pub fn answers_of_stations_are_heeded()
+    ensures { (p : Setup) (log : Log) (at : ℕ) (octets : List ℕ) (c : Course) →
+        Runs p (Came at (LineIn octets) ∷ log) c →
+        (before : Course) × (left : Course) × Runs p log before × IsLeft p log before left
+        × ((report : List ℕ) (v : AsduValue) →
+        answer_in (answer_outcome octets left.works.serial) ≡ Some report →
+        IsAsdu p.sizes v report →
+        IsHeeded p (is_started left.talk) (latest (Came at (LineIn octets) ∷ log)) report
+        left.works.history c.works.history) }
+{
+    each_answer_is_given_once();
+    what_is_due_is_given();
+    answers_have_the_types_of_commands();
+    objects_are_those_of_the_asdu();
+    octets_stand_where_the_standard_has_them();
+}
+
+/// How many objects each ASDU of an answer has: each but the last has 60, or 40 where they are set
+/// points; and with SQ 1 it has 127, or 80. The last one has what is left, at least one. So an
+/// answer with as many objects as one ASDU takes goes on as one.
+pub fn pieces_bear_as_many_objects_as_fit()
+    ensures full { (sizes : Sizes) (u : AsduValue) (report : List ℕ) (pieces : List (List ℕ)) →
+        IsPassedOn sizes u report pieces → is_answer_code (slice_index report 0) ≡ true →
+        AllButLast (λ piece. slice_index piece 1 % 128
+        ≡ most_objects (slice_index report 0) (slice_index report 1)) pieces }
+    ensures each { (sizes : Sizes) (u : AsduValue) (report : List ℕ) (pieces : List (List ℕ)) →
+        IsPassedOn sizes u report pieces → is_answer_code (slice_index report 0) ≡ true →
+        AllByRecursion (λ piece. (1 ≤ slice_index piece 1 % 128)
+        × (slice_index piece 1 % 128
+        ≤ most_objects (slice_index report 0) (slice_index report 1))
+        × (length (objects_of tcp piece) ≡ slice_index piece 1 % 128)) pieces }
+{
+    octets_stand_where_the_standard_has_them();
+    objects_have_all_their_parts();
+}
+
+/// A report of a monitor type is passed on with all its objects, in the pieces that carry it,
+/// whatever its cause, addresses and values; only a negative 'unknown type' (cause 44 with P/N set)
+/// is kept back. Of a report of another type nothing goes into the queue. It needs as many places
+/// as it has pieces.
+pub fn reports_of_monitor_types_are_passed_on()
+    ensures passed { (sizes : Sizes) (u : AsduValue) (report : List ℕ) → IsAsdu sizes u report →
+        (row u.kind).monitor ≡ true → (slice_index report 2 % 128 ≡ 108 → ⊥) →
+        monitor_objects sizes report ≡ objects_of sizes report }
+    ensures pieces { (sizes : Sizes) (u : AsduValue) (report : List ℕ) → IsAsdu sizes u report →
+        (row u.kind).monitor ≡ true → (slice_index report 2 % 128 ≡ 108 → ⊥) →
+        (pieces_of_report sizes report ≡ report_pieces u)
+        × (parts_of sizes report ≡ length (pieces_of_report sizes report)) }
+    ensures kept_back { (sizes : Sizes) (u : AsduValue) (report : List ℕ) →
+        IsAsdu sizes u report →
+        ((row u.kind).monitor ≡ false) ⊎ (slice_index report 2 % 128 ≡ 108) →
+        (monitor_objects sizes report ≡ []) × (pieces_of_report sizes report ≡ [])
+        × (parts_of sizes report ≡ 0) }
+{
+    monitor_reports_are_passed_on();
+    pieces_carry_the_report();
+    objects_are_those_of_the_asdu();
+    objects_have_all_their_parts();
+    octets_stand_where_the_standard_has_them();
 }

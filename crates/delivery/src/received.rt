@@ -1,15 +1,25 @@
 //! What the control centre has received, over closes and new connections.
-ghost use Rattle.std.specs.Prelude.{◌≡◌, ◌+◌, List, [], ◌∷◌, length, take};
+ghost use Rattle.std.specs.Prelude.{◌≡◌, ◌+◌, ℕ, List, [], ◌∷◌, ◌++◌, length, take, true, false};
+ghost use Rattle.std.specs.Prelude.{None};
+ghost use Rattle.apci.specs.declared.apdu.Apdu.{Apdu};
 ghost use Rattle.session.specs.History as talk;
+ghost use Rattle.session.specs.declared.kinds.Close.TheVariants.{Replaced};
+ghost use Rattle.session.specs.Rules.{KeepsRules};
 ghost use Rattle.gateway.specs.Agrees.{pieces_of};
-ghost use Rattle.gateway.specs.Connections.{present, past};
-ghost use Rattle.gateway.specs.Course.{came_frames, here_of};
+ghost use Rattle.gateway.specs.Connections.{present, past, received_before};
+ghost use Rattle.gateway.specs.Course.{Course, came_frames, here_of, Runs};
 ghost use Rattle.gateway.specs.Frames.{Connection, Sent, acknowledged_count, acknowledged_reports};
-ghost use Rattle.gateway.specs.Frames.{first_unacknowledged, objects_of_frames};
-ghost use Rattle.gateway.specs.Log.{Log};
+ghost use Rattle.gateway.specs.Frames.{first_unacknowledged, objects_of_frames, transfers};
+ghost use Rattle.gateway.specs.Frames.{i_frames, fault_of};
+ghost use Rattle.gateway.specs.Log.{Log, LogEntry, Input, Output, Came, Went, Opened, Closed};
+ghost use Rattle.gateway.specs.Log.{latest};
 ghost use Rattle.gateway.specs.Reports.{Setup, taken_objects};
+ghost use Rattle.gateway.specs.Traffic.{IsFaithful, IsAtRest, HasRested};
 ghost use Rattle.delivery.specs.Delivery.{Delivers};
+ghost use Rattle.delivery.specs.Octets.{Ends, GoesOn, AreActions, is_opening, lacks_place};
+ghost use Rattle.delivery.specs.Octets.{octets_in, octets_out};
 ghost use Rattle.delivery.specs.Received.{AcknowledgeWhatCame, AreRuns, HaveCome, IsOneRun};
+ghost use Rattle.delivery.specs.Received.{close_by};
 
 use apci::spellings_cancel;
 
@@ -50,4 +60,74 @@ pub fn pieces_are_acknowledged_with_their_frames()
         first_unacknowledged (c ∷ before)
         ≡ length (objects_of_frames (take (acknowledged_count c.received_frames) c.sent_frames))
         + first_unacknowledged before }
+{}
+
+/// Which octets are a connection's. It begins with its opening, and ends where TCP is cut, where it
+/// is closed with a cause from 1 to 6, or where the next one is opened. All octets that came by TCP
+/// in between are its own, and all that were handed to TCP, in their order, and no others. So none
+/// of one connection is taken for another's, however short it was, and none is taken twice. The
+/// octets before the latest event are those that the connection had when it came.
+pub fn octets_are_those_of_their_connection()
+    ensures begun { (now : ℕ) (since before : Log) → GoesOn since →
+        present (since ++ Came now Opened ∷ before) ≡ record {
+          is_open = true;
+          sent = octets_out since;
+          received = octets_in since;
+          lacked_place = false;
+        } }
+    ensures ended { (now : ℕ) (entry : LogEntry) (since before : Log) → GoesOn since → Ends entry →
+        past (entry ∷ (since ++ Came now Opened ∷ before)) ≡ record {
+          is_open = true;
+          sent = octets_out since;
+          received = octets_in since;
+          lacked_place = lacks_place entry;
+        }
+        ∷ past (Came now Opened ∷ before) }
+    ensures closed { (entry : LogEntry) (since before : Log) → GoesOn since → Ends entry →
+        is_opening entry ≡ false → ((present (since ++ entry ∷ before)).is_open ≡ false)
+        × ((present (since ++ entry ∷ before)).received ≡ []) }
+    ensures none { (since : Log) → GoesOn since →
+        ((present since).is_open ≡ false) × ((present since).received ≡ []) × (past since ≡ []) }
+    ensures before_event { (now : ℕ) (event : Input) (actions log : Log) → AreActions actions →
+        received_before (actions ++ Came now event ∷ log) ≡ (present log).received }
+{}
+
+/// What closes a connection is judged by what came and went before it on this connection: the
+/// frames that came say of data transfer and of the I frames received what the history has, and a
+/// frame has the fault that the history gives it, the first that applies (IEC 60870-5-104, 5.1 and
+/// 5.3). So a station's answer is passed on exactly where the session lets data go.
+pub fn frames_have_the_faults_of_their_history()
+    ensures transfer { (h : talk.History) → transfers (came_frames h) ≡ talk.is_started h }
+    ensures count { (h : talk.History) → i_frames (came_frames h) ≡ talk.received_count h }
+    ensures fault { (h : talk.History) (frame : Apdu) →
+        fault_of (length (talk.sent_frames h)) (came_frames h) frame
+        ≡ close_by (talk.verdict_on frame h) }
+{}
+
+/// A connection that a new one replaces is reported as closed with cause 7: the first that goes out
+/// behind an opening is this close, if a connection was open when it came, and a step that rests
+/// has reported it. Cause 7 is reported at no other place.
+pub fn a_replaced_connection_is_reported()
+    ensures reported { (p : Setup) (log newer before : Log) (now at : ℕ) (action : Output) →
+        IsFaithful p log → log ≡ newer ++ Went now action ∷ Came at Opened ∷ before →
+        (present before).is_open ≡ true → action ≡ Closed Replaced }
+    ensures nowhere_else { (p : Setup) (log newer older : Log) (now : ℕ) → IsFaithful p log →
+        log ≡ newer ++ Went now (Closed Replaced) ∷ older →
+        (at : ℕ) × (before : Log) × (older ≡ Came at Opened ∷ before)
+        × ((present before).is_open ≡ true) }
+    ensures rested { (p : Setup) (before : Log) (at : ℕ) → HasRested p (Came at Opened ∷ before) →
+        (present before).is_open ≡ false }
+{}
+
+/// What is said on a connection keeps the rules of IEC 60870-5-104 (5.1 to 5.5) as `session` states
+/// them, with the k, w, t1, t2 and t3 that are set: each frame that came was free of faults, each
+/// frame that went out bore the counts, and each S or U frame was due. Once a step rests, neither a
+/// confirmation, an S frame nor a test is due, and no answer is late.
+pub fn connections_keep_the_rules_of_the_session()
+    ensures rules { (p : Setup) (log : Log) (c : Course) → Runs p log c →
+        KeepsRules p.session c.talk }
+    ensures rested { (p : Setup) (log : Log) → IsAtRest p log →
+        (c : Course) × Runs p log c × (talk.confirmation_of c.talk ≡ None)
+        × (talk.frame_due p.session.w p.session.t2 p.session.t3 (latest log) c.talk ≡ None)
+        × (talk.has_timed_out p.session.t1 (latest log) c.talk ≡ false) }
 {}

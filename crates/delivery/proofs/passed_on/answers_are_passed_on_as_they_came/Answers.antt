@@ -1,12 +1,12 @@
-use Rattle.std.proofs.Common.{◌≤◌, List, [], ◌∷◌, length, ap, sym, ◌∙◌}
+use Rattle.std.proofs.Common.{◌≤◌, List, length, ap, sym, ◌∙◌}
 use Rattle.std.specs.Prelude.{ℕ, slice_get}
-use Rattle.std.specs.List.{AllByRecursion}
 use Rattle.asdu.specs.InformationObjects.{InformationObject}
 use Rattle.asdu.specs.Layout.{HaveOneHead}
 use Rattle.asdu.specs.Sizes.{tcp}
 use Rattle.asdu.specs.Translation.{IsPiece}
 use Rattle.asdu.specs.Writing.{with_infos}
 use Rattle.delivery.proofs.Answers.{one_piece}
+use Rattle.delivery.proofs.FullPieces.{each_one}
 use Rattle.delivery.proofs.passed_on.answers_are_passed_on_as_they_came.Goals as goal
 
 pub returns-clause-one : goal.returns-clause-one
@@ -34,12 +34,7 @@ returns-clause-heads c = λ sizes u report pieces h.
       },
       k.fits,
     ) in
-    each head pieces h.each
-  where
-    each : {P Q : List ℕ → Type 0} → ((x : List ℕ) → P x → Q x) → (xs : List (List ℕ))
-        → AllByRecursion P xs → AllByRecursion Q xs
-    each f [] h = tt
-    each f (x ∷ xs) h = (f x h.0, each f xs h.1)
+    each_one head pieces h.each
 
 pub returns-clause-number : goal.returns-clause-number
 returns-clause-number c = λ sizes u v report pieces h is.
