@@ -128,8 +128,8 @@ pub fn faultless_commands_pass()
 /// The tag with which a station's answer to a command is passed on is that of the newest first
 /// sending of its type and addresses, among the latest sixteen of the open connection; there is
 /// none where that command came without one, and where the answer hasn't one object. A command is
-/// noted as it came when it goes out, whatever its station and its addresses. So it is the newest
-/// until fifteen others went out behind it, or its connection ends.
+/// noted as it came when it goes out, whatever its station and its addresses. So it counts
+/// until sixteen others went out behind it, or its connection ends.
 pub fn mirrors_bear_the_newest_tag()
     ensures among { AfterEachRun (λ stations sizes select_ms max_age_ms s h. (v : AsduValue) →
         option_map (λ tag. tag.0) (tag_for v v.infos s)
