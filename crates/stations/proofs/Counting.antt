@@ -93,6 +93,20 @@ as_many_counts (suc m) ds =
     let rest = as_many_counts m ds in
     omega (arith, more, rest)
 
+-- a list with one more has the ones before at their places, and that behind them
+at_front : {A : Type 0} (xs : List A) (x : A) (i : ℕ) → i < length xs
+    → slice_get (xs ++ x ∷ []) i ≡ slice_get xs i
+at_front [] x i lt = absurd (omega arith)
+at_front (y ∷ xs) x zero lt = refl
+at_front (y ∷ xs) x (suc i) lt = at_front xs x i (omega arith)
+
+at_last : {A : Type 0} (xs : List A) (x : A) (i : ℕ) → i ≡ length xs
+    → slice_get (xs ++ x ∷ []) i ≡ Some x
+at_last [] x zero e = refl
+at_last [] x (suc i) e = absurd (omega arith)
+at_last (y ∷ xs) x zero e = absurd (omega arith)
+at_last (y ∷ xs) x (suc i) e = at_last xs x i (omega arith)
+
 count_at : (m : ℕ) (ds : List Directive) (i n : ℕ) → slice_get (first_counts m ds) i ≡ Some n
     → n ≡ count_by (reports_for i) ds
 count_at zero ds i n e = cc
