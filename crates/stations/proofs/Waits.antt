@@ -1,22 +1,28 @@
 -- What waits at outstations, until it is taken or goes out.
-use Rattle.std.specs.Prelude.{unwrap_or}
+use Rattle.std.specs.Prelude.{◌==◌, ◌||◌, unwrap_or, codes}
 use Rattle.std.proofs.Common.{◌≡◌, ◌≢◌, ℕ, zero, suc, ◌+◌, ◌-◌, ◌*◌, ◌/◌, ◌%◌, ◌^◌, ◌<◌, ◌≤◌, min}
 use Rattle.std.proofs.Common.{Bool, true, false, ◌&&◌, List, [], ◌∷◌, ◌++◌, length, Option, Some}
 use Rattle.std.proofs.Common.{None, refl, sym, ap, subst, ◌∙◌, arith, length-append, inl, inr, ◌⊎◌}
-use Rattle.std.proofs.Common.{append_assoc, tt}
+use Rattle.std.proofs.Common.{append_assoc}
 use Rattle.std.proofs.lemmas.List.{append-nil}
-use Rattle.std.proofs.lemmas.Bool.{leb-refl}
-use Rattle.std.specs.List.{flat_map}
+use Rattle.std.proofs.lemmas.Bool.{le-leb, lt-leb, lt-ltb, ltb-false, ltb-true}
+use Rattle.std.specs.List.{flat_map, list_any, slice_split}
+use Rattle.std.specs.Str.{bytes_eq}
 use Rattle.std.specs.Prelude.{if◌then◌else◌, nat_le, nat_lt, slice_get}
 use Rattle.ft12.specs.Reading.{IsFront}
+use Rattle.ft12.specs.Spelling.{spelling}
 use Rattle.ft12.specs.declared.frame.Frame.{Frame}
 use Rattle.ft12.specs.declared.frame.Front.{Front}
 use Rattle.ft12.specs.declared.frame.Front.TheVariants.{More, Never}
 use Rattle.ft12.specs.declared.frame.LinkSize.{LinkSize}
+use Rattle.ft12.specs.declared.frame.LinkSize.TheVariants as sizes
 use Rattle.gateway.specs.Config.{Settings}
 use Rattle.link.specs.Secondary.{Secondary}
 use Rattle.live.specs.OctetStreams.{Happening, StreamHistory, Wrote, noted}
+use Rattle.sim.specs.Lives.{IsPutOut}
+use Rattle.sim.specs.Losses.{fate_of, or_else}
 use Rattle.sim.specs.declared.directive.Class.{Class}
+use Rattle.stations.specs.CueLines.{first_is_cue, is_cue_line}
 use Rattle.stations.specs.Cues.{given_at, is_due, next_due, report_due}
 use Rattle.stations.specs.Exchanges.{ComesBack, Exchanged, IsKeptRest, IsRequestAnswered}
 use Rattle.stations.specs.Exchanges.{NoneLeft, Begun, Spoilt}
@@ -25,18 +31,20 @@ use Rattle.stations.specs.Exchanges.{answer_written, written}
 use Rattle.stations.specs.Given.{answer_octets, went_on}
 use Rattle.stations.specs.Late.{LateAnswer, has_passed, late_after, late_now}
 use Rattle.stations.specs.Law.{IsGivenLate, IsPutOutByNumber, IsReplyTaken, IsReportTaken}
-use Rattle.stations.specs.Places.{GivesLate, IsGivenIfAny, OutstationServer, without_late}
+use Rattle.stations.specs.Places.{GivesLate, IsGiven, IsGivenIfAny, OutstationServer, without_late}
 use Rattle.stations.specs.Progress.{next_step, none_replied}
-use Rattle.stations.specs.Replies.{IsReply}
+use Rattle.stations.specs.Replies.{IsReply, fits_line}
 use Rattle.stations.specs.Replying.{GivesReply, Replies, RepliesBy, RepliesFrom, RepliesTo, advanced}
 use Rattle.stations.specs.Replying.{accepted_by, command_at, manner_of}
 use Rattle.stations.specs.Reporting.{GivesDue, IsReported, LineReports, due_in, has_room}
+use Rattle.stations.specs.Scenarios.{commented}
 use Rattle.stations.specs.declared.cue.Cue.{Cue}
 use Rattle.stations.specs.declared.cue.Cue.TheVariants.{Timed}
 use Rattle.stations.specs.declared.cue.DueReport.{DueReport}
 use Rattle.stations.specs.declared.cue.Timer.{Timer}
 use Rattle.stations.specs.declared.outstations.replying.ReplyProgress.{ReplyProgress}
 use Rattle.stations.specs.declared.scenario.Scenario.{Scenario}
+use Rattle.stations.proofs.Counting.{at_front, at_last}
 use Rattle.stations.proofs.PlayLaws.{changed_get, changed_other}
 use Rattle.stations.proofs.Timing.{next_multiple}
 
@@ -69,7 +77,7 @@ pub is_due_then : (passed i due : ℕ) (cues : List Cue) (t : Timer)
 unfolding report_if
 is_due_then passed i due cues t at is come =
     due_if passed i cues t true at
-    (ap (λ (o : Option ℕ). is_due passed o) is ∙ (let e : nat_le due passed ≡ true = omega arith in e))
+    (ap (λ (o : Option ℕ). is_due passed o) is ∙ le-leb due passed come)
 
 pub not_due_yet : (passed i due : ℕ) (cues : List Cue) (t : Timer)
     → slice_get cues i ≡ Some (Timed t) → t.due ≡ Some due → passed < due
@@ -77,8 +85,7 @@ pub not_due_yet : (passed i due : ℕ) (cues : List Cue) (t : Timer)
 unfolding report_if
 not_due_yet passed i due cues t at is early =
     due_if passed i cues t false at
-    (ap (λ (o : Option ℕ). is_due passed o) is
-    ∙ (let e : nat_le due passed ≡ false = omega arith in e))
+    (ap (λ (o : Option ℕ). is_due passed o) is ∙ lt-leb due passed early)
 
 pub not_due_again : (passed i : ℕ) (cues : List Cue) (t : Timer)
     → slice_get cues i ≡ Some (Timed t) → t.due ≡ None → due_in passed i cues ≡ None
@@ -135,8 +142,7 @@ pub room_taken : (i n : ℕ) (class : Class) (report : List ℕ) (old new : Outs
 room_taken i n class report old new is_taken s r here at few =
     r.taken
     ∙ ap (λ (b : Bool). b && r.granted)
-    (room_by i n old.had old.stations s here at
-    ∙ (let e : nat_lt (n - s.given) 64 ≡ true = omega arith in e))
+    (room_by i n old.had old.stations s here at ∙ lt-ltb (n - s.given) 64 few)
 
 pub due_never : (passed : ℕ) (t : Timer) → t.every ≡ None
     → given_at passed (Timed t) ≡ Timed (record t { due = None })
@@ -161,36 +167,28 @@ many_replied (suc n) =
     let rest = many_replied n in
     omega (arith, more, rest)
 
-at_front : {A : Type 0} (xs : List A) (x : A) (i : ℕ) → i < length xs
-    → slice_get (xs ++ x ∷ []) i ≡ slice_get xs i
-at_front [] x i lt = absurd (omega arith)
-at_front (y ∷ xs) x zero lt = refl
-at_front (y ∷ xs) x (suc i) lt = at_front xs x i (omega arith)
-
-at_last : {A : Type 0} (xs : List A) (x : A) (i : ℕ) → i ≡ length xs
-    → slice_get (xs ++ x ∷ []) i ≡ Some x
-at_last [] x zero e = refl
-at_last [] x (suc i) e = absurd (omega arith)
-at_last (y ∷ xs) x zero e = absurd (omega arith)
-at_last (y ∷ xs) x (suc i) e = at_last xs x i (omega arith)
-
 none_replied_at : (n i : ℕ) → i < n
     → slice_get (none_replied n) i ≡ Some (record { commands = 0; is_confirmed = false })
 none_replied_at zero i lt = absurd (omega arith)
-none_replied_at (suc n) i lt = go (nat_lt i n) refl
+none_replied_at (suc n) i lt = go (none_replied_at n i) (nat_lt i n) refl
   where
+    many : length (none_replied n) ≡ n
     many = many_replied n
 
-    go : (b : Bool) → nat_lt i n ≡ b
+    go : (i < n
+        → slice_get (none_replied n) i ≡ Some (record { commands = 0; is_confirmed = false }))
+        → (b : Bool) → nat_lt i n ≡ b
         → slice_get (none_replied n ++ record { commands = 0; is_confirmed = false } ∷ []) i
         ≡ Some (record { commands = 0; is_confirmed = false })
-    go true is =
+    go before true is =
+        let below = ltb-true i n is in
         at_front (none_replied n) (record { commands = 0; is_confirmed = false }) i
-        (omega (arith, is, many))
-        ∙ none_replied_at n i (omega (arith, is))
-    go false is =
+        (omega (arith, below, many))
+        ∙ before below
+    go before false is =
+        let above = ltb-false i n is in
         at_last (none_replied n) (record { commands = 0; is_confirmed = false }) i
-        (omega (arith, is, many, lt))
+        (omega (arith, above, many, lt))
 
 pub replied_from_none : (c : Settings) (scenario : Scenario) (i : ℕ) → i < length c.stations
     → slice_get (first_standing c scenario).progress i
@@ -266,13 +264,17 @@ waits_from_now now late none = rw none (refl, refl)
 pub waits_on : (now since : ℕ) (late : LateAnswer) → late.since ≡ Some since
     → now - since < late.ms
     → (late_now now (Some late) ≡ None) × (late_after now (Some late) ≡ Some late)
-waits_on now since late some early = rw (some, e) (refl, kept)
+waits_on now since late some early = (
+  ap (λ (o : Option ℕ). if has_passed now late.ms o then Some late.octets else None) some
+      ∙ ap (λ (b : Bool). if b then Some late.octets else None) not_yet,
+  ap (λ (o : Option ℕ). if has_passed now late.ms o then None
+      else Some (record late { since = or_else o (Some now) })) some
+      ∙ ap (λ (b : Bool). if b then None else Some (record late { since = Some since })) not_yet
+      ∙ ap (λ (o : Option ℕ). Some (record late { since = o })) (sym some),
+)
   where
-    e : nat_le late.ms (now - since) ≡ false
-    e = omega arith
-
-    kept : Some (record late { since = Some since }) ≡ Some late
-    kept = ap (λ (o : Option ℕ). Some (record late { since = o })) (sym some)
+    not_yet : nat_le late.ms (now - since) ≡ false
+    not_yet = lt-leb late.ms (now - since) early
 
 pub goes_out : (now since : ℕ) (late : LateAnswer) → late.since ≡ Some since
     → late.ms ≤ now - since
@@ -280,15 +282,13 @@ pub goes_out : (now since : ℕ) (late : LateAnswer) → late.since ≡ Some sin
 goes_out now since late some due = rw (some, e) (refl, refl)
   where
     e : nat_le late.ms (now - since) ≡ true
-    e = omega arith
+    e = le-leb late.ms (now - since) due
 
 given_by : (octets : List ℕ) (stream : StreamHistory) (old new : OutstationServer)
     → old.stream ≡ Some stream → IsGivenIfAny (Some octets) old new
     → IsGivenLate octets stream new
 given_by octets stream old new here h = by old.stream here h
   where
-    use Rattle.stations.specs.Places.{IsGiven}
-
     at : IsGiven octets (Some stream) old new → IsGivenLate octets stream new
     at (true, done) = record {
       is_taken = true;
@@ -339,10 +339,6 @@ next_counted old new request back h few = (
       answered = h.answered;
     }
 
-    use Rattle.ft12.specs.Spelling.{spelling}
-    use Rattle.sim.specs.Lives.{IsPutOut}
-    use Rattle.sim.specs.Losses.{fate_of}
-
 answered_one : (old mid : OutstationsState) (request : Frame) (answer : Option (List ℕ))
     → IsRequestAnswered old request answer mid → old.requests + 1 < 2 ^ 64
     → mid.requests ≡ old.requests + 1
@@ -388,3 +384,41 @@ answers_went before (x ∷ xs) =
     rest.2
         ∙ ap (λ (o : List ℕ). o ++ flat_map answer_octets xs) first.2
         ∙ append_assoc (went_on before) (answer_octets x) (flat_map answer_octets xs))
+
+-- ---- lines, and commands that fit one frame
+
+pub first_word : (line word : List ℕ) (fields : List (List ℕ))
+    → slice_split (λ b. b == 32) line ≡ word ∷ fields
+    → is_cue_line line
+    ≡ list_any (bytes_eq word) (codes "at" ∷ codes "every" ∷ codes "confirm" ∷ codes "refuse"
+    ∷ codes "delay" ∷ [])
+first_word line word fields are =
+    ap first_is_cue are
+    ∙ by (bytes_eq word (codes "at")) (bytes_eq word (codes "every"))
+    (bytes_eq word (codes "confirm")) (bytes_eq word (codes "refuse"))
+    (bytes_eq word (codes "delay"))
+  where
+    by : (a b c d e : Bool) → (a || b || c || d || e) ≡ (a || (b || (c || (d || (e || false)))))
+    by true b c d e = refl
+    by false true c d e = refl
+    by false false true d e = refl
+    by false false false true e = refl
+    by false false false false true = refl
+    by false false false false false = refl
+
+pub own_line : (line : List ℕ) → is_cue_line line ≡ true → commented line ≡ codes "#"
+own_line line is = ap (λ (b : Bool). if b then 35 ∷ [] else line) is
+
+pub other_line : (line : List ℕ) → is_cue_line line ≡ false → commented line ≡ line
+other_line line is = ap (λ (b : Bool). if b then 35 ∷ [] else line) is
+
+pub short_fits : (size : LinkSize) (command : List ℕ) → 3 ≤ length command
+    → length command ≤ 252 → fits_line size command ≡ true
+short_fits sizes.One command long short =
+    let e = le-leb 3 (length command) long in
+    let f = le-leb (length command) 253 (omega arith) in
+    rw (e, f) refl
+short_fits sizes.Two command long short =
+    let e = le-leb 3 (length command) long in
+    let f = le-leb (length command) 252 short in
+    rw (e, f) refl

@@ -208,6 +208,8 @@ pub fn replies_answer_their_commands()
         is_command v.kind ≡ true → v.cause % 64 ≡ 6 → is_select v ≡ false →
         fits_line size command ≡ true →
         IsReply size sizes false true command reply → IsSome reply }
+    ensures fits { (size : LinkSize) (command : List ℕ) → 3 ≤ length command →
+        length command ≤ 252 → fits_line size command ≡ true }
     ensures urgent { (i : ℕ) (old new : OutstationsState) → Replies i old new →
         map (λ (s : Secondary). s.class2) new.stations
         ≡ map (λ (s : Secondary). s.class2) old.stations }
