@@ -1,8 +1,8 @@
 -- What waits at outstations, until it is taken or goes out.
 use Rattle.std.specs.Prelude.{◌==◌, ◌||◌, unwrap_or, codes}
-use Rattle.std.proofs.Common.{◌≡◌, ◌≢◌, ℕ, zero, suc, ◌+◌, ◌-◌, ◌*◌, ◌/◌, ◌%◌, ◌^◌, ◌<◌, ◌≤◌, min}
+use Rattle.std.proofs.Common.{◌≡◌, ◌≢◌, ℕ, zero, suc, ◌+◌, ◌-◌, ◌*◌, ◌/◌, ◌^◌, ◌<◌, ◌≤◌, min}
 use Rattle.std.proofs.Common.{Bool, true, false, ◌&&◌, List, [], ◌∷◌, ◌++◌, length, Option, Some}
-use Rattle.std.proofs.Common.{None, refl, sym, ap, subst, ◌∙◌, arith, length-append, inl, inr, ◌⊎◌}
+use Rattle.std.proofs.Common.{None, refl, sym, ap, subst, ◌∙◌, arith, length-append}
 use Rattle.std.proofs.Common.{append_assoc}
 use Rattle.std.proofs.lemmas.List.{append-nil}
 use Rattle.std.proofs.lemmas.Bool.{le-leb, lt-leb, lt-ltb, ltb-false, ltb-true}
@@ -18,7 +18,7 @@ use Rattle.ft12.specs.declared.frame.LinkSize.{LinkSize}
 use Rattle.ft12.specs.declared.frame.LinkSize.TheVariants as sizes
 use Rattle.gateway.specs.Config.{Settings}
 use Rattle.link.specs.Secondary.{Secondary}
-use Rattle.live.specs.OctetStreams.{Happening, StreamHistory, Wrote, noted}
+use Rattle.live.specs.OctetStreams.{Happening, StreamHistory, Wrote}
 use Rattle.sim.specs.Lives.{IsPutOut}
 use Rattle.sim.specs.Losses.{fate_of, or_else}
 use Rattle.sim.specs.declared.directive.Class.{Class}
@@ -35,7 +35,7 @@ use Rattle.stations.specs.Places.{GivesLate, IsGiven, IsGivenIfAny, OutstationSe
 use Rattle.stations.specs.Progress.{next_step, none_replied}
 use Rattle.stations.specs.Replies.{IsReply, fits_line}
 use Rattle.stations.specs.Replying.{GivesReply, Replies, RepliesBy, RepliesFrom, RepliesTo, advanced}
-use Rattle.stations.specs.Replying.{accepted_by, command_at, manner_of}
+use Rattle.stations.specs.Replying.{accepted_by, manner_of}
 use Rattle.stations.specs.Reporting.{GivesDue, IsReported, LineReports, due_in, has_room}
 use Rattle.stations.specs.Scenarios.{commented}
 use Rattle.stations.specs.declared.cue.Cue.{Cue}

@@ -1,6 +1,6 @@
 -- Words of the laws of outstations that are played (IEC 60870-5-101, 7.2.3 and 7.3.2).
-use Rattle.std.specs.Prelude.{◌≡◌, ◌≢◌, ℕ, ◌+◌, ◌-◌, ◌%◌, ◌<◌, ◌≤◌, Bool, true, false, List, []}
-use Rattle.std.specs.Prelude.{◌∷◌, ◌++◌, length, slice_index, slice_get, Option, Some, None}
+use Rattle.std.specs.Prelude.{◌≡◌, ◌≢◌, ℕ, ◌+◌, ◌%◌, ◌<◌, ◌≤◌, Bool, true, false, List, []}
+use Rattle.std.specs.Prelude.{◌∷◌, ◌++◌, length, slice_index, Option, Some, None}
 use Rattle.asdu.specs.Asdu.{AsduValue}
 use Rattle.ft12.specs.Spelling.{spelling}
 use Rattle.ft12.specs.declared.frame.Frame.{Frame}
