@@ -298,8 +298,10 @@ given_by octets stream old new here h = by old.stream here h
     at (false, done) = record {
       is_taken = false;
       stays = λ e. cc e;
-      goes = λ e. (ap (λ (p : OutstationServer). p.stream) done,
-          ap (λ (p : OutstationServer). p.let_go) done);
+      goes = λ e. (
+        ap (λ (p : OutstationServer). p.stream) done,
+        ap (λ (p : OutstationServer). p.let_go) done,
+      );
     }
 
     by : (o : Option StreamHistory) → o ≡ Some stream → IsGiven octets o old new
@@ -378,12 +380,13 @@ pub answers_went : (before : List Happening) (xs : List RequestExchange)
 answers_went before [] = (before, refl, sym (append-nil (went_on before)))
 answers_went before (x ∷ xs) =
     let first = answer_went before x.answer x.is_taken in
-    let rest = answers_went first.0 xs in
-    (rest.0,
-    ap (λ (h : StreamHistory). written h xs) first.1 ∙ rest.1,
-    rest.2
-        ∙ ap (λ (o : List ℕ). o ++ flat_map answer_octets xs) first.2
-        ∙ append_assoc (went_on before) (answer_octets x) (flat_map answer_octets xs))
+    let rest = answers_went first.0 xs in (
+      rest.0,
+      ap (λ (h : StreamHistory). written h xs) first.1 ∙ rest.1,
+      rest.2
+          ∙ ap (λ (o : List ℕ). o ++ flat_map answer_octets xs) first.2
+          ∙ append_assoc (went_on before) (answer_octets x) (flat_map answer_octets xs),
+    )
 
 -- ---- lines, and commands that fit one frame
 
