@@ -18,7 +18,8 @@ use Rattle.traces.specs.Fields.{decimal_of, octets_of}
 use Rattle.traces.specs.Printed.{cause_numbered, gap_at, went_at}
 use Rattle.traces.specs.Progress.{came}
 use Rattle.traces.specs.Trace.{is_skipped, logged}
-use Rattle.capture.specs.Recorded.{action_by, action_from, entry_from, entry_logged, gap_by, is_line}
+use Rattle.capture.specs.Recorded.{action_by, action_from, entry_from, entry_logged, gap_by}
+use Rattle.capture.specs.Recorded.{is_line}
 use Rattle.capture.specs.Texts.{kept_line, kept_lines}
 
 -- ---- lines

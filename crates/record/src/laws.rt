@@ -1,6 +1,6 @@
 //! What holds of every record.
-ghost use Rattle.std.specs.Prelude.{◌≡◌, ◌≢◌, ◌==◌, ◌++◌, ◌∷◌, [], ℕ, List, None, Some, true, false};
-ghost use Rattle.std.specs.Prelude.{codes};
+ghost use Rattle.std.specs.Prelude.{◌≡◌, ◌≢◌, ◌==◌, ◌++◌, ◌∷◌, [], ℕ, List, None, Some, true};
+ghost use Rattle.std.specs.Prelude.{false, codes};
 ghost use Rattle.std.specs.List.{AllByRecursion, flat_map, slice_split};
 ghost use Rattle.gateway.specs.Log.{Log};
 ghost use Rattle.gateway.specs.Ports.{logged_by};
@@ -37,9 +37,9 @@ pub fn a_record_is_the_text_of_what_passed()
 {}
 
 /// The lines of a record are those that a line feed ends, as many as there are, and however long;
-/// what stands behind the last one is left out. A line was cut short if it has a `!`, and only then.
-/// Of the others those log an action whose second field is `>`, and the rest are read as events, as
-/// they are.
+/// what stands behind the last one is left out. A line was cut short if it has a `!`, and only
+/// then. Of the others those log an action whose second field is `>`. The rest are read as events,
+/// as they are.
 pub fn lines_of_a_record_are_told_apart()
     ensures lines { (ls : List (List ℕ)) (l : List ℕ) → AllByRecursion (HasNone 10) ls →
         HasNone 10 l → whole_lines (flat_map line ls ++ l) ≡ ls }

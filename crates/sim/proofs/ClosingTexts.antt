@@ -224,15 +224,17 @@ session_fields station sessions gaps lost s n g l =
 
 -- The lines of the connections of a log
 
+counted_whole : (n : ℕ) → n < 2 ^ 64 → min n (2 ^ 64 - 1) ≡ n
+counted_whole n few = omega (arith, few)
+
 pub objects_told : (c : Connection) (earlier : List Connection)
     → length (monitor_objects_sent c) < 2 ^ 64
     → lines_of_connections (c ∷ earlier)
     ≡ lines_of_connections earlier
     ++ connection_line (length earlier + 1) (length (monitor_objects_sent c))
 objects_told c earlier few =
-    let same : min (length (monitor_objects_sent c)) (2 ^ 64 - 1) ≡ length (monitor_objects_sent c) =
-    omega (arith, few) in
-    ap (λ (n : ℕ). lines_of_connections earlier ++ connection_line (length earlier + 1) n) same
+    ap (λ (n : ℕ). lines_of_connections earlier ++ connection_line (length earlier + 1) n)
+    (counted_whole (length (monitor_objects_sent c)) few)
 
 pub open_told : (log : Log) (here : Connection) (earlier : List Connection)
     → (present log).is_open ≡ true → connections_in log here earlier ≡ here ∷ earlier

@@ -246,8 +246,8 @@ pub fn answers_wait_until_they_are_given()
 {}
 
 /// A line `report` gives its station its octets, in its class, behind those of the lines before
-/// it. No other line gives the station anything of that class. Each station of the settings is there
-/// from the first call on, whatever its place, with its own address and these reports.
+/// it. No other line gives the station anything of that class. Each station of the settings is
+/// there from the first call on, whatever its place, with its own address and these reports.
 pub fn reports_are_those_of_their_lines()
     ensures own { (station : ℕ) (class : Class) (ds : List Directive) (octets : List ℕ) →
         flat_map (report_said station class) (ds ++ Report station class octets ∷ [])

@@ -34,7 +34,8 @@ use Rattle.stations.specs.Law.{IsGivenLate, IsPutOutByNumber, IsReplyTaken, IsRe
 use Rattle.stations.specs.Places.{GivesLate, IsGiven, IsGivenIfAny, OutstationServer, without_late}
 use Rattle.stations.specs.Progress.{next_step, none_replied}
 use Rattle.stations.specs.Replies.{IsReply, fits_line}
-use Rattle.stations.specs.Replying.{GivesReply, Replies, RepliesBy, RepliesFrom, RepliesTo, advanced}
+use Rattle.stations.specs.Replying.{GivesReply, Replies, RepliesBy, RepliesFrom, RepliesTo}
+use Rattle.stations.specs.Replying.{advanced}
 use Rattle.stations.specs.Replying.{accepted_by, manner_of}
 use Rattle.stations.specs.Reporting.{GivesDue, IsReported, LineReports, due_in, has_room}
 use Rattle.stations.specs.Scenarios.{commented}
@@ -163,7 +164,8 @@ replied_none = record { commands = 0; is_confirmed = false }
 many_replied : (n : ℕ) → length (none_replied n) ≡ n
 many_replied zero = refl
 many_replied (suc n) =
-    let more = length-append (none_replied n) (record { commands = 0; is_confirmed = false } ∷ []) in
+    let more =
+    length-append (none_replied n) (record { commands = 0; is_confirmed = false } ∷ []) in
     let rest = many_replied n in
     omega (arith, more, rest)
 

@@ -66,9 +66,9 @@ pub fn reports_stay_due_until_they_are_taken()
 {}
 
 /// Each station has replied to none at the start, whatever its place. One of which a line speaks
-/// replies to the first of its commands to which it hasn't. If the reply is a report that it doesn't
-/// take, nothing changes, so that the reply waits; else the station is one reply further, and no
-/// other is.
+/// replies to the first of its commands to which it hasn't. If the reply is a report that it
+/// doesn't take, nothing changes, so that the reply waits. Else the station is one reply further,
+/// and no other is.
 pub fn replies_wait_until_they_are_taken()
     ensures begun { (c : Settings) (scenario : Scenario) (i : ℕ) → i < length c.stations →
         slice_get (first_standing c scenario).progress i
