@@ -15,3 +15,5 @@ pub mod Fitting
 pub mod ReadBack
 pub mod ReadAlike
 pub mod Saying
+pub mod Kept
+pub mod Gaps

@@ -62,7 +62,7 @@ whole_at fronts size xs (Whole frame n) next h k =
 whole_at fronts size xs More next h k = tt
 whole_at fronts size xs (Never place why) next h k = tt
 
-frames_whole : Fronts → (most : ℕ) (size : LinkSize) (xs : List ℕ) →
+pub frames_whole : Fronts → (most : ℕ) (size : LinkSize) (xs : List ℕ) →
     AllByRecursion (IsFrame size) (cut_up_to most size xs).frames
 frames_whole fronts zero size xs = tt
 frames_whole fronts (suc most) size xs =

@@ -1,6 +1,6 @@
 -- The packets of a capture stand at the times of the wall clock.
-use Rattle.std.proofs.Common.{◌≡◌, ℕ, ◌+◌, ◌-◌, ◌*◌, ◌^◌, ◌≤◌, min, max, List, [], ◌∷◌, map, refl}
-use Rattle.std.proofs.Common.{ap, ◌∙◌, arith}
+use Rattle.std.proofs.Common.{◌≡◌, ℕ, ◌+◌, ◌-◌, ◌*◌, ◌^◌, ◌<◌, ◌≤◌, min, max, List, [], ◌∷◌, map}
+use Rattle.std.proofs.Common.{Option, Some, None, refl, ap, ◌∙◌, arith}
 use Rattle.std.specs.Prelude.{unwrap_or}
 use Rattle.gateway.specs.Log.{Log, LogEntry, Came, Went, LineIn, Opened, TcpIn, CutOff, Ticked}
 use Rattle.gateway.specs.Log.{WallIs, Restarted, last_moment, latest}
@@ -71,3 +71,18 @@ entries_timed c log (entry ∷ entries) h =
     (ap micros_of next ∙ time_is (entry ∷ log))
     ∙ ap (λ (ts : List ℕ). time_of (entry ∷ log) ∷ ts)
     (entries_timed (after c entry) (entry ∷ log) entries next)
+
+-- ---- where the wall clock was given, and where it wasn't
+
+pub shown_then : (log : Log) (number : ℕ) → wall_on log (latest log) ≡ Some number
+    → number * 1000 < 2 ^ 64 → time_of log ≡ number * 1000
+shown_then log number some few =
+    ap (λ (o : Option ℕ). min (unwrap_or o (latest log) * 1000) (2 ^ 64 - 1)) some
+    ∙ (let e : min (number * 1000) (2 ^ 64 - 1) ≡ number * 1000 = omega arith in e)
+
+pub unshown_then : (log : Log) → wall_on log (latest log) ≡ None
+    → time_of log ≡ latest log * 1000
+unshown_then log none =
+    ap (λ (o : Option ℕ). min (unwrap_or o (latest log) * 1000) (2 ^ 64 - 1)) none
+    ∙ (let few = latest_bounded log in
+    let e : min (latest log * 1000) (2 ^ 64 - 1) ≡ latest log * 1000 = omega (arith, few) in e)

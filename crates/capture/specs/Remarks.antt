@@ -9,6 +9,7 @@ use Rattle.ft12.specs.declared.frame.Frame.{Frame}
 use Rattle.ft12.specs.declared.frame.Front.TheVariants.{Whole, More, Never}
 use Rattle.ft12.specs.declared.frame.LinkSize.{LinkSize}
 use Rattle.ft12.specs.declared.frame.Why.{Why}
+use Rattle.gateway.specs.Log.{LogEntry, Went, GapOut}
 use Rattle.capture.specs.Examples.{brought, sent}
 use Rattle.capture.specs.Wires.{Serial, gap_comment}
 
@@ -48,3 +49,21 @@ pub data AreSaid (size : LinkSize) : (request : List ℕ) → (is_awaited : Bool
         → (serial : List Serial)
         → AreSaid size request is_awaited serial
         → AreSaid size request is_awaited (brought [] (gap_comment station session) ∷ serial)
+
+-- the comment of a packet of the line that brings no octets
+abbrev pub told_without : (octets comment : List ℕ) → List (List ℕ)
+told_without [] comment = comment ∷ []
+told_without (octet ∷ octets) comment = []
+
+-- what a packet tells of a gap: it is none of a request, and has no octets
+abbrev pub gap_told : Serial → List (List ℕ)
+gap_told s = if s.is_request then [] else told_without s.octets s.comment
+
+-- what an entry has told: a gap its station and its session
+abbrev pub gap_due : LogEntry → List (List ℕ)
+gap_due (Went now (GapOut station session)) = gap_comment station session ∷ []
+gap_due entry = []
+
+-- it isn't told that the octets are no whole frame
+abbrev pub IsWholeOrSpoilt : Serial → Type 0
+IsWholeOrSpoilt s = bytes_eq s.comment (codes "no whole frame") ≡ false

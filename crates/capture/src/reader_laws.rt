@@ -1,13 +1,15 @@
 //! What a reader finds in every capture, and what whoever follows its connections sees.
-ghost use Rattle.std.specs.Prelude.{◌≡◌, [], List, ℕ, false};
+ghost use Rattle.std.specs.Prelude.{◌≡◌, ◌+◌, ◌++◌, ◌∷◌, [], List, ℕ, codes, false};
+ghost use Rattle.std.specs.Fmt.{decimal};
 ghost use Rattle.std.specs.List.{AllByRecursion, filter_map, flat_map};
 ghost use Rattle.ft12.specs.declared.frame.LinkSize.{LinkSize};
-ghost use Rattle.gateway.specs.Log.{LogEntry};
-ghost use Rattle.capture.specs.Captures.{begun, blocks_of, packets_in, segments_in, serial_in};
-ghost use Rattle.capture.specs.Captures.{whole_capture};
+ghost use Rattle.gateway.specs.Log.{LogEntry, Came, LineIn};
+ghost use Rattle.capture.specs.Captures.{Captured, after, begun, blocks_of, packets_in, packets_of};
+ghost use Rattle.capture.specs.Captures.{segments_in, serial_in, whole_capture};
 ghost use Rattle.capture.specs.Readers.{ArePackets, IsLogged};
-ghost use Rattle.capture.specs.Remarks.{AreSaid};
+ghost use Rattle.capture.specs.Remarks.{AreSaid, IsWholeOrSpoilt, gap_due, gap_told};
 ghost use Rattle.capture.specs.Streams.{AreStreams, Absent, mark_of, marks_due};
+ghost use Rattle.capture.specs.Wires.{gap_comment};
 
 use ft12::front_is_computed;
 
@@ -46,4 +48,28 @@ pub fn connections_are_as_recorded()
     ensures { (size : LinkSize) (entries : List LogEntry) →
         filter_map mark_of (segments_in (packets_in (begun size) entries))
         ≡ marks_due false entries }
+{}
+
+/// The gaps of a capture are those of its record, in its order: for each there is one packet of the
+/// line without octets, whose comment has the number of the station, from 1, and that of the
+/// session.
+pub fn gaps_are_as_recorded()
+    ensures gaps { (size : LinkSize) (entries : List LogEntry) →
+        flat_map gap_told (serial_in (whole_capture size entries)) ≡ flat_map gap_due entries }
+    ensures words { (station session : ℕ) → gap_comment station session
+        ≡ codes "gap: station "
+        ++ (decimal (station + 1) ++ (codes ", session " ++ decimal session)) }
+{
+    front_is_computed();
+}
+
+/// Each entry of a record adds its own packets. Octets of the line that begin a frame wait for its
+/// rest, however many they are: an answer is never told as no whole frame when it comes, but only
+/// before a request, or at the record's end.
+pub fn frames_wait_for_their_rest()
+    ensures each { (c : Captured) (entry : LogEntry) (entries : List LogEntry) →
+        packets_in c (entry ∷ entries)
+        ≡ packets_of c entry ∷ packets_in (after c entry) entries }
+    ensures waits { (c : Captured) (now : ℕ) (octets : List ℕ) →
+        AllByRecursion IsWholeOrSpoilt (packets_of c (Came now (LineIn octets))).serial }
 {}

@@ -7,3 +7,4 @@ pub mod CompareLemmas
 pub mod DifferenceLaw
 pub mod RunLemmas
 pub mod BlockLemmas
+pub mod Telling

@@ -1,17 +1,22 @@
 //! What holds of every record.
-ghost use Rattle.std.specs.Prelude.{◌≡◌, ℕ, List, None, Some, true, false};
+ghost use Rattle.std.specs.Prelude.{◌≡◌, ◌≢◌, ◌==◌, ◌++◌, ◌∷◌, [], ℕ, List, None, Some, true};
+ghost use Rattle.std.specs.Prelude.{false, codes};
+ghost use Rattle.std.specs.List.{AllByRecursion, flat_map, slice_split};
 ghost use Rattle.gateway.specs.Log.{Log};
 ghost use Rattle.gateway.specs.Ports.{logged_by};
 ghost use Rattle.gateway.specs.declared.ports.Next.{Next};
-ghost use Rattle.record.specs.Law.{BeginsWith, IsFirstOff, grows_by, uncut};
-ghost use Rattle.record.specs.Lines.{first_difference};
-ghost use Rattle.record.specs.Recording.{Recording, Gives, Receives, Notes, added, passed, text_of};
+ghost use Rattle.record.specs.Examples.{line};
+ghost use Rattle.record.specs.Law.{BeginsWith, HasNone, IsFirstOff, grows_by, uncut};
+ghost use Rattle.record.specs.Lines.{event_line, first_difference, is_action, is_cut, whole_lines};
+ghost use Rattle.record.specs.Recording.{Recording, Gives, Receives, Notes, Puts, added, passed};
+ghost use Rattle.record.specs.Recording.{text_of};
 ghost use Rattle.traces.specs.Printed.{lines_of_log};
 
 /// The text of a record grows by the line of what passed, and by nothing else. Once the record is
 /// over it stays as it is, nothing more is given to the sheet, and what passes is missed; until
 /// then, when an event is passed on, the sheet has taken the text of all that passed before, and
-/// the event's line.
+/// the event's line. An action that goes out is written down, whichever it is, and one that doesn't
+/// changes nothing.
 pub fn a_record_is_the_text_of_what_passed()
     ensures notes { (old new : Recording) (news : Log) → Notes old news new →
         grows_by new.is_over old (lines_of_log news) new }
@@ -26,6 +31,31 @@ pub fn a_record_is_the_text_of_what_passed()
         Receives old next buf new →
         new.is_over ≡ false →
         new.taken ≡ added (text_of old) (lines_of_log (logged_by next buf)) }
+    ensures puts { (old new : Recording) (news : Log) → Puts true old news new →
+        grows_by new.is_over old (lines_of_log news) new }
+    ensures stays { (old new : Recording) (news : Log) → Puts false old news new → new ≡ old }
+{}
+
+/// The lines of a record are those that a line feed ends, as many as there are, and however long;
+/// what stands behind the last one is left out. A line was cut short if it has a `!`, and only
+/// then. Of the others those log an action whose second field is `>`. The rest are read as events,
+/// as they are.
+pub fn lines_of_a_record_are_told_apart()
+    ensures lines { (ls : List (List ℕ)) (l : List ℕ) → AllByRecursion (HasNone 10) ls →
+        HasNone 10 l → whole_lines (flat_map line ls ++ l) ≡ ls }
+    ensures cut { (front behind : List ℕ) → is_cut (front ++ 33 ∷ behind) ≡ true }
+    ensures whole { (l : List ℕ) → HasNone 33 l → is_cut l ≡ false }
+    ensures actions { (l moment : List ℕ) (fields : List (List ℕ)) → is_cut l ≡ false →
+        slice_split (λ b. b == 32) l ≡ moment ∷ codes ">" ∷ fields → is_action l ≡ true }
+    ensures others { (l moment second : List ℕ) (fields : List (List ℕ)) →
+        slice_split (λ b. b == 32) l ≡ moment ∷ second ∷ fields → second ≢ codes ">" →
+        is_action l ≡ false }
+    ensures short { (l moment : List ℕ) → slice_split (λ b. b == 32) l ≡ moment ∷ [] →
+        is_action l ≡ false }
+    ensures cut_short { (l : List ℕ) → is_cut l ≡ true →
+        (is_action l ≡ false) × (event_line l ≡ []) }
+    ensures no_event { (l : List ℕ) → is_action l ≡ true → event_line l ≡ [] }
+    ensures events { (l : List ℕ) → is_cut l ≡ false → is_action l ≡ false → event_line l ≡ l }
 {}
 
 /// What a comparison of a record with its run finds, of all lines. Where it finds none, the run

@@ -1,6 +1,7 @@
 -- The closing lines tell of each station and each connection, field by field.
 use Rattle.std.specs.Prelude.{◌==◌, count_by, codes}
-use Rattle.std.proofs.Common.{◌≡◌, ℕ, ◌+◌, ◌<◌, ◌≤◌, ◌^◌, Bool, false, List, [], ◌∷◌, ◌++◌}
+use Rattle.std.proofs.Common.{◌≡◌, ℕ, ◌+◌, ◌-◌, ◌<◌, ◌≤◌, ◌^◌, Bool, true, false, min, List, []}
+use Rattle.std.proofs.Common.{◌∷◌, ◌++◌}
 use Rattle.std.proofs.Common.{length, refl, sym, ap, ◌∙◌, arith, append_assoc, if◌then◌else◌}
 use Rattle.std.proofs.lemmas.Bool.{lt-ltb, le-ltb}
 use Rattle.std.proofs.lemmas.List.{append-nil}
@@ -11,7 +12,11 @@ use Rattle.std.proofs.lemmas.Str.Parse.{digit_from_value}
 use Rattle.std.specs.Fmt.{decimal}
 use Rattle.std.specs.Str.Parse.{AllDigits}
 use Rattle.std.specs.List.{slice_split, All}
+use Rattle.gateway.specs.Connections.{present}
+use Rattle.gateway.specs.Frames.{Connection, monitor_objects_sent}
+use Rattle.gateway.specs.Log.{Log}
 use Rattle.link.specs.Secondary.{Secondary}
+use Rattle.sim.specs.Closing.{connections_in, lines_of_connections}
 use Rattle.sim.specs.declared.directive.Directive.{Directive}
 use Rattle.sim.specs.declared.tally.StationTally.{StationTally}
 use Rattle.sim.specs.Texts.{reports_for, station_line, line_of_station, station_lines}
@@ -216,3 +221,25 @@ session_fields station sessions gaps lost s n g l =
     ∙ session_parts (decimal station) (decimal sessions) (decimal gaps) (decimal lost ++ 10 ∷ [])
     (no_space station s) (no_space sessions n) (no_space gaps g)
     (last_field (decimal lost) (no_space lost l))
+
+-- The lines of the connections of a log
+
+counted_whole : (n : ℕ) → n < 2 ^ 64 → min n (2 ^ 64 - 1) ≡ n
+counted_whole n few = omega (arith, few)
+
+pub objects_told : (c : Connection) (earlier : List Connection)
+    → length (monitor_objects_sent c) < 2 ^ 64
+    → lines_of_connections (c ∷ earlier)
+    ≡ lines_of_connections earlier
+    ++ connection_line (length earlier + 1) (length (monitor_objects_sent c))
+objects_told c earlier few =
+    ap (λ (n : ℕ). lines_of_connections earlier ++ connection_line (length earlier + 1) n)
+    (counted_whole (length (monitor_objects_sent c)) few)
+
+pub open_told : (log : Log) (here : Connection) (earlier : List Connection)
+    → (present log).is_open ≡ true → connections_in log here earlier ≡ here ∷ earlier
+open_told log here earlier is = ap (λ (b : Bool). if b then here ∷ earlier else earlier) is
+
+pub over_told : (log : Log) (here : Connection) (earlier : List Connection)
+    → (present log).is_open ≡ false → connections_in log here earlier ≡ earlier
+over_told log here earlier is = ap (λ (b : Bool). if b then here ∷ earlier else earlier) is

@@ -1,11 +1,14 @@
 -- What the lines of a script have a station report.
 use Rattle.std.specs.Prelude.{◌==◌, ◌&&◌}
-use Rattle.std.proofs.Common.{◌≡◌, ◌≢◌, ℕ, Bool, true, false, List, [], ◌∷◌, ◌++◌, refl, sym, ap}
-use Rattle.std.proofs.Common.{◌∙◌, if◌then◌else◌}
+use Rattle.std.proofs.Common.{◌≡◌, ◌≢◌, ℕ, ◌+◌, Bool, true, false, List, [], ◌∷◌, ◌++◌, refl, sym}
+use Rattle.std.proofs.Common.{ap, arith, ◌∙◌, if◌then◌else◌, length}
 use Rattle.std.proofs.lemmas.Bool.{and_parts, eq-eqb, eqb-true}
 use Rattle.std.proofs.lemmas.Grind.{flat_map-append}
 use Rattle.std.proofs.lemmas.List.{append-nil}
 use Rattle.std.specs.List.{flat_map}
+use Rattle.ft12.specs.declared.frame.LinkSize.{LinkSize}
+use Rattle.gateway.specs.declared.settings.StationSettings.{StationSettings}
+use Rattle.sim.specs.Lives.{begun, begun_from}
 use Rattle.sim.specs.declared.directive.Class.{Class}
 use Rattle.sim.specs.declared.directive.Class.TheVariants.{One, Two}
 use Rattle.sim.specs.declared.directive.Directive.{Directive}
@@ -78,3 +81,17 @@ no_report_joins station class ds d differs =
     ∙ ap (λ (l : List (List ℕ)). flat_map (report_said station class) ds ++ l)
     (no_other station class d differs)
     ∙ append-nil (flat_map (report_said station class) ds)
+
+-- ---- the stations, as they begin
+
+pub begun_behind : (size : LinkSize) (index : ℕ) (ds : List Directive) (ss : List StationSettings)
+    (s : StationSettings) → begun_from size index ds (ss ++ s ∷ [])
+    ≡ begun_from size index ds ss ++ begun size (index + length ss) ds s ∷ []
+begun_behind size index ds [] s =
+    let same : index ≡ index + 0 = omega arith in
+    ap (λ (i : ℕ). begun size i ds s ∷ []) same
+begun_behind size index ds (t ∷ ts) s =
+    let same : index + 1 + length ts ≡ index + length (t ∷ ts) = omega arith in
+    ap (λ ss. begun size index ds t ∷ ss) (begun_behind size (index + 1) ds ts s)
+    ∙ ap (λ (i : ℕ). begun size index ds t ∷ (begun_from size (index + 1) ds ts
+    ++ begun size i ds s ∷ [])) same

@@ -1,17 +1,22 @@
 //! What holds of every run over a simulated line.
-ghost use Rattle.std.specs.Prelude.{◌≡◌, ◌≢◌, ◌<◌, ◌≤◌, ◌+◌, ◌-◌, ◌^◌, ◌==◌, ◌++◌, ◌∷◌, []};
+ghost use Rattle.std.specs.Prelude.{◌≡◌, ◌≢◌, ◌<◌, ◌≤◌, ◌+◌, ◌-◌, ◌%◌, ◌^◌, ◌==◌, ◌++◌, ◌∷◌, []};
 ghost use Rattle.std.specs.Prelude.{ℕ, suc, min, true, false, List, length, count_by};
 ghost use Rattle.std.specs.Prelude.{Contains, Option, Some, None, codes};
 ghost use Rattle.std.specs.Fmt.{decimal};
 ghost use Rattle.std.specs.List.{AllByRecursion, flat_map, slice_split};
 ghost use Rattle.apci.specs.Spelling.{spelling};
 ghost use Rattle.apci.specs.declared.apdu.Apdu.{Apdu};
+ghost use Rattle.apci.specs.declared.apdu.Apdu.TheVariants.{I, S, U};
+ghost use Rattle.apci.specs.declared.apdu.Uf.TheVariants.{StartAct};
 ghost use Rattle.ft12.specs.declared.frame.Frame.{Frame};
 ghost use Rattle.ft12.specs.declared.frame.LinkSize.{LinkSize};
 ghost use Rattle.link.specs.Exchanges.{OpenExchange};
-ghost use Rattle.link.specs.Secondary.{Secondary};
+ghost use Rattle.link.specs.Secondary.{Secondary, fresh_station};
 ghost use Rattle.session.specs.declared.kinds.Close.{Close};
+ghost use Rattle.gateway.specs.Connections.{present};
 ghost use Rattle.gateway.specs.Course.{here_of};
+ghost use Rattle.gateway.specs.Frames.{Connection, monitor_objects_sent};
+ghost use Rattle.gateway.specs.declared.settings.StationSettings.{StationSettings};
 ghost use Rattle.gateway.specs.Config.{Settings, AreDistinct};
 ghost use Rattle.gateway.specs.Log.{Log, Input, Came, Went, LineIn, Opened, TcpIn, CutOff, Ticked};
 ghost use Rattle.gateway.specs.Log.{WallIs, LineOut, TcpOut, Closed, events_of, last_moment};
@@ -26,6 +31,7 @@ ghost use Rattle.sim.specs.declared.directive.Directive.TheVariants.{LoseRequest
 ghost use Rattle.sim.specs.declared.directive.Directive.TheVariants.{SpoilAnswer, Cut, Send};
 ghost use Rattle.sim.specs.declared.directive.Directive.TheVariants.{Report};
 ghost use Rattle.sim.specs.declared.directive.Class.{Class};
+ghost use Rattle.sim.specs.declared.directive.Class.TheVariants.{One, Two};
 ghost use Rattle.sim.specs.declared.tally.StationTally.{StationTally};
 ghost use Rattle.sim.specs.Tallies.{tallies_of};
 ghost use Rattle.sim.specs.Connections.{counted_in};
@@ -36,7 +42,8 @@ ghost use Rattle.sim.specs.Connected.{goes_on, brings_data, sends_data, starts, 
 ghost use Rattle.sim.specs.Connected.{is_start, Knows, IsFrameOf};
 ghost use Rattle.sim.specs.Fates.{IsFate, IsByItsLines, is_of_line, ReceiveEach, IsSaid};
 ghost use Rattle.sim.specs.Firsts.{StaysOpen, Runs, IsQuiet};
-ghost use Rattle.sim.specs.Lives.{Plan, AreLived, ReceivedByAll, plan_of, requests_in, waiting_in};
+ghost use Rattle.sim.specs.Lives.{Plan, AreLived, ReceivedByAll, begun_from, plan_of, requests_in};
+ghost use Rattle.sim.specs.Lives.{waiting_in};
 ghost use Rattle.sim.specs.Losses.{fate_of, ack_of, wall_at, is_cut_at, sent_at, report_said};
 ghost use Rattle.sim.specs.Played.{IsPlayed};
 ghost use Rattle.sim.specs.Outstations.{HaveServed};
@@ -191,7 +198,8 @@ pub fn events_have_their_moments()
 /// The control centre counts the frames of its connection, from its opening until it is cut or
 /// closed, and nothing of those before (IEC 60870-5-104, 5.1 and 5.3). Each frame that it sends is
 /// STARTDT act, or bears in N(R) how many I frames came, and in N(S) how many it sent before. It
-/// has acknowledged those that had come when it last sent an I or an S frame.
+/// has acknowledged those that had come when it last sent an I or an S frame. It acknowledges by an
+/// S frame, and sends an ASDU as it is, whatever its length, in an I frame.
 pub fn the_centre_counts_the_frames_of_its_connection()
     ensures counts { (news log : Log) (now : ℕ) →
         AllByRecursion (λ entry. goes_on entry ≡ true) news →
@@ -212,11 +220,17 @@ pub fn the_centre_counts_the_frames_of_its_connection()
         (stations : List Secondary) (now : ℕ) (octets : List ℕ) →
         IsPlayed plan (Came now (TcpIn octets) ∷ log) answers stations →
         IsFrameOf (centre_of log) octets }
+    ensures started { start_apdu ≡ spelling (U StartAct) }
+    ensures acknowledged { (c : Centre) →
+        acknowledging_apdu c ≡ spelling (S (c.received % 32768)) }
+    ensures sent { (c : Centre) (asdu : List ℕ) → data_apdu c asdu
+        ≡ spelling (I (c.sent % 32768) (c.received % 32768) (record { items = asdu })) }
 {}
 
 /// A request that is received is received by each station, and what one of them says is what
 /// comes: nothing comes only where none says anything. The answer waits until it is given or a
-/// next request goes out, whatever else happens, and is given once.
+/// next request goes out, whatever else happens, and is given once. Before the first request
+/// nothing waits.
 pub fn answers_wait_until_they_are_given()
     ensures said { (octets : List ℕ) (before : List Secondary) (answer : Option Frame)
         (after : List Secondary) → ReceivedByAll octets before answer after →
@@ -227,10 +241,13 @@ pub fn answers_wait_until_they_are_given()
         waiting_in plan (news ++ log) answers ≡ waiting_in plan log answers }
     ensures given { (plan : Plan) (log : Log) (answers : List (Option Frame)) (now : ℕ)
         (octets : List ℕ) → waiting_in plan (Came now (LineIn octets) ∷ log) answers ≡ None }
+    ensures first { (plan : Plan) (answers : List (Option Frame)) →
+        waiting_in plan [] answers ≡ None }
 {}
 
 /// A line `report` gives its station its octets, in its class, behind those of the lines before
-/// it. No other line gives the station anything of that class.
+/// it. No other line gives the station anything of that class. Each station of the settings is
+/// there from the first call on, whatever its place, with its own address and these reports.
 pub fn reports_are_those_of_their_lines()
     ensures own { (station : ℕ) (class : Class) (ds : List Directive) (octets : List ℕ) →
         flat_map (report_said station class) (ds ++ Report station class octets ∷ [])
@@ -240,12 +257,30 @@ pub fn reports_are_those_of_their_lines()
         ((octets : List ℕ) → directive ≢ Report station class octets) →
         flat_map (report_said station class) (ds ++ directive ∷ [])
         ≡ flat_map (report_said station class) ds }
+    ensures plan { (c : Settings) (ds : List Directive) → plan_of c ds ≡ record {
+      setup = setup_of c;
+      size = c.line.link;
+      answer_ms = c.line.answer_ms;
+      directives = ds;
+      stations = begun_from c.line.link 0 ds c.stations;
+    } }
+    ensures none { (size : LinkSize) (index : ℕ) (ds : List Directive) →
+        begun_from size index ds [] ≡ [] }
+    ensures each { (size : LinkSize) (index : ℕ) (ds : List Directive)
+        (ss : List StationSettings) (s : StationSettings) →
+        begun_from size index ds (ss ++ s ∷ [])
+        ≡ begun_from size index ds ss ++ record (fresh_station size s.address) {
+          class1 = flat_map (report_said (index + length ss) One) ds;
+          class2 = flat_map (report_said (index + length ss) Two) ds;
+        } ∷ [] }
 {}
 
 /// The closing lines tell of each station and each connection, whatever its place: its number,
 /// from 1, and its counts. A station has a line of sessions where its link had more than one. Each
 /// line is words and numbers, with one space between two, and a line feed behind the last. First
-/// come those of the stations, then those of the connections, and last those of sessions.
+/// come those of the stations, then those of the connections, and last those of sessions. The line
+/// of a connection counts all monitor objects that were sent on it, and there is one for each that
+/// is over and for the one that is open.
 pub fn closing_lines_tell_of_all()
     ensures order { (ds : List Directive) (ss : List Secondary) (connections : List ℕ)
         (tallies : List StationTally) →
@@ -281,4 +316,14 @@ pub fn closing_lines_tell_of_all()
         slice_split (λ b. b == 32) (session_line station sessions gaps lost)
         ≡ codes "sessions" ∷ decimal station ∷ decimal sessions ∷ codes "gaps" ∷ decimal gaps
         ∷ codes "lost" ∷ (decimal lost ++ 10 ∷ []) ∷ [] }
+    ensures no_connection { lines_of_connections [] ≡ [] }
+    ensures objects { (c : Connection) (earlier : List Connection) →
+        length (monitor_objects_sent c) < 2 ^ 64 →
+        lines_of_connections (c ∷ earlier)
+        ≡ lines_of_connections earlier
+        ++ connection_line (length earlier + 1) (length (monitor_objects_sent c)) }
+    ensures open { (log : Log) (here : Connection) (earlier : List Connection) →
+        (present log).is_open ≡ true → connections_in log here earlier ≡ here ∷ earlier }
+    ensures over { (log : Log) (here : Connection) (earlier : List Connection) →
+        (present log).is_open ≡ false → connections_in log here earlier ≡ earlier }
 {}

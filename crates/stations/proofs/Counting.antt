@@ -1,9 +1,11 @@
 -- The reports of a station are counted.
-use Rattle.std.proofs.Common.{◌≡◌, ◌≢◌, ℕ, zero, suc, ◌+◌, Bool, true, false, ◌&&◌, ◌==◌, List, []}
-use Rattle.std.proofs.Common.{◌∷◌, ◌++◌, length, Option, Some, refl, sym, ap, ◌∙◌, arith, inl}
-use Rattle.std.proofs.Common.{inr, ◌⊎◌, length-append}
+use Rattle.std.proofs.Common.{◌≡◌, ◌≢◌, ◌<◌, ℕ, zero, suc, ◌+◌, Bool, true, false, ◌&&◌, ◌==◌}
+use Rattle.std.proofs.Common.{List, []}
+use Rattle.std.proofs.Common.{◌∷◌, ◌++◌, length, Option, Some, refl, sym, ap, ◌∙◌, arith}
+use Rattle.std.proofs.Common.{length-append}
+use Rattle.std.proofs.lemmas.Bool.{ltb-false, ltb-true}
 use Rattle.std.proofs.lemmas.List.Sums.{sum_by-cons}
-use Rattle.std.specs.Prelude.{if◌then◌else◌, slice_get, count_by}
+use Rattle.std.specs.Prelude.{if◌then◌else◌, nat_lt, slice_get, count_by}
 use Rattle.std.specs.List.{flat_map}
 use Rattle.ft12.specs.declared.frame.LinkSize.{LinkSize}
 use Rattle.gateway.specs.Config.{Settings}
@@ -73,19 +75,6 @@ counted_alike (d ∷ ds) i =
 
 -- ---- the counts from the start
 
-last_or_before : {A : Type 0} (xs : List A) (x y : A) (i : ℕ)
-    → slice_get (xs ++ x ∷ []) i ≡ Some y
-    → (slice_get xs i ≡ Some y) ⊎ ((i ≡ length xs) × (x ≡ y))
-last_or_before [] x y zero e = inr (refl, same_some x y e)
-last_or_before [] x y (suc i) e = cc
-last_or_before (z ∷ xs) x y zero e = inl e
-last_or_before (z ∷ xs) x y (suc i) e = by (last_or_before xs x y i e)
-  where
-    by : (slice_get xs i ≡ Some y) ⊎ ((i ≡ length xs) × (x ≡ y))
-        → (slice_get xs i ≡ Some y) ⊎ ((suc i ≡ suc (length xs)) × (x ≡ y))
-    by (inl before) = inl before
-    by (inr (here, same)) = inr (ap (λ n. suc n) here, same)
-
 as_many_counts : (m : ℕ) (ds : List Directive) → length (first_counts m ds) ≡ m
 as_many_counts zero ds = refl
 as_many_counts (suc m) ds =
@@ -93,20 +82,41 @@ as_many_counts (suc m) ds =
     let rest = as_many_counts m ds in
     omega (arith, more, rest)
 
-count_at : (m : ℕ) (ds : List Directive) (i n : ℕ) → slice_get (first_counts m ds) i ≡ Some n
-    → n ≡ count_by (reports_for i) ds
-count_at zero ds i n e = cc
-count_at (suc m) ds i n e =
-    by (last_or_before (first_counts m ds) (count_by (reports_for m) ds) n i e)
-    (λ before. count_at m ds i n before)
+-- a list with one more has the ones before at their places, and that behind them
+pub at_front : {A : Type 0} (xs : List A) (x : A) (i : ℕ) → i < length xs
+    → slice_get (xs ++ x ∷ []) i ≡ slice_get xs i
+at_front [] x i lt = absurd (omega arith)
+at_front (y ∷ xs) x zero lt = refl
+at_front (y ∷ xs) x (suc i) lt = at_front xs x i (omega arith)
+
+pub at_last : {A : Type 0} (xs : List A) (x : A) (i : ℕ) → i ≡ length xs
+    → slice_get (xs ++ x ∷ []) i ≡ Some x
+at_last [] x zero e = refl
+at_last [] x (suc i) e = absurd (omega arith)
+at_last (y ∷ xs) x zero e = absurd (omega arith)
+at_last (y ∷ xs) x (suc i) e = at_last xs x i (omega arith)
+
+count_there : (m : ℕ) (ds : List Directive) (i : ℕ) → i < m
+    → slice_get (first_counts m ds) i ≡ Some (count_by (reports_for i) ds)
+count_there zero ds i lt = absurd (omega arith)
+count_there (suc m) ds i lt = go (count_there m ds i) (nat_lt i m) refl
   where
-    by : (slice_get (first_counts m ds) i ≡ Some n)
-        ⊎ ((i ≡ length (first_counts m ds)) × (count_by (reports_for m) ds ≡ n))
-        → (slice_get (first_counts m ds) i ≡ Some n → n ≡ count_by (reports_for i) ds)
-        → n ≡ count_by (reports_for i) ds
-    by (inl before) rest = rest before
-    by (inr (here, same)) rest =
-        sym same ∙ ap (λ k. count_by (reports_for k) ds) (sym (here ∙ as_many_counts m ds))
+    many : length (first_counts m ds) ≡ m
+    many = as_many_counts m ds
+
+    go : (i < m → slice_get (first_counts m ds) i ≡ Some (count_by (reports_for i) ds))
+        → (b : Bool) → nat_lt i m ≡ b
+        → slice_get (first_counts m ds ++ count_by (reports_for m) ds ∷ []) i
+        ≡ Some (count_by (reports_for i) ds)
+    go before true is =
+        let below = ltb-true i m is in
+        at_front (first_counts m ds) (count_by (reports_for m) ds) i (omega (arith, below, many))
+        ∙ before below
+    go before false is =
+        let above = ltb-false i m is in
+        let here : i ≡ m = omega (arith, above, lt) in
+        at_last (first_counts m ds) (count_by (reports_for m) ds) i (omega (arith, many, here))
+        ∙ ap (λ (k : ℕ). Some (count_by (reports_for k) ds)) (sym here)
 
 station_at : (size : LinkSize) (k : ℕ) (ds : List Directive) (ss : List StationSettings) (i : ℕ)
     (s : Secondary) → slice_get (begun_from size k ds ss) i ≡ Some s
@@ -122,15 +132,23 @@ station_at size k ds (x ∷ ss) (suc i) s e =
     let next : (k + 1) + i ≡ k + suc i = omega arith in
     station_at size (k + 1) ds ss i s e ∙ ap (λ j. both_classes ds j) next
 
-pub counted_from_the_start : (c : Settings) (scenario : Scenario) (i n : ℕ) (s : Secondary)
-    → slice_get (first_standing c scenario).had i ≡ Some n
+station_there : (size : LinkSize) (k : ℕ) (ds : List Directive) (ss : List StationSettings)
+    (i : ℕ) (s : Secondary) → slice_get (begun_from size k ds ss) i ≡ Some s → i < length ss
+station_there size k ds [] i s e = cc
+station_there size k ds (x ∷ ss) zero s e = omega arith
+station_there size k ds (x ∷ ss) (suc i) s e =
+    let rest = station_there size (k + 1) ds ss i s e in omega (arith, rest)
+
+pub counted_from_the_start : (c : Settings) (scenario : Scenario) (i : ℕ) (s : Secondary)
     → slice_get (first_standing c scenario).stations i ≡ Some s
-    → n ≡ length s.class1 + length s.class2
-counted_from_the_start c scenario i n s had stands =
-    count_at (length c.stations) scenario.script i n had
-    ∙ counted_alike scenario.script i
+    → slice_get (first_standing c scenario).had i ≡ Some (length s.class1 + length s.class2)
+counted_from_the_start c scenario i s stands =
+    count_there (length c.stations) scenario.script i
+    (station_there c.line.link 0 scenario.script c.stations i s stands)
+    ∙ ap (λ (n : ℕ). Some n)
+    (counted_alike scenario.script i
     ∙ ap (λ k. both_classes scenario.script k) from_0
-    ∙ sym (station_at c.line.link 0 scenario.script c.stations i s stands)
+    ∙ sym (station_at c.line.link 0 scenario.script c.stations i s stands))
   where
     from_0 : i ≡ 0 + i
     from_0 = omega arith

@@ -22,3 +22,4 @@ pub mod RepliedTo
 pub mod CueTexts
 mod CueFaults
 mod Counting
+pub mod Waits

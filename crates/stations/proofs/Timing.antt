@@ -45,7 +45,7 @@ given_once t due (m ∷ ms) e d =
     go later false is = later
 
 -- the first multiple behind a moment
-next_multiple : (m every : ℕ) → m - m % every + every ≡ every * suc (m / every)
+pub next_multiple : (m every : ℕ) → m - m % every + every ≡ every * suc (m / every)
 next_multiple m every =
     let below : m / every * every ≤ m = div-mul-le_self m every in
     let rest : m % every ≡ m - m / every * every = mod-eq-sub-div-mul m every in

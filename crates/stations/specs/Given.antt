@@ -1,6 +1,6 @@
 -- What streams gave to outstations (profile).
-use Rattle.std.specs.Prelude.{◌≡◌, ◌⊎◌, List, [], ◌∷◌, ◌++◌, ℕ, Some}
-use Rattle.live.specs.OctetStreams.{Happening, Gave}
+use Rattle.std.specs.Prelude.{◌≡◌, ◌⊎◌, List, [], ◌∷◌, ◌++◌, ℕ, Some, unwrap_or}
+use Rattle.live.specs.OctetStreams.{Happening, Gave, Wrote}
 use Rattle.stations.specs.Exchanges.{Brings, Exchanged, OutstationsState, RequestExchange}
 use Rattle.stations.specs.Places.{OutstationServer}
 
@@ -9,6 +9,16 @@ abbrev pub came_on : List Happening → List ℕ
 came_on [] = []
 came_on (Gave octets ∷ before) = came_on before ++ octets
 came_on (_ ∷ before) = came_on before
+
+-- all octets that were put on a stream, oldest first
+abbrev pub went_on : List Happening → List ℕ
+went_on [] = []
+went_on (Wrote octets is_taken ∷ before) = went_on before ++ octets
+went_on (_ ∷ before) = went_on before
+
+-- the octets of the answer to a request, if there is one
+abbrev pub answer_octets : RequestExchange → List ℕ
+answer_octets x = unwrap_or x.answer []
 
 -- this happened at the stream of the gateway, which is connected, or was just let go
 abbrev pub Happened : OutstationServer → List Happening → Type 0

@@ -1,15 +1,23 @@
 -- Words of the laws of outstations that are played (IEC 60870-5-101, 7.2.3 and 7.3.2).
-use Rattle.std.specs.Prelude.{◌≡◌, ◌≢◌, ℕ, ◌+◌, ◌-◌, ◌%◌, ◌<◌, ◌≤◌, Bool, true, false, List, []}
-use Rattle.std.specs.Prelude.{◌∷◌, ◌++◌, length, slice_index, slice_get, Option, Some, None}
+use Rattle.std.specs.Prelude.{◌≡◌, ◌≢◌, ℕ, ◌+◌, ◌%◌, ◌<◌, ◌≤◌, Bool, true, false, List, []}
+use Rattle.std.specs.Prelude.{◌∷◌, ◌++◌, length, slice_index, Option, Some, None}
 use Rattle.asdu.specs.Asdu.{AsduValue}
+use Rattle.ft12.specs.Spelling.{spelling}
+use Rattle.ft12.specs.declared.frame.Frame.{Frame}
 use Rattle.link.specs.Secondary.{Secondary}
+use Rattle.live.specs.OctetStreams.{StreamHistory, Wrote, noted}
+use Rattle.sim.specs.Lives.{IsPutOut, arriving}
+use Rattle.sim.specs.Losses.{fate_of}
 use Rattle.sim.specs.declared.directive.Class.{Class}
 use Rattle.sim.specs.declared.directive.Class.TheVariants.{One, Two}
 use Rattle.stations.specs.Exchanges.{Exchanged, OutstationsState, RequestExchange}
+use Rattle.stations.specs.Cues.{given_at}
 use Rattle.stations.specs.Late.{LateAnswer}
+use Rattle.stations.specs.Places.{OutstationServer}
 use Rattle.stations.specs.Replies.{is_select}
-use Rattle.stations.specs.Replying.{Replies, RepliesEach}
-use Rattle.stations.specs.Reporting.{LineReports, LinesReport}
+use Rattle.stations.specs.Replying.{Replies, RepliesEach, advanced}
+use Rattle.stations.specs.Reporting.{IsReported, LineReports, LinesReport, changed_at}
+use Rattle.stations.specs.declared.cue.DueReport.{DueReport}
 
 -- the reports of a class that wait at a station
 abbrev pub waiting_in : Class → Secondary → List (List ℕ)
@@ -75,3 +83,40 @@ abbrev pub WaitsBehind : (ms : ℕ) → (back : Option (List ℕ)) → (before a
 WaitsBehind ms None before after = after ≡ before
 WaitsBehind ms (Some octets) before after =
     after ≡ Some (record { octets = octets; ms = ms; since = None })
+
+-- A line's report is offered to its station. If that takes it, the line has its next report due; if
+-- not, nothing changes.
+pub record IsReportTaken (passed line : ℕ) (d : DueReport) (old new : OutstationsState)
+    : Type 0 where
+  pub is_taken : Bool
+  pub mid : OutstationsState
+  pub reported : IsReported d.station d.class d.report old is_taken mid
+  pub taken : is_taken ≡ true
+      → new ≡ record mid { cues = changed_at line (given_at passed) mid.cues }
+  pub left : is_taken ≡ false → new ≡ old
+
+-- A reply is offered to its station as a report of class 1. If that takes it, it is one reply
+-- further; if not, nothing changes.
+pub record IsReplyTaken (station : ℕ) (reply : List ℕ) (old new : OutstationsState) : Type 0 where
+  pub is_taken : Bool
+  pub mid : OutstationsState
+  pub reported : IsReported station One reply old is_taken mid
+  pub taken : is_taken ≡ true → new ≡ advanced station mid
+  pub left : is_taken ≡ false → new ≡ old
+
+-- The octets were put on the stream, in one piece. A gateway that doesn't take them is let go.
+pub record IsGivenLate (octets : List ℕ) (stream : StreamHistory) (new : OutstationServer)
+    : Type 0 where
+  pub is_taken : Bool
+  pub stays : is_taken ≡ true → new.stream ≡ Some (noted stream (Wrote octets true))
+  pub goes : is_taken ≡ false
+      → (new.stream ≡ None) × (new.let_go ≡ Some (noted stream (Wrote octets false)))
+
+-- The request with this number was put out to the stations as the lines of the script with its
+-- number say, and so came back what is left of the answer.
+pub record IsPutOutByNumber (number : ℕ) (old : OutstationsState) (request : Frame)
+    (back : Option (List ℕ)) (new : OutstationsState) : Type 0 where
+  pub reply : Option Frame
+  pub received : IsPutOut (fate_of old.directives number) (spelling old.size request) old.stations
+      reply new.stations
+  pub answered : back ≡ arriving old.size (fate_of old.directives number) reply

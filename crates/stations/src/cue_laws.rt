@@ -1,20 +1,22 @@
 //! What holds of lines for the outstations alone, and of the replies that they have stations give.
 ghost use Rattle.std.specs.Prelude.{◌≡◌, ◌==◌, ◌&&◌, ◌<◌, ◌+◌, ◌^◌, ◌++◌, ◌∷◌, [], ℕ, nat_le};
-ghost use Rattle.std.specs.Prelude.{Bool, true, false, List, Contains, Some, None, Err, length};
-ghost use Rattle.std.specs.List.{slice_split};
+ghost use Rattle.std.specs.Prelude.{Bool, true, false, List, Contains, Some, None, Err, codes};
+ghost use Rattle.std.specs.Prelude.{length};
+ghost use Rattle.std.specs.List.{list_any, slice_split};
+ghost use Rattle.std.specs.Str.{bytes_eq};
 ghost use Rattle.asdu.specs.Asdu.{AsduValue, Info};
 ghost use Rattle.elements.specs.declared.types.TypeId.{TypeId};
 ghost use Rattle.ft12.specs.declared.frame.LinkSize.{LinkSize};
 ghost use Rattle.gateway.specs.Config.{Settings};
 ghost use Rattle.sim.specs.Scripts.{lines_of};
-ghost use Rattle.stations.specs.CueLines.{cue_in};
+ghost use Rattle.stations.specs.CueLines.{cue_in, is_cue_line};
 ghost use Rattle.stations.specs.CueTexts.{AreRight, IsFirstOfText, IsFirstWrongLine, said_by};
 ghost use Rattle.stations.specs.CuesWritten.{IsCueWritten};
 ghost use Rattle.stations.specs.Late.{delay_of};
 ghost use Rattle.stations.specs.Progress.{next_step};
 ghost use Rattle.stations.specs.Replies.{is_command, is_process_command, is_select};
 ghost use Rattle.stations.specs.Replying.{manner_of};
-ghost use Rattle.stations.specs.Scenarios.{AreCuesOf, IsScenarioOf, first_wrong_cue};
+ghost use Rattle.stations.specs.Scenarios.{AreCuesOf, IsScenarioOf, commented, first_wrong_cue};
 ghost use Rattle.stations.specs.SpokenOf.{habit, is_one_of};
 ghost use Rattle.stations.specs.declared.cue.Cue.{Cue};
 ghost use Rattle.stations.specs.declared.cue.Cue.TheVariants.{Delayed};
@@ -23,7 +25,8 @@ ghost use Rattle.traces.specs.declared.reading.TextFault.TheVariants.{Line};
 
 /// A line for the outstations alone says what its fields write, each behind one space: its words,
 /// times in ms, numbers from 1, and behind a time the report of a line of `sim`. A line with other
-/// fields says nothing.
+/// fields says nothing. A line is for the outstations alone if its first word is one of five, and
+/// then it is a comment of the script around it; any other line stands there as it is.
 pub fn lines_for_outstations_say_what_they_write()
     ensures written { (size : LinkSize) (stations : ℕ) (line : List ℕ) (cue : Cue) →
         IsCueWritten size stations cue (slice_split (λ b. b == 32) line) →
@@ -31,6 +34,13 @@ pub fn lines_for_outstations_say_what_they_write()
     ensures only { (size : LinkSize) (stations : ℕ) (line : List ℕ) (cue : Cue) →
         cue_in size stations line ≡ Some cue →
         IsCueWritten size stations cue (slice_split (λ b. b == 32) line) }
+    ensures words { (line word : List ℕ) (fields : List (List ℕ)) →
+        slice_split (λ b. b == 32) line ≡ word ∷ fields →
+        is_cue_line line
+        ≡ list_any (bytes_eq word) (codes "at" ∷ codes "every" ∷ codes "confirm" ∷ codes "refuse"
+        ∷ codes "delay" ∷ []) }
+    ensures own { (line : List ℕ) → is_cue_line line ≡ true → commented line ≡ codes "#" }
+    ensures others { (line : List ℕ) → is_cue_line line ≡ false → commented line ≡ line }
 {}
 
 /// Of a text that is read the lines for the outstations alone say what was read, in their order.

@@ -178,10 +178,10 @@ pub fn reports_stand_behind_those_of_their_class()
 /// that wait in either class, and each report that it takes is one more of its own, as far as 64
 /// bits count.
 pub fn reports_are_counted()
-    ensures begun { (c : Settings) (scenario : Scenario) (i n : ℕ) (s : Secondary) →
-        slice_get (first_standing c scenario).had i ≡ Some n →
+    ensures begun { (c : Settings) (scenario : Scenario) (i : ℕ) (s : Secondary) →
         slice_get (first_standing c scenario).stations i ≡ Some s →
-        n ≡ length s.class1 + length s.class2 }
+        slice_get (first_standing c scenario).had i
+        ≡ Some (length s.class1 + length s.class2) }
     ensures taken { (i n : ℕ) (class : Class) (report : List ℕ) (old new : OutstationsState) →
         IsReported i class report old true new → slice_get old.had i ≡ Some n →
         slice_get new.had i ≡ Some (min (n + 1) (2 ^ 64 - 1)) }
@@ -208,6 +208,8 @@ pub fn replies_answer_their_commands()
         is_command v.kind ≡ true → v.cause % 64 ≡ 6 → is_select v ≡ false →
         fits_line size command ≡ true →
         IsReply size sizes false true command reply → IsSome reply }
+    ensures fits { (size : LinkSize) (command : List ℕ) → 3 ≤ length command →
+        length command ≤ 252 → fits_line size command ≡ true }
     ensures urgent { (i : ℕ) (old new : OutstationsState) → Replies i old new →
         map (λ (s : Secondary). s.class2) new.stations
         ≡ map (λ (s : Secondary). s.class2) old.stations }

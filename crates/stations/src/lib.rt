@@ -17,6 +17,7 @@ mod reading;
 mod replies;
 mod scenario;
 mod timed_server;
+mod waiting_laws;
 
 pub use cue::{Cue, Timer};
 pub use cue_laws::{
@@ -39,3 +40,7 @@ pub use playing::{play, serve};
 pub use reading::read_scenario;
 pub use scenario::Scenario;
 pub use timed_server::TimedServer;
+pub use waiting_laws::{
+    late_answers_wait_until_they_are_due, replies_wait_until_they_are_taken,
+    reports_stay_due_until_they_are_taken, requests_are_counted_on,
+};

@@ -1,5 +1,16 @@
 use Rattle.capture.proofs.ReadAlike.{actions_alike, events_alike}
+use Rattle.capture.proofs.Kept.{event_kept, request_kept, apdu_kept, close_kept, gap_kept}
+use Rattle.capture.proofs.Kept.{other_skipped}
 use Rattle.capture.proofs.laws.lines_are_read_as_recorded.Goals as goal
 
 pub returns : goal.returns
-returns c = record { actions = actions_alike; events = events_alike }
+returns c = record {
+  actions = actions_alike;
+  events = events_alike;
+  all_events = event_kept;
+  requests = request_kept;
+  apdus = apdu_kept;
+  closes = close_kept;
+  gaps = gap_kept;
+  others = other_skipped;
+}

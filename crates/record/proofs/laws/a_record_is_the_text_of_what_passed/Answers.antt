@@ -18,3 +18,9 @@ returns-clause-over c = λ old new g over. gives_over old new g over
 
 pub returns-clause-receives : goal.returns-clause-receives
 returns-clause-receives c = λ old new next buf h goes. receives_line old new next buf h goes
+
+pub returns-clause-puts : goal.returns-clause-puts
+returns-clause-puts c = λ old new news p. notes_line old new news p
+
+pub returns-clause-stays : goal.returns-clause-stays
+returns-clause-stays c = λ old new news same. same

@@ -10,3 +10,6 @@ returns-clause-waits c = waits_on
 
 pub returns-clause-given : goal.returns-clause-given
 returns-clause-given c = λ plan log answers now octets. refl
+
+pub returns-clause-first : goal.returns-clause-first
+returns-clause-first c = λ plan answers. refl

@@ -1,5 +1,6 @@
 use Rattle.std.proofs.Common.{refl}
 use Rattle.sim.proofs.ClosingTexts.{station_more, connection_more, session_more, one_session}
+use Rattle.sim.proofs.ClosingTexts.{objects_told, open_told, over_told}
 use Rattle.sim.proofs.ClosingTexts.{station_fields, connection_fields, session_fields}
 use Rattle.sim.proofs.laws.closing_lines_tell_of_all.Goals as goal
 
@@ -26,3 +27,15 @@ returns-clause-session_fields c = session_fields
 
 pub returns-clause-order : goal.returns-clause-order
 returns-clause-order c = λ ds ss connections tallies. refl
+
+pub returns-clause-no_connection : goal.returns-clause-no_connection
+returns-clause-no_connection c = refl
+
+pub returns-clause-objects : goal.returns-clause-objects
+returns-clause-objects c = objects_told
+
+pub returns-clause-open : goal.returns-clause-open
+returns-clause-open c = open_told
+
+pub returns-clause-over : goal.returns-clause-over
+returns-clause-over c = over_told

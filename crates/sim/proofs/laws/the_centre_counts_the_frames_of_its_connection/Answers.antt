@@ -25,3 +25,12 @@ returns-clause-frames c = kinds
 
 pub returns-clause-numbers : goal.returns-clause-numbers
 returns-clause-numbers c = numbered
+
+pub returns-clause-started : goal.returns-clause-started
+returns-clause-started c = refl
+
+pub returns-clause-acknowledged : goal.returns-clause-acknowledged
+returns-clause-acknowledged c = λ centre. refl
+
+pub returns-clause-sent : goal.returns-clause-sent
+returns-clause-sent c = λ centre asdu. refl

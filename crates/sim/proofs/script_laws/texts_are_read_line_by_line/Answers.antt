@@ -1,3 +1,4 @@
+use Rattle.std.proofs.Common.{refl}
 use Rattle.sim.proofs.WrongLines.{lines_are, last_line_is, all_said, first_fault}
 use Rattle.sim.proofs.script_laws.texts_are_read_line_by_line.Goals as goal
 
@@ -12,3 +13,9 @@ returns-clause-said c = all_said
 
 pub returns-clause-fault : goal.returns-clause-fault
 returns-clause-fault c = first_fault
+
+pub returns-clause-empty : goal.returns-clause-empty
+returns-clause-empty c = refl
+
+pub returns-clause-comments : goal.returns-clause-comments
+returns-clause-comments c = λ octet octets. refl

@@ -1,6 +1,7 @@
 use Rattle.stations.proofs.PlayLaws.{replies_are_class1}
 use Rattle.stations.proofs.ReplyLaws.{activations_are_confirmed, activations_are_terminated}
 use Rattle.stations.proofs.ReplyLaws.{replies_answer}
+use Rattle.stations.proofs.Waits.{short_fits}
 use Rattle.stations.proofs.laws.replies_answer_their_commands.Goals as goal
 
 pub returns : goal.returns
@@ -8,5 +9,6 @@ returns c = record {
   replies = replies_answer;
   confirmed = activations_are_confirmed;
   terminated = activations_are_terminated;
+  fits = short_fits;
   urgent = replies_are_class1;
 }

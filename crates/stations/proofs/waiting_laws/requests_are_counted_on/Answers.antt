@@ -1,0 +1,10 @@
+use Rattle.stations.proofs.Waits.{next_counted, all_counted, beginning_kept, answers_went}
+use Rattle.stations.proofs.waiting_laws.requests_are_counted_on.Goals as goal
+
+pub returns : goal.returns
+returns c = record {
+  one = next_counted;
+  all = all_counted;
+  begun = beginning_kept c.one_front.ensures;
+  answers = answers_went;
+}
