@@ -74,9 +74,9 @@ pub fn lines_are_captured()
 {}
 
 /// A line is captured as that action which the reading of records takes it for
-/// (`printed_lines_read_back` of `traces`), or as that event which a trace would log by it. Each line
-/// is captured that a trace would take for an event, or that has the fields of an action, with a
-/// moment of 15 digits at most. No other line is passed over that is neither empty nor a comment.
+/// (`printed_lines_read_back` of `traces`), or as that event which a trace would log by it. Each
+/// line is captured that a trace would take for an event, or that has the fields of an action, with
+/// a moment of 15 digits at most. No other line is passed over but an empty one or a comment.
 pub fn lines_are_read_as_recorded()
     ensures actions { (line : List ℕ) (now : ℕ) (action : Output) →
         entry_logged line ≡ Some (Went now action) → entry_in line ≡ Some (Went now action) }
