@@ -315,8 +315,8 @@ summed_front number end sum remainder seen body text few value summed =
 
 -- What is left where the last octet couldn't be written, or may not have been
 
-whole_or_shut : (outcomes : List ℕ → Type 0) (number : ℕ) (body : List ℕ) → Fits (head_for number body)
-    → AreShutOr outcomes (HasText (whole_text number body))
+whole_or_shut : (outcomes : List ℕ → Type 0) (number : ℕ) (body : List ℕ)
+    → Fits (head_for number body) → AreShutOr outcomes (HasText (whole_text number body))
     → AreShutOr outcomes (HasWhole number body)
 whole_or_shut outcomes number body fits kept c left = elim (kept c left) [
   | inl shut ↦ inl shut
@@ -335,7 +335,8 @@ few_or_shut outcomes number octets sum remainder body few long small value summe
     whole_or_shut outcomes number body (record {
       number = few;
       octets = omega (arith, long, less);
-      sum = subst (λ (n : ℕ). n < 2 ^ 32) (value ∙ ap (λ (r : ℕ). bit_xor r 0xffffffff) summed) small;
+      sum = subst (λ (n : ℕ). n < 2 ^ 32)
+          (value ∙ ap (λ (r : ℕ). bit_xor r 0xffffffff) summed) small;
     }) kept c left
 
 pub whole_begun : (number end : ℕ) (seen : List ℕ) → number < 2 ^ 64 → end < 2 ^ 64

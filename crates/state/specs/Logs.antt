@@ -33,8 +33,8 @@ pub record HasFreshLog (number : ℕ) (settings : List ℕ) (lines : List (List 
   pub says : lines_in body ≡ settings ∷ lines
   pub text : HasText (whole_text number body) file
 
--- What a file has where the next log, with this number and this head, is begun in it: it is shut, or
--- has what it may have had before, or has the next log.
+-- What a file has where the next log, with this number and this head, is begun in it: it is shut,
+-- or has what it may have had before, or has the next log.
 abbrev pub IsAmid : (before : List ℕ → Type 0) → (number : ℕ) → (settings : List ℕ)
     → (lines : List (List ℕ)) → (file : List ℕ) → Type 0
 IsAmid before number settings lines file =
@@ -128,7 +128,8 @@ module _ {D : Type 0} {g : Ghosts D} where
 
   -- these two are the files of a log that takes lines: its own, which no start doubts, and the
   -- other one, as it was
-  abbrev pub AreFilesOf : Opened D g → (newest spare : D) → (is_sound : Bool) → (number : ℕ) → Type 0
+  abbrev pub AreFilesOf : Opened D g → (newest spare : D) → (is_sound : Bool) → (number : ℕ)
+      → Type 0
   AreFilesOf opens.Neither newest spare is_sound number = Unit {0}
   AreFilesOf (opens.Both one two) newest spare is_sound number = Unit {0}
   AreFilesOf (opens.Current c) newest spare is_sound number =
