@@ -1,5 +1,5 @@
 -- What a renewal of a log leaves of both files.
-use Rattle.std.proofs.Common.{◌≡◌, ◌∙◌, inl, inr, ℕ, ◌+◌, ◌<◌, ◌≤◌, Bool, true, List, ◌∷◌}
+use Rattle.std.proofs.Common.{◌≡◌, ◌∙◌, inl, inr, ℕ, ◌≤◌, Bool, true, List, ◌∷◌}
 use Rattle.std.proofs.Common.{length, take, drop, sym, ap, subst, arith, slice_index}
 use Rattle.std.specs.Prelude.{◌≢◌}
 use Rattle.std.proofs.lemmas.Bool.{cases_lt}
@@ -36,11 +36,11 @@ whole_amid before outcomes number settings lines body says kept file left =
     elim (kept file left) [
       | inl shut ↦ inl shut
       | inr whole ↦ inr (inr (record {
-          body = body;
-          fits = whole.fits;
-          says = says;
-          text = whole.text;
-        }))
+        body = body;
+        fits = whole.fits;
+        says = says;
+        text = whole.text;
+      }))
     ]
 
 -- A log that was begun

@@ -117,6 +117,12 @@ module _ {D : Type 0} {g : Ghosts D} where
   IsReadWell (opens.Both newest spare) = Unit {0}
   IsReadWell (opens.Current c) = IsTrue (g.is_clean c.spare)
 
+  -- both files are open
+  abbrev pub AreOpen : Opened D g → Type 0
+  AreOpen opens.Neither = ⊥
+  AreOpen (opens.Both newest spare) = Unit {0}
+  AreOpen (opens.Current c) = Unit {0}
+
   -- What a crash may leave of the file of a log, and of the one in which the next log was to be
   -- begun, behind the call that was to do that. Where neither file is left open, that is nothing.
   abbrev pub leaves_behind : Opened D g → (file other : List ℕ) → Type 0

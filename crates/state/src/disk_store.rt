@@ -51,7 +51,7 @@ pub struct DiskStore<F: Folder + Drop> {
 impl<F: Folder + Drop> DiskStore<F> {
     ghost use Rattle.segments.specs.Crashes.{AreOlder, HasNoZero, StaysBacked};
     ghost use Rattle.state.specs.Doubts.{AreUndoubted};
-    ghost use Rattle.state.specs.Logs.{Bears, HasFreshLog, IsAmid, IsOlderBeside, SpareIs};
+    ghost use Rattle.state.specs.Logs.{AreOpen, Bears, HasFreshLog, IsAmid, IsOlderBeside, SpareIs};
     ghost use Rattle.state.specs.Logs.{SurvivesAsLogged, leaves_amid, leaves_behind, leaves_both};
     ghost use Rattle.state.specs.Logs.{stored_in};
 
@@ -176,6 +176,7 @@ impl<F: Folder + Drop> DiskStore<F> {
         ensures bears { result ≡ true → Bears self.old.number self.new.opened }
         ensures number { self.new.number ≡ u64_saturate (self.old.number + 1) }
         ensures settings { self.new.settings ≡ self.old.settings }
+        ensures open { is_sound ≡ true → AreOpen self.new.opened }
         ensures amid { is_sound ≡ true → AreMixing F.File.Disk → (file other : List ℕ) →
             leaves_behind self.new.opened file other → F.File.may_leave newest file
             × IsAmid (F.File.may_leave spare) self.old.number self.old.settings.items
