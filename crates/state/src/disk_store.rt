@@ -200,12 +200,13 @@ impl<F: Folder + Drop> DiskStore<F> {
             return false;
         };
         let head = segment.octets();
-        self.opened = Opened::Current(Current {
+        let current = Current {
             segment,
             number,
             head,
             spare,
-        });
+        };
+        self.opened = Opened::Current(current);
         self.unmark()
     }
 

@@ -16,8 +16,8 @@ returns-clause-begun g c _ =
     same c.in-Ok.ensures.head)
     c.octets-head.ensures c.in-Ok.ensures.synced
 
-pub invariant_of-t-33 : goal.invariant_of-t-33
-invariant_of-t-33 g c = record {
+pub invariant_of-current : goal.invariant_of-current
+invariant_of-current g c = record {
   within = omega (arith, c.octets-head.ensures, c.in-Ok.ensures.synced);
   whole = subst (IsWholeText c.args.self.now.number)
       (sym (all_taken (text_of c.in-Ok.segment) c.octets-head.result c.octets-head.ensures))
