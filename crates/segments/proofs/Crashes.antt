@@ -8,14 +8,15 @@ use Rattle.std.proofs.lemmas.List.{get_or-take, length-drop, length-take, length
 use Rattle.std.proofs.lemmas.List.{take-append-drop, take-append-le}
 use Rattle.std.proofs.lemmas.Nat.{from_be_bytes-to_be_bytes_4, from_be_bytes-to_be_bytes_8}
 use Rattle.std.specs.Int.{w32, w64, from_be_bytes, to_be_bytes}
-use Rattle.std.specs.Prelude.{bit_xor}
+use Rattle.std.specs.Prelude.{◌⊎◌, bit_xor}
 use Rattle.hex.specs.Hex.{decode_sized, encode_lower}
 use Rattle.hex.proofs.HexLemmas.{decode_sized-encode_lower}
 use Rattle.sqlite_disk.specs.Disk.{Holds}
 use Rattle.statetext.specs.Sum.{remainder_after, sum_of}
 use Rattle.segments.specs.Crash.{BeginsWith, HasLength, HasNoOther, IsShut}
-use Rattle.segments.specs.Crash.{IsTextIfOpen}
-use Rattle.segments.specs.Crashes.{AreBoth, AreOlder, AreShutOr, HasNoZero, IsThatOf, StandsIn}
+use Rattle.segments.specs.Crash.{HasText, IsTextIfOpen}
+use Rattle.segments.specs.Crashes.{AreBoth, AreOlder, AreShutOr, HasNoZero, HasWhole, IsThatOf}
+use Rattle.segments.specs.Crashes.{StandsIn}
 use Rattle.segments.specs.Crashes.{StaysBacked}
 use Rattle.segments.specs.Crashes.{Survives, lines_behind}
 use Rattle.segments.specs.Head.{Fits, IsWholeText, head_for, head_of, whole_text}
@@ -311,6 +312,32 @@ pub summed_front : (number end sum remainder : ℕ) (seen body : List ℕ) → t
 summed_front number end sum remainder seen body text few value summed =
     subst (λ (n : ℕ). n < 2 ^ 32) (value ∙ ap (λ (r : ℕ). bit_xor r 0xffffffff) summed
     ∙ ap sum_of (sym (body_is number end seen body text))) few
+
+-- What is left where the last octet couldn't be written, or may not have been
+
+whole_or_shut : (outcomes : List ℕ → Type 0) (number : ℕ) (body : List ℕ)
+    → Fits (head_for number body) → AreShutOr outcomes (HasText (whole_text number body))
+    → AreShutOr outcomes (HasWhole number body)
+whole_or_shut outcomes number body fits kept c left = elim (kept c left) [
+  | inl shut ↦ inl shut
+  | inr text ↦ inr (record { fits = fits; text = text })
+]
+
+pub few_or_shut : (outcomes : List ℕ → Type 0) (number octets sum remainder : ℕ) (body : List ℕ)
+    → number < 2 ^ 64 → length body ≤ octets → sum < 2 ^ 32 → sum ≡ bit_xor remainder 0xffffffff
+    → remainder ≡ remainder_after 0xffffffff body → IsShut outcomes ⊎ (octets < 2 ^ 64)
+    → AreShutOr outcomes (HasText (whole_text number body))
+    → AreShutOr outcomes (HasWhole number body)
+few_or_shut outcomes number octets sum remainder body few long small value summed (inl shut) kept c
+    left = inl (inr (shut c left))
+few_or_shut outcomes number octets sum remainder body few long small value summed (inr less) kept c
+    left =
+    whole_or_shut outcomes number body (record {
+      number = few;
+      octets = omega (arith, long, less);
+      sum = subst (λ (n : ℕ). n < 2 ^ 32)
+          (value ∙ ap (λ (r : ℕ). bit_xor r 0xffffffff) summed) small;
+    }) kept c left
 
 pub whole_begun : (number end : ℕ) (seen : List ℕ) → number < 2 ^ 64 → end < 2 ^ 64
     → end ≤ length seen → sum_of (drop 87 (take end seen)) < 2 ^ 32

@@ -1,7 +1,7 @@
 -- What a start finds where there was a crash (profile).
 use Rattle.std.specs.Prelude.{◌≡◌, ◌⊎◌, ℕ, ◌+◌, ◌<◌, ◌≤◌, List, ◌++◌, length, drop}
 use Rattle.std.specs.Prelude.{slice_index}
-use Rattle.segments.specs.Crash.{BeginsWith, HasLength}
+use Rattle.segments.specs.Crash.{BeginsWith, HasLength, HasText}
 use Rattle.segments.specs.Head.{Fits, head_for, whole_text}
 use Rattle.segments.specs.Starts.{IsBacked, IsFoundIn, IsShut, before_zero}
 use Rattle.segments.specs.declared.head.SegmentHead.{SegmentHead}
@@ -32,6 +32,11 @@ AreOlder outcomes number = (c : List ℕ) → outcomes c → (head : SegmentHead
 -- each outcome is shut, or one of these
 abbrev pub AreShutOr : (outcomes : List ℕ → Type 0) → (List ℕ → Type 0) → Type 0
 AreShutOr outcomes these = (c : List ℕ) → outcomes c → IsShut c ⊎ these c
+
+-- a file has the segment with this number and this checkpoint, and zeros alone behind it
+pub record HasWhole (number : ℕ) (body file : List ℕ) : Type 0 where
+  pub fits : Fits (head_for number body)
+  pub text : HasText (whole_text number body) file
 
 -- whatever a crash leaves of a file has the segment with this number, whole
 abbrev pub StandsIn : (List ℕ → Type 0) → ℕ → Type 0

@@ -128,6 +128,8 @@ impl<D: Disk> Segment<D> {
             BeginsNewer (own_number self.now) (D.Disk.seen other.new)) }
         ensures usable { IsTrue (D.Disk.is_usable other.new) }
         ensures seen { D.Disk.seen other.new ≡ D.Disk.seen other.old }
+        ensures crash { (c : List ℕ) →
+            D.Disk.may_leave other.new c → D.Disk.may_leave other.old c }
     {
         // One line is enough: which file this run has written is known (docs/DECISIONS.md, "The
         // newest log is never written over").

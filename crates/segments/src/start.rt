@@ -71,6 +71,7 @@ pub(crate) fn front_at<D: Disk>(alloc: Global, file: &mut D) -> Result<FileFront
     ensures usable { IsTrue (D.Disk.is_usable file.new) }
     ensures clean { IsTrue (D.Disk.is_clean file.new) → IsTrue (D.Disk.is_clean file.old) }
     ensures seen { D.Disk.seen file.new ≡ D.Disk.seen file.old }
+    ensures crash { (c : List ℕ) → D.Disk.may_leave file.new c → D.Disk.may_leave file.old c }
 {
     let Ok(octets) = file.len() else {
         return Err(SegmentFault::Device);

@@ -1,12 +1,13 @@
 //! The segment that is begun.
 ghost use Rattle.std.specs.Prelude.{◌≡◌, ◌+◌, ◌*◌, ◌<◌, ◌≤◌, ◌^◌, ◌++◌, ℕ, List, [], drop, take};
+ghost use Rattle.std.specs.Prelude.{◌⊎◌};
 ghost use Rattle.std.specs.Prelude.{length, slice_index, bit_xor, IsTrue, IfOk, IfErr, OnOk, OnErr};
 ghost use Rattle.std.specs.Prelude.{true, false};
 ghost use Rattle.sqlite_disk.specs.Disk.{Only};
 ghost use Rattle.segments.specs.Crash.{AreMixing, HasText, IsShut, IsLong, IsBlankFrom};
 ghost use Rattle.segments.specs.Crash.{IsTextIfOpen};
 ghost use Rattle.segments.specs.Head.{IsWholeText, whole_text};
-ghost use Rattle.segments.specs.Crashes.{AreShutOr, StaysBacked};
+ghost use Rattle.segments.specs.Crashes.{AreShutOr, HasWhole, StaysBacked};
 ghost use Rattle.segments.specs.Written.{text_in};
 ghost use Rattle.statetext.specs.Sum.{remainder_after};
 
@@ -98,8 +99,7 @@ impl<D: Disk> Writer<D> {
         ensures crash { IfErr result (λ failed. IsTextIfOpen (D.Disk.may_leave failed.file)
             (whole_text number (appended_to self))) }
         ensures mixed { IfErr result (λ failed. AreMixing D.Disk →
-            AreShutOr (D.Disk.may_leave failed.file)
-            (HasText (whole_text number (appended_to self)))) }
+            AreShutOr (D.Disk.may_leave failed.file) (HasWhole number (appended_to self))) }
     {
         let Writer {
             mut file,
@@ -190,6 +190,8 @@ fn fill<D: Disk>(
         (whole_text number (drop 87 (text_in stored (D.Disk.seen file.old) page.now)))) }
     ensures mixed { OnErr result (AreMixing D.Disk → AreShutOr (D.Disk.may_leave file.new)
         (HasText (whole_text number (drop 87 (text_in stored (D.Disk.seen file.old) page.now))))) }
+    ensures few { OnErr result (IsShut (D.Disk.may_leave file.new)
+        ⊎ (stored + length page.now < 2 ^ 64)) }
 {
     let (end, size, head) = prepare(alloc, file, stored, page, number, sum, blocks)?;
     match publish(file, &head) {

@@ -1,10 +1,11 @@
 -- What a log in two files has (profile).
 use Rattle.std.specs.Prelude.{◌≡◌, ◌⊎◌, ℕ, ◌<◌, List, [], ◌∷◌, ◌++◌, length, take, drop, IsTrue}
+use Rattle.std.specs.Prelude.{Bool, true}
 use Rattle.sqlite_disk.specs.declared.Disk.{Ghosts}
 use Rattle.segments.specs.Crash.{AreMixing, HasNoOther, HasText}
 use Rattle.segments.specs.Crashes.{Survives}
 use Rattle.segments.specs.Head.{Fits, head_for, whole_text}
-use Rattle.segments.specs.Segment.{durable_of, outcomes_of, text_of}
+use Rattle.segments.specs.Segment.{durable_of, file_of, outcomes_of, text_of}
 use Rattle.segments.specs.Starts.{IsFoundIn, IsShut}
 use Rattle.segments.specs.declared.head.SegmentHead.{SegmentHead}
 use Rattle.statetext.specs.Text.{lines_in}
@@ -31,6 +32,19 @@ pub record HasFreshLog (number : ℕ) (settings : List ℕ) (lines : List (List 
   pub fits : Fits (head_for number body)
   pub says : lines_in body ≡ settings ∷ lines
   pub text : HasText (whole_text number body) file
+
+-- What a file has where the next log, with this number and this head, is begun in it: it is shut,
+-- or has what it may have had before, or has the next log.
+abbrev pub IsAmid : (before : List ℕ → Type 0) → (number : ℕ) → (settings : List ℕ)
+    → (lines : List (List ℕ)) → (file : List ℕ) → Type 0
+IsAmid before number settings lines file =
+    IsShut file ⊎ (before file ⊎ HasFreshLog number settings lines file)
+
+-- whatever a crash leaves of a file, the next log is begun in it so
+abbrev pub AreAmid : (before : List ℕ → Type 0) → (number : ℕ) → (settings : List ℕ)
+    → (lines : List (List ℕ)) → (outcomes : List ℕ → Type 0) → Type 0
+AreAmid before number settings lines outcomes =
+    (file : List ℕ) → outcomes file → IsAmid before number settings lines file
 
 -- the text of a segment that begins with these settings and these lines, and has no events yet
 pub record IsHeaded (settings : List ℕ) (lines : List (List ℕ)) (text : List ℕ) : Type 0 where
@@ -95,7 +109,38 @@ module _ {D : Type 0} {g : Ghosts D} where
   leaves_amid (opens.Both newest spare) number settings lines = λ file other. Unit {0}
   leaves_amid (opens.Current c) number settings lines = λ file other.
       IsTrue (g.is_clean c.spare) × (c.number < number) × outcomes_of c.segment file
-      × (IsShut other ⊎ (g.may_leave c.spare other ⊎ HasFreshLog number settings lines other))
+      × IsAmid (g.may_leave c.spare) number settings lines other
+
+  -- each read of the file beside the log has gone well
+  abbrev pub IsReadWell : Opened D g → Type 0
+  IsReadWell opens.Neither = Unit {0}
+  IsReadWell (opens.Both newest spare) = Unit {0}
+  IsReadWell (opens.Current c) = IsTrue (g.is_clean c.spare)
+
+  -- both files are open
+  abbrev pub AreOpen : Opened D g → Type 0
+  AreOpen opens.Neither = ⊥
+  AreOpen (opens.Both newest spare) = Unit {0}
+  AreOpen (opens.Current c) = Unit {0}
+
+  -- What a crash may leave of the file of a log, and of the one in which the next log was to be
+  -- begun, behind the call that was to do that. Where neither file is left open, that is nothing.
+  abbrev pub leaves_behind : Opened D g → (file other : List ℕ) → Type 0
+  leaves_behind opens.Neither = λ file other. ⊥
+  leaves_behind (opens.Both newest spare) = λ file other.
+      g.may_leave newest file × g.may_leave spare other
+  leaves_behind (opens.Current c) = λ file other.
+      g.may_leave c.spare file × outcomes_of c.segment other
+
+  -- these two are the files of a log that takes lines: its own, which no start doubts, and the
+  -- other one, as it was
+  abbrev pub AreFilesOf : Opened D g → (newest spare : D) → (is_sound : Bool) → (number : ℕ)
+      → Type 0
+  AreFilesOf opens.Neither newest spare is_sound number = Unit {0}
+  AreFilesOf (opens.Both one two) newest spare is_sound number = Unit {0}
+  AreFilesOf (opens.Current c) newest spare is_sound number =
+      (newest ≡ file_of c.segment) × (is_sound ≡ true) × (c.number < number)
+      × ((file : List ℕ) → g.may_leave spare file → g.may_leave c.spare file)
 
   -- Whatever a crash leaves of that file: the segment with the head that the log says, and behind
   -- it the log's lines, as far as they are synced. Where a crash leaves each octet old or new, each

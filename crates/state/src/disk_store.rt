@@ -1,17 +1,17 @@
 //! The log of a run in two files of a directory.
 ghost use Rattle.std.specs.Io.Iter.{u64_saturate};
 ghost use Rattle.std.specs.Prelude.{◌≡◌, ◌⊎◌, ◌+◌, ◌*◌, ◌++◌, ◌∷◌, [], List, ℕ, IfOk, IfSome};
-ghost use Rattle.std.specs.Prelude.{IsTrue};
-ghost use Rattle.std.specs.Prelude.{OnOk};
-ghost use Rattle.std.specs.Prelude.{Some, length, true, false};
+ghost use Rattle.std.specs.Prelude.{IsTrue, IfErr, OnOk};
+ghost use Rattle.std.specs.Prelude.{◌<◌, Some, length, true, false};
 ghost use Rattle.gateway.specs.Restored.{state_lines};
+ghost use Rattle.segments.specs.Crash.{AreMixing, IsShut};
 ghost use Rattle.segments.specs.Head.{IsWholeText, whole_text};
-ghost use Rattle.segments.specs.Segment.{durable_of, file_of, size_of, text_of};
+ghost use Rattle.segments.specs.Segment.{durable_of, file_of, outcomes_of, size_of, text_of};
 ghost use Rattle.segments.specs.Crashes.{AreOlder, StaysBacked};
 ghost use Rattle.segments.specs.Starts.{IsBacked};
 ghost use Rattle.segments.specs.Writer.{appended_to};
 ghost use Rattle.state.specs.Doubts.{AreUndoubted};
-ghost use Rattle.state.specs.Logs.{IsHeaded};
+ghost use Rattle.state.specs.Logs.{AreAmid, AreFilesOf, HasFreshLog, IsHeaded};
 ghost use Rattle.statetext.specs.Text.{lines_in};
 
 use crate::folder::Folder;
@@ -20,7 +20,9 @@ use crate::opened::{Current, Opened};
 use crate::store::Store;
 use checkpoint::{Sheet, StateFault};
 use gateway::Gateway;
-use segments::{Segment, SegmentFault, Side, Writer, is_below, is_sound, newest_side, shut};
+use segments::{
+    Failed, Segment, SegmentFault, Side, Writer, is_below, is_sound, newest_side, shut,
+};
 use sqlite_disk::{Disk, Files};
 use statetext::TextSheet;
 use std::alloc::Global;
@@ -49,8 +51,9 @@ pub struct DiskStore<F: Folder + Drop> {
 impl<F: Folder + Drop> DiskStore<F> {
     ghost use Rattle.segments.specs.Crashes.{AreOlder, HasNoZero, StaysBacked};
     ghost use Rattle.state.specs.Doubts.{AreUndoubted};
-    ghost use Rattle.state.specs.Logs.{Bears, HasFreshLog, IsOlderBeside, SpareIs};
-    ghost use Rattle.state.specs.Logs.{SurvivesAsLogged, leaves_amid, leaves_both, stored_in};
+    ghost use Rattle.state.specs.Logs.{AreOpen, Bears, HasFreshLog, IsAmid, IsOlderBeside, SpareIs};
+    ghost use Rattle.state.specs.Logs.{SurvivesAsLogged, leaves_amid, leaves_behind, leaves_both};
+    ghost use Rattle.state.specs.Logs.{stored_in};
 
     /// One over a directory whose files aren't open. The next segment has this number.
     pub(crate) fn new(alloc: Global, folder: F, settings: Vec<u8>, number: u64) -> DiskStore<F>
@@ -95,10 +98,9 @@ impl<F: Folder + Drop> DiskStore<F> {
         }
     }
 
-    /// Both files, usable: that of the newest segment, and the one for the next. The third says
-    /// that no start doubts the first. Where none is open they are opened anew, and looked at as at
-    /// a start.
-    fn take_files(&mut self) -> Option<(F::File, F::File, bool)>
+    /// Both files, opened anew and looked at as at a start: that of the newest segment, and the one
+    /// for the next. The third says that no start doubts the first.
+    fn open_files(&mut self) -> Option<(F::File, F::File, bool)>
         ensures newest { IfSome result (λ files. IsTrue (F.File.is_usable files.0)) }
         ensures spare { IfSome result (λ files. IsTrue (F.File.is_usable files.1)) }
         ensures backed { IfSome result (λ files. IsTrue (F.File.is_clean files.0) →
@@ -110,20 +112,45 @@ impl<F: Folder + Drop> DiskStore<F> {
             IsTrue (F.File.is_clean files.0) → AreUndoubted (F.File.may_leave files.0)) }
         ensures settings { self.new.settings ≡ self.old.settings }
         ensures number { self.new.number ≡ self.old.number }
+        ensures opened { self.new.opened ≡ self.old.opened }
     {
-        let number = self.number;
-        let opened = mem::replace(&mut self.opened, Opened::Neither);
-        if let Some(files) = files_of(self.alloc, opened, number) {
-            return Some(files);
-        }
         match self.folder.open() {
-            Ok(Files { log, db }) => in_order(self.alloc, log, db, number),
+            Ok(Files { log, db }) => in_order(self.alloc, log, db, self.number),
             Err(_) => None,
         }
     }
 
+    /// Begins a segment where both files are opened anew first. If that fails they are closed: of
+    /// what a crash leaves of them the store then says nothing.
+    fn begin_anew(&mut self, gateway: &Gateway) -> bool
+        requires { self.old.opened ≡ Opened.Neither }
+        ensures begun { result ≡ true → stored_in self.new.opened ≡ record {
+          head = self.old.settings.items ∷ state_lines gateway.now;
+          text = [];
+          safe = [];
+        } }
+        ensures mark { result ≡ true → F.mark self.new.folder ≡ Some false }
+        ensures bears { result ≡ true → Bears self.old.number self.new.opened }
+        ensures above { result ≡ true → self.new.number ≡ u64_saturate (self.old.number + 1) }
+        ensures number { (self.new.number ≡ self.old.number)
+            ⊎ (self.new.number ≡ u64_saturate (self.old.number + 1)) }
+        ensures settings { self.new.settings ≡ self.old.settings }
+        ensures closed { result ≡ false → self.new.opened ≡ Opened.Neither }
+    {
+        let Some((newest, spare, is_sound)) = self.open_files() else {
+            return false;
+        };
+        let is_begun = self.begin_in(newest, spare, is_sound, gateway);
+        if !is_begun {
+            self.opened = Opened::Neither;
+        }
+        is_begun
+    }
+
     /// Begins a segment in the one file, while the newest one stands in the other as it is. What
-    /// no crash leaves there is shut once the new segment stands.
+    /// no crash leaves there is shut once the new segment stands. Whichever call of the disk fails,
+    /// a crash leaves the one file shut, or as it was, or with the new segment whole, and the other
+    /// as it was.
     fn begin_in(
         &mut self,
         newest: F::File,
@@ -149,6 +176,11 @@ impl<F: Folder + Drop> DiskStore<F> {
         ensures bears { result ≡ true → Bears self.old.number self.new.opened }
         ensures number { self.new.number ≡ u64_saturate (self.old.number + 1) }
         ensures settings { self.new.settings ≡ self.old.settings }
+        ensures open { is_sound ≡ true → AreOpen self.new.opened }
+        ensures amid { is_sound ≡ true → AreMixing F.File.Disk → (file other : List ℕ) →
+            leaves_behind self.new.opened file other → F.File.may_leave newest file
+            × IsAmid (F.File.may_leave spare) self.old.number self.old.settings.items
+            (state_lines gateway.now) other }
     {
         let number = self.number;
         self.number = number.saturating_add(1);
@@ -157,19 +189,24 @@ impl<F: Folder + Drop> DiskStore<F> {
         let segment = write_segment(
             self.alloc, spare, &newest, number, blocks, settings, gateway,
         );
-        let Some(segment) = segment else {
-            return false;
+        let segment = match segment {
+            Ok(segment) => segment,
+            Err(spare) => {
+                self.opened = Opened::Both(newest, spare);
+                return false;
+            }
         };
         let Some(spare) = mended(newest, is_sound, number) else {
             return false;
         };
         let head = segment.octets();
-        self.opened = Opened::Current(Current {
+        let current = Current {
             segment,
             number,
             head,
             spare,
-        });
+        };
+        self.opened = Opened::Current(current);
         self.unmark()
     }
 
@@ -225,6 +262,7 @@ impl<F: Folder + Drop> DiskStore<F> {
 /// Both files that are open, where no write or sync has failed at either. The next segment has this
 /// number.
 fn files_of<D: Disk + Drop>(alloc: Global, opened: Opened<D>, number: u64) -> Option<(D, D, bool)>
+    ensures own { IfSome result (λ files. AreFilesOf opened files.0 files.1 files.2 number) }
     ensures newest { IfSome result (λ files. IsTrue (D.Disk.is_usable files.0)) }
     ensures spare { IfSome result (λ files. IsTrue (D.Disk.is_usable files.1)) }
     ensures backed { IfSome result (λ files. IsTrue (D.Disk.is_clean files.0) →
@@ -266,6 +304,9 @@ fn files_behind<D: Disk + Drop>(
         AreUndoubted (D.Disk.may_leave files.0)) }
     ensures same { IfSome result (λ files. (files.0 ≡ file_of current.segment)
         × (D.Disk.seen files.1 ≡ D.Disk.seen current.spare)) }
+    ensures own { IfSome result (λ files. (files.2 ≡ true) × (current.number < number)) }
+    ensures crash { IfSome result (λ files. (file : List ℕ) →
+        D.Disk.may_leave files.1 file → D.Disk.may_leave current.spare file) }
 {
     let Current {
         segment,
@@ -384,26 +425,28 @@ fn put_head<S: Sheet>(
     gateway.put_state(sheet, &mut line)
 }
 
-/// A segment that is begun, with this head.
+/// A segment that is begun, with this head. An `Err` gives the file back, which is shut.
 #[tactic(auto, using(crate::proofs::LogLemmas::lines_put))]
 fn with_head<D: Disk + Drop>(
     alloc: Global,
     writer: Writer<D>,
     settings: &[u8],
     gateway: &Gateway,
-) -> Option<Writer<D>>
+) -> Result<Writer<D>, D>
     requires { appended_to writer ≡ [] }
-    ensures { IfSome result (λ w. lines_in (appended_to w)
+    ensures head { IfOk result (λ w. lines_in (appended_to w)
         ≡ settings.now ∷ state_lines gateway.now) }
+    ensures shut { IfErr result (λ file. IsShut (D.Disk.may_leave file)) }
 {
     let mut sheet = TextSheet::new(alloc, writer);
     match put_head(alloc, &mut sheet, settings, gateway) {
-        Ok(()) => Some(sheet.into_octets()),
-        Err(_) => None,
+        Ok(()) => Ok(sheet.into_octets()),
+        Err(_) => Err(sheet.into_octets().into_file()),
     }
 }
 
-/// Writes a segment with this head into a file, with room for lines: so many blocks.
+/// Writes a segment with this head into a file, with room for lines: so many blocks. An `Err` gives
+/// the file back. Then it is shut, or as it was, or has the segment whole.
 fn write_segment<D: Disk + Drop>(
     alloc: Global,
     spare: D,
@@ -412,27 +455,33 @@ fn write_segment<D: Disk + Drop>(
     blocks: usize,
     settings: &[u8],
     gateway: &Gateway,
-) -> Option<Segment<D>>
+) -> Result<Segment<D>, D>
     requires usable { IsTrue (D.Disk.is_usable spare) }
     requires backed { IsTrue (D.Disk.is_clean newest.now) → IsTrue (D.Disk.is_clean spare) →
         StaysBacked (D.Disk.may_leave newest.now) (D.Disk.seen spare) }
-    ensures head { IfSome result
+    ensures head { IfOk result
         (λ s. IsHeaded settings.now (state_lines gateway.now) (text_of s)) }
-    ensures synced { IfSome result (λ s. durable_of s ≡ length (text_of s)) }
-    ensures number { IfSome result
+    ensures synced { IfOk result (λ s. durable_of s ≡ length (text_of s)) }
+    ensures number { IfOk result
         (λ s. (body : List ℕ) × (text_of s ≡ whole_text number body)) }
-    ensures whole { IfSome result (λ s. IsWholeText number (text_of s)) }
-    ensures room { IfSome result (λ s. size_of s ≡ length (text_of s) + blocks * 4096) }
+    ensures whole { IfOk result (λ s. IsWholeText number (text_of s)) }
+    ensures room { IfOk result (λ s. size_of s ≡ length (text_of s) + blocks * 4096) }
+    ensures fresh { IfOk result (λ s. AreMixing D.Disk → (file : List ℕ) → outcomes_of s file →
+        HasFreshLog number settings.now (state_lines gateway.now) file) }
+    ensures amid { IfErr result (λ file. AreMixing D.Disk → AreAmid (D.Disk.may_leave spare)
+        number settings.now (state_lines gateway.now) (D.Disk.may_leave file)) }
 {
-    let Ok(writer) = Writer::begin(alloc, spare, newest) else {
-        return None;
+    let writer = match Writer::begin(alloc, spare, newest) {
+        Ok(writer) => writer,
+        Err(Failed { file, fault: _ }) => return Err(file),
     };
-    let Some(writer) = with_head(alloc, writer, settings, gateway) else {
-        return None;
-    };
+    let writer = with_head(alloc, writer, settings, gateway)?;
     match writer.finish(alloc, number, blocks) {
-        Ok(segment) => Some(segment),
-        Err(_) => None,
+        Ok(segment) => {
+            segment.survives();
+            Ok(segment)
+        }
+        Err(Failed { file, fault: _ }) => Err(file),
     }
 }
 
@@ -448,7 +497,7 @@ fn refusal(fault: SegmentFault) -> StoreFault
 }
 
 impl<F: Folder + Drop> Store for DiskStore<F> {
-    ghost use Rattle.state.specs.Logs.{Bears, stored_in};
+    ghost use Rattle.state.specs.Logs.{Bears, IsReadWell, leaves_amid, leaves_behind, stored_in};
 
     ghost stored = { λ s. stored_in s.opened };
 
@@ -477,10 +526,31 @@ impl<F: Folder + Drop> Store for DiskStore<F> {
         }
     }
 
-    fn begin(&mut self, gateway: &Gateway) -> bool {
-        match self.take_files() {
+    /// Whichever call of the disk fails, a crash leaves this log's file as it was, and the other
+    /// one shut, or as it was, or with the next log whole. If the files had to be opened anew, none
+    /// is open behind a call that has failed.
+    fn begin(&mut self, gateway: &Gateway) -> bool
+        ensures begun { result ≡ true → stored_in self.new.opened ≡ record {
+          head = self.old.settings.items ∷ state_lines gateway.now;
+          text = [];
+          safe = [];
+        } }
+        ensures mark { result ≡ true → F.mark self.new.folder ≡ Some false }
+        ensures bears { result ≡ true → Bears self.old.number self.new.opened }
+        ensures above { result ≡ true → self.new.number ≡ u64_saturate (self.old.number + 1) }
+        ensures next { (self.new.number ≡ self.old.number)
+            ⊎ (self.new.number ≡ u64_saturate (self.old.number + 1)) }
+        ensures settings { self.new.settings.items ≡ self.old.settings.items }
+        ensures amid { result ≡ false → AreMixing F.File.Disk → IsReadWell self.old.opened →
+            (file other : List ℕ) → leaves_behind self.new.opened file other →
+            leaves_amid self.old.opened self.old.number self.old.settings.items
+            (state_lines gateway.now) file other }
+    {
+        let number = self.number;
+        let opened = mem::replace(&mut self.opened, Opened::Neither);
+        match files_of(self.alloc, opened, number) {
             Some((newest, spare, is_sound)) => self.begin_in(newest, spare, is_sound, gateway),
-            None => false,
+            None => self.begin_anew(gateway),
         }
     }
 

@@ -19,6 +19,7 @@ use crate::keeping::{is_stopped, keep, settle};
 use crate::pair::Pair;
 use crate::renewal::Patience;
 use crate::standing::Standing;
+use crate::store::Store;
 use gateway::{Action, Gateway, Next, Port};
 use live::{EndsSight, Failure, Notice, Watched};
 use std::marker::Model;
@@ -169,7 +170,8 @@ impl<P: Watched + Drop, F: Folder + Drop> Keeper<Pair<P, DiskStore<F>>> {
     ghost use Rattle.segments.specs.Crash.{AreMixing};
     ghost use Rattle.state.specs.Crashed.{IsKeptIn};
     ghost use Rattle.state.specs.Deeds.{Begun, is_kept};
-    ghost use Rattle.state.specs.Logs.{IsOlderBeside, leaves_amid, leaves_both, leaves_in};
+    ghost use Rattle.state.specs.Logs.{IsOlderBeside, IsReadWell, leaves_amid, leaves_behind};
+    ghost use Rattle.state.specs.Logs.{leaves_both, leaves_in};
     ghost use Rattle.state.specs.Returns.{GoesOnOver};
 
     /// At any moment between two calls, while the state is kept: whatever a crash leaves then of
@@ -198,6 +200,26 @@ impl<P: Watched + Drop, F: Folder + Drop> Keeper<Pair<P, DiskStore<F>>> {
             (Begun state ∷ self.now.ends.deeds) file other }
     {
         self.ends.survives();
+    }
+
+    /// The store begins a new log, as it does at a look where one is due, and the run ends there.
+    /// So it says what a crash leaves in the middle: a crash at any moment is one at which some
+    /// call of the disk is the first to fail. If the log isn't begun, a start over what is left of
+    /// both files goes on with each link, and with this log or with the next one. Where the files
+    /// had to be opened anew, since one couldn't be read, nothing is said.
+    pub fn stopped_amid_a_renewal(self, gateway: &Gateway) -> (bool, DiskStore<F>)
+        ensures amid { is_kept self.ends.deeds ≡ true → result.0 ≡ false → AreMixing F.File.Disk →
+            IsReadWell self.ends.store.opened → (file other : List ℕ) →
+            leaves_behind result.1.opened file other →
+            GoesOnOver F.File.Disk self.ends.store.settings.items self.ends.deeds file other
+            ⊎ GoesOnOver F.File.Disk self.ends.store.settings.items
+            (Begun gateway.now ∷ self.ends.deeds) file other }
+    {
+        self.survives();
+        let Keeper { ends, .. } = self;
+        let mut store = ends.into_store();
+        let is_begun = store.begin(gateway);
+        (is_begun, store)
     }
 }
 

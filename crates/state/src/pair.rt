@@ -73,6 +73,14 @@ impl<P: Watched + Drop, S: Store + Drop> Pair<P, S> {
     {
         &self.store
     }
+
+    /// The store, with the port given up.
+    pub fn into_store(self) -> S
+        ensures { result ≡ self.store }
+    {
+        let Pair { store, .. } = self;
+        store
+    }
 }
 
 impl<P: Watched + Drop, F: Folder + Drop> Pair<P, DiskStore<F>> {

@@ -12,17 +12,17 @@ returns-clause-begun g c _ =
     c.deref.ensures.value in
     ap stored_in c.unmark.ensures.opened
     ∙ begun_logged _ _ _ _ _
-    (subst (λ (s : List ℕ). IsHeaded s (state_lines c.args.gateway.now) (text_of c.in-Some.segment))
-    same c.in-Some.ensures.head)
-    c.octets-head.ensures c.in-Some.ensures.synced
+    (subst (λ (s : List ℕ). IsHeaded s (state_lines c.args.gateway.now) (text_of c.in-Ok.segment))
+    same c.in-Ok.ensures.head)
+    c.octets-head.ensures c.in-Ok.ensures.synced
 
-pub invariant_of-t-27 : goal.invariant_of-t-27
-invariant_of-t-27 g c = record {
-  within = omega (arith, c.octets-head.ensures, c.in-Some.ensures.synced);
+pub invariant_of-current : goal.invariant_of-current
+invariant_of-current g c = record {
+  within = omega (arith, c.octets-head.ensures, c.in-Ok.ensures.synced);
   whole = subst (IsWholeText c.args.self.now.number)
-      (sym (all_taken (text_of c.in-Some.segment) c.octets-head.result c.octets-head.ensures))
-      c.in-Some.ensures.whole;
-  room = omega (arith, c.octets-head.ensures, c.in-Some.ensures.room, c.blocks-blocks.ensures.room);
-  sound = c.in-Some-mended.ensures.sound;
-  older = c.in-Some-mended.ensures.older;
+      (sym (all_taken (text_of c.in-Ok.segment) c.octets-head.result c.octets-head.ensures))
+      c.in-Ok.ensures.whole;
+  room = omega (arith, c.octets-head.ensures, c.in-Ok.ensures.room, c.blocks-blocks.ensures.room);
+  sound = c.in-Some.ensures.sound;
+  older = c.in-Some.ensures.older;
 }
