@@ -1,12 +1,16 @@
 //! What of a run's ends is seen by its log and by its page, and what is said of a run.
-ghost use Rattle.std.specs.Prelude.{◌≡◌, ◌||◌};
+ghost use Rattle.std.specs.Prelude.{◌≡◌, ◌||◌, not};
 ghost use Rattle.std.specs.Option.{option_or};
-ghost use Rattle.sitefile.specs.Site.{SiteValues};
+ghost use Rattle.sitefile.specs.Site.{SiteNames, SiteValues, names_of};
 ghost use Rattle.live.specs.Redial.{Redial};
 ghost use Rattle.live.specs.Runs.{ShowsRun};
 ghost use Rattle.live.specs.Streams.{Calls};
 ghost use Rattle.live.specs.declared.watched.EndsSight.{EndsSight};
-ghost use Rattle.telegate.specs.Wishes.{Said, said_in, said_of};
+ghost use Rattle.telegate.specs.AllowLists.{IsAllowListOf};
+ghost use Rattle.telegate.specs.CommandLine.{text_of, texts_of};
+ghost use Rattle.telegate.specs.Wishes.{AreWishes, Said, said_by, said_in, said_of};
+ghost use Rattle.telegate.specs.declared.host.Wishes.{Wishes};
+ghost use Rattle.telegate.specs.declared.run_words.RunWords.{RunWords};
 ghost use Rattle.telegate.specs.declared.site.ProcessLine.TheVariants.{Once, Again};
 
 use crate::life::Life;
@@ -49,13 +53,18 @@ pub fn sights_show_the_ends<T: RunSite>()
 {}
 
 /// Each value of a site's file reaches the run under its own name: flags, the state's directory,
-/// who may connect, and the status listener. What words say of it wins, and a flag is set where
-/// either says so.
+/// who may connect, and the status listener. So does each word. What words say of a value wins, and
+/// a flag is set where either says so. What is said is what the run is wished to do.
 pub fn what_is_said_keeps_its_name()
     ensures site { (s : SiteValues) → ((said_in s).redial ≡ s.flags.redial)
         × ((said_in s).log ≡ s.flags.log) × ((said_in s).log_severity ≡ s.flags.log_severity)
         × ((said_in s).or_stop ≡ s.flags.state_or_stop) × ((said_in s).state ≡ s.places.state)
-        × ((said_in s).allow ≡ s.places.allow) × ((said_in s).status ≡ s.places.status) }
+        × ((said_in s).recorded ≡ s.flags.record) × ((said_in s).allow ≡ s.places.allow)
+        × ((said_in s).status ≡ s.places.status) }
+    ensures words { (w : RunWords) → ((said_by w).redial ≡ w.redial) × ((said_by w).log ≡ w.log)
+        × ((said_by w).log_severity ≡ w.log_severity) × ((said_by w).recorded ≡ w.record)
+        × ((said_by w).or_stop ≡ w.state_or_stop) × ((said_by w).state ≡ text_of w.state)
+        × ((said_by w).allow ≡ texts_of w.allow) × ((said_by w).status ≡ text_of w.status) }
     ensures wins { (words site : Said) →
         ((said_of words site).redial ≡ (words.redial || site.redial))
         × ((said_of words site).log ≡ (words.log || site.log))
@@ -65,4 +74,9 @@ pub fn what_is_said_keeps_its_name()
         × ((said_of words site).state ≡ option_or words.state site.state)
         × ((said_of words site).allow ≡ option_or words.allow site.allow)
         × ((said_of words site).status ≡ option_or words.status site.status) }
+    ensures wished { (s : Said) (names : SiteNames) (w : Wishes) → AreWishes s names w →
+        (w.redial ≡ s.redial) × (w.log ≡ s.log) × (w.log_severity ≡ s.log_severity)
+        × (w.record ≡ s.recorded) × (w.bears_loss ≡ not s.or_stop)
+        × (text_of w.state ≡ s.state) × IsAllowListOf s.allow w.allow_list
+        × (text_of w.status ≡ s.status) × (names_of w.names.now ≡ names) }
 {}
