@@ -1,17 +1,28 @@
 //! What of a run's ends is seen by its log and by its page, and what is said of a run.
-ghost use Rattle.std.specs.Prelude.{◌≡◌, ◌||◌};
-ghost use Rattle.std.specs.Option.{option_or};
-ghost use Rattle.sitefile.specs.Site.{SiteValues};
+ghost use Rattle.std.specs.Prelude.{◌≡◌, ◌||◌, ℕ, List, not, Some, Result};
+ghost use Rattle.std.specs.Borrow.{Bor};
+ghost use Rattle.std.specs.Option.{is_some, option_or};
+ghost use Rattle.clap.specs.Words.{Text};
+ghost use Rattle.gateway.specs.Config.{Settings};
+ghost use Rattle.sitefile.specs.Site.{SiteNames, SiteValues, names_of};
+ghost use Rattle.state.specs.Directories.{BeginsIn};
 ghost use Rattle.live.specs.Redial.{Redial};
 ghost use Rattle.live.specs.Runs.{ShowsRun};
 ghost use Rattle.live.specs.Streams.{Calls};
 ghost use Rattle.live.specs.declared.watched.EndsSight.{EndsSight};
-ghost use Rattle.telegate.specs.Wishes.{Said, said_in, said_of};
+ghost use Rattle.telegate.specs.AllowLists.{IsAllowListOf};
+ghost use Rattle.telegate.specs.CommandLine.{text_of, texts_of};
+ghost use Rattle.telegate.specs.Ran.{HasLivedAs, RunLeft};
+ghost use Rattle.telegate.specs.Wishes.{AreWishes, Said, said_by, said_in, said_of};
+ghost use Rattle.telegate.specs.declared.host.Wishes.{Wishes};
+ghost use Rattle.telegate.specs.declared.run_words.RunWords.{RunWords};
+ghost use Rattle.telegate.specs.declared.running.DeviceFailed.{DeviceFailed};
 ghost use Rattle.telegate.specs.declared.site.ProcessLine.TheVariants.{Once, Again};
 
 use crate::life::Life;
 use crate::living::Kept;
 use crate::site::{ReturningLine, RunSite, SystemLine};
+use crate::site_port::SitePort;
 use live::{LineSocket, OctetStream, RunPort, Watched};
 use record::Recorder;
 
@@ -21,7 +32,9 @@ type ProgramLine = SystemLine<'static, HostRuntime>;
 /// The port of a run that keeps no state, behind the lives before it.
 type PortAnew<T> = Life<
     Recorder<
-        RunPort<<T as RunSite>::Line, <T as RunSite>::Listener, <T as RunSite>::Clock>,
+        SitePort<
+            RunPort<<T as RunSite>::Line, <T as RunSite>::Listener, <T as RunSite>::Clock>,
+        >,
         <T as RunSite>::Sheet,
     >,
 >;
@@ -43,19 +56,24 @@ pub fn the_line_is_there_as_its_stream_is()
 /// lives before it are, and with a state on the disk as without one.
 pub fn sights_show_the_ends<T: RunSite>()
     ensures anew { (run : _) (sight : EndsSight) →
-        ⟦<PortAnew<T> as Watched>⟧.shows run sight → ShowsRun run.port.port sight }
+        ⟦<PortAnew<T> as Watched>⟧.shows run sight → ShowsRun run.port.port.port sight }
     ensures kept { (run : _) (sight : EndsSight) →
-        ⟦<PortKept<T> as Watched>⟧.shows run sight → ShowsRun run.port.port.ends.port sight }
+        ⟦<PortKept<T> as Watched>⟧.shows run sight → ShowsRun run.port.port.ends.port.port sight }
 {}
 
 /// Each value of a site's file reaches the run under its own name: flags, the state's directory,
-/// who may connect, and the status listener. What words say of it wins, and a flag is set where
-/// either says so.
+/// who may connect, and the status listener. So does each word. What words say of a value wins, and
+/// a flag is set where either says so. What is said is what the run is wished to do.
 pub fn what_is_said_keeps_its_name()
     ensures site { (s : SiteValues) → ((said_in s).redial ≡ s.flags.redial)
         × ((said_in s).log ≡ s.flags.log) × ((said_in s).log_severity ≡ s.flags.log_severity)
         × ((said_in s).or_stop ≡ s.flags.state_or_stop) × ((said_in s).state ≡ s.places.state)
-        × ((said_in s).allow ≡ s.places.allow) × ((said_in s).status ≡ s.places.status) }
+        × ((said_in s).recorded ≡ s.flags.record) × ((said_in s).allow ≡ s.places.allow)
+        × ((said_in s).status ≡ s.places.status) }
+    ensures words { (w : RunWords) → ((said_by w).redial ≡ w.redial) × ((said_by w).log ≡ w.log)
+        × ((said_by w).log_severity ≡ w.log_severity) × ((said_by w).recorded ≡ w.record)
+        × ((said_by w).or_stop ≡ w.state_or_stop) × ((said_by w).state ≡ text_of w.state)
+        × ((said_by w).allow ≡ texts_of w.allow) × ((said_by w).status ≡ text_of w.status) }
     ensures wins { (words site : Said) →
         ((said_of words site).redial ≡ (words.redial || site.redial))
         × ((said_of words site).log ≡ (words.log || site.log))
@@ -65,4 +83,28 @@ pub fn what_is_said_keeps_its_name()
         × ((said_of words site).state ≡ option_or words.state site.state)
         × ((said_of words site).allow ≡ option_or words.allow site.allow)
         × ((said_of words site).status ≡ option_or words.status site.status) }
+    ensures wished { (s : Said) (names : SiteNames) (w : Wishes) → AreWishes s names w →
+        (w.redial ≡ s.redial) × (w.log ≡ s.log) × (w.log_severity ≡ s.log_severity)
+        × (w.record ≡ s.recorded) × (w.bears_loss ≡ not s.or_stop)
+        × (text_of w.state ≡ s.state) × IsAllowListOf s.allow w.allow_list
+        × (text_of w.status ≡ s.status) × (names_of w.names.now ≡ names) }
+{}
+
+/// What is left of a live run that is over is as its wishes name it: it was logged and recorded
+/// where that was wished, watched and shown where a place is named for that, its line was reached
+/// again where that was wished, and these could connect. Where its state was kept it bore the loss
+/// of that if that was wished.
+#[tactic(auto, using(crate::proofs::RanLemmas::as_wished, crate::proofs::RanLemmas::bears_as_wished))]
+pub fn runs_are_as_they_were_wished<T: RunSite>()
+    ensures all { (c : Settings) (text : List ℕ) (w : Wishes) (left : RunLeft)
+        (ended : Result (Unit {0}) DeviceFailed) →
+        HasLivedAs (BeginsIn T.Folder.File.Disk c text T.Folder.lineage) c w left ended →
+        (left.book.is_wished ≡ w.log) × (left.pen.is_wished ≡ w.record)
+        × (left.book.is_watching ≡ is_some w.status) × (left.is_shown ≡ is_some w.status)
+        × (left.is_redialled ≡ w.redial) × (left.port.allow_list ≡ w.allow_list) }
+    ensures bears { (c : Settings) (text : List ℕ) (w : Wishes) (left : RunLeft)
+        (ended : Result (Unit {0}) DeviceFailed) (directory : Bor Text) →
+        HasLivedAs (BeginsIn T.Folder.File.Disk c text T.Folder.lineage) c w left ended →
+        w.state ≡ Some directory →
+        left.bears_loss ≡ Some w.bears_loss }
 {}

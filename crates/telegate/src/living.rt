@@ -1,5 +1,6 @@
 //! The command that runs the gateway between a line and a control centre.
-ghost use Rattle.std.specs.Prelude.{◌≡◌, ◌+◌, IfOk, IfErr, Some, Option, is_some, [], false, not};
+ghost use Rattle.std.specs.Prelude.{◌≡◌, ◌+◌, IfOk, IfErr, Some, None, Option, is_some, []};
+ghost use Rattle.std.specs.Prelude.{false, not};
 ghost use Rattle.std.specs.declared.net.socket_addr.SocketAddr.{SocketAddr};
 ghost use Rattle.gateway.specs.Agrees.{Follows};
 ghost use Rattle.gateway.specs.Setups.{setup_of};
@@ -11,7 +12,7 @@ ghost use Rattle.telegate.specs.AsWished.{IsAsWished};
 ghost use Rattle.telegate.specs.Kept.{HasLivedFrom, HasLivedOn, IsEndFault, IsKeptFault};
 ghost use Rattle.telegate.specs.Kept.{first_moment};
 ghost use Rattle.telegate.specs.Living.{HasLived, IsPortOf};
-ghost use Rattle.telegate.specs.Ran.{HasLivedAs};
+ghost use Rattle.telegate.specs.Ran.{HasLivedAs, IfOver};
 ghost use Rattle.telegate.specs.Running.{IsReadLiveConfig};
 ghost use Rattle.telegate.specs.Logged.{IsRefused, IsUnkept, LogsNoteIf, LogsBeginning, LogsGap};
 ghost use Rattle.telegate.specs.Logged.{note_if_on, note_of_address};
@@ -19,10 +20,11 @@ ghost use Rattle.telegate.specs.Logged.{note_if_on, note_of_address};
 use crate::fault::Fault;
 use crate::help::VERSION;
 use crate::host::Wishes;
-use crate::running::{DeviceFailed, Lived, Scribes, live};
+use crate::running::{Lived, Scribes, live};
 use crate::site::{EndRefusal, RunSite};
+use crate::site_port::{RunEnds, SitePort, port_between};
 use gateway::{Action, Config, Gateway, History};
-use live::{AllowList, Listener, Live, OctetStream, RunPort};
+use live::RunPort;
 use lookout::Lookout;
 use record::{Pen, RecordSheet};
 use runlog::{LogSink, Logger, Note, Trouble, Watch};
@@ -111,14 +113,6 @@ fn pen_of<T: RunSite>(site: &T, is_recorded: bool) -> Pen<T::Sheet>
     }
 }
 
-/// The ends of a live run.
-#[derive(Drop)]
-struct RunEnds<S: OctetStream, L: Listener + Drop, C: live::RunClock + Drop> {
-    line: S,
-    listener: L,
-    clock: C,
-}
-
 /// The ends that are wished, opened in this order: the listener, the line, and the clock, which
 /// begins at this moment, in ms. A second process that is started by mistake ends at the listener,
 /// and leaves the line of the first alone.
@@ -198,42 +192,65 @@ fn refused<S: LogSink + Drop>(refusal: EndRefusal, logger: &mut Logger<S>) -> Fa
     Fault::from(refusal)
 }
 
-/// The port of a run between these ends. In one that goes on after a restart the connection of then
-/// is cut first.
-#[tactic(auto, using(crate::proofs::RunPorts::start_anew, crate::proofs::RunPorts::start_on))]
-fn port_between<S: OctetStream, L: Listener + Drop, C: live::RunClock + Drop>(
-    config: &Config,
-    ends: RunEnds<S, L, C>,
-    allow_list: AllowList,
-    goes_on: bool,
-) -> RunPort<S, L, C>
-    ensures port { IsPortOf config.now allow_list goes_on result }
-    ensures cut { result.is_cut_due ≡ goes_on }
-    ensures log { result.log ≡ [] }
-    ensures failed { result.failed ≡ 0 }
-{
-    let port = Live::new(ends.line, ends.listener, ends.clock, allow_list, config);
-    RunPort::new(if goes_on { port.cut_first() } else { port })
+/// A live run that is over: one that began anew, or one whose state is kept.
+#[derive(Drop)]
+pub(crate) enum Over<A: Drop, K: Drop> {
+    /// It began anew.
+    Anew(A),
+    /// Its state is kept.
+    Kept(K),
 }
 
-/// Runs the gateway live with these settings, which were read from this text, and answers how that
-/// ended. An `Err` says why it didn't begin.
+/// A live run at this site that is over.
+pub(crate) type RunOver<T> = Over<
+    Lived<
+        SitePort<
+            RunPort<<T as RunSite>::Line, <T as RunSite>::Listener, <T as RunSite>::Clock>,
+        >,
+        <T as RunSite>::Sheet,
+        <T as RunSite>::Sink,
+        <T as RunSite>::Glass,
+    >,
+    Lived<Kept<T>, <T as RunSite>::Sheet, <T as RunSite>::Sink, <T as RunSite>::Glass>,
+>;
+
+/// Runs the gateway live with these settings, which were read from this text, and answers what is
+/// left of that. An `Err` says why it didn't begin.
 #[tactic(auto, using(crate::proofs::KeptLemmas::end_is_kept))]
 pub(crate) fn run_at<T: RunSite>(
     site: &T,
     config: &Config,
     text: &[u8],
     wishes: Wishes<'_>,
-) -> Result<Result<(), DeviceFailed>, Fault>
+) -> Result<RunOver<T>, Fault>
+    requires severity { T.severe site.now ≡ wishes.entry.log_severity }
     // A run as wished lived, and so it ended.
-    ensures lived { IfOk result (HasLivedAs
-        (BeginsIn T.Folder.File.Disk config.now text.now T.Folder.lineage) config.now
-        wishes.entry) }
+    ensures lived { IfOk result (λ over. IfOver over
+        (λ anew. HasLivedAs (BeginsIn T.Folder.File.Disk config.now text.now T.Folder.lineage)
+        config.now wishes.entry (record {
+          before = anew.run_log.port.before.entries;
+          port = anew.run_log.port.port.port.port;
+          pen = anew.run_log.port.port.pen;
+          book = anew.run_log.logger;
+          is_shown = is_some anew.lookout;
+          is_redialled = anew.run_log.port.port.port.is_redialled;
+          bears_loss = None;
+        }) anew.ended)
+        (λ kept. HasLivedAs (BeginsIn T.Folder.File.Disk config.now text.now T.Folder.lineage)
+        config.now wishes.entry (record {
+          before = kept.run_log.port.before.entries;
+          port = kept.run_log.port.port.port.ends.port.port;
+          pen = kept.run_log.port.port.pen;
+          book = kept.run_log.logger;
+          is_shown = is_some kept.lookout;
+          is_redialled = kept.run_log.port.port.port.ends.port.is_redialled;
+          bears_loss = Some kept.run_log.port.port.port.bears_loss;
+        }) kept.ended)) }
     ensures fault { IfErr result IsKeptFault }
 {
     match wishes.state {
-        None => Ok(run_anew(site, config, wishes)?.ended),
-        Some(directory) => Ok(run_kept(site, config, text, directory, wishes)?.ended),
+        None => Ok(Over::Anew(run_anew(site, config, wishes)?)),
+        Some(directory) => Ok(Over::Kept(run_kept(site, config, text, directory, wishes)?)),
     }
 }
 
@@ -243,46 +260,58 @@ fn run_anew<T: RunSite>(
     site: &T,
     config: &Config,
     wishes: Wishes<'_>,
-) -> Result<Lived<RunPort<T::Line, T::Listener, T::Clock>, T::Sheet, T::Sink, T::Glass>, Fault>
+) -> Result<
+    Lived<SitePort<RunPort<T::Line, T::Listener, T::Clock>>, T::Sheet, T::Sink, T::Glass>,
+    Fault,
+>
     ensures lived { IfOk result (λ lived. HasLived config.now wishes.entry.allow_list false []
-        lived.run_log.port.port.port lived.run_log.port.port.pen lived.ended) }
+        lived.run_log.port.port.port.port lived.run_log.port.port.pen lived.ended) }
+    ensures before { IfOk result (λ lived. lived.run_log.port.before.entries ≡ []) }
     ensures wished { IfOk result (λ lived. IsAsWished wishes.entry lived.run_log.logger
         lived.run_log.port.port.pen (is_some lived.lookout)) }
+    // Its line was reached again where that was wished.
+    ensures redialled { IfOk result (λ lived.
+        lived.run_log.port.port.port.is_redialled ≡ wishes.entry.redial) }
     ensures fault { IfErr result IsEndFault }
 {
     let gateway = Gateway::new(site.alloc(), config)?;
     let mut scribes = scribes_of(site, config, &wishes)?;
     let ends = opened(site, &wishes, 0, &mut scribes.logger)?;
-    Ok(run_new(site, config, gateway, ends, wishes.allow_list, scribes))
+    Ok(run_new(site, config, gateway, ends, wishes, scribes))
 }
 
 /// Runs a new gateway between these ends, whose clock begins at 0.
 #[tactic(auto, using(crate::proofs::RunPorts::port_of_run))]
 fn run_new<T: RunSite>(
-    _site: &T,
+    site: &T,
     config: &Config,
     gateway: Gateway,
     ends: RunEnds<T::Line, T::Listener, T::Clock>,
-    allow_list: AllowList,
+    wishes: Wishes<'_>,
     scribes: Scribes<T::Sink, T::Sheet, T::Glass>,
-) -> Lived<RunPort<T::Line, T::Listener, T::Clock>, T::Sheet, T::Sink, T::Glass>
+) -> Lived<SitePort<RunPort<T::Line, T::Listener, T::Clock>>, T::Sheet, T::Sink, T::Glass>
     requires new { logged_first (log_of scribes.pen) (Some []) ≡ Some [] }
     requires begins { Follows (setup_of config.now) gateway (Some []) }
     requires clock { T.begins_at ends.clock 0 }
-    ensures lived { HasLived config.now allow_list false [] result.run_log.port.port.port
-        result.run_log.port.port.pen result.ended }
+    requires line { T.comes_back ends.line ≡ wishes.entry.redial }
+    ensures lived { HasLived config.now wishes.entry.allow_list false []
+        result.run_log.port.port.port.port result.run_log.port.port.pen result.ended }
+    ensures before { result.run_log.port.before.entries ≡ [] }
     ensures logged { book_fixture result.run_log.logger ≡ book_fixture scribes.logger }
     ensures recorded { result.run_log.port.port.pen.is_wished ≡ scribes.pen.is_wished }
     ensures looked { is_some result.lookout ≡ is_some scribes.lookout }
+    ensures redialled { result.run_log.port.port.port.is_redialled ≡ wishes.entry.redial }
 {
-    let port = port_between(config, ends, allow_list, false);
+    let port = port_between(site, config, ends, wishes.allow_list, false, wishes.redial);
     live(gateway, port, History::new(), scribes)
 }
 
 /// A port between the ends of a site, whose events are kept in a directory of it.
 pub(crate) type Kept<T> = Keeper<
     Pair<
-        RunPort<<T as RunSite>::Line, <T as RunSite>::Listener, <T as RunSite>::Clock>,
+        SitePort<
+            RunPort<<T as RunSite>::Line, <T as RunSite>::Listener, <T as RunSite>::Clock>,
+        >,
         DiskStore<<T as RunSite>::Folder>,
     >,
 >;
@@ -298,12 +327,14 @@ fn keeper_between<T: RunSite>(
     gateway: &Gateway,
     wishes: Wishes<'_>,
 ) -> Kept<T>
+    requires line { T.comes_back ends.line ≡ wishes.entry.redial }
     ensures bears { result.bears_loss ≡ wishes.entry.bears_loss }
-    ensures port { IsPortOf config.now wishes.entry.allow_list goes_on result.ends.port }
-    ensures log { result.ends.port.log ≡ [] }
-    ensures failed { result.ends.port.failed + result.stops ≡ 0 }
+    ensures redialled { result.ends.port.is_redialled ≡ wishes.entry.redial }
+    ensures port { IsPortOf config.now wishes.entry.allow_list goes_on result.ends.port.port }
+    ensures log { result.ends.port.port.log ≡ [] }
+    ensures failed { result.ends.port.port.failed + result.stops ≡ 0 }
 {
-    let port = port_between(config, ends, wishes.allow_list, goes_on);
+    let port = port_between(site, config, ends, wishes.allow_list, goes_on, wishes.redial);
     Keeper::new(
         Pair::new(site.alloc(), port, store),
         gateway,
@@ -324,12 +355,15 @@ fn run_kept<T: RunSite>(
     ensures lived { IfOk result (λ lived. HasLivedFrom
         (BeginsIn T.Folder.File.Disk config.now text.now T.Folder.lineage) config.now
         wishes.entry.allow_list lived.run_log.port.before.entries
-        lived.run_log.port.port.port.ends.port lived.run_log.port.port.pen lived.ended) }
+        lived.run_log.port.port.port.ends.port.port lived.run_log.port.port.pen lived.ended) }
     ensures wished { IfOk result (λ lived. IsAsWished wishes.entry lived.run_log.logger
         lived.run_log.port.port.pen (is_some lived.lookout)) }
     // It bore the loss of its state where that was wished.
     ensures bears { IfOk result (λ lived.
         lived.run_log.port.port.port.bears_loss ≡ wishes.entry.bears_loss) }
+    // Its line was reached again where that was wished.
+    ensures redialled { IfOk result (λ lived.
+        lived.run_log.port.port.port.ends.port.is_redialled ≡ wishes.entry.redial) }
     ensures fault { IfErr result IsKeptFault }
 {
     let mut scribes = scribes_of(site, config, &wishes)?;
@@ -359,13 +393,16 @@ fn run_from<T: RunSite>(
 ) -> Lived<Kept<T>, T::Sheet, T::Sink, T::Glass>
     requires new { logged_first (log_of scribes.pen) (Some []) ≡ Some [] }
     requires clock { T.begins_at ends.clock (first_moment begun.origin.moment) }
+    requires line { T.comes_back ends.line ≡ wishes.entry.redial }
     ensures lived { HasLivedOn config.now wishes.entry.allow_list begun.origin
-        result.run_log.port.before.entries result.run_log.port.port.port.ends.port
+        result.run_log.port.before.entries result.run_log.port.port.port.ends.port.port
         result.run_log.port.port.pen result.ended }
     ensures logged { book_fixture result.run_log.logger ≡ book_fixture scribes.logger }
     ensures recorded { result.run_log.port.port.pen.is_wished ≡ scribes.pen.is_wished }
     ensures looked { is_some result.lookout ≡ is_some scribes.lookout }
     ensures bears { result.run_log.port.port.port.bears_loss ≡ wishes.entry.bears_loss }
+    ensures redialled { result.run_log.port.port.port.ends.port.is_redialled
+        ≡ wishes.entry.redial }
 {
     let Begun { origin, store } = begun;
     let Origin {

@@ -52,6 +52,7 @@ mod showing;
 mod simulating;
 mod simulating_in_words;
 mod site;
+mod site_port;
 mod source;
 mod stood;
 mod wishes;
