@@ -21,8 +21,8 @@ use Rattle.telegate.specs.declared.living.Over.TheVariants.{Anew, Kept}
 use Rattle.telegate.specs.declared.running.DeviceFailed.{DeviceFailed}
 
 -- What is left of a run that is over: what passed before it, its port, its record and its log,
--- whether it was shown, whether its line was one that is reached again where it ends, and, where its
--- state was kept, whether it bore the loss of that.
+-- whether it was shown, whether its line was one that is reached again where it ends, and, where
+-- its state was kept, whether it bore the loss of that.
 pub record RunLeft : Type 0 where
   pub before : Log
   pub port : LiveEnds

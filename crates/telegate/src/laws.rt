@@ -32,9 +32,7 @@ type ProgramLine = SystemLine<'static, HostRuntime>;
 /// The port of a run that keeps no state, behind the lives before it.
 type PortAnew<T> = Life<
     Recorder<
-        SitePort<
-            RunPort<<T as RunSite>::Line, <T as RunSite>::Listener, <T as RunSite>::Clock>,
-        >,
+        SitePort<RunPort<<T as RunSite>::Line, <T as RunSite>::Listener, <T as RunSite>::Clock>>,
         <T as RunSite>::Sheet,
     >,
 >;

@@ -204,9 +204,7 @@ pub(crate) enum Over<A: Drop, K: Drop> {
 /// A live run at this site that is over.
 pub(crate) type RunOver<T> = Over<
     Lived<
-        SitePort<
-            RunPort<<T as RunSite>::Line, <T as RunSite>::Listener, <T as RunSite>::Clock>,
-        >,
+        SitePort<RunPort<<T as RunSite>::Line, <T as RunSite>::Listener, <T as RunSite>::Clock>>,
         <T as RunSite>::Sheet,
         <T as RunSite>::Sink,
         <T as RunSite>::Glass,
@@ -309,9 +307,7 @@ fn run_new<T: RunSite>(
 /// A port between the ends of a site, whose events are kept in a directory of it.
 pub(crate) type Kept<T> = Keeper<
     Pair<
-        SitePort<
-            RunPort<<T as RunSite>::Line, <T as RunSite>::Listener, <T as RunSite>::Clock>,
-        >,
+        SitePort<RunPort<<T as RunSite>::Line, <T as RunSite>::Listener, <T as RunSite>::Clock>>,
         DiskStore<<T as RunSite>::Folder>,
     >,
 >;
@@ -334,7 +330,14 @@ fn keeper_between<T: RunSite>(
     ensures log { result.ends.port.port.log ≡ [] }
     ensures failed { result.ends.port.port.failed + result.stops ≡ 0 }
 {
-    let port = port_between(site, config, ends, wishes.allow_list, goes_on, wishes.redial);
+    let port = port_between(
+        site,
+        config,
+        ends,
+        wishes.allow_list,
+        goes_on,
+        wishes.redial,
+    );
     Keeper::new(
         Pair::new(site.alloc(), port, store),
         gateway,
