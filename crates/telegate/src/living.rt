@@ -221,7 +221,7 @@ pub(crate) fn run_at<T: RunSite>(
     text: &[u8],
     wishes: Wishes<'_>,
 ) -> Result<RunOver<T>, Fault>
-    requires severity { T.severe site.now ≡ wishes.entry.log_severity }
+    requires severity { T.severe site.now ≡ wishes.log_severity }
     // A run as wished lived, and so it ended.
     ensures lived { IfOk result (λ over. IfOver over
         (λ anew. HasLivedAs (BeginsIn T.Folder.File.Disk config.now text.now T.Folder.lineage)
@@ -291,7 +291,7 @@ fn run_new<T: RunSite>(
     requires new { logged_first (log_of scribes.pen) (Some []) ≡ Some [] }
     requires begins { Follows (setup_of config.now) gateway (Some []) }
     requires clock { T.begins_at ends.clock 0 }
-    requires line { T.comes_back ends.line ≡ wishes.entry.redial }
+    requires line { T.comes_back ends.line ≡ wishes.redial }
     ensures lived { HasLived config.now wishes.entry.allow_list false []
         result.run_log.port.port.port.port result.run_log.port.port.pen result.ended }
     ensures before { result.run_log.port.before.entries ≡ [] }
@@ -323,7 +323,7 @@ fn keeper_between<T: RunSite>(
     gateway: &Gateway,
     wishes: Wishes<'_>,
 ) -> Kept<T>
-    requires line { T.comes_back ends.line ≡ wishes.entry.redial }
+    requires line { T.comes_back ends.line ≡ wishes.redial }
     ensures bears { result.bears_loss ≡ wishes.entry.bears_loss }
     ensures redialled { result.ends.port.is_redialled ≡ wishes.entry.redial }
     ensures port { IsPortOf config.now wishes.entry.allow_list goes_on result.ends.port.port }
@@ -396,7 +396,7 @@ fn run_from<T: RunSite>(
 ) -> Lived<Kept<T>, T::Sheet, T::Sink, T::Glass>
     requires new { logged_first (log_of scribes.pen) (Some []) ≡ Some [] }
     requires clock { T.begins_at ends.clock (first_moment begun.origin.moment) }
-    requires line { T.comes_back ends.line ≡ wishes.entry.redial }
+    requires line { T.comes_back ends.line ≡ wishes.redial }
     ensures lived { HasLivedOn config.now wishes.entry.allow_list begun.origin
         result.run_log.port.before.entries result.run_log.port.port.port.ends.port.port
         result.run_log.port.port.pen result.ended }
