@@ -15,28 +15,28 @@ use Rattle.telegate.specs.declared.host.Wishes.{Wishes}
 pub lived_anew : {E : Type 0} (begins : Origin → Type 0) (settings : Settings) (wishes : Wishes)
     (left : RunLeft) (ended : Result (Unit {0}) E) → wishes.state ≡ None → left.before ≡ []
     → HasLived settings wishes.allow_list false [] left.port left.pen ended
-    → IsAsWished wishes left.book left.pen left.is_shown → left.is_redialled ≡ wishes.redial
+    → IsAsWished wishes left.book left.pen left.is_shown
     → HasLivedAs begins settings wishes left ended
-lived_anew begins settings wishes left ended none anew lived wished redialled =
+lived_anew begins settings wishes left ended none anew lived wished =
     let P : Option (Bor Text) → Type 0 = λ state.
     MatchOption state (HasLivedAnew settings wishes left ended)
     (λ _. HasLivedKept begins settings wishes left ended) in
     subst P (sym none)
-    (record { anew = anew; lived = lived; wished = wished; redialled = redialled })
+    (record { anew = anew; lived = lived; wished = wished })
 
 pub lived_kept : {E : Type 0} (begins : Origin → Type 0) (settings : Settings) (wishes : Wishes)
     (directory : Bor Text) (left : RunLeft) (ended : Result (Unit {0}) E)
     → wishes.state ≡ Some directory
     → HasLivedFrom begins settings wishes.allow_list left.before left.port left.pen ended
-    → IsAsWished wishes left.book left.pen left.is_shown → left.is_redialled ≡ wishes.redial
+    → IsAsWished wishes left.book left.pen left.is_shown
     → left.bears_loss ≡ Some wishes.bears_loss
     → HasLivedAs begins settings wishes left ended
-lived_kept begins settings wishes directory left ended named lived wished redialled bears =
+lived_kept begins settings wishes directory left ended named lived wished bears =
     let P : Option (Bor Text) → Type 0 = λ state.
     MatchOption state (HasLivedAnew settings wishes left ended)
     (λ _. HasLivedKept begins settings wishes left ended) in
     subst P (sym named)
-    (record { lived = lived; wished = wished; redialled = redialled; bears = bears })
+    (record { lived = lived; wished = wished; bears = bears })
 
 by_state : {P A K : Type 0} (state : Option (Bor Text)) → (A → P) → (K → P)
     → MatchOption state A (λ _. K) → P
@@ -48,7 +48,7 @@ pub as_wished : {E : Type 0} (begins : Origin → Type 0) (settings : Settings) 
     (left : RunLeft) (ended : Result (Unit {0}) E) → HasLivedAs begins settings wishes left ended
     → (left.book.is_wished ≡ wishes.log) × (left.pen.is_wished ≡ wishes.«record»)
     × (left.book.is_watching ≡ is_some wishes.status) × (left.is_shown ≡ is_some wishes.status)
-    × (left.is_redialled ≡ wishes.redial) × (left.port.allow_list ≡ wishes.allow_list)
+    × (left.port.allow_list ≡ wishes.allow_list)
 as_wished begins settings wishes left ended h =
     by_state wishes.state
     (λ (a : HasLivedAnew settings wishes left ended). (
@@ -56,7 +56,6 @@ as_wished begins settings wishes left ended h =
       a.wished.recorded,
       a.wished.watched,
       a.wished.shown,
-      a.redialled,
       ap (λ (f : Fixture). f.allow_list) a.lived.port_is.fixed,
     ))
     (λ (k : HasLivedKept begins settings wishes left ended). (
@@ -64,7 +63,6 @@ as_wished begins settings wishes left ended h =
       k.wished.recorded,
       k.wished.watched,
       k.wished.shown,
-      k.redialled,
       ap (λ (f : Fixture). f.allow_list) k.lived.on.port_is.fixed,
     )) h
 

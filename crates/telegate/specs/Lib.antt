@@ -16,7 +16,6 @@ pub mod Records
 pub mod Parts
 pub mod Lives
 pub mod Sites
-pub mod SitePorts
 pub mod Lines
 pub mod Living
 pub mod Logged

@@ -21,15 +21,13 @@ use Rattle.telegate.specs.declared.living.Over.TheVariants.{Anew, Kept}
 use Rattle.telegate.specs.declared.running.DeviceFailed.{DeviceFailed}
 
 -- What is left of a run that is over: what passed before it, its port, its record and its log,
--- whether it was shown, whether its line was one that is reached again where it ends, and, where
--- its state was kept, whether it bore the loss of that.
+-- whether it was shown, and, where its state was kept, whether it bore the loss of that.
 pub record RunLeft : Type 0 where
   pub before : Log
   pub port : LiveEnds
   pub pen : Recording
   pub book : Book
   pub is_shown : Bool
-  pub is_redialled : Bool
   pub bears_loss : Option Bool
 
 -- a run without a state is over: it began anew, and was as it was wished
@@ -38,7 +36,6 @@ pub record HasLivedAnew {E : Type 0} (settings : Settings) (wishes : Wishes) (le
   pub anew : left.before ≡ []
   pub lived : HasLived settings wishes.allow_list false [] left.port left.pen ended
   pub wished : IsAsWished wishes left.book left.pen left.is_shown
-  pub redialled : left.is_redialled ≡ wishes.redial
 
 -- A run whose state is kept is over: it began so, went on from there, and was as it was wished. It
 -- bore the loss of its state where that was wished.
@@ -46,7 +43,6 @@ pub record HasLivedKept {E : Type 0} (begins : Origin → Type 0) (settings : Se
     (wishes : Wishes) (left : RunLeft) (ended : Result (Unit {0}) E) : Type 0 where
   pub lived : HasLivedFrom begins settings wishes.allow_list left.before left.port left.pen ended
   pub wished : IsAsWished wishes left.book left.pen left.is_shown
-  pub redialled : left.is_redialled ≡ wishes.redial
   pub bears : left.bears_loss ≡ Some wishes.bears_loss
 
 -- a run with these settings is over, of which this is left, as it was wished

@@ -22,7 +22,6 @@ ghost use Rattle.telegate.specs.declared.site.ProcessLine.TheVariants.{Once, Aga
 use crate::life::Life;
 use crate::living::Kept;
 use crate::site::{ReturningLine, RunSite, SystemLine};
-use crate::site_port::SitePort;
 use live::{LineSocket, OctetStream, RunPort, Watched};
 use record::Recorder;
 
@@ -32,7 +31,7 @@ type ProgramLine = SystemLine<'static, HostRuntime>;
 /// The port of a run that keeps no state, behind the lives before it.
 type PortAnew<T> = Life<
     Recorder<
-        SitePort<RunPort<<T as RunSite>::Line, <T as RunSite>::Listener, <T as RunSite>::Clock>>,
+        RunPort<<T as RunSite>::Line, <T as RunSite>::Listener, <T as RunSite>::Clock>,
         <T as RunSite>::Sheet,
     >,
 >;
@@ -54,9 +53,9 @@ pub fn the_line_is_there_as_its_stream_is()
 /// lives before it are, and with a state on the disk as without one.
 pub fn sights_show_the_ends<T: RunSite>()
     ensures anew { (run : _) (sight : EndsSight) →
-        ⟦<PortAnew<T> as Watched>⟧.shows run sight → ShowsRun run.port.port.port sight }
+        ⟦<PortAnew<T> as Watched>⟧.shows run sight → ShowsRun run.port.port sight }
     ensures kept { (run : _) (sight : EndsSight) →
-        ⟦<PortKept<T> as Watched>⟧.shows run sight → ShowsRun run.port.port.ends.port.port sight }
+        ⟦<PortKept<T> as Watched>⟧.shows run sight → ShowsRun run.port.port.ends.port sight }
 {}
 
 /// Each value of a site's file reaches the run under its own name: flags, the state's directory,
@@ -89,9 +88,8 @@ pub fn what_is_said_keeps_its_name()
 {}
 
 /// What is left of a live run that is over is as its wishes name it: it was logged and recorded
-/// where that was wished, watched and shown where a place is named for that, its line was reached
-/// again where that was wished, and these could connect. Where its state was kept it bore the loss
-/// of that if that was wished.
+/// where that was wished, watched and shown where a place is named for that, and these could
+/// connect. Where its state was kept it bore the loss of that if that was wished.
 #[tactic(auto, using(crate::proofs::RanLemmas::as_wished, crate::proofs::RanLemmas::bears_as_wished))]
 pub fn runs_are_as_they_were_wished<T: RunSite>()
     ensures all { (c : Settings) (text : List ℕ) (w : Wishes) (left : RunLeft)
@@ -99,7 +97,7 @@ pub fn runs_are_as_they_were_wished<T: RunSite>()
         HasLivedAs (BeginsIn T.Folder.File.Disk c text T.Folder.lineage) c w left ended →
         (left.book.is_wished ≡ w.log) × (left.pen.is_wished ≡ w.record)
         × (left.book.is_watching ≡ is_some w.status) × (left.is_shown ≡ is_some w.status)
-        × (left.is_redialled ≡ w.redial) × (left.port.allow_list ≡ w.allow_list) }
+        × (left.port.allow_list ≡ w.allow_list) }
     ensures bears { (c : Settings) (text : List ℕ) (w : Wishes) (left : RunLeft)
         (ended : Result (Unit {0}) DeviceFailed) (directory : Bor Text) →
         HasLivedAs (BeginsIn T.Folder.File.Disk c text T.Folder.lineage) c w left ended →

@@ -22,9 +22,8 @@ use crate::help::VERSION;
 use crate::host::Wishes;
 use crate::running::{Lived, Scribes, live};
 use crate::site::{EndRefusal, RunSite};
-use crate::site_port::{RunEnds, SitePort, port_between};
 use gateway::{Action, Config, Gateway, History};
-use live::RunPort;
+use live::{AllowList, Listener, Live, OctetStream, RunPort};
 use lookout::Lookout;
 use record::{Pen, RecordSheet};
 use runlog::{LogSink, Logger, Note, Trouble, Watch};
@@ -113,6 +112,14 @@ fn pen_of<T: RunSite>(site: &T, is_recorded: bool) -> Pen<T::Sheet>
     }
 }
 
+/// The ends of a live run.
+#[derive(Drop)]
+struct RunEnds<S: OctetStream, L: Listener + Drop, C: live::RunClock + Drop> {
+    line: S,
+    listener: L,
+    clock: C,
+}
+
 /// The ends that are wished, opened in this order: the listener, the line, and the clock, which
 /// begins at this moment, in ms. A second process that is started by mistake ends at the listener,
 /// and leaves the line of the first alone.
@@ -192,6 +199,24 @@ fn refused<S: LogSink + Drop>(refusal: EndRefusal, logger: &mut Logger<S>) -> Fa
     Fault::from(refusal)
 }
 
+/// The port of a run between these ends. In one that goes on after a restart the connection of then
+/// is cut first.
+#[tactic(auto, using(crate::proofs::RunPorts::start_anew, crate::proofs::RunPorts::start_on))]
+fn port_between<S: OctetStream, L: Listener + Drop, C: live::RunClock + Drop>(
+    config: &Config,
+    ends: RunEnds<S, L, C>,
+    allow_list: AllowList,
+    goes_on: bool,
+) -> RunPort<S, L, C>
+    ensures port { IsPortOf config.now allow_list goes_on result }
+    ensures cut { result.is_cut_due ≡ goes_on }
+    ensures log { result.log ≡ [] }
+    ensures failed { result.failed ≡ 0 }
+{
+    let port = Live::new(ends.line, ends.listener, ends.clock, allow_list, config);
+    RunPort::new(if goes_on { port.cut_first() } else { port })
+}
+
 /// A live run that is over: one that began anew, or one whose state is kept.
 #[derive(Drop)]
 pub(crate) enum Over<A: Drop, K: Drop> {
@@ -204,7 +229,7 @@ pub(crate) enum Over<A: Drop, K: Drop> {
 /// A live run at this site that is over.
 pub(crate) type RunOver<T> = Over<
     Lived<
-        SitePort<RunPort<<T as RunSite>::Line, <T as RunSite>::Listener, <T as RunSite>::Clock>>,
+        RunPort<<T as RunSite>::Line, <T as RunSite>::Listener, <T as RunSite>::Clock>,
         <T as RunSite>::Sheet,
         <T as RunSite>::Sink,
         <T as RunSite>::Glass,
@@ -227,21 +252,19 @@ pub(crate) fn run_at<T: RunSite>(
         (λ anew. HasLivedAs (BeginsIn T.Folder.File.Disk config.now text.now T.Folder.lineage)
         config.now wishes.entry (record {
           before = anew.run_log.port.before.entries;
-          port = anew.run_log.port.port.port.port;
+          port = anew.run_log.port.port.port;
           pen = anew.run_log.port.port.pen;
           book = anew.run_log.logger;
           is_shown = is_some anew.lookout;
-          is_redialled = anew.run_log.port.port.port.is_redialled;
           bears_loss = None;
         }) anew.ended)
         (λ kept. HasLivedAs (BeginsIn T.Folder.File.Disk config.now text.now T.Folder.lineage)
         config.now wishes.entry (record {
           before = kept.run_log.port.before.entries;
-          port = kept.run_log.port.port.port.ends.port.port;
+          port = kept.run_log.port.port.port.ends.port;
           pen = kept.run_log.port.port.pen;
           book = kept.run_log.logger;
           is_shown = is_some kept.lookout;
-          is_redialled = kept.run_log.port.port.port.ends.port.is_redialled;
           bears_loss = Some kept.run_log.port.port.port.bears_loss;
         }) kept.ended)) }
     ensures fault { IfErr result IsKeptFault }
@@ -258,56 +281,48 @@ fn run_anew<T: RunSite>(
     site: &T,
     config: &Config,
     wishes: Wishes<'_>,
-) -> Result<
-    Lived<SitePort<RunPort<T::Line, T::Listener, T::Clock>>, T::Sheet, T::Sink, T::Glass>,
-    Fault,
->
+) -> Result<Lived<RunPort<T::Line, T::Listener, T::Clock>, T::Sheet, T::Sink, T::Glass>, Fault>
     ensures lived { IfOk result (λ lived. HasLived config.now wishes.entry.allow_list false []
-        lived.run_log.port.port.port.port lived.run_log.port.port.pen lived.ended) }
+        lived.run_log.port.port.port lived.run_log.port.port.pen lived.ended) }
     ensures before { IfOk result (λ lived. lived.run_log.port.before.entries ≡ []) }
     ensures wished { IfOk result (λ lived. IsAsWished wishes.entry lived.run_log.logger
         lived.run_log.port.port.pen (is_some lived.lookout)) }
-    // Its line was reached again where that was wished.
-    ensures redialled { IfOk result (λ lived.
-        lived.run_log.port.port.port.is_redialled ≡ wishes.entry.redial) }
     ensures fault { IfErr result IsEndFault }
 {
     let gateway = Gateway::new(site.alloc(), config)?;
     let mut scribes = scribes_of(site, config, &wishes)?;
     let ends = opened(site, &wishes, 0, &mut scribes.logger)?;
-    Ok(run_new(site, config, gateway, ends, wishes, scribes))
+    Ok(run_new(site, config, gateway, ends, wishes.allow_list, scribes))
 }
 
 /// Runs a new gateway between these ends, whose clock begins at 0.
 #[tactic(auto, using(crate::proofs::RunPorts::port_of_run))]
 fn run_new<T: RunSite>(
-    site: &T,
+    _site: &T,
     config: &Config,
     gateway: Gateway,
     ends: RunEnds<T::Line, T::Listener, T::Clock>,
-    wishes: Wishes<'_>,
+    allow_list: AllowList,
     scribes: Scribes<T::Sink, T::Sheet, T::Glass>,
-) -> Lived<SitePort<RunPort<T::Line, T::Listener, T::Clock>>, T::Sheet, T::Sink, T::Glass>
+) -> Lived<RunPort<T::Line, T::Listener, T::Clock>, T::Sheet, T::Sink, T::Glass>
     requires new { logged_first (log_of scribes.pen) (Some []) ≡ Some [] }
     requires begins { Follows (setup_of config.now) gateway (Some []) }
     requires clock { T.begins_at ends.clock 0 }
-    requires line { T.comes_back ends.line ≡ wishes.redial }
-    ensures lived { HasLived config.now wishes.entry.allow_list false []
-        result.run_log.port.port.port.port result.run_log.port.port.pen result.ended }
+    ensures lived { HasLived config.now allow_list false [] result.run_log.port.port.port
+        result.run_log.port.port.pen result.ended }
     ensures before { result.run_log.port.before.entries ≡ [] }
     ensures logged { book_fixture result.run_log.logger ≡ book_fixture scribes.logger }
     ensures recorded { result.run_log.port.port.pen.is_wished ≡ scribes.pen.is_wished }
     ensures looked { is_some result.lookout ≡ is_some scribes.lookout }
-    ensures redialled { result.run_log.port.port.port.is_redialled ≡ wishes.entry.redial }
 {
-    let port = port_between(site, config, ends, wishes.allow_list, false, wishes.redial);
+    let port = port_between(config, ends, allow_list, false);
     live(gateway, port, History::new(), scribes)
 }
 
 /// A port between the ends of a site, whose events are kept in a directory of it.
 pub(crate) type Kept<T> = Keeper<
     Pair<
-        SitePort<RunPort<<T as RunSite>::Line, <T as RunSite>::Listener, <T as RunSite>::Clock>>,
+        RunPort<<T as RunSite>::Line, <T as RunSite>::Listener, <T as RunSite>::Clock>,
         DiskStore<<T as RunSite>::Folder>,
     >,
 >;
@@ -323,21 +338,12 @@ fn keeper_between<T: RunSite>(
     gateway: &Gateway,
     wishes: Wishes<'_>,
 ) -> Kept<T>
-    requires line { T.comes_back ends.line ≡ wishes.redial }
     ensures bears { result.bears_loss ≡ wishes.entry.bears_loss }
-    ensures redialled { result.ends.port.is_redialled ≡ wishes.entry.redial }
-    ensures port { IsPortOf config.now wishes.entry.allow_list goes_on result.ends.port.port }
-    ensures log { result.ends.port.port.log ≡ [] }
-    ensures failed { result.ends.port.port.failed + result.stops ≡ 0 }
+    ensures port { IsPortOf config.now wishes.entry.allow_list goes_on result.ends.port }
+    ensures log { result.ends.port.log ≡ [] }
+    ensures failed { result.ends.port.failed + result.stops ≡ 0 }
 {
-    let port = port_between(
-        site,
-        config,
-        ends,
-        wishes.allow_list,
-        goes_on,
-        wishes.redial,
-    );
+    let port = port_between(config, ends, wishes.allow_list, goes_on);
     Keeper::new(
         Pair::new(site.alloc(), port, store),
         gateway,
@@ -358,15 +364,12 @@ fn run_kept<T: RunSite>(
     ensures lived { IfOk result (λ lived. HasLivedFrom
         (BeginsIn T.Folder.File.Disk config.now text.now T.Folder.lineage) config.now
         wishes.entry.allow_list lived.run_log.port.before.entries
-        lived.run_log.port.port.port.ends.port.port lived.run_log.port.port.pen lived.ended) }
+        lived.run_log.port.port.port.ends.port lived.run_log.port.port.pen lived.ended) }
     ensures wished { IfOk result (λ lived. IsAsWished wishes.entry lived.run_log.logger
         lived.run_log.port.port.pen (is_some lived.lookout)) }
     // It bore the loss of its state where that was wished.
     ensures bears { IfOk result (λ lived.
         lived.run_log.port.port.port.bears_loss ≡ wishes.entry.bears_loss) }
-    // Its line was reached again where that was wished.
-    ensures redialled { IfOk result (λ lived.
-        lived.run_log.port.port.port.ends.port.is_redialled ≡ wishes.entry.redial) }
     ensures fault { IfErr result IsKeptFault }
 {
     let mut scribes = scribes_of(site, config, &wishes)?;
@@ -396,16 +399,13 @@ fn run_from<T: RunSite>(
 ) -> Lived<Kept<T>, T::Sheet, T::Sink, T::Glass>
     requires new { logged_first (log_of scribes.pen) (Some []) ≡ Some [] }
     requires clock { T.begins_at ends.clock (first_moment begun.origin.moment) }
-    requires line { T.comes_back ends.line ≡ wishes.redial }
     ensures lived { HasLivedOn config.now wishes.entry.allow_list begun.origin
-        result.run_log.port.before.entries result.run_log.port.port.port.ends.port.port
+        result.run_log.port.before.entries result.run_log.port.port.port.ends.port
         result.run_log.port.port.pen result.ended }
     ensures logged { book_fixture result.run_log.logger ≡ book_fixture scribes.logger }
     ensures recorded { result.run_log.port.port.pen.is_wished ≡ scribes.pen.is_wished }
     ensures looked { is_some result.lookout ≡ is_some scribes.lookout }
     ensures bears { result.run_log.port.port.port.bears_loss ≡ wishes.entry.bears_loss }
-    ensures redialled { result.run_log.port.port.port.ends.port.is_redialled
-        ≡ wishes.entry.redial }
 {
     let Begun { origin, store } = begun;
     let Origin {

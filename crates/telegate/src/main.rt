@@ -52,7 +52,6 @@ mod showing;
 mod simulating;
 mod simulating_in_words;
 mod site;
-mod site_port;
 mod source;
 mod stood;
 mod wishes;

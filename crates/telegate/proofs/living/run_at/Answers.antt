@@ -7,27 +7,24 @@ returns-in_ok-run_anew-in-None-clause-lived g c =
     let run = c.in_ok-run_anew-in-None.field-0 in
     lived_anew _ c.args.config.now c.args.wishes (record {
       before = run.run_log.port.before.entries;
-      port = run.run_log.port.port.port.port;
+      port = run.run_log.port.port.port;
       pen = run.run_log.port.port.pen;
       book = run.run_log.logger;
       is_shown = is_some run.lookout;
-      is_redialled = run.run_log.port.port.port.is_redialled;
       bears_loss = None;
     }) run.ended c.in-None.is c.in_ok-run_anew-in-None.ensures.before
     c.in_ok-run_anew-in-None.ensures.lived c.in_ok-run_anew-in-None.ensures.wished
-    c.in_ok-run_anew-in-None.ensures.redialled
 
 pub returns-in_ok-run_kept-in-Some-clause-lived : goal.returns-in_ok-run_kept-in-Some-clause-lived
 returns-in_ok-run_kept-in-Some-clause-lived g c =
     let run = c.in_ok-run_kept-in-Some.field-0 in
     lived_kept _ c.args.config.now c.args.wishes c.in-Some.directory (record {
       before = run.run_log.port.before.entries;
-      port = run.run_log.port.port.port.ends.port.port;
+      port = run.run_log.port.port.port.ends.port;
       pen = run.run_log.port.port.pen;
       book = run.run_log.logger;
       is_shown = is_some run.lookout;
-      is_redialled = run.run_log.port.port.port.ends.port.is_redialled;
       bears_loss = Some run.run_log.port.port.port.bears_loss;
     }) run.ended c.in-Some.is c.in_ok-run_kept-in-Some.ensures.lived
-    c.in_ok-run_kept-in-Some.ensures.wished c.in_ok-run_kept-in-Some.ensures.redialled
+    c.in_ok-run_kept-in-Some.ensures.wished
     (ap Some c.in_ok-run_kept-in-Some.ensures.bears)

@@ -9,10 +9,10 @@ use Rattle.telegate.proofs.living.run_from.Goals as goal
 pub returns-clause-lived : goal.returns-clause-lived
 returns-clause-lived g c =
     let fixed : IsPortOf c.args.config.now c.args.wishes.allow_list
-    (is_some c.args.begun.origin.moment) c.live.result.run_log.port.port.port.ends.port.port =
+    (is_some c.args.begun.origin.moment) c.live.result.run_log.port.port.port.ends.port =
     search rules in
     let port = port_of_run c.args.config.now c.args.wishes.allow_list
-    (is_some c.args.begun.origin.moment) c.live.result.run_log.port.port.port.ends.port.port
+    (is_some c.args.begun.origin.moment) c.live.result.run_log.port.port.port.ends.port
     _ fixed c.live.ensures.shown in
     record {
       behind = search rules;

@@ -30,11 +30,10 @@ returns-in-Ok-Anew c =
       came = inr (record {
         left = record {
           before = run.run_log.port.before.entries;
-          port = run.run_log.port.port.port.port;
+          port = run.run_log.port.port.port;
           pen = run.run_log.port.port.pen;
           book = run.run_log.logger;
           is_shown = is_some run.lookout;
-          is_redialled = run.run_log.port.port.port.is_redialled;
           bears_loss = None;
         };
         ended = run.ended;
@@ -54,11 +53,10 @@ returns-in-Ok-Kept c =
       came = inr (record {
         left = record {
           before = run.run_log.port.before.entries;
-          port = run.run_log.port.port.port.ends.port.port;
+          port = run.run_log.port.port.port.ends.port;
           pen = run.run_log.port.port.pen;
           book = run.run_log.logger;
           is_shown = is_some run.lookout;
-          is_redialled = run.run_log.port.port.port.ends.port.is_redialled;
           bears_loss = Some run.run_log.port.port.port.bears_loss;
         };
         ended = run.ended;
