@@ -216,7 +216,7 @@ impl Host for System<'_> {
         };
         // Held until the run is over.
         let Ok(_held) = standard_descriptors(self.rt) else {
-            return Err(Fault::Device);
+            return Err(Fault::EndUnusable);
         };
         let names = named_by(wishes.names, stations.as_slice());
         let site = process_of(self.rt, &places, names, wishes.log_severity);

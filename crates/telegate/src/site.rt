@@ -35,7 +35,7 @@ impl From<EndRefusal> for Fault {
         if refusal.is_memory {
             Fault::NoMemory
         } else {
-            Fault::Device
+            Fault::EndUnusable
         }
     }
 }
