@@ -21,7 +21,7 @@ returns-in_default-standard_descriptors c =
 
 pub returns-in-Ok-Anew : goal.returns-in-Ok-Anew
 returns-in-Ok-Anew c =
-    let run = c.in-Ok-Anew.run in
+    let run = c.in-Ok-Anew.run' in
     let lived = rw c.in-Ok-Anew.field-0-is at c.in-Ok-Anew.ensures.lived in
     inl (record {
       settings = c.in_ok-settings.settings;
@@ -44,7 +44,7 @@ returns-in-Ok-Anew c =
 
 pub returns-in-Ok-Kept : goal.returns-in-Ok-Kept
 returns-in-Ok-Kept c =
-    let run = c.in-Ok-Kept.run in
+    let run = c.in-Ok-Kept.run' in
     let lived = rw c.in-Ok-Kept.field-0-is at c.in-Ok-Kept.ensures.lived in
     inl (record {
       settings = c.in_ok-settings.settings;
