@@ -61,7 +61,7 @@ returns-in-Ok-Kept c =
         };
         ended = run.ended;
         lived = lived;
-        answered = c.answer_to-2.ensures;
+        answered = c.answer_to-in-Ok-Kept.ensures;
       });
     })
 
