@@ -33,7 +33,7 @@ use Rattle.telegate.specs.declared.fault.Fault.{Fault}
 use Rattle.telegate.specs.declared.fault.Fault.TheVariants.{Config, Site, Trace, Script, Record}
 use Rattle.telegate.specs.declared.fault.Fault.TheVariants.{Sizes, Octets, Address, NoState}
 use Rattle.telegate.specs.declared.fault.Fault.TheVariants.{StateInUse, StateUnusable, Device}
-use Rattle.telegate.specs.declared.fault.Fault.TheVariants.{Unread, NoMemory}
+use Rattle.telegate.specs.declared.fault.Fault.TheVariants.{EndUnusable, Unread, NoMemory}
 
 module _ (manner : Manner) (r : Bool) (has : List ℕ → Type 0) (closing : Closing)
     (settings : Settings) (trace : List ℕ)
@@ -252,6 +252,8 @@ misjudged config manner r has closing settings known old read found gives Sizes 
 misjudged config manner r has closing settings known old read found gives Octets wrong =
     absurd wrong
 misjudged config manner r has closing settings known old read found gives Address wrong =
+    absurd wrong
+misjudged config manner r has closing settings known old read found gives EndUnusable wrong =
     absurd wrong
 misjudged config manner r has closing settings known old read found gives Device wrong =
     absurd wrong

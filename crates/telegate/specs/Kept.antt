@@ -11,7 +11,7 @@ use Rattle.record.specs.Recording.{Recording}
 use Rattle.state.specs.declared.beginning.Origin.{Origin}
 use Rattle.telegate.specs.Living.{HasLived, IsPortOfRun}
 use Rattle.telegate.specs.declared.fault.Fault.{Fault}
-use Rattle.telegate.specs.declared.fault.Fault.TheVariants.{Device, NoMemory, StateInUse}
+use Rattle.telegate.specs.declared.fault.Fault.TheVariants.{EndUnusable, NoMemory, StateInUse}
 use Rattle.telegate.specs.declared.fault.Fault.TheVariants.{StateUnusable}
 
 -- where the clock begins, in ms
@@ -19,9 +19,9 @@ abbrev pub first_moment : Option ℕ → ℕ
 first_moment None = 0
 first_moment (Some moment) = moment
 
--- an end of a run can't be had
+-- an end of a run can't be had, which isn't that its device failed
 abbrev pub IsEndFault : Fault → Type 0
-IsEndFault Device = Unit {0}
+IsEndFault EndUnusable = Unit {0}
 IsEndFault NoMemory = Unit {0}
 IsEndFault _ = ⊥
 

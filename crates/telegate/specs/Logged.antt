@@ -10,7 +10,7 @@ use Rattle.runlog.specs.declared.note.Trouble.TheVariants as trouble
 use Rattle.state.specs.declared.beginning.Origin.{Origin}
 use Rattle.state_words.specs.Notes.{note_of, note_of_queue, note_of_settings}
 use Rattle.telegate.specs.declared.fault.Fault.{Fault}
-use Rattle.telegate.specs.declared.fault.Fault.TheVariants.{Device, NoMemory, StateInUse}
+use Rattle.telegate.specs.declared.fault.Fault.TheVariants.{EndUnusable, NoMemory, StateInUse}
 use Rattle.telegate.specs.declared.fault.Fault.TheVariants.{StateUnusable}
 use Rattle.telegate.specs.declared.site.EndRefusal.{EndRefusal}
 
@@ -51,10 +51,10 @@ IsUnkept StateUnusable old new = LogsNote old (note.Trouble trouble.StateUnusabl
 IsUnkept NoMemory old new = new ≡ old
 IsUnkept _ old new = ⊥
 
--- memory or a device is refused
+-- memory or an end is refused
 abbrev pub fault_of : (is_memory : Bool) → Fault
 fault_of true = NoMemory
-fault_of false = Device
+fault_of false = EndUnusable
 
 -- an end can't be had, which is logged, and the run doesn't begin
 pub record IsRefused (fault : Fault) (old new : Book) : Type 0 where

@@ -1,5 +1,6 @@
 -- What came of a live run that was wished (this gateway's own profile).
-use Rattle.std.specs.Prelude.{◌≡◌, ◌⊎◌, ℕ, List, [], Bool, false, MatchOption, Result, Ok, Err}
+use Rattle.std.specs.Prelude.{◌≡◌, ◌⊎◌, ℕ, List, [], Bool, false, Option, Some, MatchOption}
+use Rattle.std.specs.Prelude.{Result, Ok, Err}
 use Rattle.gateway.specs.Config.{Settings}
 use Rattle.gateway.specs.Log.{Log}
 use Rattle.live.specs.Ends.{LiveEnds}
@@ -15,38 +16,46 @@ use Rattle.telegate.specs.Running.{IsLiveConfigFault}
 use Rattle.telegate.specs.declared.fault.Fault.{Fault}
 use Rattle.telegate.specs.declared.fault.Fault.TheVariants.{Device}
 use Rattle.telegate.specs.declared.host.Wishes.{Wishes}
+use Rattle.telegate.specs.declared.living.Over.{Over}
+use Rattle.telegate.specs.declared.living.Over.TheVariants.{Anew, Kept}
 use Rattle.telegate.specs.declared.running.DeviceFailed.{DeviceFailed}
 
--- a run without a state is over: it began anew, and was as it was wished
-pub record HasLivedAnew {E : Type 0} (settings : Settings) (wishes : Wishes)
-    (ended : Result (Unit {0}) E) : Type 0 where
-  pub port : LiveEnds
-  pub pen : Recording
-  pub book : Book
-  pub is_shown : Bool
-  pub lived : HasLived settings wishes.allow_list false [] port pen ended
-  pub wished : IsAsWished wishes book pen is_shown
-
--- A run whose state is kept is over: it began so, went on from there, and was as it was wished. It
--- bore the loss of its state where that was wished.
-pub record HasLivedKept {E : Type 0} (begins : Origin → Type 0) (settings : Settings)
-    (wishes : Wishes) (ended : Result (Unit {0}) E) : Type 0 where
+-- What is left of a run that is over: what passed before it, its port, its record and its log,
+-- whether it was shown, and, where its state was kept, whether it bore the loss of that.
+pub record RunLeft : Type 0 where
   pub before : Log
   pub port : LiveEnds
   pub pen : Recording
   pub book : Book
   pub is_shown : Bool
-  pub bears_loss : Bool
-  pub lived : HasLivedFrom begins settings wishes.allow_list before port pen ended
-  pub wished : IsAsWished wishes book pen is_shown
-  pub bears : bears_loss ≡ wishes.bears_loss
+  pub bears_loss : Option Bool
 
--- a run with these settings is over, as it was wished
-abbrev pub HasLivedAs : {E : Type 0} → (begins : Origin → Type 0) → Settings → Wishes
+-- a run without a state is over: it began anew, and was as it was wished
+pub record HasLivedAnew {E : Type 0} (settings : Settings) (wishes : Wishes) (left : RunLeft)
+    (ended : Result (Unit {0}) E) : Type 0 where
+  pub anew : left.before ≡ []
+  pub lived : HasLived settings wishes.allow_list false [] left.port left.pen ended
+  pub wished : IsAsWished wishes left.book left.pen left.is_shown
+
+-- A run whose state is kept is over: it began so, went on from there, and was as it was wished. It
+-- bore the loss of its state where that was wished.
+pub record HasLivedKept {E : Type 0} (begins : Origin → Type 0) (settings : Settings)
+    (wishes : Wishes) (left : RunLeft) (ended : Result (Unit {0}) E) : Type 0 where
+  pub lived : HasLivedFrom begins settings wishes.allow_list left.before left.port left.pen ended
+  pub wished : IsAsWished wishes left.book left.pen left.is_shown
+  pub bears : left.bears_loss ≡ Some wishes.bears_loss
+
+-- a run with these settings is over, of which this is left, as it was wished
+abbrev pub HasLivedAs : {E : Type 0} → (begins : Origin → Type 0) → Settings → Wishes → RunLeft
     → Result (Unit {0}) E → Type 0
-HasLivedAs begins settings wishes ended =
-    MatchOption wishes.state (HasLivedAnew settings wishes ended)
-    (λ _. HasLivedKept begins settings wishes ended)
+HasLivedAs begins settings wishes left ended =
+    MatchOption wishes.state (HasLivedAnew settings wishes left ended)
+    (λ _. HasLivedKept begins settings wishes left ended)
+
+-- this holds of a run that began anew, or that of one whose state is kept
+abbrev pub IfOver : {A K : Type 0} → Over A K → (A → Type 0) → (K → Type 0) → Type 0
+IfOver (Anew run) anew kept = anew run
+IfOver (Kept run) anew kept = kept run
 
 -- what is answered of a run that has ended so: a device that failed is a fault
 abbrev pub answer_to : Result (Unit {0}) DeviceFailed → Result (Unit {0}) Fault
@@ -56,8 +65,9 @@ answer_to (Err failed) = Err Device
 -- a run with these settings is over, and this is answered of it
 pub record IsOver (begins : Origin → Type 0) (settings : Settings) (wishes : Wishes)
     (answer : Result (Unit {0}) Fault) : Type 0 where
+  pub left : RunLeft
   pub ended : Result (Unit {0}) DeviceFailed
-  pub lived : HasLivedAs begins settings wishes ended
+  pub lived : HasLivedAs begins settings wishes left ended
   pub answered : answer ≡ answer_to ended
 
 -- it didn't begin: an end of it, or its state, can't be had

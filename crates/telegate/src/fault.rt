@@ -59,7 +59,10 @@ pub(crate) enum Fault {
     /// The state can't be kept there.
     #[error("state: can't be kept there")]
     StateUnusable,
-    /// The output can't be written.
+    /// An end of a run can't be had.
+    #[error("device failed")]
+    EndUnusable,
+    /// The output can't be written, or the device of a run failed.
     #[error("device failed")]
     Device,
     /// A text can't be read on, or isn't the one that was judged.
@@ -99,8 +102,11 @@ impl Fault {
             | Fault::Sizes
             | Fault::Octets => BAD_CONTENT,
             Fault::Address | Fault::NoState => USAGE,
-            Fault::StateInUse | Fault::StateUnusable | Fault::Device | Fault::Unread =>
-                DEVICE_FAILED,
+            Fault::StateInUse
+            | Fault::StateUnusable
+            | Fault::EndUnusable
+            | Fault::Device
+            | Fault::Unread => DEVICE_FAILED,
             Fault::NoMemory => NO_MEMORY,
         }
     }

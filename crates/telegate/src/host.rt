@@ -11,7 +11,7 @@ ghost use Rattle.telegate.specs.declared.host.Wishes.{Wishes};
 
 use crate::fault::Fault;
 use crate::inquiry::ask_at;
-use crate::living::{read_live, run_at};
+use crate::living::{Over, read_live, run_at};
 use crate::playing::{play_behind, scenario_of};
 use crate::running::DeviceFailed;
 use crate::site::Process;
@@ -216,12 +216,13 @@ impl Host for System<'_> {
         };
         // Held until the run is over.
         let Ok(_held) = standard_descriptors(self.rt) else {
-            return Err(Fault::Device);
+            return Err(Fault::EndUnusable);
         };
         let names = named_by(wishes.names, stations.as_slice());
         let site = process_of(self.rt, &places, names, wishes.log_severity);
         match run_at(&site, &settings, config, wishes) {
-            Ok(ended) => answer_to(ended),
+            Ok(Over::Anew(run)) => answer_to(run.ended),
+            Ok(Over::Kept(run)) => answer_to(run.ended),
             Err(fault) => Err(fault),
         }
     }
@@ -289,7 +290,9 @@ fn process_of<'a>(
     places: &'a LiveSettings,
     names: LogNames<'a>,
     has_severity: bool,
-) -> Process<'a> {
+) -> Process<'a>
+    ensures severity { result.has_severity ≡ has_severity }
+{
     Process {
         rt,
         places,

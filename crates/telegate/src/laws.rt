@@ -1,16 +1,22 @@
 //! What of a run's ends is seen by its log and by its page, and what is said of a run.
-ghost use Rattle.std.specs.Prelude.{◌≡◌, ◌||◌, not};
-ghost use Rattle.std.specs.Option.{option_or};
+ghost use Rattle.std.specs.Prelude.{◌≡◌, ◌||◌, ℕ, List, not, Some, Result};
+ghost use Rattle.std.specs.Borrow.{Bor};
+ghost use Rattle.std.specs.Option.{is_some, option_or};
+ghost use Rattle.clap.specs.Words.{Text};
+ghost use Rattle.gateway.specs.Config.{Settings};
 ghost use Rattle.sitefile.specs.Site.{SiteNames, SiteValues, names_of};
+ghost use Rattle.state.specs.Directories.{BeginsIn};
 ghost use Rattle.live.specs.Redial.{Redial};
 ghost use Rattle.live.specs.Runs.{ShowsRun};
 ghost use Rattle.live.specs.Streams.{Calls};
 ghost use Rattle.live.specs.declared.watched.EndsSight.{EndsSight};
 ghost use Rattle.telegate.specs.AllowLists.{IsAllowListOf};
 ghost use Rattle.telegate.specs.CommandLine.{text_of, texts_of};
+ghost use Rattle.telegate.specs.Ran.{HasLivedAs, RunLeft};
 ghost use Rattle.telegate.specs.Wishes.{AreWishes, Said, said_by, said_in, said_of};
 ghost use Rattle.telegate.specs.declared.host.Wishes.{Wishes};
 ghost use Rattle.telegate.specs.declared.run_words.RunWords.{RunWords};
+ghost use Rattle.telegate.specs.declared.running.DeviceFailed.{DeviceFailed};
 ghost use Rattle.telegate.specs.declared.site.ProcessLine.TheVariants.{Once, Again};
 
 use crate::life::Life;
@@ -79,4 +85,22 @@ pub fn what_is_said_keeps_its_name()
         × (w.record ≡ s.recorded) × (w.bears_loss ≡ not s.or_stop)
         × (text_of w.state ≡ s.state) × IsAllowListOf s.allow w.allow_list
         × (text_of w.status ≡ s.status) × (names_of w.names.now ≡ names) }
+{}
+
+/// What is left of a live run that is over is as its wishes name it: it was logged and recorded
+/// where that was wished, watched and shown where a place is named for that, and these could
+/// connect. Where its state was kept it bore the loss of that if that was wished.
+#[tactic(auto, using(crate::proofs::RanLemmas::as_wished, crate::proofs::RanLemmas::bears_as_wished))]
+pub fn runs_are_as_they_were_wished<T: RunSite>()
+    ensures all { (c : Settings) (text : List ℕ) (w : Wishes) (left : RunLeft)
+        (ended : Result (Unit {0}) DeviceFailed) →
+        HasLivedAs (BeginsIn T.Folder.File.Disk c text T.Folder.lineage) c w left ended →
+        (left.book.is_wished ≡ w.log) × (left.pen.is_wished ≡ w.record)
+        × (left.book.is_watching ≡ is_some w.status) × (left.is_shown ≡ is_some w.status)
+        × (left.port.allow_list ≡ w.allow_list) }
+    ensures bears { (c : Settings) (text : List ℕ) (w : Wishes) (left : RunLeft)
+        (ended : Result (Unit {0}) DeviceFailed) (directory : Bor Text) →
+        HasLivedAs (BeginsIn T.Folder.File.Disk c text T.Folder.lineage) c w left ended →
+        w.state ≡ Some directory →
+        left.bears_loss ≡ Some w.bears_loss }
 {}

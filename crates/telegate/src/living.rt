@@ -1,5 +1,6 @@
 //! The command that runs the gateway between a line and a control centre.
-ghost use Rattle.std.specs.Prelude.{◌≡◌, ◌+◌, IfOk, IfErr, Some, Option, is_some, [], false, not};
+ghost use Rattle.std.specs.Prelude.{◌≡◌, ◌+◌, IfOk, IfErr, Some, None, Option, is_some, []};
+ghost use Rattle.std.specs.Prelude.{false, not};
 ghost use Rattle.std.specs.declared.net.socket_addr.SocketAddr.{SocketAddr};
 ghost use Rattle.gateway.specs.Agrees.{Follows};
 ghost use Rattle.gateway.specs.Setups.{setup_of};
@@ -11,7 +12,7 @@ ghost use Rattle.telegate.specs.AsWished.{IsAsWished};
 ghost use Rattle.telegate.specs.Kept.{HasLivedFrom, HasLivedOn, IsEndFault, IsKeptFault};
 ghost use Rattle.telegate.specs.Kept.{first_moment};
 ghost use Rattle.telegate.specs.Living.{HasLived, IsPortOf};
-ghost use Rattle.telegate.specs.Ran.{HasLivedAs};
+ghost use Rattle.telegate.specs.Ran.{HasLivedAs, IfOver};
 ghost use Rattle.telegate.specs.Running.{IsReadLiveConfig};
 ghost use Rattle.telegate.specs.Logged.{IsRefused, IsUnkept, LogsNoteIf, LogsBeginning, LogsGap};
 ghost use Rattle.telegate.specs.Logged.{note_if_on, note_of_address};
@@ -19,7 +20,7 @@ ghost use Rattle.telegate.specs.Logged.{note_if_on, note_of_address};
 use crate::fault::Fault;
 use crate::help::VERSION;
 use crate::host::Wishes;
-use crate::running::{DeviceFailed, Lived, Scribes, live};
+use crate::running::{Lived, Scribes, live};
 use crate::site::{EndRefusal, RunSite};
 use gateway::{Action, Config, Gateway, History};
 use live::{AllowList, Listener, Live, OctetStream, RunPort};
@@ -216,24 +217,61 @@ fn port_between<S: OctetStream, L: Listener + Drop, C: live::RunClock + Drop>(
     RunPort::new(if goes_on { port.cut_first() } else { port })
 }
 
-/// Runs the gateway live with these settings, which were read from this text, and answers how that
-/// ended. An `Err` says why it didn't begin.
+/// A live run that is over: one that began anew, or one whose state is kept.
+#[derive(Drop)]
+pub(crate) enum Over<A: Drop, K: Drop> {
+    /// It began anew.
+    Anew(A),
+    /// Its state is kept.
+    Kept(K),
+}
+
+/// A live run at this site that is over.
+pub(crate) type RunOver<T> = Over<
+    Lived<
+        RunPort<<T as RunSite>::Line, <T as RunSite>::Listener, <T as RunSite>::Clock>,
+        <T as RunSite>::Sheet,
+        <T as RunSite>::Sink,
+        <T as RunSite>::Glass,
+    >,
+    Lived<Kept<T>, <T as RunSite>::Sheet, <T as RunSite>::Sink, <T as RunSite>::Glass>,
+>;
+
+/// Runs the gateway live with these settings, which were read from this text, and answers what is
+/// left of that. An `Err` says why it didn't begin.
 #[tactic(auto, using(crate::proofs::KeptLemmas::end_is_kept))]
 pub(crate) fn run_at<T: RunSite>(
     site: &T,
     config: &Config,
     text: &[u8],
     wishes: Wishes<'_>,
-) -> Result<Result<(), DeviceFailed>, Fault>
+) -> Result<RunOver<T>, Fault>
+    requires severity { T.severe site.now ≡ wishes.log_severity }
     // A run as wished lived, and so it ended.
-    ensures lived { IfOk result (HasLivedAs
-        (BeginsIn T.Folder.File.Disk config.now text.now T.Folder.lineage) config.now
-        wishes.entry) }
+    ensures lived { IfOk result (λ over. IfOver over
+        (λ anew. HasLivedAs (BeginsIn T.Folder.File.Disk config.now text.now T.Folder.lineage)
+        config.now wishes.entry (record {
+          before = anew.run_log.port.before.entries;
+          port = anew.run_log.port.port.port;
+          pen = anew.run_log.port.port.pen;
+          book = anew.run_log.logger;
+          is_shown = is_some anew.lookout;
+          bears_loss = None;
+        }) anew.ended)
+        (λ kept. HasLivedAs (BeginsIn T.Folder.File.Disk config.now text.now T.Folder.lineage)
+        config.now wishes.entry (record {
+          before = kept.run_log.port.before.entries;
+          port = kept.run_log.port.port.port.ends.port;
+          pen = kept.run_log.port.port.pen;
+          book = kept.run_log.logger;
+          is_shown = is_some kept.lookout;
+          bears_loss = Some kept.run_log.port.port.port.bears_loss;
+        }) kept.ended)) }
     ensures fault { IfErr result IsKeptFault }
 {
     match wishes.state {
-        None => Ok(run_anew(site, config, wishes)?.ended),
-        Some(directory) => Ok(run_kept(site, config, text, directory, wishes)?.ended),
+        None => Ok(Over::Anew(run_anew(site, config, wishes)?)),
+        Some(directory) => Ok(Over::Kept(run_kept(site, config, text, directory, wishes)?)),
     }
 }
 
@@ -246,6 +284,7 @@ fn run_anew<T: RunSite>(
 ) -> Result<Lived<RunPort<T::Line, T::Listener, T::Clock>, T::Sheet, T::Sink, T::Glass>, Fault>
     ensures lived { IfOk result (λ lived. HasLived config.now wishes.entry.allow_list false []
         lived.run_log.port.port.port lived.run_log.port.port.pen lived.ended) }
+    ensures before { IfOk result (λ lived. lived.run_log.port.before.entries ≡ []) }
     ensures wished { IfOk result (λ lived. IsAsWished wishes.entry lived.run_log.logger
         lived.run_log.port.port.pen (is_some lived.lookout)) }
     ensures fault { IfErr result IsEndFault }
@@ -271,6 +310,7 @@ fn run_new<T: RunSite>(
     requires clock { T.begins_at ends.clock 0 }
     ensures lived { HasLived config.now allow_list false [] result.run_log.port.port.port
         result.run_log.port.port.pen result.ended }
+    ensures before { result.run_log.port.before.entries ≡ [] }
     ensures logged { book_fixture result.run_log.logger ≡ book_fixture scribes.logger }
     ensures recorded { result.run_log.port.port.pen.is_wished ≡ scribes.pen.is_wished }
     ensures looked { is_some result.lookout ≡ is_some scribes.lookout }

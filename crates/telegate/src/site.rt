@@ -35,7 +35,7 @@ impl From<EndRefusal> for Fault {
         if refusal.is_memory {
             Fault::NoMemory
         } else {
-            Fault::Device
+            Fault::EndUnusable
         }
     }
 }
@@ -65,10 +65,17 @@ pub(crate) trait RunSite {
     // This line is reached again where it ends.
     ghost comes_back: { Self.Line → Bool };
 
+    // Each line of this log begins with how severe it is.
+    ghost marks: { Self.Sink → Bool };
+
+    // So it is to be with each log here.
+    ghost severe: { Self → Bool };
+
     fn alloc(&self) -> Global;
 
     /// Where the lines of the log go.
-    fn sink(&self) -> Self::Sink;
+    fn sink(&self) -> Self::Sink
+        ensures severity { marks result ≡ severe self.now };
 
     /// What the line and the stations are called.
     fn names(&self) -> LogNames<'_>;
@@ -179,6 +186,10 @@ impl<'r> RunSite for Process<'r> {
     ghost begins_at = { λ clock moment. BeginsAt moment clock.first clock.now };
 
     ghost comes_back = { λ line. is_again line };
+
+    ghost marks = { λ sink. sink.has_severity };
+
+    ghost severe = { λ process. process.has_severity };
 
     fn alloc(&self) -> Global {
         self.rt.alloc()

@@ -1,4 +1,4 @@
-use Rattle.std.proofs.Common.{inl, inr}
+use Rattle.std.proofs.Common.{Some, None, inl, inr, is_some}
 use Rattle.telegate.proofs.host.SystemHost.run.Goals as goal
 
 pub returns-in_default : goal.returns-in_default
@@ -19,16 +19,49 @@ returns-in_default-standard_descriptors c =
       came = inl tt;
     })
 
-pub returns-in-Ok-run_at : goal.returns-in-Ok-run_at
-returns-in-Ok-run_at c =
+pub returns-in-Ok-Anew : goal.returns-in-Ok-Anew
+returns-in-Ok-Anew c =
+    let run = c.in-Ok-Anew.run' in
+    let lived = rw c.in-Ok-Anew.field-0-is at c.in-Ok-Anew.ensures.lived in
     inl (record {
       settings = c.in_ok-settings.settings;
       places = c.in_ok-settings.places;
       are = c.in_ok-settings.ensures;
       came = inr (record {
-        ended = c.in-Ok-run_at.ended;
-        lived = c.in-Ok-run_at.ensures.lived;
+        left = record {
+          before = run.run_log.port.before.entries;
+          port = run.run_log.port.port.port;
+          pen = run.run_log.port.port.pen;
+          book = run.run_log.logger;
+          is_shown = is_some run.lookout;
+          bears_loss = None;
+        };
+        ended = run.ended;
+        lived = lived;
         answered = c.answer_to.ensures;
+      });
+    })
+
+pub returns-in-Ok-Kept : goal.returns-in-Ok-Kept
+returns-in-Ok-Kept c =
+    let run = c.in-Ok-Kept.run' in
+    let lived = rw c.in-Ok-Kept.field-0-is at c.in-Ok-Kept.ensures.lived in
+    inl (record {
+      settings = c.in_ok-settings.settings;
+      places = c.in_ok-settings.places;
+      are = c.in_ok-settings.ensures;
+      came = inr (record {
+        left = record {
+          before = run.run_log.port.before.entries;
+          port = run.run_log.port.port.port.ends.port;
+          pen = run.run_log.port.port.pen;
+          book = run.run_log.logger;
+          is_shown = is_some run.lookout;
+          bears_loss = Some run.run_log.port.port.port.bears_loss;
+        };
+        ended = run.ended;
+        lived = lived;
+        answered = c.answer_to-in-Ok-Kept.ensures;
       });
     })
 
