@@ -8,3 +8,4 @@ pub mod Lines
 pub mod Connections
 pub mod Pipes
 pub mod Described
+pub mod Told

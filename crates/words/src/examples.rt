@@ -12,20 +12,13 @@ ghost use Rattle.show.specs.declared.sizes.LineSizes.{LineSizes};
 ghost use Rattle.words.specs.declared.forms.ElementForm.TheVariants as form;
 ghost use Rattle.words.specs.Connections.{apdu_words, fault_of as fault_in};
 ghost use Rattle.words.specs.Connections.{front_words as connection_words};
-ghost use Rattle.words.specs.Lines.{control_words, fault_of, frame_words, front_words};
+ghost use Rattle.words.specs.Lines.{fault_of, frame_words, front_words};
 ghost use Rattle.words.specs.Tags.{tag_words};
 ghost use Rattle.words.specs.Units.{asdu_words};
 ghost use Rattle.words.specs.Values.{float_text, words_of};
 
-/// Elements in the standard's bits (IEC 60870-5-101, 7.2.6), and their words.
+/// Numbers in the standard's bits (IEC 60870-5-101, 7.2.6), and their words.
 pub fn values_by_example()
-    ensures points { (words_of form.Single (pos 0) (0x01 ∷ []) ≡ codes "on")
-        × (words_of form.Single (pos 0) (0xF0 ∷ [])
-        ≡ codes "off, invalid, not topical, substituted, blocked")
-        × (words_of form.Double (pos 0) (0x00 ∷ []) ≡ codes "intermediate")
-        × (words_of form.Double (pos 0) (0x41 ∷ []) ≡ codes "off, not topical")
-        × (words_of form.Double (pos 0) (0x02 ∷ []) ≡ codes "on")
-        × (words_of form.Double (pos 0) (0x83 ∷ []) ≡ codes "bad, invalid") }
     ensures measured { (words_of form.Step (negsuc 4) (0xFB ∷ 0x01 ∷ [])
         ≡ codes "position -5, transient, overflow")
         × (words_of form.Bits (pos 0) (0x78 ∷ 0x56 ∷ 0x34 ∷ 0xF2 ∷ 0x10 ∷ [])
@@ -44,30 +37,6 @@ pub fn values_by_example()
         × (float_text 0x7F7FFFFF ≡ codes "340282346638528859811704183484516925440")
         × (float_text 0xFF800000 ≡ codes "-infinite")
         × (float_text 0x7FC00000 ≡ codes "not a number") }
-    ensures totals { (words_of form.Counter (negsuc 1) (0xFE ∷ 0xFF ∷ 0xFF ∷ 0xFF ∷ 0xE3 ∷ [])
-        ≡ codes "-2, sequence 3, carry, adjusted, invalid")
-        × (words_of form.Initialised (pos 0) (0x00 ∷ []) ≡ codes "local power on")
-        × (words_of form.Initialised (pos 0) (0x81 ∷ [])
-        ≡ codes "local manual reset, parameters changed")
-        × (words_of form.Initialised (pos 0) (0x02 ∷ []) ≡ codes "remote reset")
-        × (words_of form.Initialised (pos 0) (0x21 ∷ []) ≡ codes "COI 33") }
-    ensures commands { (words_of form.SingleCommand (pos 0) (0x81 ∷ []) ≡ codes "on, select")
-        × (words_of form.SingleCommand (pos 0) (0x04 ∷ [])
-        ≡ codes "off, execute, short pulse")
-        × (words_of form.DoubleCommand (pos 0) (0x8A ∷ []) ≡ codes "on, select, long pulse")
-        × (words_of form.DoubleCommand (pos 0) (0x0D ∷ []) ≡ codes "off, execute, persistent")
-        × (words_of form.DoubleCommand (pos 0) (0x13 ∷ [])
-        ≡ codes "not permitted, execute, QU 4")
-        × (words_of form.StepCommand (pos 0) (0x01 ∷ []) ≡ codes "lower, execute")
-        × (words_of form.StepCommand (pos 0) (0x82 ∷ []) ≡ codes "higher, select")
-        × (words_of form.StepCommand (pos 0) (0x00 ∷ []) ≡ codes "not permitted, execute")
-        × (words_of form.NormalisedSetPoint (pos 0) (0x00 ∷ 0xE0 ∷ 0x80 ∷ [])
-        ≡ codes "-0.250000 (-8192), select")
-        × (words_of form.ScaledSetPoint (pos 12) (0x0C ∷ 0x00 ∷ 0x05 ∷ [])
-        ≡ codes "12, execute, QL 5")
-        × (words_of form.Interrogation (pos 20) (0x14 ∷ []) ≡ codes "station")
-        × (words_of form.Interrogation (pos 36) (0x24 ∷ []) ≡ codes "group 16")
-        × (words_of form.Interrogation (pos 0) (0x00 ∷ []) ≡ codes "QOI 0") }
 {}
 
 /// Time tags (7.2.6.18), and their words.
@@ -113,23 +82,6 @@ pub fn asdus_by_example()
 
 /// Frames of the line and of the connection, and their words.
 pub fn frames_by_example()
-    ensures asked { (control_words 0x7A 3 ≡ codes "poll class 1 to 3 (FCB 1)")
-        × (control_words 0x5B 3 ≡ codes "poll class 2 to 3 (FCB 0)")
-        × (control_words 0x40 258 ≡ codes "reset link to 258")
-        × (control_words 0x49 1 ≡ codes "link status to 1")
-        × (control_words 0x73 1 ≡ codes "user data to 1 (FCB 1)")
-        × (control_words 0x44 1 ≡ codes "user data, no reply to 1")
-        × (control_words 0x41 1 ≡ codes "reset process to 1")
-        × (control_words 0x48 1 ≡ codes "access demand to 1")
-        × (control_words 0x4E 1 ≡ codes "reserved function to 1") }
-    ensures answered { (control_words 0x20 3 ≡ codes "ACK from 3, ACD")
-        × (control_words 0x31 3 ≡ codes "NACK from 3, ACD, DFC")
-        × (control_words 0x08 3 ≡ codes "user data from 3")
-        × (control_words 0x19 3 ≡ codes "no data from 3, DFC")
-        × (control_words 0x0B 3 ≡ codes "link status from 3")
-        × (control_words 0x0E 3 ≡ codes "not functioning from 3")
-        × (control_words 0x0F 3 ≡ codes "not implemented from 3")
-        × (control_words 0x0D 3 ≡ codes "reserved function from 3") }
     ensures lines { (s : LineSizes) → (frame_words s Single ≡ codes "ACK (E5)")
         × (frame_words s (Fixed 0x09 1) ≡ codes "no data from 1")
         × (frame_words s (Data 0x08 1 (record { items = [] })) ≡ codes "user data from 1")

@@ -9,8 +9,10 @@
 //! end.
 //!
 //! Proved: each text is an exact function of the frame (`AreLineWords`, `AreConnectionWords`), for
-//! every type, value, quality and tag; an `Err` is want of memory alone. The words have worked
-//! examples (`values_by_example`, `tags_by_example`, `asdus_by_example`, `frames_by_example`).
+//! every type, value, quality and tag; an `Err` is want of memory alone. Laws say it bit by bit and
+//! field by field, whatever the octets are ([`values_are_told_bit_by_bit`] and its neighbours), and
+//! the words have worked examples (`values_by_example`, `tags_by_example`, `asdus_by_example`,
+//! `frames_by_example`).
 #![tactic(auto)]
 
 mod commands;
@@ -20,6 +22,7 @@ mod examples;
 mod faults;
 mod floats;
 mod forms;
+mod laws;
 mod lines;
 mod monitored;
 mod numbers;
@@ -33,5 +36,9 @@ pub use connections::{push_apdu, push_apdu_refusal, words_of_connection};
 pub use described::{both, describe_apdu, describe_apdus, describe_line, describe_line_frames};
 pub use examples::{asdus_by_example, frames_by_example, tags_by_example, values_by_example};
 pub use faults::push_cut_off;
+pub use laws::{
+    apdus_are_told_field_by_field, asdus_are_told_field_by_field, commands_are_told_bit_by_bit,
+    frames_are_told_field_by_field, tags_are_told_field_by_field, values_are_told_bit_by_bit,
+};
 pub use lines::{push_line_frame, push_line_refusal, words_of_line};
 pub use pipes::{apdu_end, line_end, read_line_of_octets};

@@ -2,14 +2,6 @@ use Rattle.std.proofs.Common.{refl}
 use Rattle.words.proofs.Opened.{frames_open}
 use Rattle.words.proofs.examples.frames_by_example.Goals as goal
 
-pub returns-clause-asked : goal.returns-clause-asked
-unfolding frames_open
-returns-clause-asked c = (refl, refl, refl, refl, refl, refl, refl, refl, refl)
-
-pub returns-clause-answered : goal.returns-clause-answered
-unfolding frames_open
-returns-clause-answered c = (refl, refl, refl, refl, refl, refl, refl, refl)
-
 pub returns-clause-lines : goal.returns-clause-lines
 unfolding frames_open
 returns-clause-lines c = λ s. (refl, refl, refl, refl, refl, refl)
