@@ -1,5 +1,5 @@
 //! The texts by worked examples: literal lines beside literal octets.
-ghost use Rattle.std.specs.Prelude.{◌≡◌, ◌++◌, ◌∷◌, [], ℕ, List, codes, Some, None};
+ghost use Rattle.std.specs.Prelude.{◌≡◌, ◌++◌, ◌∷◌, [], codes, Some, None};
 ghost use Rattle.ft12.specs.declared.frame.Frame.TheVariants.{Single, Fixed, Data};
 ghost use Rattle.ft12.specs.declared.frame.Front.TheVariants as line;
 ghost use Rattle.ft12.specs.declared.frame.LinkSize.TheVariants as link;
@@ -12,9 +12,7 @@ ghost use Rattle.apci.specs.declared.apdu.Why.TheVariants as reason;
 ghost use Rattle.asdu.specs.declared.sizes.CaSize.TheVariants as ca;
 ghost use Rattle.asdu.specs.declared.sizes.CauseSize.TheVariants as cause;
 ghost use Rattle.asdu.specs.declared.sizes.IoaSize.TheVariants as ioa;
-ghost use Rattle.std.specs.Fmt.{decimal};
-ghost use Rattle.elements.specs.TimeTag.{verdict_of};
-ghost use Rattle.elements.specs.declared.tag.Verdict.TheVariants.{Good, MarkedInvalid, OutOfRange};
+ghost use Rattle.elements.specs.declared.tag.Verdict.TheVariants.{MarkedInvalid, OutOfRange};
 ghost use Rattle.elements.specs.declared.tag.Verdict.TheVariants.{NoSuchDay, WrongWeekday};
 ghost use Rattle.show.specs.declared.sizes.LineSizes.{LineSizes};
 ghost use Rattle.show.specs.declared.condition.Condition.TheVariants as condition;
@@ -24,9 +22,7 @@ ghost use Rattle.show.specs.Condition.{rest_line, with_rest};
 ghost use Rattle.show.specs.Sizes.{sizes_of};
 ghost use Rattle.show.specs.Tcp.{function_text, apdu_line, front_lines as apdu_lines};
 ghost use Rattle.show.specs.Tcp.{number_of as number_of_reason};
-ghost use Rattle.hex.specs.Hex.{encode_upper};
-ghost use Rattle.show.specs.Units.{verdict_text, cause_text, judged_text, unit_lines};
-ghost use Rattle.show.specs.Units.{unit_condition};
+ghost use Rattle.show.specs.Units.{verdict_text, cause_text, unit_lines, unit_condition};
 ghost use Rattle.asdu.specs.declared.sizes.Sizes.{Sizes};
 ghost use Rattle.asdu.specs.Sizes.{tcp as tcp_sizes};
 
@@ -92,21 +88,16 @@ pub fn connection_texts_by_example()
     ensures causes { (cause_text 0x83 ≡ codes " test=1 negative=0 cause=3")
         × (cause_text 0x47 ≡ codes " test=0 negative=1 cause=7")
         × (cause_text 0x3F ≡ codes " test=0 negative=0 cause=63") }
-    ensures verdicts { (verdict_text (Good 1000) ≡ codes "good 1000")
-        × (verdict_text MarkedInvalid ≡ codes "marked invalid")
+    ensures verdicts { (verdict_text MarkedInvalid ≡ codes "marked invalid")
         × (verdict_text OutOfRange ≡ codes "out of range")
         × (verdict_text NoSuchDay ≡ codes "no such day")
         × (verdict_text WrongWeekday ≡ codes "wrong weekday") }
 {}
 
-/// Octets of ASDUs, and their lines (docs/TEXTS.md; IEC 60870-5-101, 7.2): a time tag; two objects
-/// under successive addresses (SQ 1) in sizes of two octets, with an originator, test and P/N; an
-/// object whose time tag is marked invalid; and octets that are none, with the reason.
+/// Octets of ASDUs, and their lines (docs/TEXTS.md; IEC 60870-5-101, 7.2): two objects under
+/// successive addresses (SQ 1) in sizes of two octets, with an originator, test and P/N; an object
+/// whose time tag is marked invalid; and octets that are none, with the reason.
 pub fn asdu_texts_by_example()
-    // Which moment a tag names `elements` says.
-    ensures tags { (octets : List ℕ) (instant : ℕ) → verdict_of octets ≡ Good instant →
-        judged_text octets
-        ≡ codes " tag=" ++ encode_upper octets ++ codes " " ++ (codes "good " ++ decimal instant) }
     ensures successive { unit_lines (record { cause = cause.Two; ca = ca.Two; ioa = ioa.Two })
         (0x0B ∷ 0x82 ∷ 0xD4 ∷ 0x07 ∷ 0x02 ∷ 0x01 ∷ 0xFE ∷ 0xFF ∷ 0xFE ∷ 0xFF ∷ 0x00 ∷ 0x2C ∷ 0x01
         ∷ 0x80 ∷ [])

@@ -1,25 +1,33 @@
 //! What holds of every ASDU that is shown.
-ghost use Rattle.std.specs.Prelude.{◌≡◌, ◌+◌, ◌/◌, ◌%◌, ◌^◌, ◌++◌, ◌∷◌, [], ℕ, List, codes, length};
-ghost use Rattle.std.specs.Prelude.{None};
+ghost use Rattle.std.specs.Prelude.{◌≡◌, ◌+◌, ◌-◌, ◌/◌, ◌%◌, ◌^◌, ◌++◌, ◌∷◌, [], ℕ, List, codes};
+ghost use Rattle.std.specs.Prelude.{length, Some, None};
 ghost use Rattle.std.specs.Prelude.{if◌then◌else◌};
 ghost use Rattle.std.specs.Fmt.{decimal, signed_decimal};
 ghost use Rattle.std.specs.List.{flat_map};
 ghost use Rattle.hex.specs.Hex.{encode_upper};
+ghost use Rattle.ft12.specs.declared.frame.Frame.{Frame};
 ghost use Rattle.ft12.specs.declared.frame.Frame.TheVariants.{Fixed, Data};
-ghost use Rattle.ft12.specs.declared.frame.Front.TheVariants.{Never};
+ghost use Rattle.ft12.specs.declared.frame.Front.TheVariants.{Whole, Never};
 ghost use Rattle.ft12.specs.declared.frame.Why.{Why};
+ghost use Rattle.apci.specs.declared.apdu.Apdu.{Apdu};
 ghost use Rattle.apci.specs.declared.apdu.Apdu.TheVariants.{I, S};
+ghost use Rattle.apci.specs.declared.apdu.Front.TheVariants.{Whole as TcpWhole};
 ghost use Rattle.asdu.specs.Asdu.{AsduValue, IsAsdu, IsNoAsdu};
 ghost use Rattle.asdu.specs.Sizes.{tcp};
 ghost use Rattle.asdu.specs.declared.sizes.Sizes.{Sizes};
 ghost use Rattle.elements.specs.Octets.{AreOctets};
+ghost use Rattle.elements.specs.TimeTag.{verdict_of};
 ghost use Rattle.elements.specs.Types.{row, value_shown};
+ghost use Rattle.elements.specs.declared.tag.Verdict.TheVariants.{Good};
 ghost use Rattle.elements.specs.declared.types.TypeId.{TypeId};
-ghost use Rattle.show.specs.Condition.{rest_line};
+ghost use Rattle.show.specs.Condition.{rest_line, with_rest};
 ghost use Rattle.show.specs.Line.{control_text, frame_condition, frame_line, frame_lines};
-ghost use Rattle.show.specs.Line.{front_lines, number_of};
+ghost use Rattle.show.specs.Line.{front_condition, front_lines, number_of};
 ghost use Rattle.show.specs.Tcp.{apdu_condition, apdu_line, apdu_lines};
+ghost use Rattle.show.specs.Tcp.{front_condition as apdu_front, front_lines as apdu_fronts};
 ghost use Rattle.show.specs.Units.{header_line, object_line, unit_condition, unit_lines};
+ghost use Rattle.show.specs.Units.{verdict_text};
+ghost use Rattle.show.specs.declared.condition.Condition.{Condition};
 ghost use Rattle.show.specs.declared.condition.Condition.TheVariants as condition;
 ghost use Rattle.show.specs.declared.sizes.LineSizes.{LineSizes};
 
@@ -27,7 +35,7 @@ use asdu::objects_are_those_of_the_asdu;
 
 /// Octets that are an ASDU are shown as that ASDU: its header, and a line for each of its objects
 /// in their order, which is no fault. Octets that are none are a fault. What a frame or an APDU
-/// carries is shown behind its own line, and judged so.
+/// carries is shown behind its own line, and judged so. Octets behind it are a fault, however many.
 pub fn asdus_are_shown()
     ensures asdus { (s : Sizes) (u : AsduValue) (octets : List ℕ) → IsAsdu s u octets →
         (unit_lines s octets ≡ header_line u ++ flat_map (object_line u.kind) u.infos)
@@ -36,12 +44,24 @@ pub fn asdus_are_shown()
         IsNoAsdu s (first ∷ octets) → unit_condition s (first ∷ octets) ≡ condition.Faulty }
     ensures frames { (s : LineSizes) (c address : ℕ) (octets : List ℕ) →
         let frame = Data c address (record { items = octets }) in
+        let fixed = Fixed c address in
         (frame_lines s frame ≡ frame_line frame ++ unit_lines s.asdu octets)
-        × (frame_condition s frame ≡ unit_condition s.asdu octets) }
+        × (frame_condition s frame ≡ unit_condition s.asdu octets)
+        × (frame_lines s fixed ≡ frame_line fixed) × (frame_condition s fixed ≡ condition.Good) }
     ensures apdus { (ns nr : ℕ) (octets : List ℕ) →
         let apdu = I ns nr (record { items = octets }) in
         (apdu_lines apdu ≡ apdu_line apdu ++ unit_lines tcp octets)
-        × (apdu_condition apdu ≡ unit_condition tcp octets) }
+        × (apdu_condition apdu ≡ unit_condition tcp octets)
+        × (apdu_lines (S nr) ≡ apdu_line (S nr)) × (apdu_condition (S nr) ≡ condition.Good) }
+    ensures behind { (s : LineSizes) (n len : ℕ) (frame : Frame) (apdu : Apdu) →
+        (front_lines s n (Whole frame len) ≡ frame_lines s frame ++ rest_line (n - len))
+        × (front_condition s n (Whole frame len) ≡ with_rest (n - len) (frame_condition s frame))
+        × (apdu_fronts n (TcpWhole apdu len) ≡ apdu_lines apdu ++ rest_line (n - len))
+        × (apdu_front n (TcpWhole apdu len) ≡ with_rest (n - len) (apdu_condition apdu)) }
+    ensures moments { (ms : ℕ) → verdict_text (Good ms) ≡ codes "good " ++ decimal ms }
+    ensures rest { (n : ℕ) (one : Condition) →
+        (rest_line (n + 1) ≡ codes "rest " ++ decimal (n + 1) ++ 10 ∷ [])
+        × (with_rest (n + 1) one ≡ condition.Faulty) × (with_rest 0 one ≡ one) }
 {
     objects_are_those_of_the_asdu();
 }
@@ -64,7 +84,6 @@ pub fn fields_are_shown()
         ++ codes " octets=" ++ decimal (length octets) ++ 10 ∷ []) }
     ensures refusals { (s : LineSizes) (n place : ℕ) (why : Why) → front_lines s n (Never place why)
         ≡ codes "refused " ++ decimal (number_of why) ++ codes " at " ++ decimal place ++ 10 ∷ [] }
-    ensures rest { (n : ℕ) → rest_line (n + 1) ≡ codes "rest " ++ decimal (n + 1) ++ 10 ∷ [] }
     ensures apdus { (ns nr : ℕ) (octets : List ℕ) →
         (apdu_line (I ns nr (record { items = octets }))
         ≡ codes "I ns=" ++ decimal ns ++ codes " nr=" ++ decimal nr
@@ -79,9 +98,13 @@ pub fn fields_are_shown()
         ++ codes " cause=" ++ decimal (u.cause % 2 ^ 6))
         ++ (codes " originator=" ++ decimal u.originator ++ codes " ca=" ++ decimal u.ca
         ++ 10 ∷ [])) }
-    ensures objects { (kind : TypeId) (address : ℕ) (element : List ℕ) →
-        object_line kind (record { address = address; element = element; tag = None })
-        ≡ (codes "object address=" ++ decimal address
-        ++ codes " value=" ++ signed_decimal (value_shown kind element))
-        ++ (codes " element=" ++ encode_upper element ++ [] ++ 10 ∷ []) }
+    ensures objects { (kind : TypeId) (address : ℕ) (element tag : List ℕ) →
+        let value = codes "object address=" ++ decimal address
+        ++ codes " value=" ++ signed_decimal (value_shown kind element) in
+        (object_line kind (record { address = address; element = element; tag = None })
+        ≡ value ++ (codes " element=" ++ encode_upper element ++ [] ++ 10 ∷ []))
+        × (object_line kind (record { address = address; element = element; tag = Some tag })
+        ≡ value ++ (codes " element=" ++ encode_upper element
+        ++ (codes " tag=" ++ encode_upper tag ++ codes " " ++ verdict_text (verdict_of tag))
+        ++ 10 ∷ [])) }
 {}

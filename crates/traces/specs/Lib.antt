@@ -11,3 +11,4 @@ pub mod Progress
 pub mod FirstLines
 pub mod Blocks
 pub mod Saying
+pub mod LineByLine

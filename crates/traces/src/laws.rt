@@ -1,19 +1,30 @@
 //! What holds of every text of a log.
-ghost use Rattle.hex.specs.Hex.{is_hex_digit};
+ghost use Rattle.hex.specs.Hex.{encode_upper, is_hex_digit};
 ghost use Rattle.std.specs.Char.{is_ascii_digit};
-ghost use Rattle.std.specs.List.{All, AllByRecursion};
+ghost use Rattle.std.specs.Fmt.{decimal};
+ghost use Rattle.std.specs.List.{All, AllByRecursion, slice_split};
 ghost use Rattle.std.specs.Prelude.{◌≡◌, ◌<◌, ◌≤◌, List, [], ◌∷◌, ◌++◌, ℕ, ◌+◌, ◌*◌, ◌-◌, ◌%◌};
-ghost use Rattle.std.specs.Prelude.{Some};
-ghost use Rattle.std.specs.Prelude.{None, false, length, reverse, slice_index};
-ghost use Rattle.gateway.specs.Log.{Log, LogEntry};
-ghost use Rattle.traces.specs.Actions.{lines_of_actions};
+ghost use Rattle.std.specs.Prelude.{◌==◌, codes, Some, None, Ok, Err, Vec, false, length, map};
+ghost use Rattle.std.specs.Prelude.{reverse, slice_index};
+ghost use Rattle.std.specs.declared.alloc.Global.{Global};
+ghost use Rattle.gateway.specs.Entries.{event_of};
+ghost use Rattle.gateway.specs.Log.{Log, LogEntry, Came, Went, Input, LineIn, Opened, TcpIn};
+ghost use Rattle.gateway.specs.Log.{CutOff, Ticked, WallIs, Output, LineOut, TcpOut, Closed, GapOut};
+ghost use Rattle.gateway.specs.declared.entries.Entry.{Entry};
+ghost use Rattle.session.specs.declared.kinds.Close.TheVariants.{Grammar, SendNumber};
+ghost use Rattle.session.specs.declared.kinds.Close.TheVariants.{ReceiveNumber, Stopped, Timeout};
+ghost use Rattle.session.specs.declared.kinds.Close.TheVariants.{OwnAnswers, Replaced};
+ghost use Rattle.traces.specs.Actions.{line_of, lines_of_actions};
 ghost use Rattle.traces.specs.Event.{Event};
 ghost use Rattle.traces.specs.Fields.{decimal_of, octets_of};
 ghost use Rattle.traces.specs.Printed.{HasNoMark, IsPrintable, FitsTrace, IsFirstOf, line_of_entry};
-ghost use Rattle.traces.specs.Printed.{lines_of_log, entries_in, before_those, actions_of};
-ghost use Rattle.traces.specs.Progress.{came};
+ghost use Rattle.traces.specs.Printed.{line_of_event, lines_of_log, entries_in, before_those};
+ghost use Rattle.traces.specs.Printed.{actions_of};
+ghost use Rattle.traces.specs.LineByLine.{AreSaid, IsFirstWrong};
+ghost use Rattle.traces.specs.Progress.{came, events_in, script_in, IsJudgement};
 ghost use Rattle.traces.specs.Saying.{IsHexDigitOf, Says};
-ghost use Rattle.traces.specs.Trace.{logged};
+ghost use Rattle.traces.specs.Trace.{logged, IsTraceOf};
+ghost use Rattle.traces.specs.declared.reading.TextFault.TheVariants.{Line};
 
 /// What is printed reads back: the line of an event or an action, with its line feed, is read as
 /// that very entry, whatever text follows it; so a log is read back from its lines, and so are its
@@ -33,11 +44,67 @@ pub fn printed_lines_read_back()
         All (λ b. 0 < b) (lines_of_log log) }
 {}
 
+/// The line of each action has the digits of its moment, the mark `>`, its letter, and its octets
+/// in hexadecimal, the number of its cause, or the number of the station, from 1, and that of the
+/// session that ended. Each stands behind one space, whatever it is. The line of an event has no
+/// mark. What a run prints are the lines of all of its actions, in their order, and no others.
+pub fn printed_lines_have_these_fields()
+    ensures events { (now number : ℕ) (octets : List ℕ) → let moment = decimal now in
+        (line_of_event now (LineIn octets)
+        ≡ moment ++ codes " S " ++ encode_upper octets ++ 10 ∷ [])
+        × (line_of_event now Opened ≡ moment ++ codes " O" ++ 10 ∷ [])
+        × (line_of_event now (TcpIn octets)
+        ≡ moment ++ codes " R " ++ encode_upper octets ++ 10 ∷ [])
+        × (line_of_event now CutOff ≡ moment ++ codes " C" ++ 10 ∷ [])
+        × (line_of_event now Ticked ≡ moment ++ codes " T" ++ 10 ∷ [])
+        × (line_of_event now (WallIs number)
+        ≡ moment ++ codes " W " ++ decimal number ++ 10 ∷ []) }
+    ensures actions { (now station session : ℕ) (octets : List ℕ) → let moment = decimal now in
+        (line_of now (LineOut octets) ≡ moment ++ codes " > S " ++ encode_upper octets ++ 10 ∷ [])
+        × (line_of now (TcpOut octets)
+        ≡ moment ++ codes " > T " ++ encode_upper octets ++ 10 ∷ [])
+        × (line_of now (GapOut station session)
+        ≡ moment ++ codes " > G " ++ decimal (station + 1) ++ codes " " ++ decimal session
+        ++ 10 ∷ []) }
+    ensures causes { (now : ℕ) →
+        let closed = λ (n : ℕ). decimal now ++ codes " > X " ++ decimal n ++ 10 ∷ [] in
+        (line_of now (Closed Grammar) ≡ closed 1) × (line_of now (Closed SendNumber) ≡ closed 2)
+        × (line_of now (Closed ReceiveNumber) ≡ closed 3)
+        × (line_of now (Closed Stopped) ≡ closed 4) × (line_of now (Closed Timeout) ≡ closed 5)
+        × (line_of now (Closed OwnAnswers) ≡ closed 6)
+        × (line_of now (Closed Replaced) ≡ closed 7) }
+    ensures logs { (now : ℕ) (event : Input) (action : Output) (log : Log) →
+        (lines_of_actions [] ≡ [])
+        × (lines_of_actions (Went now action ∷ log) ≡ lines_of_actions log ++ line_of now action)
+        × (lines_of_actions (Came now event ∷ log) ≡ lines_of_actions log) }
+{}
+
 /// Each line that logs an event has the digits of its moment, its letter, and its octets or its
 /// number, each behind one space, and nothing else: no other letter stands for an event, and no
-/// sign, no carriage return and no comment stands behind one.
+/// sign, no carriage return and no comment stands behind one. And each line that has these logs
+/// that event: none of them is refused or passed over.
 pub fn lines_say_what_they_log()
-    ensures { (text : List ℕ) (event : Event) → logged text ≡ Some event → Says text event }
+    ensures events { (text : List ℕ) (event : Event) → logged text ≡ Some event → Says text event }
+    ensures all { (text : List ℕ) (event : Event) → Says text event → logged text ≡ Some event }
+{}
+
+/// A text is read line by line: each line gives the event that it says, in its order, and an empty
+/// line or a comment gives none. A text with any other line is refused with the number of the first
+/// one. So it is where a text is read part by part, and the lines of each are counted on. A run
+/// begins with a tick at moment 0.
+pub fn texts_are_read_line_by_line()
+    ensures entries { (text : List ℕ) (entries : Vec Entry Global) → IsTraceOf text (Ok entries) →
+        AreSaid (slice_split (λ b. b == 10) text) (map event_of entries.items) }
+    ensures faults { (text : List ℕ) (number : ℕ) → IsTraceOf text (Err (Line number)) →
+        IsFirstWrong 1 (slice_split (λ b. b == 10) text) number }
+    ensures right { (first next : ℕ) (text : List ℕ) → IsJudgement first text (Ok next) →
+        let lines = slice_split (λ b. b == 10) text in
+        (next ≡ first + length lines) × AreSaid lines (events_in lines) }
+    ensures wrong { (first number : ℕ) (text : List ℕ) →
+        IsJudgement first text (Err (Line number)) →
+        IsFirstWrong first (slice_split (λ b. b == 10) text) number }
+    ensures run { (text : List ℕ) →
+        script_in text ≡ Came 0 Ticked ∷ events_in (slice_split (λ b. b == 10) text) }
 {}
 
 /// A number is read digit by digit: one digit is its own value, and each further one counts what

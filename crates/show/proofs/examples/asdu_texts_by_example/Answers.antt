@@ -4,9 +4,6 @@ use Rattle.hex.specs.Hex.{encode_with}
 use Rattle.elements.specs.Types.{type_of}
 use Rattle.show.proofs.examples.asdu_texts_by_example.Goals as goal
 
-pub returns-clause-tags : goal.returns-clause-tags
-returns-clause-tags c = λ octets instant good. rw good refl
-
 pub returns-clause-successive : goal.returns-clause-successive
 unfolding digits encode_with type_of
 returns-clause-successive c = refl

@@ -21,5 +21,4 @@ unfolding digits
 returns-clause-causes c = (refl, refl, refl)
 
 pub returns-clause-verdicts : goal.returns-clause-verdicts
-unfolding digits
-returns-clause-verdicts c = (refl, refl, refl, refl, refl)
+returns-clause-verdicts c = (refl, refl, refl, refl)

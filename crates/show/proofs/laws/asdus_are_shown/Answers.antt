@@ -1,4 +1,8 @@
-use Rattle.std.proofs.Common.{◌≡◌, ap, refl, rules, ℕ, List, [], ◌∷◌}
+use Rattle.std.proofs.Common.{◌≡◌, ◌+◌, ◌==◌, ap, arith, refl, rules, ℕ, Bool, false, List, [], ◌∷◌}
+use Rattle.std.proofs.Common.{◌++◌, codes}
+use Rattle.std.specs.Fmt.{decimal}
+use Rattle.std.proofs.lemmas.Bool.Decides.{nat_tests}
+use Rattle.std.specs.Prelude.{if◌then◌else◌}
 use Rattle.asdu.specs.Asdu.{AsduValue, IsAsdu}
 use Rattle.asdu.specs.declared.sizes.Sizes.{Sizes}
 use Rattle.asdu.proofs.Related.{refusal-IsAsdu, type_of-IsAsdu, value_at-IsAsdu}
@@ -22,3 +26,17 @@ condition-IsAsdu s u (x ∷ xs) h = ap condition_by (refusal-IsAsdu s u (x ∷ x
 pub returns-clause-asdus : goal.returns-clause-asdus
 returns-clause-asdus c = λ s u octets h.
     (lines-IsAsdu s u octets h, condition-IsAsdu s u octets h)
+
+pub returns-clause-behind : goal.returns-clause-behind
+returns-clause-behind c = λ s n len frame apdu. (refl, refl, refl, refl)
+
+pub returns-clause-rest : goal.returns-clause-rest
+returns-clause-rest c = λ n one.
+    let some : (n + 1 == 0) ≡ false = grind (arith, nat_tests) in (
+      ap (λ (b : Bool). if b then [] else codes "rest " ++ decimal (n + 1) ++ 10 ∷ []) some,
+      ap (λ (b : Bool). if b then one else condition.Faulty) some,
+      refl,
+    )
+
+pub returns-clause-moments : goal.returns-clause-moments
+returns-clause-moments c = λ ms. refl

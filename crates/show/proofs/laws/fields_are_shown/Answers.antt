@@ -1,6 +1,5 @@
-use Rattle.std.proofs.Common.{◌≡◌, ℕ, zero, suc, ◌+◌, ◌/◌, ◌%◌, ◌==◌, ◌<◌, Bool, false, List, []}
+use Rattle.std.proofs.Common.{◌≡◌, ℕ, zero, suc, ◌+◌, ◌/◌, ◌%◌, ◌==◌, ◌<◌, List, []}
 use Rattle.std.proofs.Common.{◌∷◌, ◌++◌, codes, refl, ap, ◌∙◌, arith}
-use Rattle.std.proofs.lemmas.Bool.Decides.{nat_tests}
 use Rattle.std.specs.Fmt.{decimal}
 use Rattle.std.specs.Prelude.{if◌then◌else◌}
 use Rattle.hex.specs.Hex.{encode_upper}
@@ -46,11 +45,6 @@ returns-clause-frames c = λ octet address octets. (refl, refl)
 pub returns-clause-refusals : goal.returns-clause-refusals
 returns-clause-refusals c = λ s n place why. refl
 
-pub returns-clause-rest : goal.returns-clause-rest
-returns-clause-rest c = λ n.
-    let some : (n + 1 == 0) ≡ false = grind (arith, nat_tests) in
-    ap (λ (b : Bool). if b then [] else codes "rest " ++ decimal (n + 1) ++ 10 ∷ []) some
-
 pub returns-clause-apdus : goal.returns-clause-apdus
 returns-clause-apdus c = λ ns nr octets. (refl, refl)
 
@@ -58,4 +52,4 @@ pub returns-clause-headers : goal.returns-clause-headers
 returns-clause-headers c = λ u. refl
 
 pub returns-clause-objects : goal.returns-clause-objects
-returns-clause-objects c = λ kind address element. refl
+returns-clause-objects c = λ kind address element tag. (refl, refl)
