@@ -10,7 +10,8 @@ ghost use Rattle.session.specs.declared.kinds.FrameOrigin.{FrameOrigin};
 ghost use Rattle.session.specs.declared.kinds.Unacknowledged.{Unacknowledged};
 ghost use Rattle.session.specs.Session.{Session, is_open, is_transferring, may_send, refuses};
 ghost use Rattle.session.specs.Session.{outcome_of, timed_out, confirmed, pulled, sent, taken};
-ghost use Rattle.session.specs.Session.{from_queue, opened, closed};
+ghost use Rattle.session.specs.Session.{from_queue, new_session, opened, closed};
+ghost use Rattle.session.specs.Runs.{Settings, Call, Open, run};
 ghost use Rattle.session.specs.declared.kinds.FrameOrigin.TheVariants.{Queue, Own};
 ghost use Rattle.session.specs.History.{IsNumbered, sent_frames, received_count, reached};
 ghost use Rattle.session.specs.History.{still_unacknowledged, is_started, verdict_on};
@@ -37,6 +38,7 @@ ghost use Rattle.apci.specs.declared.apdu.Uf.{Uf};
 ghost use Rattle.session.specs.declared.kinds.Taken.TheVariants.{Nothing, Asdu, Close};
 ghost use Rattle.session.specs.declared.kinds.Close.TheVariants.{SendNumber, ReceiveNumber};
 ghost use Rattle.session.specs.declared.kinds.Close.TheVariants.{Stopped};
+ghost use Rattle.session.specs.declared.kinds.Close.{Close as Cause};
 ghost use Rattle.session.specs.History.{Happened, Opened, Came, Refused, Sent, Went};
 ghost use Rattle.session.specs.History.{acknowledged_count};
 ghost use Rattle.session.specs.History.{is_stop_pending};
@@ -101,10 +103,16 @@ pub fn frames_are_judged()
 {}
 
 /// A connection is open from its opening on until it ends, whatever comes or goes out. A frame
-/// neither opens nor closes it, and without one nothing is due and nothing goes out.
+/// neither opens nor closes it, and without one nothing is due and nothing goes out. Whatever was
+/// said on connections before, one begins as the first one does, and what has ended leaves nothing.
 pub fn connections_begin_by_open()
     ensures begins { (now : ℕ) (s : Session) → is_open (opened now s) ≡ true }
     ensures ends { (s : Session) → is_open (closed s) ≡ false }
+    ensures as_the_first { (now : ℕ) (s : Session) →
+        opened now s ≡ opened now (new_session s.k s.w s.t1 s.t2 s.t3) }
+    ensures leaves_nothing { (s : Session) → closed s ≡ new_session s.k s.w s.t1 s.t2 s.t3 }
+    ensures alone { (p : Settings) (calls : List Call) (now : ℕ) →
+        (run p (Open now ∷ calls)).history ≡ Opened now ∷ [] }
     ensures is { AfterEachRun (λ p s h. is_open s ≡ is_open_history h) }
     ensures take { (frame : Apdu) (now : ℕ) (s : Session) →
         is_open (taken frame now s) ≡ is_open s }
@@ -132,6 +140,29 @@ pub fn timers_are_kept()
 /// to 5.5).
 pub fn histories_keep_the_rules()
     ensures rules { AfterEachRun (λ p s h. KeepsRules p h) }
+{}
+
+/// Where a history keeps the rules, each entry does, whatever was said behind it. A connection
+/// begins once. A frame that came found it open and all confirmations out, and had no fault. An
+/// I frame that went out bore the counts, while data transfer ran and fewer than k waited. Each S or
+/// U frame that went out was due (5.1 to 5.5).
+pub fn rules_hold_for_each_entry()
+    ensures opened { (p : Settings) (since older : History) (now : ℕ) →
+        KeepsRules p (since ++ Opened now ∷ older) → older ≡ [] }
+    ensures came { (p : Settings) (since older : History) (frame : Apdu) (now : ℕ) →
+        KeepsRules p (since ++ Came frame now ∷ older) → (is_open_history older ≡ true)
+        × (confirmation_of older ≡ None)
+        × ((cause : Cause) → verdict_on frame older ≡ Close cause → ⊥) }
+    ensures refused { (p : Settings) (since older : History) (now : ℕ) →
+        KeepsRules p (since ++ Refused now ∷ older) →
+        (is_open_history older ≡ true) × (confirmation_of older ≡ None) }
+    ensures sent { (p : Settings) (since older : History) (ns nr : ℕ) (kind : FrameOrigin)
+        (now : ℕ) → KeepsRules p (since ++ Sent ns nr kind now ∷ older) →
+        (ns ≡ length (sent_frames older) % 32768) × (nr ≡ received_count older % 32768)
+        × (is_started older ≡ true) × (length (still_unacknowledged older) < p.k) }
+    ensures went { (p : Settings) (since older : History) (frame : Apdu) (now : ℕ) →
+        KeepsRules p (since ++ Went frame now ∷ older) → (confirmation_of older ≡ Some frame)
+        ⊎ (frame_due p.w p.t2 p.t3 now older ≡ Some frame) }
 {}
 
 /// Calls that are made until they answer nothing come to an end: three confirmations and two frames

@@ -32,7 +32,7 @@ pub use laws::{
     each_data_frame_counts, each_thing_is_said_by_its_frames_alone, frames_are_acknowledged_once,
     frames_are_judged, frames_are_numbered, frames_are_taken_in_sequence, frames_stay_in_order,
     histories_keep_the_rules, origins_are_counted_apart, reached_is_least,
-    session_keeps_the_standard, silence_counts_from_the_latest_frame,
+    rules_hold_for_each_entry, session_keeps_the_standard, silence_counts_from_the_latest_frame,
     the_latest_receive_number_counts, timers_are_kept, timers_run_as_set, transfer_is_controlled,
     window_is_kept, worked_examples_hold,
 };
