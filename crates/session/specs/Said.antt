@@ -1,7 +1,7 @@
 -- What each thing that is said on a connection does of itself, whatever was said before it (IEC
 -- 60870-5-104, 5.1 to 5.3 and 5.5). Nothing here is borrowed from `History`.
-use Rattle.std.specs.Prelude.{◌≡◌, ℕ, ◌%◌, ◌≤◌, Bool, true, false, List, [], ◌∷◌, length, Option}
-use Rattle.std.specs.Prelude.{Some, None}
+use Rattle.std.specs.Prelude.{◌≡◌, ℕ, ◌%◌, ◌≤◌, ◌⊎◌, Bool, true, false, List, [], ◌∷◌, length}
+use Rattle.std.specs.Prelude.{Option, Some, None}
 use Rattle.std.specs.List.{AllByRecursion}
 use Rattle.apci.specs.declared.apdu.Apdu.TheVariants.{I, S, U}
 use Rattle.apci.specs.declared.apdu.Uf.{Uf}
@@ -70,6 +70,11 @@ abbrev pub confirms : Happened → Option Uf
 confirms (Went (U StartCon) now) = Some StartCon
 confirms (Went (U TestCon) now) = Some TestCon
 confirms entry = None
+
+-- it is one of these, at some moment
+abbrev pub IsOneOf : List (ℕ → Happened) → Happened → Type 0
+IsOneOf [] entry = ⊥
+IsOneOf (kind ∷ kinds) entry = ((now : ℕ) × (entry ≡ kind now)) ⊎ IsOneOf kinds entry
 
 -- none of it was said
 abbrev pub HasNo : (Happened → Bool) → History → Type 0

@@ -4,13 +4,14 @@
 //! calls answer by what the standard makes of that history.
 
 ghost use Rattle.std.specs.Prelude.{◌≡◌, ℕ, ◌%◌, ◌<◌, ◌≤◌, ◌&&◌, ◌++◌, List, [], true, false, None};
-ghost use Rattle.std.specs.Prelude.{nat_lt, length, option_to_list, suc, ◌∷◌, ◌+◌, Some};
+ghost use Rattle.std.specs.Prelude.{◌⊎◌, nat_lt, length, option_to_list, suc, ◌∷◌, ◌+◌, Some};
 ghost use Rattle.apci.specs.declared.apdu.Apdu.{Apdu};
 ghost use Rattle.session.specs.declared.kinds.FrameOrigin.{FrameOrigin};
 ghost use Rattle.session.specs.declared.kinds.Unacknowledged.{Unacknowledged};
 ghost use Rattle.session.specs.Session.{Session, is_open, is_transferring, may_send, refuses};
 ghost use Rattle.session.specs.Session.{outcome_of, timed_out, confirmed, pulled, sent, taken};
-ghost use Rattle.session.specs.Session.{from_queue, opened, closed};
+ghost use Rattle.session.specs.Session.{from_queue, new_session, opened, closed};
+ghost use Rattle.session.specs.Runs.{Settings, Call, Open, run};
 ghost use Rattle.session.specs.declared.kinds.FrameOrigin.TheVariants.{Queue, Own};
 ghost use Rattle.session.specs.History.{IsNumbered, sent_frames, received_count, reached};
 ghost use Rattle.session.specs.History.{still_unacknowledged, is_started, verdict_on};
@@ -37,9 +38,11 @@ ghost use Rattle.apci.specs.declared.apdu.Uf.{Uf};
 ghost use Rattle.session.specs.declared.kinds.Taken.TheVariants.{Nothing, Asdu, Close};
 ghost use Rattle.session.specs.declared.kinds.Close.TheVariants.{SendNumber, ReceiveNumber};
 ghost use Rattle.session.specs.declared.kinds.Close.TheVariants.{Stopped};
-ghost use Rattle.session.specs.History.{Opened, Came, Refused, Sent, Went, acknowledged_count};
+ghost use Rattle.session.specs.declared.kinds.Close.{Close as Cause};
+ghost use Rattle.session.specs.History.{Happened, Opened, Came, Refused, Sent, Went};
+ghost use Rattle.session.specs.History.{acknowledged_count};
 ghost use Rattle.session.specs.History.{is_stop_pending};
-ghost use Rattle.session.specs.Said.{HasNo, switches, is_about_a_stop, is_about_a_test};
+ghost use Rattle.session.specs.Said.{HasNo, IsOneOf, switches, is_about_a_stop, is_about_a_test};
 ghost use Rattle.session.specs.Said.{breaks_silence, acknowledges, bears_receive_number};
 ghost use Rattle.session.specs.Said.{data_moment};
 ghost use Rattle.session.specs.Said.{data_sent, asks_for, confirms};
@@ -83,20 +86,33 @@ pub fn frames_are_acknowledged_once()
 {}
 
 /// A frame closes the connection by the first of its faults, and else acknowledges what its N(R)
-/// counts (5.1, 5.3).
+/// counts (5.1, 5.3). What it acknowledged is told until the next frame comes, whatever goes out.
+/// A connection that begins or ends has acknowledged nothing.
 pub fn frames_are_judged()
     ensures verdict { AfterEachRun (λ p s h.
         (frame : Apdu) → outcome_of s frame ≡ verdict_on frame h) }
     ensures acknowledged { AfterEachRun (λ p s h. Acknowledges s h) }
     ensures refused { (frame : Apdu) (now : ℕ) (s : Session) → refuses s frame ≡ true →
         MatchesAcknowledged [] (taken frame now s) }
+    ensures lasts { (frames : List Unacknowledged) (kind : FrameOrigin) (now : ℕ)
+        (s : Session) → MatchesAcknowledged frames s →
+        AllByRecursion (MatchesAcknowledged frames)
+        (sent kind now s ∷ after_confirm s ∷ after_pull now s ∷ []) }
+    ensures none { (now : ℕ) (s : Session) →
+        AllByRecursion (MatchesAcknowledged []) (opened now s ∷ closed s ∷ []) }
 {}
 
 /// A connection is open from its opening on until it ends, whatever comes or goes out. A frame
-/// neither opens nor closes it, and without one nothing is due and nothing goes out.
+/// neither opens nor closes it, and without one nothing is due and nothing goes out. Whatever was
+/// said on connections before, one begins as the first one does, and what has ended leaves nothing.
 pub fn connections_begin_by_open()
     ensures begins { (now : ℕ) (s : Session) → is_open (opened now s) ≡ true }
     ensures ends { (s : Session) → is_open (closed s) ≡ false }
+    ensures as_the_first { (now : ℕ) (s : Session) →
+        opened now s ≡ opened now (new_session s.k s.w s.t1 s.t2 s.t3) }
+    ensures leaves_nothing { (s : Session) → closed s ≡ new_session s.k s.w s.t1 s.t2 s.t3 }
+    ensures alone { (p : Settings) (calls : List Call) (now : ℕ) →
+        (run p (Open now ∷ calls)).history ≡ Opened now ∷ [] }
     ensures is { AfterEachRun (λ p s h. is_open s ≡ is_open_history h) }
     ensures take { (frame : Apdu) (now : ℕ) (s : Session) →
         is_open (taken frame now s) ≡ is_open s }
@@ -124,6 +140,29 @@ pub fn timers_are_kept()
 /// to 5.5).
 pub fn histories_keep_the_rules()
     ensures rules { AfterEachRun (λ p s h. KeepsRules p h) }
+{}
+
+/// Where a history keeps the rules, each entry does, whatever was said behind it. A connection
+/// begins once. A frame that came found it open and all confirmations out, and had no fault. An
+/// I frame that went out bore the counts, while data transfer ran and fewer than k waited. Each S or
+/// U frame that went out was due (5.1 to 5.5).
+pub fn rules_hold_for_each_entry()
+    ensures opened { (p : Settings) (since older : History) (now : ℕ) →
+        KeepsRules p (since ++ Opened now ∷ older) → older ≡ [] }
+    ensures came { (p : Settings) (since older : History) (frame : Apdu) (now : ℕ) →
+        KeepsRules p (since ++ Came frame now ∷ older) → (is_open_history older ≡ true)
+        × (confirmation_of older ≡ None)
+        × ((cause : Cause) → verdict_on frame older ≡ Close cause → ⊥) }
+    ensures refused { (p : Settings) (since older : History) (now : ℕ) →
+        KeepsRules p (since ++ Refused now ∷ older) →
+        (is_open_history older ≡ true) × (confirmation_of older ≡ None) }
+    ensures sent { (p : Settings) (since older : History) (ns nr : ℕ) (kind : FrameOrigin)
+        (now : ℕ) → KeepsRules p (since ++ Sent ns nr kind now ∷ older) →
+        (ns ≡ length (sent_frames older) % 32768) × (nr ≡ received_count older % 32768)
+        × (is_started older ≡ true) × (length (still_unacknowledged older) < p.k) }
+    ensures went { (p : Settings) (since older : History) (frame : Apdu) (now : ℕ) →
+        KeepsRules p (since ++ Went frame now ∷ older) → (confirmation_of older ≡ Some frame)
+        ⊎ (frame_due p.w p.t2 p.t3 now older ≡ Some frame) }
 {}
 
 /// Calls that are made until they answer nothing come to an end: three confirmations and two frames
@@ -205,18 +244,42 @@ pub fn timers_run_as_set()
         frame_due w t2 t3 now h ≡ None }
 {}
 
+/// What is said on a connection is said by these frames alone. A STARTDT act or STOPDT act that
+/// came switches data transfer. These and a STOPDT con that went out are about a stop, a TESTFR act
+/// that went out and a TESTFR con that came about a test (5.2, 5.3). Data frames and S frames alone
+/// acknowledge, data frames alone are counted, and two acts alone ask for a confirmation (5.1).
+pub fn each_thing_is_said_by_its_frames_alone()
+    ensures switches { (entry : Happened) → switches entry ≡ true →
+        IsOneOf (Came (U StartAct) ∷ Came (U StopAct) ∷ []) entry }
+    ensures stops { (entry : Happened) → is_about_a_stop entry ≡ true →
+        IsOneOf (Came (U StartAct) ∷ Came (U StopAct) ∷ Went (U StopCon) ∷ []) entry }
+    ensures tests { (entry : Happened) → is_about_a_test entry ≡ true →
+        IsOneOf (Went (U TestAct) ∷ Came (U TestCon) ∷ []) entry }
+    ensures acknowledges { (frame : Apdu) (function : Uf) (now : ℕ) → HasNo acknowledges
+        (Opened now ∷ Came frame now ∷ Refused now ∷ Went (U function) now ∷ []) }
+    ensures bears { (frame : Apdu) (function : Uf) (ns nr now : ℕ) (kind : FrameOrigin) →
+        HasNo bears_receive_number (Opened now ∷ Came (U function) now ∷ Refused now
+        ∷ Sent ns nr kind now ∷ Went frame now ∷ []) }
+    ensures comes { (entry : Happened) (now : ℕ) → data_moment entry ≡ Some now →
+        (ns : ℕ) × (nr : ℕ) × (asdu : ArrayVec ℕ) × (entry ≡ Came (I ns nr asdu) now) }
+    ensures goes { (entry : Happened) (kind : FrameOrigin) (now : ℕ) →
+        data_sent entry ≡ Some (record { kind = kind; moment = now }) →
+        (ns : ℕ) × (nr : ℕ) × (entry ≡ Sent ns nr kind now) }
+    ensures asks { (entry : Happened) (function : Uf) → asks_for entry ≡ Some function →
+        ((function ≡ StartCon) × IsOneOf (Came (U StartAct) ∷ []) entry)
+        ⊎ ((function ≡ TestCon) × IsOneOf (Came (U TestAct) ∷ []) entry) }
+    ensures confirms { (entry : Happened) (function : Uf) → confirms entry ≡ Some function →
+        IsOneOf (Went (U function) ∷ []) entry × ((function ≡ StartCon) ⊎ (function ≡ TestCon)) }
+{}
+
 /// Data transfer runs from a STARTDT act that came until a STOPDT act comes, whatever else comes or
-/// goes out between them, and not before the first STARTDT act. No other U frame starts or stops it
-/// (5.3).
+/// goes out between them, and not before the first STARTDT act (5.3).
 pub fn data_transfer_runs_from_start_to_stop()
     ensures started { (since before : History) (now : ℕ) → HasNo switches since →
         is_started (since ++ Came (U StartAct) now ∷ before) ≡ true }
     ensures stopped { (since before : History) (now : ℕ) → HasNo switches since →
         is_started (since ++ Came (U StopAct) now ∷ before) ≡ false }
     ensures at_first { (h : History) → HasNo switches h → is_started h ≡ false }
-    ensures others { (now : ℕ) (h : History) →
-        AllByRecursion (λ function. is_started (Came (U function) now ∷ h) ≡ is_started h)
-        (StartCon ∷ StopCon ∷ TestAct ∷ TestCon ∷ []) }
 {}
 
 /// Each STARTDT act and each TESTFR act asks for one confirmation, whatever the state of the
@@ -249,9 +312,6 @@ pub fn a_stop_is_pending_until_its_confirmation()
     ensures forgotten { (since before : History) (now : ℕ) → HasNo is_about_a_stop since →
         is_stop_pending (since ++ Came (U StartAct) now ∷ before) ≡ false }
     ensures at_first { (h : History) → HasNo is_about_a_stop h → is_stop_pending h ≡ false }
-    ensures others { (now : ℕ) (h : History) →
-        AllByRecursion (λ function. is_stop_pending (Came (U function) now ∷ h)
-        ≡ is_stop_pending h) (StartCon ∷ StopCon ∷ TestAct ∷ TestCon ∷ []) }
 {}
 
 /// A STOPDT con goes out once each I frame that went out is acknowledged, own answers too, and each
@@ -279,9 +339,6 @@ pub fn a_test_waits_for_its_confirmation()
     ensures answered { (since before : History) (now : ℕ) → HasNo is_about_a_test since →
         outstanding_test (since ++ Came (U TestCon) now ∷ before) ≡ None }
     ensures at_first { (h : History) → HasNo is_about_a_test h → outstanding_test h ≡ None }
-    ensures others { (now : ℕ) (h : History) →
-        AllByRecursion (λ function. outstanding_test (Came (U function) now ∷ h)
-        ≡ outstanding_test h) (StartAct ∷ StartCon ∷ StopAct ∷ StopCon ∷ TestAct ∷ []) }
 {}
 
 /// t3 counts from the latest frame that came, of whatever format, and from the opening where none

@@ -1,4 +1,4 @@
-use Rattle.std.proofs.Common.{◌∷◌, refl}
+use Rattle.std.proofs.Common.{◌∷◌}
 use Rattle.apci.specs.declared.apdu.Apdu.TheVariants.{U}
 use Rattle.apci.specs.declared.apdu.Uf.TheVariants.{StartAct, StopAct, StopCon}
 use Rattle.session.specs.History.{Came, Went, is_stop_pending}
@@ -20,6 +20,3 @@ returns-clause-forgotten c = λ since before now none.
 
 pub returns-clause-at_first : goal.returns-clause-at_first
 returns-clause-at_first c = λ h none. never is_stop_pending is_about_a_stop stop_step h none
-
-pub returns-clause-others : goal.returns-clause-others
-returns-clause-others c = λ now h. (refl, (refl, (refl, (refl, tt))))

@@ -1,4 +1,4 @@
-use Rattle.std.proofs.Common.{◌∷◌, refl}
+use Rattle.std.proofs.Common.{◌∷◌}
 use Rattle.apci.specs.declared.apdu.Apdu.TheVariants.{U}
 use Rattle.apci.specs.declared.apdu.Uf.TheVariants.{TestAct, TestCon}
 use Rattle.session.specs.History.{Came, Went, outstanding_test}
@@ -16,6 +16,3 @@ returns-clause-answered c = λ since before now none.
 
 pub returns-clause-at_first : goal.returns-clause-at_first
 returns-clause-at_first c = λ h none. never outstanding_test is_about_a_test test_step h none
-
-pub returns-clause-others : goal.returns-clause-others
-returns-clause-others c = λ now h. (refl, (refl, (refl, (refl, (refl, tt)))))

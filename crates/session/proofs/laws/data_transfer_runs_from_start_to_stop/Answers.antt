@@ -1,4 +1,4 @@
-use Rattle.std.proofs.Common.{◌∷◌, refl}
+use Rattle.std.proofs.Common.{◌∷◌}
 use Rattle.apci.specs.declared.apdu.Apdu.TheVariants.{U}
 use Rattle.apci.specs.declared.apdu.Uf.TheVariants.{StartAct, StopAct}
 use Rattle.session.specs.History.{Came, is_started}
@@ -16,6 +16,3 @@ returns-clause-stopped c = λ since before now none.
 
 pub returns-clause-at_first : goal.returns-clause-at_first
 returns-clause-at_first c = λ h none. never is_started switches started_step h none
-
-pub returns-clause-others : goal.returns-clause-others
-returns-clause-others c = λ now h. (refl, (refl, (refl, (refl, tt))))
