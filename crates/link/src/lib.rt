@@ -85,6 +85,7 @@ pub use laws::asking::{answers_have_their_time, next_changes_nothing};
 pub use laws::at_once::{
     repeats_are_as_many_as_set, repeats_come_at_once, turns_go_on_behind_held_services,
 };
+pub use laws::beginnings::{new_settings_keep_the_procedures, turns_begin_by_the_link};
 pub use laws::bursts::polls_go_on;
 pub use laws::carrying::{
     frame_count_bits_go_on, giving_up_is_for_one_station, giving_up_is_logged,
@@ -102,7 +103,7 @@ pub use laws::life::{
     answers_are_those_of_a_secondary_station, answers_show_what_waits, station_is_an_outstation,
     station_serves_each_request, stations_hear_whole_frames,
 };
-pub use laws::links::links_are_what_the_latest_exchange_makes_them;
+pub use laws::links::{links_are_what_the_latest_exchange_makes_them, lost_links_are_told};
 pub use laws::logging::{each_request_is_an_exchange, reports_are_data_of_answers};
 pub use laws::precedence::commands_go_before_polls;
 pub use laws::refinement::{
