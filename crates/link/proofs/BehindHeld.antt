@@ -413,7 +413,7 @@ goes_behind p (Some station) (Due now) matches = tt
 goes_behind p (Some station) (GivesUp other) matches = tt
 goes_behind p None call matches = tt
 
-go_behind : (p : Primary) (began : Option ℕ) (calls : List Call) → Matches p began
+pub go_behind : (p : Primary) (began : Option ℕ) (calls : List Call) → Matches p began
     → TurnsGoOn p began calls
 go_behind p began [] matches = tt
 go_behind p began (call ∷ calls) matches = (
@@ -421,8 +421,11 @@ go_behind p began (call ∷ calls) matches = (
   go_behind (called p call) (began_after p call began) calls (call_matches p began call matches),
 )
 
+-- Where nothing is to be sent again at once, no turn has begun with a held service.
+pub none_again : (p : Primary) → p.again ≡ false → Matches p None
+none_again p not_again = ((λ again. absurd (not_both p.again again not_again)), tt)
+
 pub all_go_on : (settings : LinkSettings) (addresses : List ℕ) (calls : List Call)
     → TurnsGoOn (start settings addresses) None calls
 all_go_on settings addresses calls =
-    go_behind (start settings addresses) None calls
-    ((λ again. absurd (not_both false again refl)), tt)
+    go_behind (start settings addresses) None calls (none_again (start settings addresses) refl)

@@ -1,13 +1,14 @@
 -- The link to a station is given up: the others stay as they were.
 use Rattle.std.proofs.Common.{◌≡◌, ◌≢◌, ◌<◌, ◌==◌, ◌&&◌, ◌||◌, ℕ, Bool, true, false, length}
 use Rattle.std.proofs.Common.{slice_set, Option, Some, None, refl, sym, ap, ◌∙◌, if◌then◌else◌, ◌+◌}
-use Rattle.std.proofs.Common.{List, [], ◌∷◌, ◌++◌, map, take, get_or}
+use Rattle.std.proofs.Common.{List, [], ◌∷◌, ◌++◌, map, take, get_or, eq-eqb}
 use Rattle.std.proofs.lemmas.List.{get_or-set_same, get_or-set_other, length-set, map-append}
 use Rattle.std.proofs.lemmas.List.{take_more}
 use Rattle.std.proofs.lemmas.Bool.{eqb-true, eqb-false}
-use Rattle.link.specs.Procedure.{holds_command}
+use Rattle.link.specs.Answers.{Command, Asked, Counted}
+use Rattle.link.specs.Procedure.{Link, Held, holds_command}
 use Rattle.link.specs.Turns.{StationState, station_at, no_station, Over}
-use Rattle.link.specs.Primary.{Primary, Outstanding, is_sending_command}
+use Rattle.link.specs.Primary.{Primary, Outstanding, is_command, is_sending_command}
 use Rattle.link.specs.Leave.{is_polling, is_polling_by, holds_poll}
 use Rattle.link.specs.Carried.{awaits_command, station_given_up, given_up}
 
@@ -55,6 +56,27 @@ awaited p k j other =
     go true false here there = refl
     go true true here there =
         absurd (other (sym (eqb-true p.turn j there) ∙ eqb-true p.turn k here))
+
+pub held : (p : Primary) (k : ℕ) (fcb : Bool) (asdu : List ℕ) (missed : ℕ)
+    → (station_at p.stations k).link ≡ Held fcb (Command asdu) missed → awaits_command p k ≡ true
+held p k fcb asdu missed is =
+    ap (λ (l : Link). awaits_by (holds_command l) (p.turn == k) p.outstanding) is
+
+pub out : (p : Primary) (o : Outstanding) (fcb : Bool) (asdu : List ℕ)
+    → p.outstanding ≡ Some o → o.request ≡ Counted fcb (Command asdu)
+    → awaits_command p p.turn ≡ true
+out p o fcb asdu is command =
+    ap (λ (b : Bool). awaits_by there b p.outstanding) (eq-eqb p.turn p.turn refl)
+    ∙ ap (awaits_by there true) is
+    ∙ ap (λ (r : Asked). there || is_command r) command
+    ∙ go there
+  where
+    there : Bool
+    there = holds_command (station_at p.stations p.turn).link
+
+    go : (b : Bool) → (b || true) ≡ true
+    go true = refl
+    go false = refl
 
 pub polls : (p : Primary) (k : ℕ) → is_polling (given_up k p) ≡ true → is_polling p ≡ true
 polls p k = go (p.turn == k) p.outstanding refl

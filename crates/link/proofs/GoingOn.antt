@@ -197,6 +197,9 @@ nothing_outstanding p = go p.outstanding refl
     go None is = is
     go (Some o) is = refl
 
+pub nothing_broken_off : (p : Primary) → p.outstanding ≡ None → released p ≡ p
+nothing_broken_off p free = ap (released_from p) free
+
 pub link_goes_on : (retries address : ℕ) (s : StationState) → is_held s.link ≡ false
     → (station_carried retries address s).link ≡ s.link
 link_goes_on retries address s free = go s.link free

@@ -32,6 +32,7 @@ pub mod Serving
 pub mod Outcomes
 pub mod Running
 pub mod Turning
+pub mod TurnBegins
 pub mod Leaving
 pub mod Resting
 pub mod Flagging

@@ -54,6 +54,15 @@ pub session_marked : (p : Primary) (k : ℕ) → k < length p.stations
 session_marked p k within = ap (λ (x : StationState). x.session)
     (get_or-set_same p.stations k (with_gap_mark (station_at p.stations k)) no_station within)
 
+pub session_alone_marked : (p : Primary) (k : ℕ) → k < length p.stations
+    → station_at (gap_marked k p).stations k ≡ record (station_at p.stations k) {
+      session = (station_at (gap_marked k p).stations k).session;
+    }
+session_alone_marked p k within =
+    let is : station_at (gap_marked k p).stations k ≡ with_gap_mark (station_at p.stations k) =
+    get_or-set_same p.stations k (with_gap_mark (station_at p.stations k)) no_station within in
+    is ∙ sym (ap (λ (x : StationState). record (station_at p.stations k) { session = x.session }) is)
+
 pub others_unmarked : (p : Primary) (k j : ℕ) → j ≢ k → station_at (gap_marked k p).stations j
     ≡ station_at p.stations j
 others_unmarked p k j other =

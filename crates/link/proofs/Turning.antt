@@ -1,14 +1,15 @@
 -- Whose turn comes next.
-use Rattle.std.proofs.Common.{[], ◌∷◌, ◌≡◌, ℕ, zero, suc, ◌<◌, Bool, false, List, length, Option}
+use Rattle.std.proofs.Common.{[], ◌∷◌, ◌≡◌, ℕ, zero, suc, ◌<◌, ◌≤◌, Bool, false, List, length, Option}
 use Rattle.std.proofs.Common.{Some, None}
 use Rattle.std.proofs.Common.{refl, sym, ap, subst, ◌∙◌, ◌⊎◌, inl, inr, arith}
 use Rattle.link.specs.Exchanges.{Sending}
 use Rattle.link.specs.Turns.{StationState, Starting, Wanted, Chosen, station_at, wanted}
 use Rattle.link.specs.Turns.{place_after, chosen_or, first_after}
-use Rattle.link.specs.Answers.{Status}
+use Rattle.std.proofs.lemmas.Bool.{cases_lt}
+use Rattle.link.specs.Answers.{Asked, Status}
 use Rattle.link.specs.Procedure.{LinkSettings}
 use Rattle.link.specs.Primary.{Outstanding, Primary, sending_by, sending_from, sending, start}
-use Rattle.link.specs.Runs.{nth_after, BeginsTurn, HaveNone}
+use Rattle.link.specs.Runs.{nth_after, first_request, BeginsTurn, HaveNone}
 use Rattle.link.specs.Turns.{CommandsWaiting}
 
 -- the first of so many stations after a place that has a request
@@ -187,6 +188,55 @@ rests p may_poll waiting free none = go (present p may_poll waiting) refl
         by (first_after p.settings.burst may_poll p.stations waiting (length p.stations) p.turn)
         refl
         (sym (passed p may_poll waiting free is) ∙ none)
+
+one_wanted : {m : Option Wanted} {v w : Wanted} → m ≡ Some v → m ≡ Some w → v ≡ w
+one_wanted {m} {v} {w} one other = cc
+
+-- The first station that has a request has its turn, however far round it is.
+pub comes : (p : Primary) (may_poll : Bool) (waiting : CommandsWaiting) (n : ℕ) (w : Wanted)
+    → p.outstanding ≡ None → present p may_poll waiting ≡ None → n < length p.stations
+    → ((m : ℕ) → m < n → first_request p may_poll waiting
+    (nth_after (length p.stations) p.turn (suc m)) ≡ None)
+    → first_request p may_poll waiting (nth_after (length p.stations) p.turn (suc n)) ≡ Some w
+    → sending p may_poll waiting ≡ Some (record {
+      station = nth_after (length p.stations) p.turn (suc n);
+      request = w.request;
+    })
+comes p may_poll waiting n w free gone within nearer first =
+    go (sending p may_poll waiting) refl
+  where
+    place : ℕ → ℕ
+    place m = nth_after (length p.stations) p.turn (suc m)
+
+    by : (s : Sending) → (b : BeginsTurn p may_poll waiting s)
+        → (b.steps < n) ⊎ (n ≤ b.steps) → (n < b.steps) ⊎ (b.steps ≤ n)
+        → s ≡ record { station = place n; request = w.request }
+    by s b (inl less) other =
+        let none = nearer b.steps less in
+        let some = subst (λ (i : ℕ). first_request p may_poll waiting i ≡ Some b.wanted) b.station
+        b.first in
+        let no : ⊥ = cc in absurd no
+    by s b (inr least) (inl more) =
+        let none = b.nearer n more in
+        let no : ⊥ = cc in absurd no
+    by s b (inr least) (inr most) =
+        let same : b.steps ≡ n = omega (arith, least, most) in
+        let at : s.station ≡ place n = b.station ∙ ap place same in
+        let some = subst (λ (i : ℕ). first_request p may_poll waiting i ≡ Some b.wanted) at
+        b.first in
+        let it : b.wanted ≡ w = one_wanted some first in
+        ap (λ (i : ℕ). record { station = i; request = s.request }) at
+        ∙ ap (λ (r : Asked). record { station = place n; request = r })
+        (b.request ∙ ap (λ (v : Wanted). v.request) it)
+
+    go : (m : Option Sending) → sending p may_poll waiting ≡ m
+        → m ≡ Some (record { station = place n; request = w.request })
+    go None e =
+        let none = rests p may_poll waiting free e n within in
+        let no : ⊥ = cc in absurd no
+    go (Some s) e =
+        let b = passes_on p may_poll waiting s free gone e in
+        ap (λ (z : Sending). Some z) (by s b (cases_lt b.steps n) (cases_lt n b.steps))
 
 -- what goes out goes on with the present turn, or begins one
 pub record GoesOn (p : Primary) (may_poll : Bool) (waiting : CommandsWaiting) (s : Sending) : Type

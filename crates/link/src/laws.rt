@@ -1,6 +1,7 @@
 //! What holds of requests, exchanges and stations.
 pub(crate) mod asking;
 pub(crate) mod at_once;
+pub(crate) mod beginnings;
 pub(crate) mod bursts;
 pub(crate) mod carrying;
 pub(crate) mod commands;

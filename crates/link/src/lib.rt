@@ -14,6 +14,7 @@
 //! - over every list of calls the exchanges of the line keep the frame count bit of each station
 //!   ([`frame_count_bits_are_kept`], [`master_matches_the_log`]), no request goes out while one is
 //!   outstanding ([`requests_wait_their_turn`]), turns go round the stations ([`turns_go_round`]),
+//!   a turn begins by the station's link ([`turns_begin_by_the_link`]),
 //!   a turn ends ([`turns_end`]), it is one visit ([`a_turn_is_one_visit`]) and no station starves
 //!   ([`no_station_starves`]), an answer is heard ([`answers_are_heard`]) and has its time
 //!   ([`answers_have_their_time`]), an unanswered
@@ -24,7 +25,8 @@
 //!   ACD and DFC ([`flags_are_heeded`]), a command that is sent for the
 //!   first time is the one that waits ([`commands_are_those_that_wait`]), and goes out where no
 //!   other is under way ([`one_command_at_a_time`]), what the caller learns is what the exchanges
-//!   show ([`outcomes_are_answers`], [`outcomes_bear_the_reports`]), and those that closed with
+//!   show ([`outcomes_are_answers`], [`outcomes_bear_the_reports`], [`lost_links_are_told`]), and
+//!   those that closed with
 //!   octets but no answer are counted ([`spoilt_exchanges_are_counted`]);
 //! - a reset that ends a session whose last report may be lost is reported, and no other
 //!   ([`gaps_are_reported`], [`gaps_are_ended_sessions`], [`gaps_are_lost_polls`]);
@@ -32,7 +34,8 @@
 //!   ([`giving_up_is_for_one_station`]), and the exchanges show it ([`giving_up_is_logged`],
 //!   [`the_latest_exchange_is_marked`]); where a line goes on with other settings each station that
 //!   goes on keeps its frame count bit ([`frame_count_bits_go_on`]), and what is known of its
-//!   session ([`sessions_go_on`]);
+//!   session ([`sessions_go_on`]), and the procedures go on as behind a start
+//!   ([`new_settings_keep_the_procedures`]);
 //! - what the crates above go by is one record ([`line_keeps_the_procedures`]);
 //! - a station runs as an outstation that receives each request to it
 //!   ([`station_is_an_outstation`]) and serves it ([`station_serves_each_request`]), and its
@@ -85,6 +88,7 @@ pub use laws::asking::{answers_have_their_time, next_changes_nothing};
 pub use laws::at_once::{
     repeats_are_as_many_as_set, repeats_come_at_once, turns_go_on_behind_held_services,
 };
+pub use laws::beginnings::{new_settings_keep_the_procedures, turns_begin_by_the_link};
 pub use laws::bursts::polls_go_on;
 pub use laws::carrying::{
     frame_count_bits_go_on, giving_up_is_for_one_station, giving_up_is_logged,
@@ -102,7 +106,7 @@ pub use laws::life::{
     answers_are_those_of_a_secondary_station, answers_show_what_waits, station_is_an_outstation,
     station_serves_each_request, stations_hear_whole_frames,
 };
-pub use laws::links::links_are_what_the_latest_exchange_makes_them;
+pub use laws::links::{links_are_what_the_latest_exchange_makes_them, lost_links_are_told};
 pub use laws::logging::{each_request_is_an_exchange, reports_are_data_of_answers};
 pub use laws::precedence::commands_go_before_polls;
 pub use laws::refinement::{

@@ -10,7 +10,7 @@ ghost use Rattle.link.specs.Marks.{latest_given_up};
 ghost use Rattle.link.specs.Procedure.{LinkSettings, Down, Held, is_held, is_service};
 ghost use Rattle.link.specs.Procedure.{missed_so_far};
 ghost use Rattle.link.specs.Turns.{StationState, station_at};
-ghost use Rattle.link.specs.Answers.{Service, Counted};
+ghost use Rattle.link.specs.Answers.{Service, Command, Counted};
 ghost use Rattle.link.specs.Primary.{Primary, Outstanding};
 ghost use Rattle.link.specs.Leave.{is_polling};
 ghost use Rattle.link.specs.Matching.{IsAllowed, Matches};
@@ -21,7 +21,8 @@ ghost use Rattle.link.specs.Carried.{commands_given_up};
 ghost use Rattle.link.specs.declared.seat.ResumedStation.{ResumedStation};
 
 /// A station whose link is given up awaits no command any more, and keeps all else; every other
-/// station stays as it was, and awaits what it awaited. No poll is begun by it.
+/// station stays as it was, and awaits what it awaited. No poll is begun by it. A station awaits a
+/// command that it holds, or that is out to it, whatever the command is.
 pub fn giving_up_is_for_one_station()
     ensures done { (p : Primary) (k : ℕ) → k < length p.stations →
         awaits_command (given_up k p) k ≡ false }
@@ -31,6 +32,12 @@ pub fn giving_up_is_for_one_station()
         station_at (given_up k p).stations j ≡ station_at p.stations j }
     ensures awaited { (p : Primary) (k j : ℕ) → j ≢ k →
         awaits_command (given_up k p) j ≡ awaits_command p j }
+    ensures held { (p : Primary) (k : ℕ) (fcb : Bool) (asdu : List ℕ) (missed : ℕ) →
+        (station_at p.stations k).link ≡ Held fcb (Command asdu) missed →
+        awaits_command p k ≡ true }
+    ensures out { (p : Primary) (o : Outstanding) (fcb : Bool) (asdu : List ℕ) →
+        p.outstanding ≡ Some o → o.request ≡ Counted fcb (Command asdu) →
+        awaits_command p p.turn ≡ true }
     ensures number { (p : Primary) (k : ℕ) → length (given_up k p).stations ≡ length p.stations }
     ensures polls { (p : Primary) (k : ℕ) →
         is_polling (given_up k p) ≡ true → is_polling p ≡ true }
@@ -70,7 +77,8 @@ pub fn frame_count_bits_go_on()
 
 /// A restart counts nothing as unanswered. A service whose exchange is broken off is held, as often
 /// unanswered as it was before. Where the exchange was to start the link, the link is down, so the
-/// status comes first. No other station changes. A link that holds no service goes on as it is.
+/// status comes first. No other station changes, and none where nothing is outstanding. A link that
+/// holds no service goes on as it is.
 pub fn what_is_broken_off_is_held()
     ensures service { (p : Primary) (o : Outstanding) (fcb : Bool) (service : Service) →
         p.turn < length p.stations → p.outstanding ≡ Some o → o.request ≡ Counted fcb service →
@@ -82,6 +90,7 @@ pub fn what_is_broken_off_is_held()
     ensures others { (p : Primary) (k : ℕ) → k ≢ p.turn →
         station_at (released p).stations k ≡ station_at p.stations k }
     ensures over { (p : Primary) → (released p).outstanding ≡ None }
+    ensures idle { (p : Primary) → p.outstanding ≡ None → released p ≡ p }
     ensures carried { (retries address : ℕ) (s : StationState) → is_held s.link ≡ false →
         (station_carried retries address s).link ≡ s.link }
 {}
@@ -109,7 +118,8 @@ pub fn seats_have_their_addresses()
 /// What is known of a station's session outlives a restart: where its link is given up, where an
 /// exchange is broken off, and where it goes on with other settings, its session keeps its number,
 /// and that its last report may be lost, until the next reset is answered: so a gap is reported
-/// then. Where it is marked, the station's own session has a gap, and no other session changes.
+/// then. Where it is marked, the station's own session has a gap, and nothing else of the station,
+/// and no other station, changes.
 pub fn sessions_go_on()
     ensures given_up { (p : Primary) (k j : ℕ) →
         (station_at (given_up k p).stations j).session ≡ (station_at p.stations j).session }
@@ -120,6 +130,10 @@ pub fn sessions_go_on()
     ensures marked { (p : Primary) (k : ℕ) → k < length p.stations →
         (station_at (gap_marked k p).stations k).session
         ≡ record (station_at p.stations k).session { has_gap = true } }
+    ensures alone { (p : Primary) (k : ℕ) → k < length p.stations →
+        station_at (gap_marked k p).stations k ≡ record (station_at p.stations k) {
+          session = (station_at (gap_marked k p).stations k).session;
+        } }
     ensures others { (p : Primary) (k j : ℕ) → j ≢ k →
         station_at (gap_marked k p).stations j ≡ station_at p.stations j }
 {}

@@ -1,16 +1,17 @@
 //! Gaps reported: which answered resets end a session whose last report may be lost.
 ghost use Rattle.std.specs.Prelude.{◌≡◌, ◌⊎◌, ◌++◌, ◌∷◌, ℕ, true, false, List, length, Option};
-ghost use Rattle.std.specs.Prelude.{Some, None};
+ghost use Rattle.std.specs.Prelude.{Some, None, slice_index, count_by, if◌then◌else◌};
 ghost use Rattle.std.specs.List.{AllByRecursion};
 ghost use Rattle.ft12.specs.declared.frame.LinkSize.{LinkSize};
+ghost use Rattle.ft12.specs.declared.frame.Front.{Front};
 ghost use Rattle.ft12.specs.Fronts.{front_of};
 ghost use Rattle.std.specs.Io.Iter.{u64_saturate};
 ghost use Rattle.link.specs.Answers.{Service};
 ghost use Rattle.link.specs.Delivery.{IsHonest, sessions, is_gap, is_reset, pending_after};
 ghost use Rattle.link.specs.Exchanges.{Exchange, Exchanges, Sending, received_current};
 ghost use Rattle.link.specs.Exchanges.{timed_current};
-ghost use Rattle.link.specs.Exchanges.{answer_to, begun_by};
-ghost use Rattle.link.specs.Gaps.{gaps_in, gaps_at, ended_with_gap, HasNoOutcome, is_by_the_way};
+ghost use Rattle.link.specs.Exchanges.{answer_to, begun_by, all_of, views, with_station};
+ghost use Rattle.link.specs.Gaps.{gaps_in, gaps_at, gap_at, ended_with_gap, HasNoOutcome, is_by_the_way};
 ghost use Rattle.link.specs.Gaps.{gap_numbered};
 ghost use Rattle.link.specs.Leave.{is_poll_request};
 ghost use Rattle.link.specs.Outstation.{Turn};
@@ -80,7 +81,8 @@ pub fn gaps_are_lost_polls()
 {}
 
 /// A gap is told with the start that ends its session, by the session's number, at whichever
-/// station, and changes no other outcome.
+/// station, and changes no other outcome. Before a start the exchanges with its station say whether
+/// there is one, and its number: that is how many resets were confirmed.
 pub fn gaps_are_told_with_starts()
     ensures start { (station session : ℕ) → with_gap (Some session) (outcome.Started station)
         ≡ outcome.StartedGap station session }
@@ -89,4 +91,10 @@ pub fn gaps_are_told_with_starts()
         ((station : ℕ) → o ≡ outcome.Started station → ⊥) → with_gap gap o ≡ o }
     ensures number { (number : ℕ) (pending : Option Service) → is_gap pending ≡ true →
         gap_numbered number pending ≡ Some (u64_saturate number) }
+    ensures which { (front : List ℕ → Front) (addresses : List ℕ) (station : ℕ) (e : Exchanges)
+        (xs : List Exchange) → xs ≡ with_station station (views front (all_of e)) →
+        gap_at front addresses station e
+        ≡ if is_gap (pending_after (slice_index addresses station) None xs)
+        then Some (u64_saturate (count_by
+        (λ x. is_reset x.request (answer_to (slice_index addresses station) x)) xs)) else None }
 {}

@@ -1,11 +1,14 @@
 //! What the link to a station is.
 ghost use Rattle.std.specs.Prelude.{◌≡◌, ◌≢◌, ◌++◌, ◌∷◌, [], ℕ, Bool, true, false, not, List, Some};
-ghost use Rattle.std.specs.Prelude.{None};
+ghost use Rattle.std.specs.Prelude.{None, ◌<◌, ◌&&◌, length, if◌then◌else◌};
 ghost use Rattle.link.specs.Answers.{Service, Status, Reset, Counted, Answer, Ready, Confirmed};
 ghost use Rattle.link.specs.Answers.{Unable};
 ghost use Rattle.link.specs.Exchanges.{Exchange, answer_to};
 ghost use Rattle.link.specs.Procedure.{LinkSettings, Link, Down, Available, Next, link_after};
-ghost use Rattle.link.specs.Procedure.{is_service};
+ghost use Rattle.link.specs.Procedure.{is_service, is_up, MaySend};
+ghost use Rattle.link.specs.Primary.{Primary, Outstanding, timed_out, due_outcome};
+ghost use Rattle.link.specs.Turns.{station_at};
+ghost use Rattle.link.specs.declared.outcome.Outcome.TheVariants as outcome;
 
 /// The link to a station is what its latest exchange makes of it, whichever station it is, and
 /// whatever came before. It can be reset behind a status that was answered. It is up behind a reset
@@ -36,4 +39,15 @@ pub fn links_are_what_the_latest_exchange_makes_them()
     ensures given_up { (settings : LinkSettings) (station : ℕ) (link : Link)
         (before : List Exchange) (x : Exchange) → x.given_up ≡ true →
         link_after settings station link (before ++ x ∷ []) ≡ Down }
+{}
+
+/// A moment tells of a lost link exactly where it takes down the link of a station that was up,
+/// whichever station that is, and tells nothing else.
+pub fn lost_links_are_told()
+    ensures { (p : Primary) (o : Outstanding) (at : ℕ) → p.outstanding ≡ Some o →
+        p.turn < length p.stations → MaySend (station_at p.stations p.turn).link o.request →
+        due_outcome p at
+        ≡ if is_up (station_at p.stations p.turn).link
+        && not (is_up (station_at (timed_out p at).stations p.turn).link)
+        then outcome.Down p.turn else outcome.None }
 {}

@@ -1,5 +1,6 @@
 //! What holds of every list of calls of a primary station.
-ghost use Rattle.std.specs.Prelude.{◌≡◌, ◌≢◌, ◌<◌, ◌+◌, ◌%◌, ◌↔◌, [], ℕ, Bool, true, false, List};
+ghost use Rattle.std.specs.Prelude.{◌≡◌, ◌≢◌, ◌<◌, ◌+◌, ◌%◌, ◌↔◌, [], ℕ, suc, Bool, true, false};
+ghost use Rattle.std.specs.Prelude.{List};
 ghost use Rattle.std.specs.Prelude.{All};
 ghost use Rattle.std.specs.Prelude.{length, slice_index, Option, Some, None};
 ghost use Rattle.ft12.specs.declared.frame.Front.{Front};
@@ -20,7 +21,7 @@ ghost use Rattle.link.specs.Primary.{received_outcome, timed_out, due_outcome};
 ghost use Rattle.link.specs.declared.outcome.Outcome.TheVariants as outcome;
 ghost use Rattle.link.specs.Matching.{Matches};
 ghost use Rattle.link.specs.Runs.{Call, MayCallAll, called_all, exchanged_all, BeginsTurn};
-ghost use Rattle.link.specs.Runs.{HaveNone, nth_after, silence_outcome};
+ghost use Rattle.link.specs.Runs.{HaveNone, first_request, nth_after, silence_outcome};
 
 use ft12::front_is_computed;
 
@@ -52,6 +53,17 @@ pub fn turns_go_round()
         (s : Sending) → p.outstanding ≡ None → wanted p.settings.burst may_poll p.again
         (station_at p.stations p.turn) (waiting p.turn) p.phase ≡ None →
         sending p may_poll waiting ≡ Some s → BeginsTurn p may_poll waiting s }
+    ensures comes { (p : Primary) (may_poll : Bool) (waiting : CommandsWaiting) (n : ℕ)
+        (w : Wanted) → p.outstanding ≡ None → wanted p.settings.burst may_poll p.again
+        (station_at p.stations p.turn) (waiting p.turn) p.phase ≡ None →
+        n < length p.stations →
+        ((m : ℕ) → m < n → first_request p may_poll waiting
+        (nth_after (length p.stations) p.turn (suc m)) ≡ None) →
+        first_request p may_poll waiting (nth_after (length p.stations) p.turn (suc n))
+        ≡ Some w → sending p may_poll waiting ≡ Some (record {
+          station = nth_after (length p.stations) p.turn (suc n);
+          request = w.request;
+        }) }
     ensures rests { (p : Primary) (may_poll : Bool) (waiting : CommandsWaiting) →
         p.outstanding ≡ None →
         sending p may_poll waiting ≡ None → HaveNone p may_poll waiting }

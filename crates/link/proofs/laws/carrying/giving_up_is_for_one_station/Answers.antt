@@ -7,6 +7,8 @@ returns c = record {
   itself = up.itself;
   others = up.others;
   awaited = up.awaited;
+  held = up.held;
+  out = up.out;
   number = up.number;
   polls = up.polls;
 }

@@ -7,5 +7,6 @@ returns c = record {
   released = on.sessions_released;
   carried = on.sessions_carried;
   marked = on.session_marked;
+  alone = on.session_alone_marked;
   others = on.others_unmarked;
 }

@@ -7,5 +7,6 @@ returns c = record {
   start = on.start_broken_off;
   others = on.others_released;
   over = on.nothing_outstanding;
+  idle = on.nothing_broken_off;
   carried = on.link_goes_on;
 }

@@ -1,4 +1,4 @@
-use Rattle.link.proofs.Told.{start, none, others, number}
+use Rattle.link.proofs.Told.{start, none, others, number, which}
 use Rattle.link.proofs.laws.gaps.gaps_are_told_with_starts.Goals as goal
 
 pub returns : goal.returns
@@ -7,4 +7,5 @@ returns c = record {
   none = none;
   others = others;
   number = number;
+  which = which;
 }
