@@ -42,7 +42,7 @@ no_moment : {n : ℕ} → (o : Option ℕ) → o ≡ None → o ≡ Some n → �
 no_moment None e f = absurd (search (rules, f))
 no_moment (Some y) e f = absurd (search (rules, e))
 
-and_false : (a : Bool) → (a && false) ≡ false
+pub and_false : (a : Bool) → (a && false) ≡ false
 and_false true = refl
 and_false false = refl
 
@@ -91,7 +91,7 @@ are_one xs ys h =
       object = eqb-true (object_address xs) (object_address ys) p.1;
     }
 
-same_station : (xs ys : List ℕ) → common_address xs ≡ common_address ys
+pub same_station : (xs ys : List ℕ) → common_address xs ≡ common_address ys
     → (stations : List StationInfo) → station_of stations xs ≡ station_of stations ys
 same_station xs ys e [] = refl
 same_station xs ys e (st ∷ sts) =
@@ -138,7 +138,7 @@ module _ (sizes : Sizes) (stations : List StationInfo) (ms age : ℕ) where
   after calls = run stations sizes ms age calls
 
   -- an execute that is forwarded is selected
-  forwarded_is_selected : (calls : List Call) (xs : List ℕ) (now : ℕ) (wall : Option ℕ)
+  pub forwarded_is_selected : (calls : List Call) (xs : List ℕ) (now : ℕ) (wall : Option ℕ)
       → must_be_selected stations xs ≡ true → executes xs ≡ true
       → (judged xs now wall (after calls).state).0 ≡ None
       → IsSelected sizes stations ms age xs now (after calls).history

@@ -33,7 +33,7 @@ ghost use Rattle.command.specs.Passing.{FindsPlaces, of_others};
 ghost use Rattle.command.specs.Calls.{Call, Judge, Cut, run};
 ghost use Rattle.command.specs.UsedUp.{uses_up, is_select_for, is_acceptance_by};
 ghost use Rattle.command.specs.UsedUp.{is_confirmation_for, of_connection, NoneIs, IsHeldBack};
-ghost use Rattle.command.specs.Confirming.{IsThenSelected};
+ghost use Rattle.command.specs.Confirming.{IsExchanged};
 ghost use Rattle.command.specs.Selections.{AreDistinct, IsStanding, IsInTime};
 ghost use Rattle.command.specs.Examples.{OctetExamples, IsRight, WaitsSo, rule_examples};
 ghost use Rattle.command.specs.Examples.{selection_examples, line_examples, tag_examples, BearsIt};
@@ -175,6 +175,11 @@ pub fn selections_let_one_execute_through()
         (calls : List Call) (xs : List ℕ) →
         NoneIs (is_confirmation_for xs) (of_connection calls) →
         IsHeldBack stations sizes select_ms max_age_ms calls xs }
+    ensures exchanged { (stations : List StationInfo) (sizes : Sizes) (select_ms max_age_ms : ℕ)
+        (calls : List Call) (xs : List ℕ) (now : ℕ) (wall : Option ℕ) →
+        must_be_selected stations xs ≡ true → executes xs ≡ true →
+        (judged xs now wall (run stations sizes select_ms max_age_ms calls).state).0 ≡ None →
+        IsExchanged stations sizes select_ms max_age_ms calls xs now }
 {}
 
 /// A select that went out, and that its station accepted on its line and confirmed in time, selects
@@ -203,8 +208,11 @@ pub fn selected_executes_pass()
         (run stations sizes select_ms max_age_ms calls).history →
         IsSelected sizes stations select_ms max_age_ms xs now
         (run stations sizes select_ms max_age_ms (call ∷ calls)).history }
-    ensures confirmed { (stations : List StationInfo) (sizes : Sizes) (select_ms max_age_ms : ℕ)
-        (earlier : List Call) → IsThenSelected stations sizes select_ms max_age_ms earlier }
+    ensures exchanged { (stations : List StationInfo) (sizes : Sizes) (select_ms max_age_ms : ℕ)
+        (calls : List Call) (xs : List ℕ) (now : ℕ) → must_be_selected stations xs ≡ true →
+        IsExchanged stations sizes select_ms max_age_ms calls xs now →
+        IsSelected sizes stations select_ms max_age_ms xs now
+        (run stations sizes select_ms max_age_ms calls).history }
     ensures outlasts { (stations : List StationInfo) (sizes : Sizes) (select_ms max_age_ms : ℕ)
         (calls : List Call) (xs ys : List ℕ) (came now : ℕ) (wall : Option ℕ) (a : List ℕ) →
         selects ys ≡ true →

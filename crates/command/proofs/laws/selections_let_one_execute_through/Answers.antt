@@ -1,3 +1,4 @@
+use Rattle.command.proofs.Exchanged.{executes_are_exchanged}
 use Rattle.command.proofs.UsedUp.{held_where_used_up, held_unselected, held_unaccepted}
 use Rattle.command.proofs.UsedUp.{held_unconfirmed}
 use Rattle.command.proofs.laws.selections_let_one_execute_through.Goals as goal
@@ -17,3 +18,9 @@ returns-clause-unaccepted c = λ stations sizes select_ms max_age_ms calls xs no
 pub returns-clause-unconfirmed : goal.returns-clause-unconfirmed
 returns-clause-unconfirmed c = λ stations sizes select_ms max_age_ms calls xs none.
     held_unconfirmed sizes stations select_ms max_age_ms calls xs none
+
+pub returns-clause-exchanged : goal.returns-clause-exchanged
+returns-clause-exchanged c =
+    λ stations sizes select_ms max_age_ms calls xs now wall guarded executing passes.
+    executes_are_exchanged stations sizes select_ms max_age_ms calls xs now wall guarded executing
+    passes
