@@ -1,7 +1,7 @@
 -- A select that went out and that its station accepted and confirmed selects its execute, whatever
 -- else lies between.
 use Rattle.std.proofs.Common.{◌≡◌, ℕ, suc, ◌+◌, ◌-◌, ◌<◌, ◌≤◌, ◌⊎◌, inl, inr, ◌%◌, ◌&&◌, ◌||◌, Bool}
-use Rattle.std.proofs.Common.{true, false, not, List, [], ◌∷◌, ◌++◌, length, refl, sym, subst, ap}
+use Rattle.std.proofs.Common.{true, false, not, List, [], ◌∷◌, ◌++◌, length, slice_index, refl, sym, subst, ap}
 use Rattle.std.proofs.Common.{◌∙◌, arith, rules}
 use Rattle.std.specs.Prelude.{◌==◌, Option, Some, None, if◌then◌else◌, is_none, nat_lt, slice_get}
 use Rattle.std.specs.Prelude.{option_map}
@@ -13,7 +13,7 @@ use Rattle.asdu.specs.Asdu.{AsduValue}
 use Rattle.asdu.specs.declared.sizes.Sizes.{Sizes}
 use Rattle.command.specs.declared.station.StationInfo.{StationInfo}
 use Rattle.command.specs.declared.waiting.Waiting.{Waiting}
-use Rattle.command.specs.Standard.{common_address, station_of, must_be_selected, selects}
+use Rattle.command.specs.Standard.{common_address, object_address, plain_type, station_of, must_be_selected, selects}
 use Rattle.command.specs.Standard.{executes, is_deactivating, have_one_target, confirms_command}
 use Rattle.command.specs.Standard.{refuses_command, is_object_of, is_only_object_of, is_for_each}
 use Rattle.command.specs.Standard.{cause_of_fault, is_for_station}
@@ -24,13 +24,29 @@ use Rattle.command.specs.History.{is_of_target, begins_selection, is_place, stan
 use Rattle.command.specs.History.{is_accepted_at, confirmed_at, IsSelected}
 use Rattle.command.specs.Calls.{Call, Judge, PutOnLine, Accept, Busy, Lose, Mirror, Own, SendOwn}
 use Rattle.command.specs.Calls.{Cut, Due, Run, run, after_sending, after_answer}
-use Rattle.command.specs.UsedUp.{uses_up}
 use Rattle.command.specs.Confirming.{GoOn, ends_selection, clears_line, confirms_in_time}
 use Rattle.command.specs.Confirming.{IsExchanged}
 use Rattle.command.proofs.Coming.{all_sent}
 use Rattle.command.proofs.Exchanged.{no_truth, faultless}
 use Rattle.command.proofs.Runs.{run_holds}
-use Rattle.command.proofs.UsedUp.{AreOne, are_one, and_false}
+
+record AreOne (xs ys : List ℕ) : Type 0 where
+  kind : plain_type (slice_index xs 0) ≡ plain_type (slice_index ys 0)
+  ca : common_address xs ≡ common_address ys
+  object : object_address xs ≡ object_address ys
+
+are_one : (xs ys : List ℕ) → have_one_target xs ys ≡ true → AreOne xs ys
+are_one xs ys h =
+    let p : _ = and_parts
+    ((plain_type (slice_index xs 0) == plain_type (slice_index ys 0))
+    && (common_address xs == common_address ys)) (object_address xs == object_address ys) h in
+    let q : _ = and_parts (plain_type (slice_index xs 0) == plain_type (slice_index ys 0))
+    (common_address xs == common_address ys) p.0 in
+    record {
+      kind = eqb-true (plain_type (slice_index xs 0)) (plain_type (slice_index ys 0)) q.0;
+      ca = eqb-true (common_address xs) (common_address ys) q.1;
+      object = eqb-true (object_address xs) (object_address ys) p.1;
+    }
 
 not_refused : (xs ys : List ℕ) (v : AsduValue) → confirms_command ys v ≡ true
     → refuses_command xs v ≡ false
@@ -117,9 +133,11 @@ module _ (stations : List StationInfo) (sizes : Sizes) (ms age : ℕ) where
         by (is_none (cause_of_fault sizes stations age wall ys)) (have_one_target xs ys)
         (begins_selection sizes stations ms age a ys) (is_deactivating ys || executes ys)
         (first_off (begins_selection sizes stations ms age a ys && have_one_target xs ys)
-        (uses_up sizes stations age xs (Judge ys m wall)) off)
+        ((is_none (cause_of_fault sizes stations age wall ys) && have_one_target xs ys)
+        && (is_deactivating ys || executes ys)) off)
         (second_off (begins_selection sizes stations ms age a ys && have_one_target xs ys)
-        (uses_up sizes stations age xs (Judge ys m wall)) off)
+        ((is_none (cause_of_fault sizes stations age wall ys) && have_one_target xs ys)
+        && (is_deactivating ys || executes ys)) off)
       where
         a : Option (List ℕ)
         a = (judged ys m wall (after calls).state).0

@@ -17,15 +17,18 @@ use Rattle.command.specs.State.{oldest_for, first_answer}
 use Rattle.command.specs.History.{HistoryEntry, Judged, Sent, Accepted, Refused, GivenUp, Mirrored}
 use Rattle.command.specs.History.{Offered, Answered, Ended, History, Select, forwarded_to}
 use Rattle.command.specs.History.{sent_count, is_of_target, begins_selection, standing, is_place}
-use Rattle.command.specs.History.{place_on_line, is_accepted_at, confirmed_at, IsSelected}
+use Rattle.command.specs.History.{place_on_line, is_accepted_at, confirmed_at, IsSelected, ExecutesAreSelected}
 use Rattle.command.specs.History.{GivesOwnAnswers}
 use Rattle.command.specs.Calls.{Call, Judge, PutOnLine, Accept, Busy, Lose, Mirror, Own, SendOwn}
 use Rattle.command.specs.Calls.{Cut, Due, Run, run, after_sending, after_answer}
-use Rattle.command.specs.UsedUp.{uses_up}
 use Rattle.command.specs.Confirming.{IsSelectOf, GoOn, ends_selection, clears_line}
 use Rattle.command.specs.Confirming.{confirms_in_time, IsExchanged}
-use Rattle.command.proofs.UsedUp.{forwarded_is_selected, standing_is_one, clash, and_false}
+use Rattle.command.proofs.Wholes.{run_selected}
 use Rattle.command.proofs.Runs.{run_holds}
+
+pub and_false : (a : Bool) → (a && false) ≡ false
+and_false true = refl
+and_false false = refl
 
 pub no_entry : {A : Type 0} {z : A} → None ≡ Some z → ⊥
 no_entry e = search (rules, e)
@@ -433,7 +436,63 @@ module _ (stations : List StationInfo) (sizes : Sizes) (ms age : ℕ) where
       confirmation m (Due t ∷ calls) (inr (n, g)) e =
           confirmation_later m (Due t) calls refl (confirmation m calls g e)
 
-  -- ---- the select that stands
+  -- an execute that is forwarded is selected
+  forwarded_is_selected : (calls : List Call) (xs : List ℕ) (now : ℕ) (wall : Option ℕ)
+      → must_be_selected stations xs ≡ true → executes xs ≡ true
+      → (judged xs now wall (after calls).state).0 ≡ None
+      → IsSelected sizes stations ms age xs now (after calls).history
+  forwarded_is_selected calls xs now wall guarded executing none =
+      (subst (λ (o : Option (List ℕ)). ExecutesAreSelected sizes stations ms age
+      (Judged now wall xs o ∷ (after calls).history)) none
+      (run_selected stations sizes ms age (Judge xs now wall ∷ calls))).0 guarded executing
+
+  -- ---- the select that stands has the target
+
+  standing_is_one : (xs : List ℕ) (h : History) (z : Select)
+      → standing sizes stations ms age xs h ≡ Some z → have_one_target xs z.octets ≡ true
+  standing_is_one xs [] z e = absurd (no_entry e)
+  standing_is_one xs (Judged now wall ys a ∷ h) z e = by (standing_is_one xs h z)
+      (is_of_target sizes stations ms age xs wall ys) refl
+      (begins_selection sizes stations ms age a ys) (is_deactivating ys || executes ys) e
+    where
+      newer : Select
+      newer = record {
+        octets = ys;
+        came = now;
+        place = length (forwarded_to sizes stations ms age (station_of stations ys) h);
+      }
+
+      by : (standing sizes stations ms age xs h ≡ Some z → have_one_target xs z.octets ≡ true)
+          → (n : Bool) → is_of_target sizes stations ms age xs wall ys ≡ n → (m d : Bool)
+          → (if not n then standing sizes stations ms age xs h else
+          (if m then Some newer else (if d then None else standing sizes stations ms age xs h)))
+          ≡ Some z
+          → have_one_target xs z.octets ≡ true
+      by rest false i m d f = rest f
+      by rest true i true d f =
+          let same : newer ≡ z = search (rules, f) in
+          subst (λ (y : Select). have_one_target xs y.octets ≡ true) same
+          (and_parts (is_none (cause_of_fault sizes stations age wall ys))
+          (have_one_target xs ys) i).1
+      by rest true i false true f = absurd (no_entry f)
+      by rest true i false false f = rest f
+  standing_is_one xs (Sent j octets ∷ h) z e = standing_is_one xs h z e
+  standing_is_one xs (Accepted j ∷ h) z e = standing_is_one xs h z e
+  standing_is_one xs (Refused j a ∷ h) z e = standing_is_one xs h z e
+  standing_is_one xs (GivenUp j b ∷ h) z e = standing_is_one xs h z e
+  standing_is_one xs (Mirrored now v ∷ h) z e =
+      by (standing_is_one xs h z) (refuses_command xs v) e
+    where
+      by : (standing sizes stations ms age xs h ≡ Some z → have_one_target xs z.octets ≡ true)
+          → (b : Bool) → (if b then None else standing sizes stations ms age xs h) ≡ Some z
+          → have_one_target xs z.octets ≡ true
+      by rest true f = absurd (no_entry f)
+      by rest false f = rest f
+  standing_is_one xs (Offered octets b ∷ h) z e = standing_is_one xs h z e
+  standing_is_one xs (Answered octets ∷ h) z e = standing_is_one xs h z e
+  standing_is_one xs (Ended ∷ h) z e = absurd (no_entry e)
+
+  -- ---- where it came
 
   pub faultless : (calls : List Call) (ys : List ℕ) (came : ℕ) (wall : Option ℕ)
       (a : Option (List ℕ))
@@ -503,13 +562,15 @@ module _ (stations : List StationInfo) (sizes : Sizes) (ms age : ℕ) where
 
         later : (is_none a && (must_be_selected stations ys && selects ys)
             && have_one_target xs ys) ≡ false
-            → uses_up sizes stations age xs (Judge ys m wall) ≡ false
+            → ((is_none (cause_of_fault sizes stations age wall ys) && have_one_target xs ys)
+            && (is_deactivating ys || executes ys)) ≡ false
             → (stood calls ≡ Some z → Begun z calls) → stood calls ≡ Some z
             → Begun z (Judge ys m wall ∷ calls)
         later new used rest f =
             begun_later z (Judge ys m wall) calls
             (stays_or (is_none a && (must_be_selected stations ys && selects ys)
-            && have_one_target xs ys) (uses_up sizes stations age xs (Judge ys m wall)) new used)
+            && have_one_target xs ys) ((is_none (cause_of_fault sizes stations age wall ys) && have_one_target xs ys)
+            && (is_deactivating ys || executes ys)) new used)
             (rest f)
 
         by : (o : Option (List ℕ)) → a ≡ o
@@ -618,7 +679,7 @@ module _ (stations : List StationInfo) (sizes : Sizes) (ms age : ℕ) where
     earlier = b.earlier;
     selecting = b.selecting;
     is_its = record {
-      target = standing_is_one sizes stations ms age xs (before calls) z is.stands;
+      target = standing_is_one xs (before calls) z is.stands;
       received = is.received;
       element = is.element;
       test = is.test;
@@ -670,4 +731,4 @@ module _ (stations : List StationInfo) (sizes : Sizes) (ms age : ℕ) where
       → IsExchanged stations sizes ms age calls xs now
   executes_are_exchanged calls xs now wall guarded executing passes =
       is_exchanged calls xs now
-      (forwarded_is_selected sizes stations ms age calls xs now wall guarded executing passes)
+      (forwarded_is_selected calls xs now wall guarded executing passes)

@@ -33,8 +33,6 @@ pub mod Heeded
 pub mod Glances
 pub mod Outlived
 pub mod Faultless
-pub mod UsedUp
-pub mod Lasting
 pub mod NewestTags
 pub mod Numbers
 pub mod Outcomes

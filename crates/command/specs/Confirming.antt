@@ -8,12 +8,12 @@ use Rattle.asdu.specs.declared.sizes.Sizes.{Sizes}
 use Rattle.command.specs.declared.station.StationInfo.{StationInfo}
 use Rattle.command.specs.Standard.{station_of, must_be_selected, selects, refuses_command}
 use Rattle.command.specs.Standard.{have_one_target, have_one_type, have_one_element}
-use Rattle.command.specs.Standard.{have_one_test_bit, confirms_command}
+use Rattle.command.specs.Standard.{have_one_test_bit, confirms_command, cause_of_fault}
+use Rattle.command.specs.Standard.{is_deactivating, executes}
 use Rattle.command.specs.Judging.{judged}
 use Rattle.command.specs.State.{octets_waiting}
 use Rattle.command.specs.History.{sent_count, forwarded_to}
 use Rattle.command.specs.Calls.{Call, Judge, PutOnLine, Accept, Busy, Lose, Mirror, Cut, Run, run}
-use Rattle.command.specs.UsedUp.{uses_up}
 
 -- select and execute have equal types as received, addresses and test bits, and equal elements
 -- apart from S/E
@@ -34,15 +34,17 @@ module _ (stations : List StationInfo) (sizes : Sizes) (select_ms max_age_ms : �
   abbrev after : List Call → Run
   after calls = run stations sizes select_ms max_age_ms calls
 
-  -- The call ends each selection of the target of xs: the connection ends, another select of it is
-  -- forwarded, or something uses it up.
+  -- The call ends each selection of the target of xs (type on the line, common address and object
+  -- address): the connection ends; another select of it is forwarded; an execute or a deactivation
+  -- of it comes with which nothing is wrong, whatever becomes of that; or a station refuses it.
   abbrev pub ends_selection : List ℕ → Call → List Call → Bool
   ends_selection xs Cut earlier = true
   ends_selection xs (Judge ys now wall) earlier =
       (is_none (judged ys now wall (after earlier).state).0
       && (must_be_selected stations ys && selects ys)
       && have_one_target xs ys)
-      || uses_up sizes stations max_age_ms xs (Judge ys now wall)
+      || ((is_none (cause_of_fault sizes stations max_age_ms wall ys) && have_one_target xs ys)
+      && (is_deactivating ys || executes ys))
   ends_selection xs (Mirror v now) earlier = refuses_command xs v
   ends_selection xs _ earlier = false
 

@@ -23,5 +23,4 @@ pub mod Restored
 pub mod Refusals
 pub mod Carried
 pub mod Passing
-pub mod UsedUp
 pub mod Confirming

@@ -31,8 +31,6 @@ ghost use Rattle.command.specs.History.{GivesOwnAnswers, own_kept, own_sent, Kee
 ghost use Rattle.command.specs.History.{AnswersWholly, IsGuarded, forwarded_in_all, sent_in_all};
 ghost use Rattle.command.specs.Passing.{FindsPlaces, of_others};
 ghost use Rattle.command.specs.Calls.{Call, Judge, Cut, run};
-ghost use Rattle.command.specs.UsedUp.{uses_up, is_select_for, is_acceptance_by};
-ghost use Rattle.command.specs.UsedUp.{is_confirmation_for, of_connection, NoneIs, IsHeldBack};
 ghost use Rattle.command.specs.Confirming.{IsExchanged};
 ghost use Rattle.command.specs.Selections.{AreDistinct, IsStanding, IsInTime};
 ghost use Rattle.command.specs.Examples.{OctetExamples, IsRight, WaitsSo, rule_examples};
@@ -153,42 +151,27 @@ pub fn executes_are_selected()
         IsGuarded sizes stations select_ms max_age_ms station h) }
 {}
 
-/// A selection lets one execute through, and no more. An execute to a station that asks for selects
-/// isn't forwarded unless since the latest of these a select of its type, common address and object
-/// address came: an execute or a deactivation of these, a station's negative confirmation, and the
-/// end of a connection. Nor is it where on its connection the station accepted no command on its
-/// line, or confirmed none of this type and these addresses. So it is for each station, each
-/// address and each type.
+/// A selection lets one execute through, and no more. An execute that is forwarded to a station that
+/// asks for selects has its select among the calls before it. The two have equal types as received,
+/// addresses, test bits and elements. The select was forwarded, went out in its turn, and was
+/// accepted by its station there. In less than `select_ms` it was confirmed, and the execute came
+/// less than `select_ms` after the latest such confirmation. Nothing has ended the selection since
+/// the select came: no other select of its target that was forwarded, no execute or deactivation of
+/// it with which nothing was wrong, no station's refusal, and no end of the connection. So it is for
+/// each station, each address and each type.
 pub fn selections_let_one_execute_through()
-    ensures used_up { (stations : List StationInfo) (sizes : Sizes) (select_ms max_age_ms : ℕ)
-        (earlier since : List Call) (call : Call) (xs : List ℕ) →
-        uses_up sizes stations max_age_ms xs call ≡ true → NoneIs (is_select_for xs) since →
-        IsHeldBack stations sizes select_ms max_age_ms (since ++ call ∷ earlier) xs }
-    ensures unselected { (stations : List StationInfo) (sizes : Sizes) (select_ms max_age_ms : ℕ)
-        (calls : List Call) (xs : List ℕ) → NoneIs (is_select_for xs) (of_connection calls) →
-        IsHeldBack stations sizes select_ms max_age_ms calls xs }
-    ensures unaccepted { (stations : List StationInfo) (sizes : Sizes) (select_ms max_age_ms : ℕ)
-        (calls : List Call) (xs : List ℕ) →
-        NoneIs (is_acceptance_by (station_of stations xs)) (of_connection calls) →
-        IsHeldBack stations sizes select_ms max_age_ms calls xs }
-    ensures unconfirmed { (stations : List StationInfo) (sizes : Sizes) (select_ms max_age_ms : ℕ)
-        (calls : List Call) (xs : List ℕ) →
-        NoneIs (is_confirmation_for xs) (of_connection calls) →
-        IsHeldBack stations sizes select_ms max_age_ms calls xs }
-    ensures exchanged { (stations : List StationInfo) (sizes : Sizes) (select_ms max_age_ms : ℕ)
+    ensures { (stations : List StationInfo) (sizes : Sizes) (select_ms max_age_ms : ℕ)
         (calls : List Call) (xs : List ℕ) (now : ℕ) (wall : Option ℕ) →
         must_be_selected stations xs ≡ true → executes xs ≡ true →
         (judged xs now wall (run stations sizes select_ms max_age_ms calls).state).0 ≡ None →
         IsExchanged stations sizes select_ms max_age_ms calls xs now }
 {}
 
-/// A select that went out, and that its station accepted on its line and confirmed in time, selects
-/// its execute: so it is for each station, each type and each address. Where moments never fall, a
-/// selected execute is refused for no want of a selection: one that is live lets it through. So it
-/// is forwarded where there are places for it. Until its time has
-/// passed nothing ends a selection but the end of its connection, another select of its type and
-/// addresses, and what uses these up. So a malformed deactivation leaves it as it is, and so does a
-/// select that isn't forwarded. Another confirmation renews it.
+/// The converse: what `selections_let_one_execute_through` asks for is enough, whatever else lies
+/// between. Other commands may come and go out, other stations may answer, and time may pass. So it
+/// is for each station, each type and each address. Where moments never fall, a selected execute is
+/// refused for no want of a selection: one that is live lets it through. So it is forwarded where
+/// there are places for it.
 pub fn selected_executes_pass()
     ensures selected { AtEachMoment (λ stations sizes select_ms max_age_ms now s h.
         (xs : List ℕ) (wall : Option ℕ) →
@@ -200,27 +183,11 @@ pub fn selected_executes_pass()
         cause_of_fault sizes stations max_age_ms wall xs ≡ None → executes xs ≡ true
         → IsSelected sizes stations select_ms max_age_ms xs now h
         → (no_place xs s).applies ≡ false → (judged xs now wall s).0 ≡ None) }
-    ensures lasts { (stations : List StationInfo) (sizes : Sizes) (select_ms max_age_ms : ℕ)
-        (calls : List Call) (call : Call) (xs : List ℕ) (now : ℕ) → (call ≡ Cut → ⊥) →
-        is_select_for xs call ≡ false → is_confirmation_for xs call ≡ false →
-        uses_up sizes stations max_age_ms xs call ≡ false →
-        IsSelected sizes stations select_ms max_age_ms xs now
-        (run stations sizes select_ms max_age_ms calls).history →
-        IsSelected sizes stations select_ms max_age_ms xs now
-        (run stations sizes select_ms max_age_ms (call ∷ calls)).history }
     ensures exchanged { (stations : List StationInfo) (sizes : Sizes) (select_ms max_age_ms : ℕ)
         (calls : List Call) (xs : List ℕ) (now : ℕ) → must_be_selected stations xs ≡ true →
         IsExchanged stations sizes select_ms max_age_ms calls xs now →
         IsSelected sizes stations select_ms max_age_ms xs now
         (run stations sizes select_ms max_age_ms calls).history }
-    ensures outlasts { (stations : List StationInfo) (sizes : Sizes) (select_ms max_age_ms : ℕ)
-        (calls : List Call) (xs ys : List ℕ) (came now : ℕ) (wall : Option ℕ) (a : List ℕ) →
-        selects ys ≡ true →
-        (judged ys came wall (run stations sizes select_ms max_age_ms calls).state).0 ≡ Some a →
-        IsSelected sizes stations select_ms max_age_ms xs now
-        (run stations sizes select_ms max_age_ms calls).history →
-        IsSelected sizes stations select_ms max_age_ms xs now
-        (run stations sizes select_ms max_age_ms (Judge ys came wall ∷ calls)).history }
 {}
 
 /// No two selections are of one target, and each is the select that stands for its target, as far
