@@ -2,6 +2,7 @@ pub mod Codes
 pub mod Coming
 pub mod Confirming
 pub mod Exchanged
+pub mod LineForms
 pub mod Kept
 pub mod Spelled
 pub mod Machine

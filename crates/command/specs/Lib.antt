@@ -24,3 +24,4 @@ pub mod Refusals
 pub mod Carried
 pub mod Passing
 pub mod Confirming
+pub mod LineForms

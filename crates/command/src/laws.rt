@@ -32,6 +32,7 @@ ghost use Rattle.command.specs.History.{AnswersWholly, IsGuarded, forwarded_in_a
 ghost use Rattle.command.specs.Passing.{FindsPlaces, of_others};
 ghost use Rattle.command.specs.Calls.{Call, Judge, Cut, run};
 ghost use Rattle.command.specs.Confirming.{IsExchanged};
+ghost use Rattle.command.specs.LineForms.{LinesAreSpelled};
 ghost use Rattle.command.specs.Selections.{AreDistinct, IsStanding, IsInTime};
 ghost use Rattle.command.specs.Examples.{OctetExamples, IsRight, WaitsSo, rule_examples};
 ghost use Rattle.command.specs.Examples.{selection_examples, line_examples, tag_examples, BearsIt};
@@ -62,12 +63,15 @@ pub fn rules_apply_in_their_order()
 {}
 
 /// First sendings to a station are the commands forwarded to it, in their order, each once, and
-/// only while their connection is open, without their time tag. What waits is the next of them.
+/// only while their connection is open, without their time tag. What waits is the next of them. On
+/// the line each has the octets that came, in the line's sizes and with the station's own common
+/// address, whatever its numbers are. So a select is one there too, and an execute the one selected.
 pub fn commands_are_forwarded()
     ensures in_turn { AfterEachRun (λ stations sizes select_ms max_age_ms s h.
         ForwardsCommands sizes stations select_ms max_age_ms h) }
     ensures waiting { AfterEachRun (λ stations sizes select_ms max_age_ms s h.
         (k : ℕ) → octets_waiting k s ≡ next_octets sizes stations select_ms max_age_ms k h) }
+    ensures spelled { LinesAreSpelled }
 {}
 
 /// A command that goes out for the first time, if it is an activation that came with a time tag,
