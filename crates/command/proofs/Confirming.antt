@@ -105,10 +105,10 @@ module _ (ends other : Call → List Call → Bool) where
 module _ (ends : Call → List Call → Bool) (Holds : List Call → Type 0)
     (keeps : (call : Call) (calls : List Call) → ends call calls ≡ false → Holds calls
     → Holds (call ∷ calls)) where
-  kept : (begin calls : List Call) → GoOn ends begin calls → Holds begin → Holds calls
-  kept begin [] g holds = subst Holds g holds
-  kept begin (call ∷ calls) (inl is) holds = subst Holds is holds
-  kept begin (call ∷ calls) (inr (n, g)) holds = keeps call calls n (kept begin calls g holds)
+  pub kept_by : (begin calls : List Call) → GoOn ends begin calls → Holds begin → Holds calls
+  kept_by begin [] g holds = subst Holds g holds
+  kept_by begin (call ∷ calls) (inl is) holds = subst Holds is holds
+  kept_by begin (call ∷ calls) (inr (n, g)) holds = keeps call calls n (kept_by begin calls g holds)
 
 module _ (stations : List StationInfo) (sizes : Sizes) (ms age : ℕ) where
   abbrev after : List Call → Run
@@ -430,7 +430,7 @@ module _ (stations : List StationInfo) (sizes : Sizes) (ms age : ℕ) where
       → IsSelected sizes stations ms age xs now (before calls)
   is_selected calls xs now asks e = record {
     select = z;
-    stands = kept (ends xs) (λ cs. stood xs cs ≡ Some z) (stays xs z) base calls whole
+    stands = kept_by (ends xs) (λ cs. stood xs cs ≡ Some z) (stays xs z) base calls whole
         (begun xs e.earlier e.select e.came e.wall a e.forwarded
         (faultless stations sizes ms age e.earlier e.select e.came e.wall a e.forwarded
         (run_holds sizes stations ms age base).keeps.rightly) e.is_its.target asked e.selecting);
@@ -438,7 +438,7 @@ module _ (stations : List StationInfo) (sizes : Sizes) (ms age : ℕ) where
     element = e.is_its.element;
     test = e.is_its.test;
     moment = e.con;
-    confirmed = kept renews (λ cs. confirmed xs z cs ≡ Some e.con)
+    confirmed = kept_by renews (λ cs. confirmed xs z cs ≡ Some e.con)
         (confirmed_stays xs z e.con) (Mirror e.answer e.con ∷ e.accepted) calls e.lasts was;
     in_time = e.in_time;
   }
@@ -485,15 +485,15 @@ module _ (stations : List StationInfo) (sizes : Sizes) (ms age : ℕ) where
           (Mirror e.answer e.con ∷ e.accepted) calls e.lasts)
 
       long : suc p ≤ count_to xs k e.waiting
-      long = kept (ends xs) (λ cs. suc p ≤ count_to xs k cs) (grows xs k (suc p)) base e.waiting
+      long = kept_by (ends xs) (λ cs. suc p ≤ count_to xs k cs) (grows xs k (suc p)) base e.waiting
           e.waits (added xs e.select e.came e.wall e.earlier a e.forwarded asked)
 
       there : place_at xs k e.on_line ≡ Some p
-      there = kept leaves (λ cs. place_at xs k cs ≡ Some p) (line_stays xs k p)
+      there = kept_by leaves (λ cs. place_at xs k cs ≡ Some p) (line_stays xs k p)
           (PutOnLine k ∷ e.waiting) e.on_line e.stands (goes_out xs k p e.waiting e.in_turn long)
 
       held : is_taken xs k p e.accepted ≡ true
-      held = kept (ends xs) (λ cs. is_taken xs k p cs ≡ true) (taken_stays xs k p)
+      held = kept_by (ends xs) (λ cs. is_taken xs k p cs ≡ true) (taken_stays xs k p)
           (Accept k ∷ e.on_line) e.accepted e.awaits (taken xs k p e.on_line there)
 
       was : confirmed xs z (Mirror e.answer e.con ∷ e.accepted) ≡ Some e.con

@@ -3,6 +3,7 @@ pub mod Coming
 pub mod Confirming
 pub mod Exchanged
 pub mod LineForms
+pub mod CallByCall
 pub mod Kept
 pub mod Spelled
 pub mod Machine

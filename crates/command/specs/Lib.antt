@@ -25,3 +25,4 @@ pub mod Carried
 pub mod Passing
 pub mod Confirming
 pub mod LineForms
+pub mod CallByCall

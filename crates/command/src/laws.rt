@@ -33,6 +33,7 @@ ghost use Rattle.command.specs.Passing.{FindsPlaces, of_others};
 ghost use Rattle.command.specs.Calls.{Call, Judge, Cut, run};
 ghost use Rattle.command.specs.Confirming.{IsExchanged};
 ghost use Rattle.command.specs.LineForms.{LinesAreSpelled};
+ghost use Rattle.command.specs.CallByCall.{GoInTurn, IsAnsweredBusy, WaitInTurn};
 ghost use Rattle.command.specs.Selections.{AreDistinct, IsStanding, IsInTime};
 ghost use Rattle.command.specs.Examples.{OctetExamples, IsRight, WaitsSo, rule_examples};
 ghost use Rattle.command.specs.Examples.{selection_examples, line_examples, tag_examples, BearsIt};
@@ -72,6 +73,8 @@ pub fn commands_are_forwarded()
     ensures waiting { AfterEachRun (λ stations sizes select_ms max_age_ms s h.
         (k : ℕ) → octets_waiting k s ≡ next_octets sizes stations select_ms max_age_ms k h) }
     ensures spelled { LinesAreSpelled }
+    ensures queued { (stations : List StationInfo) (sizes : Sizes) (select_ms max_age_ms : ℕ)
+        (calls : List Call) (k : ℕ) → GoInTurn stations sizes select_ms max_age_ms calls k }
 {}
 
 /// A command that goes out for the first time, if it is an activation that came with a time tag,
@@ -220,6 +223,10 @@ pub fn own_answers_are_given()
     ensures in_turn { AfterEachRun (λ stations sizes select_ms max_age_ms s h.
         own_kept h ≡ own_sent h ++ s.answers) }
     ensures kept { AfterEachRun (λ stations sizes select_ms max_age_ms s h. KeepsOwnAnswers h) }
+    ensures busy { (stations : List StationInfo) (sizes : Sizes) (select_ms max_age_ms : ℕ)
+        (calls : List Call) (k : ℕ) → IsAnsweredBusy stations sizes select_ms max_age_ms calls k }
+    ensures waiting { (stations : List StationInfo) (sizes : Sizes) (select_ms max_age_ms : ℕ)
+        (calls : List Call) → WaitInTurn stations sizes select_ms max_age_ms calls }
     ensures spelled { (cause : ℕ) (xs : List ℕ) → cause < 64 → 9 ≤ length xs
         → slice_index xs 2 < 256 → IsRefusal cause xs (answer cause xs) }
 {}
