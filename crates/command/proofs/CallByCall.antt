@@ -1,7 +1,7 @@
 -- What each call makes of the commands that wait, of what stands on a line, and of the own answers.
-use Rattle.std.proofs.Common.{◌≡◌, ℕ, zero, suc, ◌<◌, ◌≤◌, ◌⊎◌, inl, inr, ◌&&◌, ◌||◌, Bool, true}
-use Rattle.std.proofs.Common.{false, not, List, [], ◌∷◌, ◌++◌, length, drop, refl, sym, subst, ap}
-use Rattle.std.proofs.Common.{◌∙◌, arith, rules}
+use Rattle.std.proofs.Common.{◌≡◌, ℕ, suc, ◌≤◌, ◌⊎◌, inl, inr, ◌&&◌, ◌||◌, Bool, true}
+use Rattle.std.proofs.Common.{false, not, List, [], ◌∷◌, ◌++◌, length, drop, refl, sym, ap}
+use Rattle.std.proofs.Common.{◌∙◌, arith}
 use Rattle.std.specs.Prelude.{◌==◌, Option, Some, None, if◌then◌else◌, is_none, nat_lt, option_map}
 use Rattle.std.proofs.lemmas.Bool.{eq-eqb, lt-ltb}
 use Rattle.asdu.specs.declared.sizes.Sizes.{Sizes}
@@ -9,15 +9,15 @@ use Rattle.command.specs.declared.station.StationInfo.{StationInfo}
 use Rattle.command.specs.declared.waiting.Waiting.{Waiting}
 use Rattle.command.specs.declared.waiting.Line.{Line}
 use Rattle.command.specs.declared.waiting.Line.TheVariants as line
-use Rattle.command.specs.Octets.{answer, negative}
+use Rattle.command.specs.Octets.{answer}
 use Rattle.command.specs.Standard.{negative_of}
 use Rattle.command.specs.Judging.{judged}
 use Rattle.command.specs.State.{oldest_for, first_answer, line_of, refusal_of, kept}
-use Rattle.command.specs.History.{Judged, History, first, is_for, forwarded_to, sent_count, next_for}
+use Rattle.command.specs.History.{Judged, first, is_for, forwarded_to, sent_count, next_for}
 use Rattle.command.specs.History.{on_line}
 use Rattle.command.specs.Calls.{Call, Judge, PutOnLine, Accept, Busy, Lose, Mirror, Own, SendOwn}
 use Rattle.command.specs.Calls.{Cut, Due, Run, run, after_sending, after_answer}
-use Rattle.command.specs.Confirming.{GoOn, clears_line}
+use Rattle.command.specs.Confirming.{clears_line}
 use Rattle.command.specs.CallByCall.{is_cut, is_put, is_judge, is_own, GoInTurn, IsAnsweredBusy}
 use Rattle.command.specs.CallByCall.{WaitInTurn}
 use Rattle.command.proofs.Confirming.{kept_by}

@@ -1,6 +1,6 @@
 -- A select that went out and that its station accepted and confirmed selects its execute, whatever
 -- else lies between.
-use Rattle.std.proofs.Common.{◌≡◌, ℕ, suc, ◌+◌, ◌-◌, ◌<◌, ◌≤◌, ◌⊎◌, inl, inr, ◌%◌, ◌&&◌, ◌||◌, Bool}
+use Rattle.std.proofs.Common.{◌≡◌, ℕ, suc, ◌+◌, ◌-◌, ◌≤◌, inl, inr, ◌%◌, ◌&&◌, ◌||◌, Bool}
 use Rattle.std.proofs.Common.{true, false, not, List, [], ◌∷◌, ◌++◌, length, slice_index, refl, sym, subst, ap}
 use Rattle.std.proofs.Common.{◌∙◌, arith, rules}
 use Rattle.std.specs.Prelude.{◌==◌, Option, Some, None, if◌then◌else◌, is_none, nat_lt, slice_get}
@@ -20,7 +20,7 @@ use Rattle.command.specs.Standard.{cause_of_fault, is_for_station}
 use Rattle.command.specs.Judging.{judged}
 use Rattle.command.specs.State.{oldest_for, first_answer}
 use Rattle.command.specs.History.{Judged, History, Select, is_for, forwarded_to, sent_count}
-use Rattle.command.specs.History.{is_of_target, begins_selection, is_place, standing, place_on_line}
+use Rattle.command.specs.History.{begins_selection, is_place, standing, place_on_line}
 use Rattle.command.specs.History.{is_accepted_at, confirmed_at, IsSelected}
 use Rattle.command.specs.Calls.{Call, Judge, PutOnLine, Accept, Busy, Lose, Mirror, Own, SendOwn}
 use Rattle.command.specs.Calls.{Cut, Due, Run, run, after_sending, after_answer}

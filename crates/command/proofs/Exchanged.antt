@@ -1,6 +1,6 @@
 -- An execute that is forwarded to a station that asks for selects has its select before it: what is
 -- selected by the history is so by the calls.
-use Rattle.std.proofs.Common.{◌≡◌, ℕ, suc, ◌-◌, ◌<◌, ◌≤◌, ◌⊎◌, inl, inr, ◌&&◌, ◌||◌, Bool, true}
+use Rattle.std.proofs.Common.{◌≡◌, ℕ, suc, ◌-◌, ◌<◌, ◌≤◌, inl, inr, ◌&&◌, ◌||◌, Bool, true}
 use Rattle.std.proofs.Common.{false, not, List, [], ◌∷◌, length, refl, sym, subst, ap, ◌∙◌, arith}
 use Rattle.std.proofs.Common.{rules}
 use Rattle.std.specs.Prelude.{◌==◌, Option, Some, None, if◌then◌else◌, is_none, nat_lt, option_map}
@@ -14,14 +14,14 @@ use Rattle.command.specs.Standard.{must_be_selected, cause_of_fault, confirms_co
 use Rattle.command.specs.Standard.{refuses_command}
 use Rattle.command.specs.Judging.{judged}
 use Rattle.command.specs.State.{oldest_for, first_answer}
-use Rattle.command.specs.History.{HistoryEntry, Judged, Sent, Accepted, Refused, GivenUp, Mirrored}
+use Rattle.command.specs.History.{Judged, Sent, Accepted, Refused, GivenUp, Mirrored}
 use Rattle.command.specs.History.{Offered, Answered, Ended, History, Select, forwarded_to}
 use Rattle.command.specs.History.{sent_count, is_of_target, begins_selection, standing, is_place}
 use Rattle.command.specs.History.{place_on_line, is_accepted_at, confirmed_at, IsSelected, ExecutesAreSelected}
 use Rattle.command.specs.History.{GivesOwnAnswers}
 use Rattle.command.specs.Calls.{Call, Judge, PutOnLine, Accept, Busy, Lose, Mirror, Own, SendOwn}
 use Rattle.command.specs.Calls.{Cut, Due, Run, run, after_sending, after_answer}
-use Rattle.command.specs.Confirming.{IsSelectOf, GoOn, ends_selection, clears_line}
+use Rattle.command.specs.Confirming.{GoOn, ends_selection, clears_line}
 use Rattle.command.specs.Confirming.{confirms_in_time, IsExchanged}
 use Rattle.command.proofs.Wholes.{run_selected}
 use Rattle.command.proofs.Runs.{run_holds}

@@ -1,5 +1,5 @@
 -- How a command stands on the line.
-use Rattle.std.proofs.Common.{◌≡◌, ℕ, Bool, true, List, ◌∷◌, ◌++◌, slice_index, refl, sym, ap, ◌∙◌}
+use Rattle.std.proofs.Common.{◌≡◌, ℕ, true, List, ◌∷◌, ◌++◌, slice_index, refl, sym, ap, ◌∙◌}
 use Rattle.byteorder.specs.Endian.{little_bytes}
 use Rattle.asdu.specs.Asdu.{originator_octets}
 use Rattle.asdu.specs.Sizes.{ca_len, ioa_len}

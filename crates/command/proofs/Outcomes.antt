@@ -4,7 +4,7 @@ use Rattle.std.proofs.Common.{◌≡◌, ℕ, ◌+◌, ◌-◌, ◌%◌, Bool, t
 use Rattle.std.proofs.Common.{sym, ap, ◌∙◌}
 use Rattle.std.specs.Prelude.{◌==◌, ◌&&◌, nat_lt, nat_le, slice_index, Option, Some}
 use Rattle.std.specs.Prelude.{if◌then◌else◌}
-use Rattle.std.proofs.lemmas.Bool.{eq-eqb, eqb-true, and_parts, lt-ltb, le-ltb, le-leb}
+use Rattle.std.proofs.lemmas.Bool.{eq-eqb, eqb-true, and_parts, lt-ltb, le-leb}
 use Rattle.elements.specs.Types.{row}
 use Rattle.elements.specs.TimeTag.{verdict_of}
 use Rattle.asdu.specs.Asdu.{AsduValue, Info}
@@ -221,13 +221,6 @@ times_hold = record {
       (let p : nat_lt (con - came) select_ms ≡ true = lt-ltb (con - came) select_ms soon in
       let q : nat_lt (now - con) select_ms ≡ true = lt-ltb (now - con) select_ms early in
       rw (p, q) refl);
-  late_execute = λ select_ms max_age_ms came con now soon late.
-      (let p : nat_lt (con - came) select_ms ≡ true = lt-ltb (con - came) select_ms soon in
-      let q : nat_lt (now - con) select_ms ≡ false = le-ltb (now - con) select_ms late in
-      rw (p, q) refl);
-  late_confirmation = λ select_ms max_age_ms came con now late.
-      (let p : nat_lt (con - came) select_ms ≡ false = le-ltb (con - came) select_ms late in
-      rw p refl);
   fresh = fresh;
   untagged = λ most wall kind rest other.
       ap (λ (b : Bool). b && is_activation (kind ∷ rest)
