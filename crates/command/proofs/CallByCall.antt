@@ -10,7 +10,9 @@ use Rattle.command.specs.declared.waiting.Waiting.{Waiting}
 use Rattle.command.specs.declared.waiting.Line.{Line}
 use Rattle.command.specs.declared.waiting.Line.TheVariants as line
 use Rattle.command.specs.Octets.{answer}
-use Rattle.command.specs.Standard.{negative_of}
+use Rattle.command.specs.Standard.{negative_of, is_for_station}
+use Rattle.std.specs.Option.{option_map_or}
+use Rattle.std.specs.Prelude.{slice_get}
 use Rattle.command.specs.Judging.{judged}
 use Rattle.command.specs.State.{oldest_for, first_answer, line_of, refusal_of, kept}
 use Rattle.command.specs.History.{Judged, first, is_for, forwarded_to, sent_count, next_for}
@@ -21,7 +23,7 @@ use Rattle.command.specs.Confirming.{clears_line}
 use Rattle.command.specs.CallByCall.{is_cut, is_put, is_judge, is_own, GoInTurn, IsAnsweredBusy}
 use Rattle.command.specs.CallByCall.{WaitInTurn}
 use Rattle.command.proofs.Confirming.{kept_by}
-use Rattle.command.proofs.Exchanged.{no_entry, no_truth}
+use Rattle.command.proofs.Progress.{no_entry, no_truth}
 use Rattle.command.proofs.Keeps.{held}
 use Rattle.command.proofs.Runs.{run_holds}
 use Rattle.command.proofs.Sendings.{none_waits}
@@ -58,11 +60,14 @@ module _ (stations : List StationInfo) (sizes : Sizes) (ms age : ℕ) where
 
     pub go_in_turn : (k : ℕ) → GoInTurn stations sizes ms age calls k
     go_in_turn k = record {
-      last = λ xs now wall its forwarded.
+      last = λ station xs now wall there its forwarded.
           ap (λ (a : Option (List ℕ)). forwarded_to sizes stations ms age k
           (Judged now wall xs a ∷ (after calls).history)) forwarded
-          ∙ ap (λ (b : Bool). if b then to_station k calls ++ xs ∷ [] else to_station k calls) its;
-      not_its = λ xs now wall its. by xs now wall its (judged xs now wall (after calls).state).0;
+          ∙ ap (λ (b : Bool). if b then to_station k calls ++ xs ∷ [] else to_station k calls)
+          (ap (λ (o : Option StationInfo). option_map_or (is_for_station xs) o false) there ∙ its);
+      not_its = λ xs now wall its.
+          by xs now wall (no_station xs (slice_get stations k) its)
+          (judged xs now wall (after calls).state).0;
       refused = λ xs a now wall is.
           ap (λ (b : Option (List ℕ)). forwarded_to sizes stations ms age k
           (Judged now wall xs b ∷ (after calls).history)) is;
@@ -76,6 +81,12 @@ module _ (stations : List StationInfo) (sizes : Sizes) (ms age : ℕ) where
       cut = (refl, refl);
     }
       where
+        no_station : (xs : List ℕ) (o : Option StationInfo)
+            → ((station : StationInfo) → o ≡ Some station → is_for_station xs station ≡ false)
+            → option_map_or (is_for_station xs) o false ≡ false
+        no_station xs None never = refl
+        no_station xs (Some station) never = never station refl
+
         by : (xs : List ℕ) (now : ℕ) (wall : Option ℕ)
             → is_for sizes stations ms age k xs ≡ false
             → (a : Option (List ℕ))

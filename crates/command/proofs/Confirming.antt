@@ -1,7 +1,8 @@
 -- A select that went out and that its station accepted and confirmed selects its execute, whatever
 -- else lies between.
 use Rattle.std.proofs.Common.{◌≡◌, ℕ, suc, ◌+◌, ◌-◌, ◌≤◌, inl, inr, ◌%◌, ◌&&◌, ◌||◌, Bool}
-use Rattle.std.proofs.Common.{true, false, not, List, [], ◌∷◌, ◌++◌, length, slice_index, refl, sym, subst, ap}
+use Rattle.std.proofs.Common.{true, false, not, List, [], ◌∷◌, ◌++◌, length, slice_index, refl, sym}
+use Rattle.std.proofs.Common.{subst, ap}
 use Rattle.std.proofs.Common.{◌∙◌, arith, rules}
 use Rattle.std.specs.Prelude.{◌==◌, Option, Some, None, if◌then◌else◌, is_none, nat_lt, slice_get}
 use Rattle.std.specs.Prelude.{option_map}
@@ -13,7 +14,8 @@ use Rattle.asdu.specs.Asdu.{AsduValue}
 use Rattle.asdu.specs.declared.sizes.Sizes.{Sizes}
 use Rattle.command.specs.declared.station.StationInfo.{StationInfo}
 use Rattle.command.specs.declared.waiting.Waiting.{Waiting}
-use Rattle.command.specs.Standard.{common_address, object_address, plain_type, station_of, must_be_selected, selects}
+use Rattle.command.specs.Standard.{common_address, object_address, plain_type, station_of}
+use Rattle.command.specs.Standard.{must_be_selected, selects}
 use Rattle.command.specs.Standard.{executes, is_deactivating, have_one_target, confirms_command}
 use Rattle.command.specs.Standard.{refuses_command, is_object_of, is_only_object_of, is_for_each}
 use Rattle.command.specs.Standard.{cause_of_fault, is_for_station}
@@ -27,7 +29,8 @@ use Rattle.command.specs.Calls.{Cut, Due, Run, run, after_sending, after_answer}
 use Rattle.command.specs.Confirming.{GoOn, ends_selection, clears_line, confirms_in_time}
 use Rattle.command.specs.Confirming.{IsExchanged}
 use Rattle.command.proofs.Coming.{all_sent}
-use Rattle.command.proofs.Exchanged.{no_truth, faultless}
+use Rattle.command.proofs.Exchanged.{faultless}
+use Rattle.command.proofs.Progress.{no_truth}
 use Rattle.command.proofs.Runs.{run_holds}
 
 record AreOne (xs ys : List ℕ) : Type 0 where

@@ -1,6 +1,7 @@
 pub mod Codes
 pub mod Coming
 pub mod Confirming
+pub mod Progress
 pub mod Exchanged
 pub mod LineForms
 pub mod CallByCall

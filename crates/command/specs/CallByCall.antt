@@ -1,14 +1,14 @@
 -- What each call makes of the commands that wait, of what stands on a line, and of the own answers
 -- (IEC 60870-5-101, 6.4 and 7.2.3; first in, first out is this gateway's own profile).
 use Rattle.std.specs.Prelude.{◌≡◌, ℕ, suc, ◌<◌, ◌≤◌, ◌==◌, ◌⊎◌, ◌||◌, Bool, true, false, List, []}
-use Rattle.std.specs.Prelude.{◌∷◌, ◌++◌, length, Option, Some, None}
+use Rattle.std.specs.Prelude.{◌∷◌, ◌++◌, length, slice_get, Option, Some, None}
 use Rattle.asdu.specs.declared.sizes.Sizes.{Sizes}
 use Rattle.command.specs.declared.station.StationInfo.{StationInfo}
 use Rattle.command.specs.Octets.{answer}
-use Rattle.command.specs.Standard.{negative_of}
+use Rattle.command.specs.Standard.{negative_of, is_for_station}
 use Rattle.command.specs.Judging.{judged}
 use Rattle.command.specs.State.{line_of, refusal_of}
-use Rattle.command.specs.History.{is_for, forwarded_to, sent_count, next_for}
+use Rattle.command.specs.History.{forwarded_to, sent_count, next_for}
 use Rattle.command.specs.Calls.{Call, Judge, PutOnLine, Accept, Busy, Lose, Own, SendOwn, Cut, Run}
 use Rattle.command.specs.Calls.{run}
 use Rattle.command.specs.Confirming.{GoOn, clears_line}
@@ -44,12 +44,13 @@ module _ (stations : List StationInfo) (sizes : Sizes) (select_ms max_age_ms : �
   -- A command that is forwarded is the last of its station's, and nothing else changes these on one
   -- connection. The next that goes out is the first that didn't.
   pub record GoInTurn (k : ℕ) : Type 0 where
-    pub last : (xs : List ℕ) (now : ℕ) (wall : Option ℕ) →
-        is_for sizes stations select_ms max_age_ms k xs ≡ true →
+    pub last : (station : StationInfo) (xs : List ℕ) (now : ℕ) (wall : Option ℕ) →
+        slice_get stations k ≡ Some station → is_for_station xs station ≡ true →
         (judged xs now wall (after calls).state).0 ≡ None →
         to_station k (Judge xs now wall ∷ calls) ≡ to_station k calls ++ xs ∷ []
     pub not_its : (xs : List ℕ) (now : ℕ) (wall : Option ℕ) →
-        is_for sizes stations select_ms max_age_ms k xs ≡ false →
+        ((station : StationInfo) → slice_get stations k ≡ Some station →
+        is_for_station xs station ≡ false) →
         to_station k (Judge xs now wall ∷ calls) ≡ to_station k calls
     pub refused : (xs a : List ℕ) (now : ℕ) (wall : Option ℕ) →
         (judged xs now wall (after calls).state).0 ≡ Some a →

@@ -1,7 +1,9 @@
--- Which calls make a selection: a select comes and is forwarded, goes out in its turn, stands on the
+-- Which calls make a selection: a select comes and is forwarded, goes out in its turn, stands on
+-- the
 -- line until its station accepts it, and is confirmed in time (select before operate: IEC
 -- 60870-5-101, 6.8; the times, and what ends it, are this gateway's own profile).
-use Rattle.std.specs.Prelude.{◌≡◌, ℕ, ◌-◌, ◌<◌, ◌⊎◌, ◌==◌, ◌&&◌, ◌||◌, not, nat_lt, Bool, true, false}
+use Rattle.std.specs.Prelude.{◌≡◌, ℕ, ◌-◌, ◌<◌, ◌⊎◌, ◌==◌, ◌&&◌, ◌||◌, not, nat_lt, Bool, true}
+use Rattle.std.specs.Prelude.{false}
 use Rattle.std.specs.Prelude.{List, [], ◌∷◌, length, Option, None, is_none}
 use Rattle.asdu.specs.Asdu.{AsduValue}
 use Rattle.asdu.specs.declared.sizes.Sizes.{Sizes}

@@ -388,7 +388,12 @@ pub record TimesAreKept : Type 0 where
   -- and a fresh tag is never too old
   pub fresh : (max_age_ms : ℕ) (wall : Option ℕ) (xs : List ℕ) → IsFresh max_age_ms wall xs →
       (not_fresh max_age_ms wall xs).applies ≡ false
-  -- nor is a command without one: types 58 to 62 alone have a tag
+  -- an activation with any other tag is
+  pub stale : (max_age_ms : ℕ) (wall : Option ℕ) (kind : ℕ) (n : Numbers) (rest : List ℕ) →
+      58 ≤ kind → kind ≤ 62 → n.cause % 64 ≡ 6 →
+      (IsFresh max_age_ms wall (command_with kind n rest) → ⊥) →
+      (not_fresh max_age_ms wall (command_with kind n rest)).applies ≡ true
+  -- but no command without one: types 58 to 62 alone have a tag
   pub untagged : (max_age_ms : ℕ) (wall : Option ℕ) (kind : ℕ) (rest : List ℕ) →
       ((58 ≤ kind) × (kind ≤ 62) → ⊥) → (not_fresh max_age_ms wall (kind ∷ rest)).applies ≡ false
   -- nor is a deactivation, whatever its tag and the wall say

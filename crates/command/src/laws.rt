@@ -66,7 +66,8 @@ pub fn rules_apply_in_their_order()
 /// First sendings to a station are the commands forwarded to it, in their order, each once, and
 /// only while their connection is open, without their time tag. What waits is the next of them. On
 /// the line each has the octets that came, in the line's sizes and with the station's own common
-/// address, whatever its numbers are. So a select is one there too, and an execute the one selected.
+/// address, whatever its numbers are. So a select is a select there too. Call by call, each that is
+/// forwarded is put last, and the first that didn't go out goes next.
 pub fn commands_are_forwarded()
     ensures in_turn { AfterEachRun (λ stations sizes select_ms max_age_ms s h.
         ForwardsCommands sizes stations select_ms max_age_ms h) }
@@ -158,13 +159,13 @@ pub fn executes_are_selected()
         IsGuarded sizes stations select_ms max_age_ms station h) }
 {}
 
-/// A selection lets one execute through, and no more. An execute that is forwarded to a station that
-/// asks for selects has its select among the calls before it. The two have equal types as received,
-/// addresses, test bits and elements. The select was forwarded, went out in its turn, and was
-/// accepted by its station there. In less than `select_ms` it was confirmed, and the execute came
-/// less than `select_ms` after the latest such confirmation. Nothing has ended the selection since
-/// the select came: no other select of its target that was forwarded, no execute or deactivation of
-/// it with which nothing was wrong, no station's refusal, and no end of the connection. So it is for
+/// A selection lets one execute through, and no more. An execute that is forwarded to a station
+/// which asks for selects has its select among the calls before it. The two have equal types as
+/// received, addresses, test bits and elements. The select was forwarded, went out in its turn, and
+/// was accepted by its station there. It was confirmed less than `select_ms` after it came, and the
+/// execute came less than `select_ms` after the latest such confirmation. Since the select came the
+/// connection didn't end, and no other select of its target was forwarded. Nor did an execute or a
+/// deactivation of it come with which nothing was wrong, and no station refused it. So it is for
 /// each station, each address and each type.
 pub fn selections_let_one_execute_through()
     ensures { (stations : List StationInfo) (sizes : Sizes) (select_ms max_age_ms : ℕ)
@@ -213,8 +214,9 @@ pub fn selections_are_selects_that_stand()
 /// Each answer is the right one: the ASDU that came, with another cause, P/N 1, and its test bit
 /// and all other octets as they were, however many they are; an ASDU that isn't forwarded gets one,
 /// and so does a command that a busy station had, where its connection is open, and no other has
-/// one. The own answers that are kept go out first in, first out: 16
-/// of them at most wait, and the end of a connection removes them.
+/// one. The own answers that are kept go out first in, first out: 16 of them at most wait, and the
+/// end of a connection removes them. Call by call, a command that went out and is refused as busy
+/// gets its answer, whatever lies between. What stands on no line gets none.
 pub fn own_answers_are_given()
     ensures right { AfterEachRun (λ stations sizes select_ms max_age_ms s h.
         GivesOwnAnswers sizes stations select_ms max_age_ms h) }
