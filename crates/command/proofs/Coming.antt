@@ -1,16 +1,13 @@
--- A command that is forwarded to a station for which nothing waits is the next that goes out.
-use Rattle.std.proofs.Common.{◌≡◌, ℕ, ◌≤◌, Bool, true, false, List, [], ◌∷◌, ◌++◌, length}
+-- Where nothing waits for a station each command that was forwarded to it went out.
+use Rattle.std.proofs.Common.{◌≡◌, ℕ, ◌≤◌, List, [], length}
 use Rattle.std.proofs.Common.{drop, refl, ap, ◌∙◌, arith, rules}
-use Rattle.std.specs.Prelude.{Option, Some, None, if◌then◌else◌, option_map, slice_get}
-use Rattle.std.specs.Option.{option_map_or}
-use Rattle.std.proofs.lemmas.List.{length-drop, drop-append-le}
+use Rattle.std.specs.Prelude.{Option, Some, None, option_map}
+use Rattle.std.proofs.lemmas.List.{length-drop}
 use Rattle.asdu.specs.declared.sizes.Sizes.{Sizes}
 use Rattle.command.specs.declared.station.StationInfo.{StationInfo}
 use Rattle.command.specs.declared.waiting.Waiting.{Waiting}
-use Rattle.command.specs.Standard.{is_for_station}
 use Rattle.command.specs.State.{oldest, octets_waiting}
-use Rattle.command.specs.History.{Judged, History, first, is_for, forwarded_to, sent_count}
-use Rattle.command.specs.History.{next_for}
+use Rattle.command.specs.History.{History, forwarded_to, sent_count}
 use Rattle.command.specs.Calls.{Call, run}
 use Rattle.command.proofs.Sendings.{none_waits}
 use Rattle.command.proofs.Runs.{run_holds}
@@ -47,23 +44,3 @@ module _ (sizes : Sizes) (stations : List StationInfo) (ms age : ℕ) (calls : L
   all_sent k quiet =
       whole (count_of k) (all_for k) ((run_holds sizes stations ms age calls).keeps.queue.count k)
       (none_left k quiet)
-
-  pub is_next : (k : ℕ) (station : StationInfo) (xs : List ℕ) (now : ℕ) (wall : Option ℕ)
-      (a : Option (List ℕ))
-      → slice_get stations k ≡ Some station
-      → is_for_station xs station ≡ true
-      → octets_waiting k (run stations sizes ms age calls).state ≡ None
-      → a ≡ None
-      → next_for sizes stations ms age k (Judged now wall xs a ∷ before) ≡ Some xs
-  is_next k station xs now wall a there for_it quiet forwarded =
-      ap (λ (b : Option (List ℕ)).
-      next_for sizes stations ms age k (Judged now wall xs b ∷ before)) forwarded
-      ∙ (ap (λ (b : Bool).
-      first (drop (count_of k) (if b then all_for k ++ xs ∷ [] else all_for k))) is
-      ∙ ap first (drop-append-le (count_of k) (all_for k) (xs ∷ [])
-      ((run_holds sizes stations ms age calls).keeps.queue.count k)
-      ∙ ap (λ (ys : List (List ℕ)). ys ++ xs ∷ []) (none_left k quiet)))
-    where
-      is : is_for sizes stations ms age k xs ≡ true
-      is = ap (λ (o : Option StationInfo). option_map_or (is_for_station xs) o false) there
-          ∙ for_it

@@ -1,6 +1,10 @@
 pub mod Codes
 pub mod Coming
 pub mod Confirming
+pub mod Progress
+pub mod Exchanged
+pub mod LineForms
+pub mod CallByCall
 pub mod Kept
 pub mod Spelled
 pub mod Machine
@@ -32,8 +36,6 @@ pub mod Heeded
 pub mod Glances
 pub mod Outlived
 pub mod Faultless
-pub mod UsedUp
-pub mod Lasting
 pub mod NewestTags
 pub mod Numbers
 pub mod Outcomes

@@ -18,7 +18,6 @@ use Rattle.command.specs.NewestTags.{TagsAreRead, NoneHas, NewestIsBorne, Sendin
 use Rattle.command.proofs.Numbers.{no_tag}
 use Rattle.command.proofs.Sendings.{none_waits}
 use Rattle.command.proofs.Runs.{run_holds}
-use Rattle.command.proofs.Coming.{is_next}
 
 pub tags_read : TagsAreRead
 tags_read = record {
@@ -137,10 +136,6 @@ module _ (sizes : Sizes) (stations : List StationInfo) (ms age : ℕ) where
   pub sendings_noted : (calls : List Call) → SendingsAreNoted sizes stations ms age calls
   sendings_noted calls = record {
     sent = sent calls;
-    next = λ k station xs now wall there for_it quiet forwarded.
-        is_next sizes stations ms age calls k station xs now wall
-        (judged xs now wall (run stations sizes ms age calls).state).0 there for_it quiet
-        forwarded;
     stays = stays calls;
     ends = refl;
   }

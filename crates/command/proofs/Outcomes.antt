@@ -1,12 +1,16 @@
 -- What confirms a command, the cause of its answer and its times are the same whatever its numbers
 -- are.
-use Rattle.std.proofs.Common.{◌≡◌, ℕ, ◌+◌, ◌-◌, ◌%◌, Bool, true, false, not, List, [], ◌∷◌, refl}
-use Rattle.std.proofs.Common.{sym, ap, ◌∙◌}
-use Rattle.std.specs.Prelude.{◌==◌, ◌&&◌, nat_lt, nat_le, slice_index, Option, Some}
+use Rattle.std.proofs.Common.{◌≡◌, ℕ, zero, suc, ◌+◌, ◌-◌, ◌%◌, ◌<◌, ◌≤◌, Bool, true, false, not}
+use Rattle.std.proofs.Common.{List, [], ◌∷◌, refl}
+use Rattle.std.proofs.Common.{sym, ap, ◌∙◌, arith}
+use Rattle.std.specs.Prelude.{◌==◌, ◌&&◌, nat_lt, nat_le, slice_index, Option, Some, None}
 use Rattle.std.specs.Prelude.{if◌then◌else◌}
-use Rattle.std.proofs.lemmas.Bool.{eq-eqb, eqb-true, and_parts, lt-ltb, le-ltb, le-leb}
+use Rattle.std.proofs.lemmas.Bool.{eq-eqb, eqb-true, and_parts, lt-ltb, le-leb, leb-true}
 use Rattle.elements.specs.Types.{row}
 use Rattle.elements.specs.TimeTag.{verdict_of}
+use Rattle.elements.specs.declared.tag.Verdict.{Verdict}
+use Rattle.elements.specs.declared.tag.Verdict.TheVariants.{Good, MarkedInvalid, OutOfRange}
+use Rattle.elements.specs.declared.tag.Verdict.TheVariants.{NoSuchDay, WrongWeekday}
 use Rattle.asdu.specs.Asdu.{AsduValue, Info}
 use Rattle.asdu.specs.declared.sizes.Sizes.{Sizes}
 use Rattle.command.specs.declared.station.StationInfo.{StationInfo}
@@ -215,20 +219,65 @@ not_active : (a b c : Bool) → b ≡ false → (a && b && c) ≡ false
 not_active true b c is = ap (λ (d : Bool). d && c) is
 not_active false b c is = refl
 
+-- what isn't fresh by its octets isn't fresh by its verdict
+not_recent : (most : ℕ) (wall : Option ℕ) (xs : List ℕ) → (IsFresh most wall xs → ⊥)
+    → is_fresh most wall (verdict_of (tag_of xs)) ≡ false
+not_recent most wall xs never = by wall refl (verdict_of (tag_of xs)) refl
+  where
+    by : (w : Option ℕ) → wall ≡ w → (v : Verdict) → verdict_of (tag_of xs) ≡ v
+        → is_fresh most w v ≡ false
+    by None is v good = refl
+    by (Some clock) is (Good instant) good = near (nat_le clock (instant + most)) refl
+        (nat_le instant (clock + most)) refl
+      where
+        near : (a : Bool) → nat_le clock (instant + most) ≡ a
+            → (b : Bool) → nat_le instant (clock + most) ≡ b → (a && b) ≡ false
+        near true old true ahead = absurd (never (record {
+          instant = instant;
+          good = good;
+          clock = clock;
+          known = is;
+          not_old = leb-true clock (instant + most) old;
+          not_ahead = leb-true instant (clock + most) ahead;
+        }))
+        near true old false ahead = refl
+        near false old b ahead = refl
+    by (Some clock) is MarkedInvalid good = refl
+    by (Some clock) is OutOfRange good = refl
+    by (Some clock) is NoSuchDay good = refl
+    by (Some clock) is WrongWeekday good = refl
+
+has_one : (kind : ℕ) → 58 ≤ kind → kind ≤ 62 → has_tag kind ≡ true
+has_one kind low high = at (kind - 58) (omega (arith, low, high)) (omega (arith, low, high))
+  where
+    at : (d : ℕ) → kind ≡ 58 + d → d < 5 → has_tag kind ≡ true
+    at zero e f = ap has_tag e
+    at (suc zero) e f = ap has_tag e
+    at (suc (suc zero)) e f = ap has_tag e
+    at (suc (suc (suc zero))) e f = ap has_tag e
+    at (suc (suc (suc (suc zero)))) e f = ap has_tag e
+    at (suc (suc (suc (suc (suc d))))) e f = absurd (omega (arith, f))
+
+stale : (most : ℕ) (wall : Option ℕ) (kind : ℕ) (n : Numbers) (rest : List ℕ)
+    → 58 ≤ kind → kind ≤ 62 → n.cause % 64 ≡ 6
+    → (IsFresh most wall (command_with kind n rest) → ⊥)
+    → (not_fresh most wall (command_with kind n rest)).applies ≡ true
+stale most wall kind n rest low high six_ never =
+    ap (λ (b : Bool). b && n.cause % 64 == 6
+    && not (is_fresh most wall (verdict_of (tag_of (command_with kind n rest)))))
+    (has_one kind low high)
+    ∙ (ap (λ (c : ℕ). c == 6
+    && not (is_fresh most wall (verdict_of (tag_of (command_with kind n rest))))) six_
+    ∙ ap not (not_recent most wall (command_with kind n rest) never))
+
 pub times_hold : TimesAreKept
 times_hold = record {
   passes = λ select_ms max_age_ms came con now soon early.
       (let p : nat_lt (con - came) select_ms ≡ true = lt-ltb (con - came) select_ms soon in
       let q : nat_lt (now - con) select_ms ≡ true = lt-ltb (now - con) select_ms early in
       rw (p, q) refl);
-  late_execute = λ select_ms max_age_ms came con now soon late.
-      (let p : nat_lt (con - came) select_ms ≡ true = lt-ltb (con - came) select_ms soon in
-      let q : nat_lt (now - con) select_ms ≡ false = le-ltb (now - con) select_ms late in
-      rw (p, q) refl);
-  late_confirmation = λ select_ms max_age_ms came con now late.
-      (let p : nat_lt (con - came) select_ms ≡ false = le-ltb (con - came) select_ms late in
-      rw p refl);
   fresh = fresh;
+  stale = stale;
   untagged = λ most wall kind rest other.
       ap (λ (b : Bool). b && is_activation (kind ∷ rest)
       && not (is_fresh most wall (verdict_of (tag_of (kind ∷ rest))))) (no_tag kind other);

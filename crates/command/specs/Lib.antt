@@ -23,5 +23,6 @@ pub mod Restored
 pub mod Refusals
 pub mod Carried
 pub mod Passing
-pub mod UsedUp
 pub mod Confirming
+pub mod LineForms
+pub mod CallByCall

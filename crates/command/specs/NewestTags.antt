@@ -1,16 +1,14 @@
 -- Which time tag a station's answer is passed on with (IEC 60870-5-104, 8; that it is the newest
 -- command's, and that sixteen are kept, is this gateway's own profile).
 use Rattle.std.specs.Prelude.{◌≡◌, ℕ, ◌<◌, ◌≤◌, ◌⊎◌, false, true, List, [], ◌∷◌, ◌++◌, length}
-use Rattle.std.specs.Prelude.{if◌then◌else◌, slice_get, Option, Some, None}
+use Rattle.std.specs.Prelude.{if◌then◌else◌, Some, None}
 use Rattle.std.specs.List.{AllByRecursion}
 use Rattle.asdu.specs.Asdu.{AsduValue, Info}
 use Rattle.asdu.specs.declared.sizes.Sizes.{Sizes}
 use Rattle.command.specs.declared.station.StationInfo.{StationInfo}
-use Rattle.command.specs.Standard.{operates, tag_if_any, is_object_of, is_for_station}
-use Rattle.command.specs.Judging.{judged}
-use Rattle.command.specs.State.{octets_waiting}
+use Rattle.command.specs.Standard.{operates, tag_if_any, is_object_of}
 use Rattle.command.specs.History.{History, next_for, first_sendings, mirror_tag}
-use Rattle.command.specs.Calls.{Call, Judge, PutOnLine, Cut, run}
+use Rattle.command.specs.Calls.{Call, PutOnLine, Cut, run}
 use Rattle.command.specs.Numbers.{Numbers, command_with, Tag, seven, one_octet_tagged}
 use Rattle.command.specs.Numbers.{set_point_tagged}
 
@@ -66,13 +64,6 @@ module _ (sizes : Sizes) (stations : List StationInfo) (select_ms max_age_ms : �
         (run stations sizes select_ms max_age_ms calls).history ≡ Some xs →
         sendings_after (PutOnLine k ∷ calls)
         ≡ (if operates xs then xs ∷ sendings_after calls else sendings_after calls)
-    -- one that is forwarded to a station for which nothing waits is the next that goes out
-    pub next : (k : ℕ) (station : StationInfo) (xs : List ℕ) (now : ℕ) (wall : Option ℕ) →
-        slice_get stations k ≡ Some station → is_for_station xs station ≡ true →
-        octets_waiting k (run stations sizes select_ms max_age_ms calls).state ≡ None →
-        (judged xs now wall (run stations sizes select_ms max_age_ms calls).state).0 ≡ None →
-        next_for sizes stations select_ms max_age_ms k
-        (run stations sizes select_ms max_age_ms (Judge xs now wall ∷ calls)).history ≡ Some xs
     pub stays : (call : Call) → (call ≡ Cut → ⊥) → ((k : ℕ) → call ≡ PutOnLine k → ⊥) →
         sendings_after (call ∷ calls) ≡ sendings_after calls
     pub ends : sendings_after (Cut ∷ calls) ≡ []

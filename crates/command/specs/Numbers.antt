@@ -17,7 +17,7 @@ use Rattle.command.specs.Standard.{have_one_type, unknown_type, malformed, confi
 use Rattle.command.specs.Standard.{negative_of, cause_of_fault, must_be_selected, tag_of}
 use Rattle.command.specs.Judging.{judged}
 use Rattle.command.specs.Calls.{run}
-use Rattle.command.specs.Examples.{sizes, stations, execute, refused, confirmed_at_moments}
+use Rattle.command.specs.Examples.{sizes, stations, execute, confirmed_at_moments}
 
 -- cause octet, originator, common address and object address, each low octet first
 pub record Numbers : Type 0 where
@@ -385,19 +385,15 @@ pub record TimesAreKept : Type 0 where
       (judged execute now None
       (run stations sizes select_ms max_age_ms (confirmed_at_moments came con)).state).0
       ≡ None
-  pub late_execute : (select_ms max_age_ms came con now : ℕ) → con - came < select_ms →
-      select_ms ≤ now - con →
-      (judged execute now None
-      (run stations sizes select_ms max_age_ms (confirmed_at_moments came con)).state).0
-      ≡ refused
-  pub late_confirmation : (select_ms max_age_ms came con now : ℕ) → select_ms ≤ con - came →
-      (judged execute now None
-      (run stations sizes select_ms max_age_ms (confirmed_at_moments came con)).state).0
-      ≡ refused
   -- and a fresh tag is never too old
   pub fresh : (max_age_ms : ℕ) (wall : Option ℕ) (xs : List ℕ) → IsFresh max_age_ms wall xs →
       (not_fresh max_age_ms wall xs).applies ≡ false
-  -- nor is a command without one: types 58 to 62 alone have a tag
+  -- an activation with any other tag is
+  pub stale : (max_age_ms : ℕ) (wall : Option ℕ) (kind : ℕ) (n : Numbers) (rest : List ℕ) →
+      58 ≤ kind → kind ≤ 62 → n.cause % 64 ≡ 6 →
+      (IsFresh max_age_ms wall (command_with kind n rest) → ⊥) →
+      (not_fresh max_age_ms wall (command_with kind n rest)).applies ≡ true
+  -- but no command without one: types 58 to 62 alone have a tag
   pub untagged : (max_age_ms : ℕ) (wall : Option ℕ) (kind : ℕ) (rest : List ℕ) →
       ((58 ≤ kind) × (kind ≤ 62) → ⊥) → (not_fresh max_age_ms wall (kind ∷ rest)).applies ≡ false
   -- nor is a deactivation, whatever its tag and the wall say

@@ -31,9 +31,9 @@ ghost use Rattle.command.specs.History.{GivesOwnAnswers, own_kept, own_sent, Kee
 ghost use Rattle.command.specs.History.{AnswersWholly, IsGuarded, forwarded_in_all, sent_in_all};
 ghost use Rattle.command.specs.Passing.{FindsPlaces, of_others};
 ghost use Rattle.command.specs.Calls.{Call, Judge, Cut, run};
-ghost use Rattle.command.specs.UsedUp.{uses_up, is_select_for, is_acceptance_by};
-ghost use Rattle.command.specs.UsedUp.{is_confirmation_for, of_connection, NoneIs, IsHeldBack};
-ghost use Rattle.command.specs.Confirming.{IsThenSelected};
+ghost use Rattle.command.specs.Confirming.{IsExchanged};
+ghost use Rattle.command.specs.LineForms.{LinesAreSpelled};
+ghost use Rattle.command.specs.CallByCall.{GoInTurn, IsAnsweredBusy, WaitInTurn};
 ghost use Rattle.command.specs.Selections.{AreDistinct, IsStanding, IsInTime};
 ghost use Rattle.command.specs.Examples.{OctetExamples, IsRight, WaitsSo, rule_examples};
 ghost use Rattle.command.specs.Examples.{selection_examples, line_examples, tag_examples, BearsIt};
@@ -64,12 +64,18 @@ pub fn rules_apply_in_their_order()
 {}
 
 /// First sendings to a station are the commands forwarded to it, in their order, each once, and
-/// only while their connection is open, without their time tag. What waits is the next of them.
+/// only while their connection is open, without their time tag. What waits is the next of them. On
+/// the line each has the octets that came, in the line's sizes and with the station's own common
+/// address, whatever its numbers are. So a select is a select there too. Call by call, each that is
+/// forwarded is put last, and the first that didn't go out goes next.
 pub fn commands_are_forwarded()
     ensures in_turn { AfterEachRun (λ stations sizes select_ms max_age_ms s h.
         ForwardsCommands sizes stations select_ms max_age_ms h) }
     ensures waiting { AfterEachRun (λ stations sizes select_ms max_age_ms s h.
         (k : ℕ) → octets_waiting k s ≡ next_octets sizes stations select_ms max_age_ms k h) }
+    ensures spelled { LinesAreSpelled }
+    ensures queued { (stations : List StationInfo) (sizes : Sizes) (select_ms max_age_ms : ℕ)
+        (calls : List Call) (k : ℕ) → GoInTurn stations sizes select_ms max_age_ms calls k }
 {}
 
 /// A command that goes out for the first time, if it is an activation that came with a time tag,
@@ -153,37 +159,27 @@ pub fn executes_are_selected()
         IsGuarded sizes stations select_ms max_age_ms station h) }
 {}
 
-/// A selection lets one execute through, and no more. An execute to a station that asks for selects
-/// isn't forwarded unless since the latest of these a select of its type, common address and object
-/// address came: an execute or a deactivation of these, a station's negative confirmation, and the
-/// end of a connection. Nor is it where on its connection the station accepted no command on its
-/// line, or confirmed none of this type and these addresses. So it is for each station, each
-/// address and each type.
+/// A selection lets one execute through, and no more. An execute that is forwarded to a station
+/// which asks for selects has its select among the calls before it. The two have equal types as
+/// received, addresses, test bits and elements. The select was forwarded, went out in its turn, and
+/// was accepted by its station there. It was confirmed less than `select_ms` after it came, and the
+/// execute came less than `select_ms` after the latest such confirmation. Since the select came the
+/// connection didn't end, and no other select of its target was forwarded. Nor did an execute or a
+/// deactivation of it come with which nothing was wrong, and no station refused it. So it is for
+/// each station, each address and each type.
 pub fn selections_let_one_execute_through()
-    ensures used_up { (stations : List StationInfo) (sizes : Sizes) (select_ms max_age_ms : ℕ)
-        (earlier since : List Call) (call : Call) (xs : List ℕ) →
-        uses_up sizes stations max_age_ms xs call ≡ true → NoneIs (is_select_for xs) since →
-        IsHeldBack stations sizes select_ms max_age_ms (since ++ call ∷ earlier) xs }
-    ensures unselected { (stations : List StationInfo) (sizes : Sizes) (select_ms max_age_ms : ℕ)
-        (calls : List Call) (xs : List ℕ) → NoneIs (is_select_for xs) (of_connection calls) →
-        IsHeldBack stations sizes select_ms max_age_ms calls xs }
-    ensures unaccepted { (stations : List StationInfo) (sizes : Sizes) (select_ms max_age_ms : ℕ)
-        (calls : List Call) (xs : List ℕ) →
-        NoneIs (is_acceptance_by (station_of stations xs)) (of_connection calls) →
-        IsHeldBack stations sizes select_ms max_age_ms calls xs }
-    ensures unconfirmed { (stations : List StationInfo) (sizes : Sizes) (select_ms max_age_ms : ℕ)
-        (calls : List Call) (xs : List ℕ) →
-        NoneIs (is_confirmation_for xs) (of_connection calls) →
-        IsHeldBack stations sizes select_ms max_age_ms calls xs }
+    ensures { (stations : List StationInfo) (sizes : Sizes) (select_ms max_age_ms : ℕ)
+        (calls : List Call) (xs : List ℕ) (now : ℕ) (wall : Option ℕ) →
+        must_be_selected stations xs ≡ true → executes xs ≡ true →
+        (judged xs now wall (run stations sizes select_ms max_age_ms calls).state).0 ≡ None →
+        IsExchanged stations sizes select_ms max_age_ms calls xs now }
 {}
 
-/// A select that went out, and that its station accepted on its line and confirmed in time, selects
-/// its execute: so it is for each station, each type and each address. Where moments never fall, a
-/// selected execute is refused for no want of a selection: one that is live lets it through. So it
-/// is forwarded where there are places for it. Until its time has
-/// passed nothing ends a selection but the end of its connection, another select of its type and
-/// addresses, and what uses these up. So a malformed deactivation leaves it as it is, and so does a
-/// select that isn't forwarded. Another confirmation renews it.
+/// The converse: what `selections_let_one_execute_through` asks for is enough, whatever else lies
+/// between. Other commands may come and go out, other stations may answer, and time may pass. So it
+/// is for each station, each type and each address. Where moments never fall, a selected execute is
+/// refused for no want of a selection: one that is live lets it through. So it is forwarded where
+/// there are places for it.
 pub fn selected_executes_pass()
     ensures selected { AtEachMoment (λ stations sizes select_ms max_age_ms now s h.
         (xs : List ℕ) (wall : Option ℕ) →
@@ -195,24 +191,11 @@ pub fn selected_executes_pass()
         cause_of_fault sizes stations max_age_ms wall xs ≡ None → executes xs ≡ true
         → IsSelected sizes stations select_ms max_age_ms xs now h
         → (no_place xs s).applies ≡ false → (judged xs now wall s).0 ≡ None) }
-    ensures lasts { (stations : List StationInfo) (sizes : Sizes) (select_ms max_age_ms : ℕ)
-        (calls : List Call) (call : Call) (xs : List ℕ) (now : ℕ) → (call ≡ Cut → ⊥) →
-        is_select_for xs call ≡ false → is_confirmation_for xs call ≡ false →
-        uses_up sizes stations max_age_ms xs call ≡ false →
+    ensures exchanged { (stations : List StationInfo) (sizes : Sizes) (select_ms max_age_ms : ℕ)
+        (calls : List Call) (xs : List ℕ) (now : ℕ) → must_be_selected stations xs ≡ true →
+        IsExchanged stations sizes select_ms max_age_ms calls xs now →
         IsSelected sizes stations select_ms max_age_ms xs now
-        (run stations sizes select_ms max_age_ms calls).history →
-        IsSelected sizes stations select_ms max_age_ms xs now
-        (run stations sizes select_ms max_age_ms (call ∷ calls)).history }
-    ensures confirmed { (stations : List StationInfo) (sizes : Sizes) (select_ms max_age_ms : ℕ)
-        (earlier : List Call) → IsThenSelected stations sizes select_ms max_age_ms earlier }
-    ensures outlasts { (stations : List StationInfo) (sizes : Sizes) (select_ms max_age_ms : ℕ)
-        (calls : List Call) (xs ys : List ℕ) (came now : ℕ) (wall : Option ℕ) (a : List ℕ) →
-        selects ys ≡ true →
-        (judged ys came wall (run stations sizes select_ms max_age_ms calls).state).0 ≡ Some a →
-        IsSelected sizes stations select_ms max_age_ms xs now
-        (run stations sizes select_ms max_age_ms calls).history →
-        IsSelected sizes stations select_ms max_age_ms xs now
-        (run stations sizes select_ms max_age_ms (Judge ys came wall ∷ calls)).history }
+        (run stations sizes select_ms max_age_ms calls).history }
 {}
 
 /// No two selections are of one target, and each is the select that stands for its target, as far
@@ -231,8 +214,9 @@ pub fn selections_are_selects_that_stand()
 /// Each answer is the right one: the ASDU that came, with another cause, P/N 1, and its test bit
 /// and all other octets as they were, however many they are; an ASDU that isn't forwarded gets one,
 /// and so does a command that a busy station had, where its connection is open, and no other has
-/// one. The own answers that are kept go out first in, first out: 16
-/// of them at most wait, and the end of a connection removes them.
+/// one. The own answers that are kept go out first in, first out: 16 of them at most wait, and the
+/// end of a connection removes them. Call by call, a command that went out and is refused as busy
+/// gets its answer, whatever lies between. What stands on no line gets none.
 pub fn own_answers_are_given()
     ensures right { AfterEachRun (λ stations sizes select_ms max_age_ms s h.
         GivesOwnAnswers sizes stations select_ms max_age_ms h) }
@@ -241,6 +225,10 @@ pub fn own_answers_are_given()
     ensures in_turn { AfterEachRun (λ stations sizes select_ms max_age_ms s h.
         own_kept h ≡ own_sent h ++ s.answers) }
     ensures kept { AfterEachRun (λ stations sizes select_ms max_age_ms s h. KeepsOwnAnswers h) }
+    ensures busy { (stations : List StationInfo) (sizes : Sizes) (select_ms max_age_ms : ℕ)
+        (calls : List Call) (k : ℕ) → IsAnsweredBusy stations sizes select_ms max_age_ms calls k }
+    ensures waiting { (stations : List StationInfo) (sizes : Sizes) (select_ms max_age_ms : ℕ)
+        (calls : List Call) → WaitInTurn stations sizes select_ms max_age_ms calls }
     ensures spelled { (cause : ℕ) (xs : List ℕ) → cause < 64 → 9 ≤ length xs
         → slice_index xs 2 < 256 → IsRefusal cause xs (answer cause xs) }
 {}

@@ -1,3 +1,4 @@
+use Rattle.command.proofs.CallByCall.{is_answered_busy, wait_in_turn}
 use Rattle.command.proofs.Refusals.{refuses}
 use Rattle.command.proofs.Runs.{run_holds}
 use Rattle.command.proofs.Wholes.{run_wholly}
@@ -20,3 +21,11 @@ returns-clause-spelled c = refuses
 
 pub returns-clause-wholly : goal.returns-clause-wholly
 returns-clause-wholly c = run_wholly
+
+pub returns-clause-busy : goal.returns-clause-busy
+returns-clause-busy c = λ stations sizes select_ms max_age_ms calls k.
+    is_answered_busy stations sizes select_ms max_age_ms calls k
+
+pub returns-clause-waiting : goal.returns-clause-waiting
+returns-clause-waiting c = λ stations sizes select_ms max_age_ms calls.
+    wait_in_turn stations sizes select_ms max_age_ms calls

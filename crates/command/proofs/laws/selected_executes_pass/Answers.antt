@@ -1,6 +1,5 @@
-use Rattle.command.proofs.Confirming.{then_selected}
+use Rattle.command.proofs.Confirming.{is_selected}
 use Rattle.command.proofs.Converse.{is_let, is_forwarded}
-use Rattle.command.proofs.Lasting.{lasts, outlasts}
 use Rattle.command.proofs.laws.selected_executes_pass.Goals as goal
 
 pub returns-clause-selected : goal.returns-clause-selected
@@ -15,17 +14,6 @@ returns-clause-forwarded c =
     selected. is_forwarded
     stations sizes select_ms max_age_ms calls falls now later xs wall faultless executing selected
 
-pub returns-clause-lasts : goal.returns-clause-lasts
-returns-clause-lasts c =
-    λ stations sizes select_ms max_age_ms calls call xs now goes_on no_select no_con unused
-    selected. lasts sizes stations select_ms max_age_ms calls call xs now goes_on no_select no_con
-    unused selected
-
-pub returns-clause-confirmed : goal.returns-clause-confirmed
-returns-clause-confirmed c = λ stations sizes select_ms max_age_ms earlier.
-    then_selected stations sizes select_ms max_age_ms earlier
-
-pub returns-clause-outlasts : goal.returns-clause-outlasts
-returns-clause-outlasts c = λ stations sizes select_ms max_age_ms calls xs ys came now wall a
-    selecting refused selected. outlasts sizes stations select_ms max_age_ms calls xs ys came now
-    wall a selecting refused selected
+pub returns-clause-exchanged : goal.returns-clause-exchanged
+returns-clause-exchanged c = λ stations sizes select_ms max_age_ms calls xs now asks exchanged.
+    is_selected stations sizes select_ms max_age_ms calls xs now asks exchanged
