@@ -42,3 +42,4 @@ pub mod GapsOn
 pub mod Here
 pub mod Closing
 pub mod OwnAnswers
+pub mod Places

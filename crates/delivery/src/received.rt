@@ -1,7 +1,9 @@
 //! What the control centre has received, over closes and new connections.
 ghost use Rattle.std.specs.Prelude.{◌≡◌, ◌+◌, ℕ, List, [], ◌∷◌, ◌++◌, length, take, true, false};
 ghost use Rattle.std.specs.Prelude.{None};
+ghost use Rattle.std.specs.List.{flat_map};
 ghost use Rattle.apci.specs.declared.apdu.Apdu.{Apdu};
+ghost use Rattle.asdu.specs.declared.sizes.Sizes.{Sizes};
 ghost use Rattle.session.specs.History as talk;
 ghost use Rattle.session.specs.declared.kinds.Close.{Close};
 ghost use Rattle.session.specs.declared.kinds.Close.TheVariants.{Grammar, SendNumber};
@@ -17,7 +19,9 @@ ghost use Rattle.gateway.specs.Frames.{i_frames, fault_of};
 ghost use Rattle.gateway.specs.Log.{Log, LogEntry, Input, Output, Came, Went, Opened, LineOut};
 ghost use Rattle.gateway.specs.Log.{Closed};
 ghost use Rattle.gateway.specs.Entries.{number_of};
-ghost use Rattle.gateway.specs.Reports.{Setup, taken_objects};
+ghost use Rattle.gateway.specs.Objects.{pieces_of_report};
+ghost use Rattle.gateway.specs.Reports.{Setup, taken_objects, taken_pieces, reports_in};
+ghost use Rattle.gateway.specs.Reports.{parts_of_all};
 ghost use Rattle.gateway.specs.Traffic.{IsFaithful, IsAtRest, HasRested};
 ghost use Rattle.delivery.specs.Closing.{IsClosedFor, HasDoneAll, IsOfStep, WaitsForNone};
 ghost use Rattle.delivery.specs.Delivery.{Delivers};
@@ -53,7 +57,9 @@ pub fn what_has_come_is_one_run()
 /// that the session's history has. Each of these frames that has monitor objects counts as one
 /// piece, and its objects count. An own answer counts as none. So a piece has its place until then,
 /// and the next connection begins right behind it. Before the first connection nothing is
-/// acknowledged: it begins at the first object taken.
+/// acknowledged: it begins at the first object taken. What needs places are the pieces of the
+/// reports taken, each one place. So each place comes back, and leave to poll
+/// (`polls_need_three_places`) does too.
 pub fn pieces_are_acknowledged_with_their_frames()
     ensures none { (acknowledged_reports [] ≡ 0) × (first_unacknowledged [] ≡ 0) }
     ensures numbers { (h : talk.History) →
@@ -66,6 +72,12 @@ pub fn pieces_are_acknowledged_with_their_frames()
         first_unacknowledged (c ∷ before)
         ≡ length (objects_of_frames (take (acknowledged_count c.received_frames) c.sent_frames))
         + first_unacknowledged before }
+    ensures taken { (p : Setup) (log : Log) →
+        taken_pieces p log ≡ flat_map (λ report. pieces_of_report p.sizes report.1)
+        (reports_in p log) }
+    ensures places { (sizes : Sizes) (reports : List (ℕ × List ℕ)) →
+        parts_of_all sizes reports
+        ≡ length (flat_map (λ report. pieces_of_report sizes report.1) reports) }
 {}
 
 /// Which octets are a connection's. It begins with its opening, and ends where TCP is cut, where it
