@@ -9,7 +9,7 @@ use Rattle.session.specs.declared.kinds.Close.TheVariants.{Stopped, Timeout, Own
 use Rattle.session.specs.declared.kinds.Taken.{Taken}
 use Rattle.session.specs.declared.kinds.Taken.TheVariants.{Nothing, Asdu, Close as Closes}
 use Rattle.gateway.specs.Connections.{present, BeginsWithFault}
-use Rattle.gateway.specs.Course.{Course, came_frames, Runs}
+use Rattle.gateway.specs.Course.{Course, HasTakenAll, came_frames, Runs}
 use Rattle.gateway.specs.Frames.{acknowledged_count, fault_of, transfers}
 use Rattle.gateway.specs.GoingOut.{answers_among, AnswersGoOut}
 use Rattle.gateway.specs.Log.{Log, LogEntry, Input, Came, Went, LineIn, Opened, TcpIn, CutOff}
@@ -20,7 +20,7 @@ use Rattle.gateway.specs.Streams.{spelled}
 use Rattle.gateway.specs.Traffic.{HasCause, IsAtRest, HasRested, RestsBetweenSteps}
 use Rattle.gateway.proofs.OneCause.{came_transfers, came_acknowledged, counted}
 use Rattle.delivery.specs.Closing.{IsClosedFor, IsAtFault, MaySendData, HasDoneAll, IsOfStep}
-use Rattle.delivery.specs.Closing.{WaitsForNone}
+use Rattle.delivery.specs.Closing.{AreTaken, WaitsForNone}
 use Rattle.delivery.specs.Received.{close_by}
 use Rattle.delivery.proofs.Faults.{same_fault}
 use Rattle.delivery.proofs.Frames.{none_came}
@@ -90,6 +90,9 @@ closed_for p log Replaced has lacks other = absurd (other refl)
 
 -- ---- A step that rests
 
+taken_all : (log : Log) (c : Course) → HasTakenAll (present log) c.talk → AreTaken log c.talk
+taken_all log c all = record { rest = all.rest; octets = all.joined; more = all.more }
+
 open_of : (p : Setup) (log : Log) (c : Course) → Runs p log c → talk.is_started c.talk ≡ true
     → (present log).is_open ≡ true
 open_of p log c r started = by_open (present log).is_open refl
@@ -121,9 +124,7 @@ done_all p log rest out =
     (open_of p log c rest.course_runs may.0) (came_transfers c.talk ∙ may.0)
     (room_of p log c rest.course_runs may.1) in
     record {
-      rest = rest.talk.all.rest;
-      octets = rest.talk.all.joined;
-      more = rest.talk.all.more;
+      taken = taken_all log c rest.talk.all;
       confirmed = rest.talk.confirmed;
       none_due = rest.talk.none_due;
       in_time = rest.talk.in_time;
@@ -162,8 +163,6 @@ rested_then p newer older at event entry h s =
 pub asked : (p : Setup) (log : Log) (now : ℕ) (octets : List ℕ) (c : Course)
     → Runs p (Went now (LineOut octets) ∷ log) c → WaitsForNone p log c
 asked p log now octets c r = subst (λ (d : Course). WaitsForNone p log d) (sym r.2.is) (record {
-  rest = r.2.all.rest;
-  octets = r.2.all.joined;
-  more = r.2.all.more;
+  taken = taken_all log r.0 r.2.all;
   in_time = r.2.in_time;
 })

@@ -37,15 +37,21 @@ pub record IsAtFault (log : Log) (h : talk.History) (cause : Close) : Type 0 whe
   pub octets : (present log).received ≡ spelled (came_frames h) ++ (spelling frame ++ more)
   pub fault : talk.verdict_on frame h ≡ Closes cause
 
--- Why the open connection is closed with this cause: what comes next is no APDU (1), or a frame
--- with that fault (2, 3, 4); an I frame or a test has had no answer for t1 (5); or an own answer
--- found no place (6). For a connection that another replaced (7) nothing is asked here.
+-- Why the open connection is closed with this cause. With 1 no APDU comes next, and with 2, 3 and
+-- 4 a frame with that fault does. With 5 an I frame or a test has had no answer for t1. With 6 an
+-- own answer found no place. For a connection that another replaced (7) nothing is asked here.
 abbrev pub IsClosedFor : Setup → Log → Course → Close → Type 0
 IsClosedFor p log c Grammar = IsNoFrame log c.talk
 IsClosedFor p log c Timeout = talk.has_timed_out p.session.t1 (latest log) c.talk ≡ true
 IsClosedFor p log c OwnAnswers = 0 < unplaced c.works.history
 IsClosedFor p log c Replaced = Unit {0}
 IsClosedFor p log c cause = IsAtFault log c.talk cause
+
+-- Each whole frame that came is taken, and what stands behind them may still become one.
+pub record AreTaken (log : Log) (h : talk.History) : Type 0 where
+  pub rest : List ℕ
+  pub octets : (present log).received ≡ spelled (came_frames h) ++ rest
+  pub more : IsMore rest
 
 -- Data transfer runs, and fewer than k I frames are unacknowledged (5.3, 5.5).
 abbrev pub MaySendData : Setup → Course → Type 0
@@ -54,10 +60,7 @@ MaySendData p c = (talk.is_started c.talk ≡ true)
 
 -- All is done on the connection that can be done.
 pub record HasDoneAll (p : Setup) (log : Log) (c : Course) : Type 0 where
-  -- each whole frame that came is taken, and what stands behind them may still become one
-  pub rest : List ℕ
-  pub octets : (present log).received ≡ spelled (came_frames c.talk) ++ rest
-  pub more : IsMore rest
+  pub taken : AreTaken log c.talk
   -- no confirmation is due, nor an S frame or a test, and no answer is late
   pub confirmed : talk.confirmation_of c.talk ≡ None
   pub none_due :
@@ -70,12 +73,10 @@ pub record HasDoneAll (p : Setup) (log : Log) (c : Course) : Type 0 where
       first_unacknowledged c.earlier + length (monitor_objects_sent (here_of c))
       ≡ length (taken_objects p log)
 
--- Of the connection nothing stands before a request to the line: each whole frame that came is
--- taken, and no answer is late, so that the connection isn't about to be closed (profile).
+-- Nothing of the connection comes before a request to the line (profile). Each whole frame that
+-- came is taken. No answer is late, so the connection isn't about to be closed.
 pub record WaitsForNone (p : Setup) (log : Log) (c : Course) : Type 0 where
-  pub rest : List ℕ
-  pub octets : (present log).received ≡ spelled (came_frames c.talk) ++ rest
-  pub more : IsMore rest
+  pub taken : AreTaken log c.talk
   pub in_time : talk.has_timed_out p.session.t1 (latest log) c.talk ≡ false
 
 -- an entry of a step: any but a restart, which stands between two steps

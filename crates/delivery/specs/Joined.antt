@@ -86,6 +86,6 @@ pub record IsJoined (p : Setup) (log : Log) (c : Course) : Type 0 where
   -- clock showed when it had come
   pub judged : judged_in c.works.history
       ≡ map as_judged (arrivals log (here_of c ∷ c.earlier))
-  -- and since the latest connection was over it judged those of the open one alone: so what waits
-  -- for the line has come on the connection that is open, and while none is, nothing waits
+  -- Since the latest connection was over it judged those of the open one alone. So what waits for
+  -- the line has come on the connection that is open. While none is, nothing waits.
   pub here : judged_here c.works.history ≡ asdus_in (came_frames c.talk)

@@ -40,7 +40,6 @@
 // stays short (docs/DECISIONS.md, "`delivery` stands apart").
 mod commands;
 mod laws;
-mod new_settings;
 mod passed_on;
 mod received;
 
@@ -52,7 +51,6 @@ pub use laws::{
     each_session_is_known, gaps_are_reported_by_their_station, losses_are_reported,
     losses_have_gaps, nothing_is_lost, silence_is_no_reset,
 };
-pub use new_settings::a_gateway_goes_on_by_its_new_settings;
 pub use passed_on::{
     answers_are_passed_on_as_they_came, answers_bear_the_tag_of_their_command,
     answers_of_stations_are_heeded, each_answer_is_given_once, pieces_bear_as_many_objects_as_fit,
