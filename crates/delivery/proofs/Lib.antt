@@ -39,3 +39,7 @@ pub mod Heeded
 pub mod Replacing
 pub mod Ruled
 pub mod GapsOn
+pub mod Here
+pub mod Closing
+pub mod OwnAnswers
+pub mod Places

@@ -10,6 +10,8 @@ use Rattle.std.specs.Int.{bytes_low_first}
 use Rattle.asdu.specs.Asdu.{originator_octets}
 use Rattle.asdu.specs.Sizes.{ca_len, ioa_len}
 use Rattle.asdu.specs.declared.sizes.Sizes.{Sizes}
+use Rattle.apci.specs.declared.apdu.Apdu.{Apdu}
+use Rattle.apci.specs.declared.apdu.Apdu.TheVariants.{I}
 use Rattle.link.specs.declared.service.Service.{Service}
 use Rattle.link.specs.declared.service.Service.TheVariants.{Command}
 use Rattle.link.specs.declared.service.Asked.{Asked}
@@ -22,7 +24,7 @@ use Rattle.link.specs.Delivery.{first_sending, pending_by}
 use Rattle.command.specs.Standard.{cause_of_fault, has_tag, is_activation, plain_type}
 use Rattle.command.specs.Standard.{object_address, element_part}
 use Rattle.command.specs.declared.station.StationInfo.{StationInfo}
-use Rattle.command.specs.History.{History, Judged, Sent, Accepted, Refused, GivenUp, is_for}
+use Rattle.command.specs.History.{History, Judged, Sent, Accepted, Refused, GivenUp, Ended, is_for}
 use Rattle.gateway.specs.Log.{latest}
 use Rattle.gateway.specs.Reports.{Setup}
 use Rattle.gateway.specs.Walls.{wall_on}
@@ -135,7 +137,20 @@ judged_in [] = []
 judged_in (Judged now wall xs a ∷ h) = judged_in h ++ (xs, wall) ∷ []
 judged_in (_ ∷ h) = judged_in h
 
--- those of them that were forwarded to station k, on any connection
+-- those of them that came since the latest connection was over
+abbrev pub judged_here : History → List (List ℕ)
+judged_here [] = []
+judged_here (Judged now wall xs a ∷ h) = judged_here h ++ xs ∷ []
+judged_here (Ended ∷ h) = []
+judged_here (_ ∷ h) = judged_here h
+
+-- the ASDUs of the I frames among frames received, the latest of which is first; the oldest first
+abbrev pub asdus_in : List Apdu → List (List ℕ)
+asdus_in [] = []
+asdus_in (I ns nr asdu ∷ older) = asdus_in older ++ asdu.items ∷ []
+asdus_in (_ ∷ older) = asdus_in older
+
+-- the ASDUs judged that were forwarded to station k, on any connection
 abbrev pub forwarded_in : Setup → ℕ → History → List (List ℕ × Option ℕ)
 forwarded_in p k [] = []
 forwarded_in p k (Judged now wall xs None ∷ h) =

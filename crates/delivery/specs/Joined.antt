@@ -15,9 +15,9 @@ use Rattle.gateway.specs.Objects.{monitor_objects}
 use Rattle.gateway.specs.Reports.{Setup, AreFound, address_at}
 use Rattle.gateway.specs.Reports.{exchanges_of, exchanges_with, reports_in}
 use Rattle.gateway.specs.Works.{is_command_report, unless_silent_works}
-use Rattle.gateway.specs.Course.{Course, here_of}
+use Rattle.gateway.specs.Course.{Course, came_frames, here_of}
 use Rattle.delivery.specs.Commands.{steps_in, steps_logged, confirmed_by, first_sendings, sent_to}
-use Rattle.delivery.specs.Commands.{judged_in, as_judged}
+use Rattle.delivery.specs.Commands.{judged_in, as_judged, judged_here, asdus_in}
 use Rattle.delivery.specs.Arrivals.{arrivals}
 
 -- There are stations, their link addresses fit the line, and each is another.
@@ -86,3 +86,6 @@ pub record IsJoined (p : Setup) (log : Log) (c : Course) : Type 0 where
   -- clock showed when it had come
   pub judged : judged_in c.works.history
       ≡ map as_judged (arrivals log (here_of c ∷ c.earlier))
+  -- Since the latest connection was over it judged those of the open one alone. So what waits for
+  -- the line has come on the connection that is open. While none is, nothing waits.
+  pub here : judged_here c.works.history ≡ asdus_in (came_frames c.talk)

@@ -6,5 +6,7 @@ pub mod Delivery
 pub mod Sessions
 pub mod Selections
 pub mod Received
+pub mod Closing
 pub mod Answers
+pub mod OwnAnswers
 pub mod Octets

@@ -1,8 +1,9 @@
 //! The way of a command: the course of a log is that of its exchanges, and each command is one of
 //! the control centre's, given once.
-ghost use Rattle.std.specs.Prelude.{◌<◌, ℕ, List, ◌∷◌, length, None};
+ghost use Rattle.std.specs.Prelude.{◌<◌, ℕ, List, [], ◌∷◌, length, None};
 ghost use Rattle.link.specs.Outstation.{Turn, all_done};
 ghost use Rattle.link.specs.Delivery.{commands};
+ghost use Rattle.command.specs.History.{AnswersWholly};
 ghost use Rattle.gateway.specs.Course.{Course, here_of, Runs};
 ghost use Rattle.gateway.specs.Config.{Settings, AreStations};
 ghost use Rattle.gateway.specs.Log.{Log};
@@ -13,11 +14,14 @@ ghost use Rattle.delivery.specs.Arrivals.{arrivals};
 ghost use Rattle.delivery.specs.Commands.{first_sendings, AreCommandsOf};
 ghost use Rattle.delivery.specs.Delivery.{IsHonest};
 ghost use Rattle.delivery.specs.Joined.{IsSetUp, IsJoined};
+ghost use Rattle.delivery.specs.OwnAnswers.{GivesAnswers};
 ghost use Rattle.delivery.specs.Selections.{KeepsSelections};
 
 use apci::one_front;
-use command::{selections_are_selects_that_stand, settings_stay, waiting_commands_stay};
-use gateway::courses_keep_commands;
+use command::{
+    own_answers_are_given, selections_are_selects_that_stand, settings_stay, waiting_commands_stay,
+};
+use gateway::{courses_keep_commands, what_is_due_is_given};
 use link::{
     commands_are_accepted, commands_are_those_that_wait, giving_up_is_logged,
     master_matches_the_log, outcomes_are_answers, outcomes_bear_the_reports,
@@ -92,4 +96,21 @@ pub fn each_command_is_given_once()
     courses_keep_commands();
     sessions_are_known();
     commands_are_accepted();
+}
+
+/// Each ASDU of the control centre that is refused is answered (IEC 60870-5-101, 7.2.3), and so is
+/// each command that found its station busy while its connection is open. The answer is the whole
+/// ASDU that came, with the cause of the first rule that applies: 44 to 47, or a negative
+/// confirmation. It is handed over right behind, once, before anything else becomes of commands.
+/// Behind what is forwarded nothing is handed over. Nothing else ever is but stations' answers
+/// (`each_answer_is_given_once`).
+pub fn what_is_refused_is_answered()
+    ensures given { (p : Setup) (log : Log) (c : Course) → Runs p log c →
+        GivesAnswers [] c.works.history }
+    ensures answers { (p : Setup) (log : Log) (c : Course) → Runs p log c →
+        AnswersWholly p.sizes p.stations p.select_ms p.max_age_ms c.works.history }
+{
+    what_is_due_is_given();
+    courses_keep_commands();
+    own_answers_are_given();
 }

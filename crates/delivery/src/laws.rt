@@ -7,6 +7,7 @@ ghost use Rattle.link.specs.Exchanges.{answer_to};
 ghost use Rattle.link.specs.Outstation.{Turn, all_done};
 ghost use Rattle.link.specs.Delivery.{learnt, reports, HasReports, AcceptsSendings};
 ghost use Rattle.link.specs.Delivery.{AcceptsAllSendings};
+ghost use Rattle.link.specs.Gaps.{ended_with_gap};
 ghost use Rattle.gateway.specs.Log.{Log};
 ghost use Rattle.gateway.specs.Reports.{Setup, address_at, exchanges_with};
 ghost use Rattle.gateway.specs.Gaps.{gaps_reported};
@@ -75,12 +76,18 @@ pub fn each_session_is_known()
 
 /// Where reports may be lost the log says so: between steps, each session of an honest outstation's
 /// link that ended lost no report, or is reported as a gap, by its number from 1, and lost its last
-/// report at most. Nothing else is reported as a gap.
+/// report at most. Nothing else is reported as a gap. Of each station, honest or not, those sessions
+/// are reported that ended while a poll had no outcome: so no gap is told where nothing can be lost.
 pub fn losses_are_reported()
-    ensures { (p : Setup) (log : Log) (i : ℕ) (turns : List Turn) → IsFaithful p log →
+    ensures lost { (p : Setup) (log : Log) (i : ℕ) (turns : List Turn) → IsFaithful p log →
         HasRested p log → i < length p.addresses → IsHonest p log i turns →
         LoseAsReported (address_at p.addresses i) 1 (sessions_of p log i turns)
         (gaps_reported i log) }
+    ensures told { (p : Setup) (log : Log) (i : ℕ) (turns : List Turn) → IsFaithful p log →
+        HasRested p log → i < length p.addresses →
+        length (exchanges_with p i log) ≡ length turns →
+        gaps_reported i log
+        ≡ ended_with_gap (address_at p.addresses i) 1 (sessions_of p log i turns) }
 {
     each_session_is_known();
     gaps_are_ended_sessions();

@@ -8,8 +8,9 @@
 //! are at most. What comes of it to the control centre is one run, over closes and new connections:
 //! [`what_has_come_is_one_run`]. A piece is acknowledged with its frame:
 //! [`pieces_are_acknowledged_with_their_frames`].
-//! Downwards: [`each_command_is_given_once`]. Between them: [`the_course_is_the_logs`], that what
-//! the gateway's course logs of the line and of commands is what the octets of the log show; and
+//! Downwards: [`each_command_is_given_once`], and what isn't given is answered
+//! ([`what_is_refused_is_answered`]). Between them: [`the_course_is_the_logs`], that what the
+//! gateway's course logs of the line and of commands is what the octets of the log show; and
 //! [`selections_end_in_time`], by the log's moments. What a station says of a command goes on as it
 //! came ([`answers_are_passed_on_as_they_came`]), with the command's tag
 //! ([`answers_bear_the_tag_of_their_command`]), once ([`each_answer_is_given_once`]; on each log
@@ -19,8 +20,9 @@
 //!
 //! What the gateway's definitions take for granted of a connection is said here too: which octets
 //! are its own ([`octets_are_those_of_their_connection`]), what closes it
-//! ([`frames_have_the_faults_of_their_history`], [`a_replaced_connection_is_reported`]), and that
-//! it keeps the rules ([`connections_keep_the_rules_of_the_session`]).
+//! ([`frames_have_the_faults_of_their_history`], [`a_replaced_connection_is_reported`],
+//! [`connections_are_closed_for_the_cause_that_is_told`]), and that it keeps the rules and leaves
+//! nothing undone ([`connections_keep_the_rules_of_the_session`]).
 //!
 //! The premises of the laws on a log are of the line alone: serial answers are neither late nor
 //! altered unseen (`IsHonest`), and for the first law no link reset is caused (`IsSteady`; the
@@ -42,7 +44,8 @@ mod passed_on;
 mod received;
 
 pub use commands::{
-    each_command_is_given_once, selections_end_in_time, settings_are_set_up, the_course_is_the_logs,
+    each_command_is_given_once, selections_end_in_time, settings_are_set_up,
+    the_course_is_the_logs, what_is_refused_is_answered,
 };
 pub use laws::{
     each_session_is_known, gaps_are_reported_by_their_station, losses_are_reported,
@@ -54,7 +57,8 @@ pub use passed_on::{
     reports_of_monitor_types_are_passed_on,
 };
 pub use received::{
-    a_replaced_connection_is_reported, connections_keep_the_rules_of_the_session,
-    frames_have_the_faults_of_their_history, octets_are_those_of_their_connection,
-    pieces_are_acknowledged_with_their_frames, what_has_come_is_one_run,
+    a_replaced_connection_is_reported, connections_are_closed_for_the_cause_that_is_told,
+    connections_keep_the_rules_of_the_session, frames_have_the_faults_of_their_history,
+    octets_are_those_of_their_connection, pieces_are_acknowledged_with_their_frames,
+    what_has_come_is_one_run,
 };

@@ -1,9 +1,14 @@
 //! What the control centre has received, over closes and new connections.
 ghost use Rattle.std.specs.Prelude.{◌≡◌, ◌+◌, ℕ, List, [], ◌∷◌, ◌++◌, length, take, true, false};
 ghost use Rattle.std.specs.Prelude.{None};
+ghost use Rattle.std.specs.List.{flat_map};
 ghost use Rattle.apci.specs.declared.apdu.Apdu.{Apdu};
+ghost use Rattle.asdu.specs.declared.sizes.Sizes.{Sizes};
 ghost use Rattle.session.specs.History as talk;
-ghost use Rattle.session.specs.declared.kinds.Close.TheVariants.{Replaced};
+ghost use Rattle.session.specs.declared.kinds.Close.{Close};
+ghost use Rattle.session.specs.declared.kinds.Close.TheVariants.{Grammar, SendNumber};
+ghost use Rattle.session.specs.declared.kinds.Close.TheVariants.{ReceiveNumber, Stopped, Timeout};
+ghost use Rattle.session.specs.declared.kinds.Close.TheVariants.{OwnAnswers, Replaced};
 ghost use Rattle.session.specs.Rules.{KeepsRules};
 ghost use Rattle.gateway.specs.Agrees.{pieces_of};
 ghost use Rattle.gateway.specs.Connections.{present, past, received_before};
@@ -11,10 +16,14 @@ ghost use Rattle.gateway.specs.Course.{Course, came_frames, here_of, Runs};
 ghost use Rattle.gateway.specs.Frames.{Connection, Sent, acknowledged_count, acknowledged_reports};
 ghost use Rattle.gateway.specs.Frames.{first_unacknowledged, objects_of_frames, transfers};
 ghost use Rattle.gateway.specs.Frames.{i_frames, fault_of};
-ghost use Rattle.gateway.specs.Log.{Log, LogEntry, Input, Output, Came, Went, Opened, Closed};
-ghost use Rattle.gateway.specs.Log.{latest};
-ghost use Rattle.gateway.specs.Reports.{Setup, taken_objects};
+ghost use Rattle.gateway.specs.Log.{Log, LogEntry, Input, Output, Came, Went, Opened, LineOut};
+ghost use Rattle.gateway.specs.Log.{Closed};
+ghost use Rattle.gateway.specs.Entries.{number_of};
+ghost use Rattle.gateway.specs.Objects.{pieces_of_report};
+ghost use Rattle.gateway.specs.Reports.{Setup, taken_objects, taken_pieces, reports_in};
+ghost use Rattle.gateway.specs.Reports.{parts_of_all};
 ghost use Rattle.gateway.specs.Traffic.{IsFaithful, IsAtRest, HasRested};
+ghost use Rattle.delivery.specs.Closing.{IsClosedFor, HasDoneAll, IsOfStep, WaitsForNone};
 ghost use Rattle.delivery.specs.Delivery.{Delivers};
 ghost use Rattle.delivery.specs.Octets.{Ends, GoesOn, AreActions, is_opening, lacks_place};
 ghost use Rattle.delivery.specs.Octets.{octets_in, octets_out};
@@ -22,6 +31,7 @@ ghost use Rattle.delivery.specs.Received.{AcknowledgeWhatCame, AreRuns, HaveCome
 ghost use Rattle.delivery.specs.Received.{close_by};
 
 use apci::spellings_cancel;
+use gateway::{own_answers_go_out, own_answers_without_a_place_close};
 
 /// What comes to the control centre is one run. Of what is handed to TCP on a connection a
 /// beginning comes, wherever TCP is cut: the I frames that stand whole in it are numbered from 0,
@@ -47,7 +57,9 @@ pub fn what_has_come_is_one_run()
 /// that the session's history has. Each of these frames that has monitor objects counts as one
 /// piece, and its objects count. An own answer counts as none. So a piece has its place until then,
 /// and the next connection begins right behind it. Before the first connection nothing is
-/// acknowledged: it begins at the first object taken.
+/// acknowledged: it begins at the first object taken. What needs places are the pieces of the
+/// reports taken, each one place. So each place comes back, and leave to poll
+/// (`polls_need_three_places`) does too.
 pub fn pieces_are_acknowledged_with_their_frames()
     ensures none { (acknowledged_reports [] ≡ 0) × (first_unacknowledged [] ≡ 0) }
     ensures numbers { (h : talk.History) →
@@ -60,6 +72,12 @@ pub fn pieces_are_acknowledged_with_their_frames()
         first_unacknowledged (c ∷ before)
         ≡ length (objects_of_frames (take (acknowledged_count c.received_frames) c.sent_frames))
         + first_unacknowledged before }
+    ensures taken { (p : Setup) (log : Log) →
+        taken_pieces p log ≡ flat_map (λ report. pieces_of_report p.sizes report.1)
+        (reports_in p log) }
+    ensures places { (sizes : Sizes) (reports : List (ℕ × List ℕ)) →
+        parts_of_all sizes reports
+        ≡ length (flat_map (λ report. pieces_of_report sizes report.1) reports) }
 {}
 
 /// Which octets are a connection's. It begins with its opening, and ends where TCP is cut, where it
@@ -121,13 +139,43 @@ pub fn a_replaced_connection_is_reported()
 
 /// What is said on a connection keeps the rules of IEC 60870-5-104 (5.1 to 5.5) as `session` states
 /// them, with the k, w, t1, t2 and t3 that are set: each frame that came was free of faults, each
-/// frame that went out bore the counts, and each S or U frame was due. Once a step rests, neither a
-/// confirmation, an S frame nor a test is due, and no answer is late.
+/// frame that went out bore the counts, and each S or U frame was due. A request goes to the line
+/// only once all that came is taken and no answer is late. So none goes before a close.
+///
+/// Once a step rests, and so whenever the next event comes, nothing is left to be done. Each whole
+/// frame that came is taken, and nothing that closes the connection stands behind it. Neither a
+/// confirmation, an S frame nor a test is due, and no answer is late. Where data transfer runs and
+/// fewer than k I frames are unacknowledged, each own answer that was kept has gone out. So has
+/// each object that was taken from the line.
 pub fn connections_keep_the_rules_of_the_session()
     ensures rules { (p : Setup) (log : Log) (c : Course) → Runs p log c →
         KeepsRules p.session c.talk }
+    ensures asked { (p : Setup) (log : Log) (now : ℕ) (octets : List ℕ) (c : Course) →
+        Runs p (Went now (LineOut octets) ∷ log) c → WaitsForNone p log c }
     ensures rested { (p : Setup) (log : Log) → IsAtRest p log →
-        (c : Course) × Runs p log c × (talk.confirmation_of c.talk ≡ None)
-        × (talk.frame_due p.session.w p.session.t2 p.session.t3 (latest log) c.talk ≡ None)
-        × (talk.has_timed_out p.session.t1 (latest log) c.talk ≡ false) }
-{}
+        (c : Course) × Runs p log c × HasDoneAll p log c }
+    ensures between { (p : Setup) (newer older : Log) (at : ℕ) (event : Input)
+        (entry : LogEntry) → IsFaithful p (newer ++ Came at event ∷ entry ∷ older) →
+        IsOfStep entry →
+        (c : Course) × Runs p (entry ∷ older) c × HasDoneAll p (entry ∷ older) c }
+{
+    own_answers_go_out();
+}
+
+/// Each close has the cause that is told, and the connection was open. With cause 1 no APDU begins
+/// behind the frames that were taken. With causes 2, 3 and 4 a frame stands there that has this
+/// fault, by what came and went before it on the connection: its N(S) isn't the next, its N(R)
+/// isn't valid, or it is an I frame while data transfer is stopped. With cause 5 an answer is late,
+/// and with cause 6 an own answer found no place. Cause 7 is `a_replaced_connection_is_reported`.
+/// The numbers are those that are told.
+pub fn connections_are_closed_for_the_cause_that_is_told()
+    ensures cause { (p : Setup) (log : Log) (now : ℕ) (cause : Close) →
+        IsFaithful p (Went now (Closed cause) ∷ log) → (cause ≡ Replaced → ⊥) →
+        ((present log).is_open ≡ true)
+        × (c : Course) × Runs p log c × IsClosedFor p log c cause }
+    ensures told { (number_of Grammar ≡ 1) × (number_of SendNumber ≡ 2)
+        × (number_of ReceiveNumber ≡ 3) × (number_of Stopped ≡ 4) × (number_of Timeout ≡ 5)
+        × (number_of OwnAnswers ≡ 6) × (number_of Replaced ≡ 7) }
+{
+    own_answers_without_a_place_close();
+}

@@ -2,6 +2,7 @@ use Rattle.std.proofs.Common.{List, None, ap, ◌∙◌}
 use Rattle.gateway.specs.Reports.{address_at, exchanges_of, exchanges_with}
 use Rattle.delivery.specs.Commands.{LineStep, confirmed_by}
 use Rattle.delivery.proofs.Confirmed.{confirmed_learnt, confirmed_alike, sent_alike}
+use Rattle.delivery.proofs.Here.{judged_on_it}
 use Rattle.delivery.proofs.Joining.{Joins, joins}
 use Rattle.delivery.proofs.Judgements.{judged_all}
 use Rattle.delivery.proofs.LinkLaws.{LinkLaws}
@@ -44,4 +45,5 @@ returns c = λ p log course f set runs.
       skipped = j.skips;
       judged = judged_all c.one_front.ensures c.waiting_commands_stay.ensures.mirrored p log course
           runs;
+      here = judged_on_it p log course runs;
     }

@@ -1,0 +1,20 @@
+-- The gateway's own answers, as they are handed over (IEC 60870-5-101, 7.2.3: causes 44 to 47, and
+-- negative confirmations).
+use Rattle.std.specs.Prelude.{◌≡◌, ℕ, List, [], ◌∷◌, Option, Some, None}
+use Rattle.command.specs.History.{History, Judged, Refused, Mirrored, Offered}
+
+-- these answers are that one, or none where there is none
+abbrev pub AreOnly : Option (List ℕ) → List (List ℕ) → Type 0
+AreOnly None given = given ≡ []
+AreOnly (Some answer) given = given ≡ answer ∷ []
+
+-- `given` was handed over right behind these, the oldest first. Behind an ASDU that was judged, and
+-- behind a command that found its station busy, it is the answer to that alone, once. Behind a
+-- station's answer it is that (`IsHeeded`), and behind anything else nothing is handed over.
+abbrev pub GivesAnswers : (given : List (List ℕ)) → History → Type 0
+GivesAnswers given [] = given ≡ []
+GivesAnswers given (Judged now wall asdu answer ∷ h) = AreOnly answer given × GivesAnswers [] h
+GivesAnswers given (Refused k answer ∷ h) = AreOnly answer given × GivesAnswers [] h
+GivesAnswers given (Mirrored now v ∷ h) = GivesAnswers [] h
+GivesAnswers given (Offered octets kept ∷ h) = GivesAnswers (octets ∷ given) h
+GivesAnswers given (_ ∷ h) = (given ≡ []) × GivesAnswers [] h
