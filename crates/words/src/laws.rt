@@ -199,3 +199,28 @@ pub fn apdus_are_told_field_by_field()
         × (apdu_front n (apci.Never place why)
         ≡ codes "no frame: " ++ (apdu_fault why ++ (codes " at " ++ decimal place))) }
 {}
+
+/// The types that are carried are told by their labels (IEC 60870-5-101, 7.2.1, and IEC
+/// 60870-5-104, 8), and causes by their names (7.2.3): no two are exchanged.
+pub fn types_and_causes_are_told_by_name()
+    ensures reports { map type_text (1 ∷ 3 ∷ 5 ∷ 7 ∷ 9 ∷ 11 ∷ 13 ∷ 15 ∷ 70 ∷ [])
+        ≡ codes "M_SP_NA_1" ∷ codes "M_DP_NA_1" ∷ codes "M_ST_NA_1" ∷ codes "M_BO_NA_1"
+        ∷ codes "M_ME_NA_1" ∷ codes "M_ME_NB_1" ∷ codes "M_ME_NC_1" ∷ codes "M_IT_NA_1"
+        ∷ codes "M_EI_NA_1" ∷ [] }
+    ensures tagged { map type_text (30 ∷ 31 ∷ 32 ∷ 33 ∷ 34 ∷ 35 ∷ 36 ∷ 37 ∷ [])
+        ≡ codes "M_SP_TB_1" ∷ codes "M_DP_TB_1" ∷ codes "M_ST_TB_1" ∷ codes "M_BO_TB_1"
+        ∷ codes "M_ME_TD_1" ∷ codes "M_ME_TE_1" ∷ codes "M_ME_TF_1" ∷ codes "M_IT_TB_1" ∷ [] }
+    ensures commands { map type_text (45 ∷ 46 ∷ 47 ∷ 48 ∷ 49 ∷ 100 ∷ [])
+        ≡ codes "C_SC_NA_1" ∷ codes "C_DC_NA_1" ∷ codes "C_RC_NA_1" ∷ codes "C_SE_NA_1"
+        ∷ codes "C_SE_NB_1" ∷ codes "C_IC_NA_1" ∷ [] }
+    ensures tagged_commands { map type_text (58 ∷ 59 ∷ 60 ∷ 61 ∷ 62 ∷ [])
+        ≡ codes "C_SC_TA_1" ∷ codes "C_DC_TA_1" ∷ codes "C_RC_TA_1" ∷ codes "C_SE_TA_1"
+        ∷ codes "C_SE_TB_1" ∷ [] }
+    ensures causes { map cause_text (1 ∷ 2 ∷ 3 ∷ 4 ∷ 5 ∷ 6 ∷ 7 ∷ 8 ∷ 9 ∷ 10 ∷ [])
+        ≡ codes "periodic" ∷ codes "background scan" ∷ codes "spontaneous" ∷ codes "initialised"
+        ∷ codes "requested" ∷ codes "activation" ∷ codes "activation con" ∷ codes "deactivation"
+        ∷ codes "deactivation con" ∷ codes "activation term" ∷ [] }
+    ensures mirrors { map cause_text (20 ∷ 44 ∷ 45 ∷ 46 ∷ 47 ∷ [])
+        ≡ codes "station interrogation" ∷ codes "unknown type" ∷ codes "unknown cause"
+        ∷ codes "unknown common address" ∷ codes "unknown object address" ∷ [] }
+{}

@@ -38,7 +38,8 @@ pub use examples::{asdus_by_example, frames_by_example, tags_by_example, values_
 pub use faults::push_cut_off;
 pub use laws::{
     apdus_are_told_field_by_field, asdus_are_told_field_by_field, commands_are_told_bit_by_bit,
-    frames_are_told_field_by_field, tags_are_told_field_by_field, values_are_told_bit_by_bit,
+    frames_are_told_field_by_field, tags_are_told_field_by_field,
+    types_and_causes_are_told_by_name, values_are_told_bit_by_bit,
 };
 pub use lines::{push_line_frame, push_line_refusal, words_of_line};
 pub use pipes::{apdu_end, line_end, read_line_of_octets};
