@@ -1,6 +1,5 @@
 //! What the control centre has received, over closes and new connections.
 ghost use Rattle.std.specs.Prelude.{◌≡◌, ◌+◌, ℕ, List, [], ◌∷◌, ◌++◌, length, take, true, false};
-ghost use Rattle.std.specs.Prelude.{None};
 ghost use Rattle.std.specs.List.{flat_map};
 ghost use Rattle.apci.specs.declared.apdu.Apdu.{Apdu};
 ghost use Rattle.asdu.specs.declared.sizes.Sizes.{Sizes};
