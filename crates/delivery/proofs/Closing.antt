@@ -8,22 +8,26 @@ use Rattle.session.specs.declared.kinds.Close.TheVariants.{Grammar, SendNumber, 
 use Rattle.session.specs.declared.kinds.Close.TheVariants.{Stopped, Timeout, OwnAnswers, Replaced}
 use Rattle.session.specs.declared.kinds.Taken.{Taken}
 use Rattle.session.specs.declared.kinds.Taken.TheVariants.{Nothing, Asdu, Close as Closes}
+use Rattle.command.specs.History.{History, Judged, Sent, Accepted, Refused, GivenUp, Mirrored}
+use Rattle.command.specs.History.{Offered, Answered, Ended}
 use Rattle.gateway.specs.Connections.{present, BeginsWithFault}
 use Rattle.gateway.specs.Course.{Course, HasTakenAll, came_frames, Runs}
 use Rattle.gateway.specs.Frames.{acknowledged_count, fault_of, transfers}
 use Rattle.gateway.specs.GoingOut.{answers_among, AnswersGoOut}
 use Rattle.gateway.specs.Log.{Log, LogEntry, Input, Came, Went, LineIn, Opened, TcpIn, CutOff}
-use Rattle.gateway.specs.Log.{Ticked, WallIs, Restarted, LineOut}
+use Rattle.gateway.specs.Log.{Ticked, WallIs, Restarted, LineOut, Closed}
 use Rattle.gateway.specs.Reports.{Setup}
 use Rattle.gateway.specs.Stepping.{unplaced}
 use Rattle.gateway.specs.Streams.{spelled}
-use Rattle.gateway.specs.Traffic.{HasCause, IsAtRest, HasRested, RestsBetweenSteps}
+use Rattle.gateway.specs.Traffic.{ActsRightly, HasCause, IsAtRest, HasRested, RestsBetweenSteps}
+use Rattle.gateway.specs.Works.{has_lacked_place}
 use Rattle.gateway.proofs.OneCause.{came_transfers, came_acknowledged, counted}
 use Rattle.delivery.specs.Closing.{IsClosedFor, IsAtFault, MaySendData, HasDoneAll, IsOfStep}
 use Rattle.delivery.specs.Closing.{AreTaken, WaitsForNone}
 use Rattle.delivery.specs.Received.{close_by}
 use Rattle.delivery.proofs.Faults.{same_fault}
 use Rattle.delivery.proofs.Frames.{none_came}
+use Rattle.delivery.proofs.Replacing.{acts_before}
 
 -- ---- The cause of a close
 
@@ -51,13 +55,23 @@ abbrev Shows : Setup → Log → Close → Type 0
 Shows p log cause = ((present log).is_open ≡ true) × (c : Course) × Runs p log c
     × IsClosedFor p log c cause
 
--- a close for want of a place shows one
-abbrev LacksPlace : Setup → Log → Type 0
-LacksPlace p log = (c : Course) × Runs p log c × (0 < unplaced c.works.history)
+-- an own answer that found no place is counted
+one_lacks : (h : History) → has_lacked_place h ≡ true → 0 < unplaced h
+one_lacks [] e = cc
+one_lacks (Judged now wall asdu answer ∷ h) e = one_lacks h e
+one_lacks (Sent k octets ∷ h) e = one_lacks h e
+one_lacks (Accepted k ∷ h) e = one_lacks h e
+one_lacks (Refused k answer ∷ h) e = one_lacks h e
+one_lacks (GivenUp k was ∷ h) e = one_lacks h e
+one_lacks (Mirrored now v ∷ h) e = one_lacks h e
+one_lacks (Offered octets true ∷ h) e = one_lacks h e
+one_lacks (Offered octets false ∷ h) e = omega arith
+one_lacks (Answered octets ∷ h) e = one_lacks h e
+one_lacks (Ended ∷ h) e = cc
 
-pub closed_for : (p : Setup) (log : Log) (cause : Close) → HasCause p cause log
-    → (cause ≡ OwnAnswers → LacksPlace p log) → (cause ≡ Replaced → ⊥) → Shows p log cause
-closed_for p log Grammar has lacks other =
+closed_for : (p : Setup) (log : Log) (cause : Close) → HasCause p cause log
+    → (cause ≡ Replaced → ⊥) → Shows p log cause
+closed_for p log Grammar has other =
     let h = has refl in
     let n = h.1.2.next in (
       h.0,
@@ -71,22 +85,29 @@ closed_for p log Grammar has lacks other =
         refused = n.behind.2;
       },
     )
-closed_for p log SendNumber has lacks other =
+closed_for p log SendNumber has other =
     let h = has refl in
     let n = h.1.2.next in
     (h.0, h.1.0, h.1.1, at_fault p log h.1.0 SendNumber h.1.1 n.rest n.joined n.behind)
-closed_for p log ReceiveNumber has lacks other =
+closed_for p log ReceiveNumber has other =
     let h = has refl in
     let n = h.1.2.next in
     (h.0, h.1.0, h.1.1, at_fault p log h.1.0 ReceiveNumber h.1.1 n.rest n.joined n.behind)
-closed_for p log Stopped has lacks other =
+closed_for p log Stopped has other =
     let h = has refl in
     let n = h.1.2.next in
     (h.0, h.1.0, h.1.1, at_fault p log h.1.0 Stopped h.1.1 n.rest n.joined n.behind)
-closed_for p log Timeout has lacks other = let h = has refl in (h.0, h.1.0, h.1.1, h.1.2.late)
-closed_for p log OwnAnswers has lacks other =
-    let h = has refl in let l = lacks refl in (h.0, l.0, l.1, l.2)
-closed_for p log Replaced has lacks other = absurd (other refl)
+closed_for p log Timeout has other = let h = has refl in (h.0, h.1.0, h.1.1, h.1.2.late)
+closed_for p log OwnAnswers has other =
+    let h = has refl in (h.0, h.1.0, h.1.1, one_lacks h.1.0.works.history h.1.2)
+closed_for p log Replaced has other = absurd (other refl)
+
+-- at any place of a log
+pub closed_so : (p : Setup) (newer log : Log) (now : ℕ) (cause : Close)
+    → ActsRightly p (newer ++ Went now (Closed cause) ∷ log) → (cause ≡ Replaced → ⊥)
+    → Shows p log cause
+closed_so p newer log now cause acts other =
+    closed_for p log cause (acts_before p newer (Went now (Closed cause) ∷ log) acts).0.may other
 
 -- ---- A step that rests
 

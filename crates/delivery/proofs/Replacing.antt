@@ -9,7 +9,8 @@ use Rattle.gateway.specs.Reports.{Setup}
 use Rattle.gateway.specs.Traffic.{ActsRightly, replaces}
 
 -- what holds of each action of a log holds of those of its beginning
-acts_before : (p : Setup) (newer older : Log) → ActsRightly p (newer ++ older) → ActsRightly p older
+pub acts_before : (p : Setup) (newer older : Log) → ActsRightly p (newer ++ older)
+    → ActsRightly p older
 acts_before p [] older h = h
 acts_before p (Went now action ∷ newer) older h = acts_before p newer older h.1
 acts_before p (Came now event ∷ newer) older h = acts_before p newer older h

@@ -76,8 +76,9 @@ pub fn each_session_is_known()
 
 /// Where reports may be lost the log says so: between steps, each session of an honest outstation's
 /// link that ended lost no report, or is reported as a gap, by its number from 1, and lost its last
-/// report at most. Nothing else is reported as a gap. Of each station, honest or not, those sessions
-/// are reported that ended while a poll had no outcome: so no gap is told where nothing can be lost.
+/// report at most. Nothing else is reported as a gap. Of each station, honest or not, those
+/// sessions are reported that ended while a poll had no outcome. So no gap is told where nothing
+/// can be lost.
 pub fn losses_are_reported()
     ensures lost { (p : Setup) (log : Log) (i : ℕ) (turns : List Turn) → IsFaithful p log →
         HasRested p log → i < length p.addresses → IsHonest p log i turns →

@@ -1,6 +1,5 @@
 //! What the control centre has received, over closes and new connections.
 ghost use Rattle.std.specs.Prelude.{◌≡◌, ◌+◌, ℕ, List, [], ◌∷◌, ◌++◌, length, take, true, false};
-ghost use Rattle.std.specs.Prelude.{None};
 ghost use Rattle.std.specs.List.{flat_map};
 ghost use Rattle.apci.specs.declared.apdu.Apdu.{Apdu};
 ghost use Rattle.asdu.specs.declared.sizes.Sizes.{Sizes};
@@ -31,7 +30,7 @@ ghost use Rattle.delivery.specs.Received.{AcknowledgeWhatCame, AreRuns, HaveCome
 ghost use Rattle.delivery.specs.Received.{close_by};
 
 use apci::spellings_cancel;
-use gateway::{own_answers_go_out, own_answers_without_a_place_close};
+use gateway::own_answers_go_out;
 
 /// What comes to the control centre is one run. Of what is handed to TCP on a connection a
 /// beginning comes, wherever TCP is cut: the I frames that stand whole in it are numbered from 0,
@@ -169,13 +168,11 @@ pub fn connections_keep_the_rules_of_the_session()
 /// and with cause 6 an own answer found no place. Cause 7 is `a_replaced_connection_is_reported`.
 /// The numbers are those that are told.
 pub fn connections_are_closed_for_the_cause_that_is_told()
-    ensures cause { (p : Setup) (log : Log) (now : ℕ) (cause : Close) →
-        IsFaithful p (Went now (Closed cause) ∷ log) → (cause ≡ Replaced → ⊥) →
+    ensures cause { (p : Setup) (newer log : Log) (now : ℕ) (cause : Close) →
+        IsFaithful p (newer ++ Went now (Closed cause) ∷ log) → (cause ≡ Replaced → ⊥) →
         ((present log).is_open ≡ true)
         × (c : Course) × Runs p log c × IsClosedFor p log c cause }
     ensures told { (number_of Grammar ≡ 1) × (number_of SendNumber ≡ 2)
         × (number_of ReceiveNumber ≡ 3) × (number_of Stopped ≡ 4) × (number_of Timeout ≡ 5)
         × (number_of OwnAnswers ≡ 6) × (number_of Replaced ≡ 7) }
-{
-    own_answers_without_a_place_close();
-}
+{}
