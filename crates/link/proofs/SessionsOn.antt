@@ -61,7 +61,8 @@ pub session_alone_marked : (p : Primary) (k : ℕ) → k < length p.stations
 session_alone_marked p k within =
     let is : station_at (gap_marked k p).stations k ≡ with_gap_mark (station_at p.stations k) =
     get_or-set_same p.stations k (with_gap_mark (station_at p.stations k)) no_station within in
-    is ∙ sym (ap (λ (x : StationState). record (station_at p.stations k) { session = x.session }) is)
+    is
+    ∙ sym (ap (λ (x : StationState). record (station_at p.stations k) { session = x.session }) is)
 
 pub others_unmarked : (p : Primary) (k j : ℕ) → j ≢ k → station_at (gap_marked k p).stations j
     ≡ station_at p.stations j

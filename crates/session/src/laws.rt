@@ -144,8 +144,8 @@ pub fn histories_keep_the_rules()
 
 /// Where a history keeps the rules, each entry does, whatever was said behind it. A connection
 /// begins once. A frame that came found it open and all confirmations out, and had no fault. An
-/// I frame that went out bore the counts, while data transfer ran and fewer than k waited. Each S or
-/// U frame that went out was due (5.1 to 5.5).
+/// I frame that went out bore the counts, while data transfer ran and fewer than k waited. Each S
+/// or U frame that went out was due (5.1 to 5.5).
 pub fn rules_hold_for_each_entry()
     ensures opened { (p : Settings) (since older : History) (now : ℕ) →
         KeepsRules p (since ++ Opened now ∷ older) → older ≡ [] }

@@ -11,7 +11,8 @@ ghost use Rattle.link.specs.Delivery.{IsHonest, sessions, is_gap, is_reset, pend
 ghost use Rattle.link.specs.Exchanges.{Exchange, Exchanges, Sending, received_current};
 ghost use Rattle.link.specs.Exchanges.{timed_current};
 ghost use Rattle.link.specs.Exchanges.{answer_to, begun_by, all_of, views, with_station};
-ghost use Rattle.link.specs.Gaps.{gaps_in, gaps_at, gap_at, ended_with_gap, HasNoOutcome, is_by_the_way};
+ghost use Rattle.link.specs.Gaps.{gaps_in, gaps_at, gap_at, ended_with_gap, HasNoOutcome};
+ghost use Rattle.link.specs.Gaps.{is_by_the_way};
 ghost use Rattle.link.specs.Gaps.{gap_numbered};
 ghost use Rattle.link.specs.Leave.{is_poll_request};
 ghost use Rattle.link.specs.Outstation.{Turn};
