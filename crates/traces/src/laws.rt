@@ -45,10 +45,10 @@ pub fn printed_lines_read_back()
         All (λ b. 0 < b) (lines_of_log log) }
 {}
 
-/// The line of each action has the digits of its moment, the mark `>`, its letter, and its octets
-/// in hexadecimal, the number of its cause, or the number of the station, from 1, and that of the
-/// session that ended. Each stands behind one space, whatever it is. The line of an event has no
-/// mark. What a run prints are the lines of all of its actions, in their order, and no others.
+/// The line of each action has the digits of its moment, the mark `>` and its letter. Then come its
+/// octets in hexadecimal, the number of its cause, or those of the station and of the session that
+/// ended. Stations are counted from 1. Each field stands behind one space, whatever it is. The line
+/// of an event has no mark. What a run prints are the lines of all of its actions, in their order.
 pub fn printed_lines_have_these_fields()
     ensures events { (now number : ℕ) (octets : List ℕ) → let moment = decimal now in
         (line_of_event now (LineIn octets)

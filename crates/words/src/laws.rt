@@ -35,7 +35,7 @@ ghost use Rattle.words.specs.Units.{objects_words, place_words, type_text};
 ghost use Rattle.words.specs.Values.{value_words};
 
 /// The words of a monitored value say each of its bits, whatever its octets are (IEC 60870-5-101,
-/// 7.2.6): its state or its number, and then each mark of quality that is set, and no other.
+/// 7.2.6). They have its state or its number, and then each mark of quality that is set.
 pub fn values_are_told_bit_by_bit()
     ensures points { (o : ℕ) → (value_words types.MSpNa1 (o ∷ [])
         ≡ (if o % 2 == 0 then codes "off" else codes "on") ++ quality_told o)
@@ -101,8 +101,8 @@ pub fn commands_are_told_bit_by_bit()
 {}
 
 /// The words of a time tag have each of its fields with all of its digits, whatever they are
-/// (7.2.6.18): the year, month, day, hour, minute, second and millisecond, IV and SU, and then what
-/// is wrong with it.
+/// (7.2.6.18). These are the year, month, day, hour, minute, second and millisecond. Behind them
+/// stand IV and SU, and then what is wrong with the tag.
 pub fn tags_are_told_field_by_field()
     ensures { (low high minute hour day month year : ℕ) →
         let xs = low ∷ high ∷ minute ∷ hour ∷ day ∷ month ∷ year ∷ [] in
@@ -116,9 +116,9 @@ pub fn tags_are_told_field_by_field()
         ++ (told 7 hour (codes " summer time") ++ verdict_text (verdict_of xs)))) }
 {}
 
-/// Octets that are an ASDU are told as that ASDU: the names of its type and its cause, P/N and
-/// test, its originator, SQ and its common address, and then its objects in their order, each with
-/// its address, its value and its tag, whatever they are (7.2).
+/// Octets that are an ASDU are told as that ASDU, whatever its fields are (7.2). First come the
+/// names of its type and its cause, P/N and test, its originator, SQ and its common address. Then
+/// come its objects in their order, each with its address, its value and its tag.
 pub fn asdus_are_told_field_by_field()
     ensures asdus { (s : Sizes) (u : AsduValue) (octets : List ℕ) → IsAsdu s u octets →
         asdu_words s octets ≡ (kind_words (slice_index octets 0) u.cause
