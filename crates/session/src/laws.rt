@@ -40,12 +40,10 @@ ghost use Rattle.session.specs.declared.kinds.Close.TheVariants.{SendNumber, Rec
 ghost use Rattle.session.specs.declared.kinds.Close.TheVariants.{Stopped};
 ghost use Rattle.session.specs.declared.kinds.Close.{Close as Cause};
 ghost use Rattle.session.specs.History.{Happened, Opened, Came, Refused, Sent, Went};
-ghost use Rattle.session.specs.History.{acknowledged_count};
-ghost use Rattle.session.specs.History.{is_stop_pending};
+ghost use Rattle.session.specs.History.{acknowledged_count, is_stop_pending};
 ghost use Rattle.session.specs.Said.{HasNo, IsOneOf, switches, is_about_a_stop, is_about_a_test};
 ghost use Rattle.session.specs.Said.{breaks_silence, acknowledges, bears_receive_number};
-ghost use Rattle.session.specs.Said.{data_moment};
-ghost use Rattle.session.specs.Said.{data_sent, asks_for, confirms};
+ghost use Rattle.session.specs.Said.{data_moment, data_sent, asks_for, confirms};
 ghost use Rattle.session.specs.Said.{Acknowledges as AcknowledgesSent};
 
 /// N(R) is judged by the least number that isn't below the acknowledged count and equals it modulo
@@ -143,9 +141,9 @@ pub fn histories_keep_the_rules()
 {}
 
 /// Where a history keeps the rules, each entry does, whatever was said behind it. A connection
-/// begins once. A frame that came found it open and all confirmations out, and had no fault. An
-/// I frame that went out bore the counts, while data transfer ran and fewer than k waited. Each S
-/// or U frame that went out was due (5.1 to 5.5).
+/// begins once. A frame that came found it open and all confirmations out, and had no fault. An I
+/// frame that went out bore the counts, while data transfer ran and fewer than k waited. Each S or
+/// U frame that went out was due (5.1 to 5.5).
 pub fn rules_hold_for_each_entry()
     ensures opened { (p : Settings) (since older : History) (now : ℕ) →
         KeepsRules p (since ++ Opened now ∷ older) → older ≡ [] }
@@ -244,10 +242,11 @@ pub fn timers_run_as_set()
         frame_due w t2 t3 now h ≡ None }
 {}
 
-/// What is said on a connection is said by these frames alone. A STARTDT act or STOPDT act that
-/// came switches data transfer. These and a STOPDT con that went out are about a stop, a TESTFR act
-/// that went out and a TESTFR con that came about a test (5.2, 5.3). Data frames and S frames alone
-/// acknowledge, data frames alone are counted, and two acts alone ask for a confirmation (5.1).
+/// What is said on a connection is said by these frames alone (5.1 to 5.3). A STARTDT act or STOPDT
+/// act that came switches data transfer. These two and a STOPDT con that went out are about a stop.
+/// A TESTFR act that went out and a TESTFR con that came are about a test. No U frame acknowledges
+/// I frames or bears N(R). I frames alone are counted. STARTDT act and TESTFR act alone ask for a
+/// confirmation.
 pub fn each_thing_is_said_by_its_frames_alone()
     ensures switches { (entry : Happened) → switches entry ≡ true →
         IsOneOf (Came (U StartAct) ∷ Came (U StopAct) ∷ []) entry }
