@@ -9,10 +9,10 @@ ghost use Rattle.std.specs.Net.Addr.{IsCanonicalOf, MatchIp};
 ghost use Rattle.std.specs.Net.Socket.{socket_ip};
 ghost use Rattle.live.specs.AllowLists.{Allows, IsPlain, RefusesStrangers, nobody};
 ghost use Rattle.live.specs.Arrivals.{AcceptsNewest, TakesOne, TakesWaiting};
-ghost use Rattle.live.specs.Clocks.{BeginsAt, GoesOn};
+ghost use Rattle.live.specs.Clocks.{BeginsAt, GoesOn, ShowsWall};
 ghost use Rattle.live.specs.OctetStreams.{FitsBuffer, IsNew, attempted, noted, looked, Dropped};
 ghost use Rattle.live.specs.OctetStreams.{Wrote};
-ghost use Rattle.live.specs.Streams.{ReadsOnce, ReadsLine, DropsWaiting, WritesAll, WritesFront};
+ghost use Rattle.live.specs.Streams.{ReadsOnce, ReadsLine, DropsWaiting, WritesAll, WritesInTwo};
 ghost use Rattle.live.specs.Streams.{called, Waits};
 ghost use Rattle.live.specs.Telling.{Tells, told_unless};
 ghost use Rattle.live.specs.Reaching.{AtPath, Began, LookedUp, TriesOn, step_noted};
@@ -378,7 +378,7 @@ impl<S: SystemStream + Drop> OctetStream for CentreSocket<S> {
 
     fn write(&mut self, octets: &[u8]) -> bool
         ensures noted { None ≡ noted None (Wrote octets.now result) }
-        ensures writes { WritesFront self.old octets.now result self.new }
+        ensures writes { WritesInTwo self.old octets.now result self.new }
     {
         write_in_two(&mut self.stream, octets)
     }
@@ -602,7 +602,7 @@ impl<R: Net<Listener = TcpListener, Stream = TcpStream> + Eprint, T: SystemListe
 }
 
 /// The system's clock that never goes back, from a first moment at its start. Where it can't be
-/// read the last moment is given again.
+/// read the last moment is given again. Beside it the system's wall clock.
 #[derive(Drop)]
 pub struct SystemClock<'a, R, I: SystemInstants + Drop = HostInstants> {
     rt: &'a R,
@@ -656,6 +656,7 @@ impl<R: std::rt::Clock, I: SystemInstants + Drop> RunClock for SystemClock<'_, R
         ensures start { self.new.start ≡ self.old.start }
         ensures goes_on { GoesOn self.old.first self.old.start (I.instants self.old.instants)
             self.old.now (I.instants self.new.instants) result }
+        ensures wall { I.wall_times self.new.instants ≡ I.wall_times self.old.instants }
     {
         if let Ok(now) = self.instants.now(self.rt) {
             let passed = now.duration_since(self.start);
@@ -666,8 +667,16 @@ impl<R: std::rt::Clock, I: SystemInstants + Drop> RunClock for SystemClock<'_, R
     }
 
     /// Where it can't be read, or shows a time before 1970, this is 0, which is near no time tag.
-    fn wall_ms(&mut self) -> u64 {
-        let Ok(shown) = SystemTime::now(self.rt) else {
+    fn wall_ms(&mut self) -> u64
+        ensures shown { ShowsWall (I.wall_times self.old.instants) (I.wall_times self.new.instants)
+            result }
+        ensures instants { I.instants self.new.instants ≡ I.instants self.old.instants }
+        // The clock that never goes back goes on as it did.
+        ensures first { self.new.first ≡ self.old.first }
+        ensures start { self.new.start ≡ self.old.start }
+        ensures last { self.new.now ≡ self.old.now }
+    {
+        let Ok(shown) = self.instants.wall_time(self.rt) else {
             return 0;
         };
         let Ok(passed) = shown.duration_since(SystemTime::UNIX_EPOCH) else {

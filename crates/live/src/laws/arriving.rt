@@ -86,13 +86,13 @@ pub fn who_comes_is_refused_or_let_in()
     ensures plain { (socket : SocketAddr) (peer : IpAddr) → IsPeerOf socket peer → IsPlain peer }
 {}
 
-/// Who may connect, by examples: anyone where that is said, else who has one of the addresses that
-/// stand on the list, and nobody where none stands there.
-pub fn allowed_addresses_by_example()
+/// Who may connect: anyone where that is said. Else who has an address of the list, whichever of
+/// them, and nobody where none stands there.
+pub fn who_is_on_the_list_may_connect()
     ensures anyone { (address : IpAddr) → Allows Anyone address }
-    ensures two { (list : Vec IpAddr Global) (first second address : IpAddr) →
-        list.items ≡ first ∷ second ∷ [] →
-        Allows (Only list) address ↔ (address ≡ first) ⊎ (address ≡ second) }
+    ensures listed { (list others : Vec IpAddr Global) (first address : IpAddr) →
+        list.items ≡ first ∷ others.items →
+        Allows (Only list) address ↔ (address ≡ first) ⊎ Allows (Only others) address }
     ensures nobody { (list : Vec IpAddr Global) (address : IpAddr) → list.items ≡ [] →
         Allows (Only list) address → ⊥ }
 {}
