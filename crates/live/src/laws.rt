@@ -14,7 +14,7 @@ ghost use Rattle.gateway.specs.declared.ports.Next.{Next};
 ghost use Rattle.live.specs.Ends.{LiveEnds, LogsTurn, LogsPut};
 ghost use Rattle.live.specs.Law.{AtMoment, AtBytes, AtClock, AtBegun, IsWaitedOut, AtRounds};
 ghost use Rattle.live.specs.Law.{first_of, IsTickDue, IfTick, AtWall, IsEve, IsOneOf};
-ghost use Rattle.live.specs.Law.{IsWrittenBehind, AsksNothing, is_cut};
+ghost use Rattle.live.specs.Law.{IsWrittenBehind, AsksNothing, IsFoundGone, is_cut, notes_of};
 ghost use Rattle.live.specs.Clocks.{moment_by, wall_by};
 ghost use Rattle.live.specs.Cuts.{CutsFirst, shuts_nothing};
 ghost use Rattle.live.specs.Runs.{IsInRun, WallFirst};
@@ -171,13 +171,15 @@ pub fn a_run_begins_with_the_wall_clock()
     ensures { (ends : LiveEnds) → IsInRun ends → WallFirst ends.log }
 {}
 
-/// Why a connection was cut. A cut that wasn't due has a stream that was gone. A cut comes to be
-/// due by a write that failed, and then that is its reason. No other event and no other action
-/// changes the reason: so a cut that is due has the one for which it came to be due.
+/// Why a connection was cut. A cut that wasn't due is that of an open connection whose stream was
+/// found gone: none that is quiet is cut. A cut comes to be due by a write that failed, and then
+/// that is its reason. No other event and no other action changes the reason: so a cut that is due
+/// has the one for which it came to be due.
 pub fn a_cut_has_its_reason()
     ensures gone { (old new : LiveEnds) (event : Next) (buf : List ℕ) →
         LogsTurn old event buf new →
-        is_cut event ≡ true → old.is_cut_due ≡ false → new.why_cut ≡ Gone }
+        is_cut event ≡ true → old.is_cut_due ≡ false →
+        (new.why_cut ≡ Gone) × IsFoundGone (notes_of old.connection) new.gone }
     ensures due { (old new : LiveEnds) (event : Next) (buf : List ℕ) →
         LogsTurn old event buf new →
         is_cut event ≡ true → old.is_cut_due ≡ true → new.why_cut ≡ old.why_cut }
