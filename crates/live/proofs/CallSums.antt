@@ -1,7 +1,7 @@
 -- What the calls of a stream mean, and what they came to.
 use Rattle.std.proofs.Common.{◌≡◌, ◌≢◌, ℕ, ◌+◌, ◌≤◌, ◌==◌, Bool, true, false, List, [], ◌∷◌, ◌++◌}
 use Rattle.std.proofs.Common.{not, length, take, Option, Some, None, Result, Ok, Err, refl, sym, ap}
-use Rattle.std.proofs.Common.{subst}
+use Rattle.std.proofs.Common.{subst, drop}
 use Rattle.std.proofs.Common.{◌∙◌, arith, inl, inr, ◌⊎◌, if◌then◌else◌}
 use Rattle.std.specs.Prelude.{◌↔◌}
 use Rattle.std.proofs.lemmas.List.{append_cancel_left, length-take-le, take_all}
@@ -9,10 +9,11 @@ use Rattle.std.specs.declared.io.Error.{Error}
 use Rattle.std.specs.declared.io.ErrorKind.{ErrorKind}
 use Rattle.std.specs.declared.io.ErrorKind.TheVariants.{WouldBlock, TimedOut, Interrupted}
 use Rattle.std.specs.IoError.{error_kind}
-use Rattle.live.specs.CallSums.{BroughtNone, IsReadEmpty, brought_in, received_in}
+use Rattle.live.specs.CallSums.{BroughtNone, IsHandedOn, IsReadEmpty, brought_in, received_in}
 use Rattle.live.specs.Streams.{Calls, DropsWaiting, Drained, Drains, Enough, IsDrained, IsReadOut}
 use Rattle.live.specs.Streams.{MeansGot, NoMore, NoneCame, OneMore, ReadAnswer, ReadsFrame, ReadsOn}
 use Rattle.live.specs.Streams.{Received, Refused, Sent, SystemCall, Took, Waits, Whole, WritesAll}
+use Rattle.live.specs.Streams.{Again, AtOnce, HandsOn, Unwaited, WritesInTwo}
 use Rattle.live.specs.Streams.{WritesFront, brings, brought, called, ends_frame, looked, taken_of}
 use Rattle.live.specs.Streams.{takes_all, took}
 use Rattle.live.specs.declared.ends.Got.{Got}
@@ -83,6 +84,49 @@ pub once_taken : (old new : List SystemCall) (octets : List ℕ) (is_taken : Boo
     → (is_taken ≡ true) ↔ (took new ≡ took old ++ octets)
 once_taken old new octets is_taken w some =
     front_taken old new octets is_taken (front_of (Some old) (Some new) octets is_taken some w)
+
+some_is : (a b : List SystemCall) → Some a ≡ Some b → a ≡ b
+some_is a b e = cc
+
+-- how a write in two calls was handed on
+handed_by : (old new : Calls) (octets : List ℕ) (before calls : List SystemCall)
+    → HandsOn old octets new → old ≡ Some before → new ≡ Some calls
+    → (first : Result ℕ Error) × IsHandedOn octets first before calls
+handed_by old new octets before calls (AtOnce w) was is = (
+  w.answer,
+  inl (
+    sym w.means,
+    some_is _ _
+        (sym is ∙ (w.asked ∙ ap (λ c. called c (Sent octets w.answer)) was)),
+  ),
+)
+handed_by old new octets before calls (Unwaited n mid w part done) was is =
+    let first = w.asked ∙ ap (λ c. called c (Sent octets w.answer)) was in (
+      w.answer,
+      inr (inl (some_is _ _
+          (sym is ∙ (done ∙ ap (λ c. called c (Waits true false)) first)))),
+    )
+handed_by old new octets before calls (Again n mid last is_taken is_set w part a done) was is =
+    let first = w.asked ∙ ap (λ c. called c (Sent octets w.answer)) was in
+    let P : ℕ → Type 0 = λ k. calls
+    ≡ Waits false is_set ∷ (Sent (drop k octets) a.answer
+    ∷ (Waits true true ∷ (Sent octets w.answer ∷ before))) in (
+      w.answer,
+      inr (inr (
+        a.answer,
+        is_set,
+        subst P w.means (some_is _ _
+            (sym is ∙ (done ∙ ap (λ c. called c (Waits false is_set))
+            (a.asked ∙ ap (λ c. called (called c (Waits true true)) (Sent (drop n octets) a.answer))
+            first)))),
+      )),
+    )
+
+pub handed_on : (old new : List SystemCall) (octets : List ℕ) (is_taken : Bool)
+    → WritesInTwo (Some old) octets is_taken (Some new)
+    → (first : Result ℕ Error) × IsHandedOn octets first old new
+handed_on old new octets is_taken w =
+    handed_by (Some old) (Some new) octets old new w.goes_on refl refl
 
 -- behind a whole frame nothing is read on
 never_on : (old : Calls) (first : List ℕ) (count : ℕ) (octets : List ℕ) (mid : Calls)

@@ -7,7 +7,7 @@ use Rattle.std.specs.declared.io.Error.{Error}
 use Rattle.std.specs.IoError.{error_kind}
 use Rattle.live.specs.Streams.{Calls, Came, Enough, IsReadOut, LooksOnwards, MeansFault, MeansGot}
 use Rattle.live.specs.Streams.{NoMore, NoneCame, OneMore, ReadsFrame, ReadsLine, ReadsOn, ReadsOnce}
-use Rattle.live.specs.Streams.{Received, SystemCall, Took, Whole, WritesFront, called, came}
+use Rattle.live.specs.Streams.{Received, SystemCall, Took, Whole, WritesInTwo, called, came}
 use Rattle.live.specs.Streams.{octets_of, taken_of, took}
 use Rattle.live.specs.declared.ends.Got.{Got}
 use Rattle.live.specs.declared.ends.Got.TheVariants.{Octets, Quiet, Gone}
@@ -136,10 +136,11 @@ noted_took None octets h = absurd h
 noted_took (Some calls) octets h = (calls, refl, h)
 
 pub noted_write : (old new : Calls) (octets : List ℕ) (is_taken : Bool) → old ≡ Some []
-    → WritesFront old octets is_taken new
+    → WritesInTwo old octets is_taken new
     → (calls : List SystemCall) × (count : ℕ) × (new ≡ Some calls)
     × (took calls ≡ take count octets) × (is_taken ≡ (count == length octets))
 noted_write old new octets is_taken first w =
-    let P : Calls → Type 0 = λ c. Took c (take w.count octets) new in
-    let t = noted_took new (take w.count octets) (subst P first w.taken) in
-    (t.0, w.count, t.1, t.2, w.all)
+    let f = w.front in
+    let P : Calls → Type 0 = λ c. Took c (take f.count octets) new in
+    let t = noted_took new (take f.count octets) (subst P first f.taken) in
+    (t.0, f.count, t.1, t.2, f.all)

@@ -1,12 +1,13 @@
 -- When a stream that is away is tried again, and what is known of it.
 use Rattle.std.proofs.Common.{◌≡◌, ◌≢◌, ℕ, ◌+◌, ◌-◌, ◌<◌, ◌≤◌, Bool, true, false, List, [], ◌∷◌}
 use Rattle.std.proofs.Common.{length, Option, Some, None, IfSome, refl, sym, ap, subst, arith, ◌∙◌}
-use Rattle.std.specs.Prelude.{is_some, nat_le}
+use Rattle.std.specs.Prelude.{is_some, nat_le, option_map}
 use Rattle.live.specs.OctetStreams.{StreamHistory, IsNew, noted, Wrote, Dropped}
 use Rattle.live.specs.Redial.{Redial, is_due, clock_read_at, begun_by, tried_by, is_due_by}
 use Rattle.live.specs.Redial.{IsRedialled, IsPut, HasDropped, answered, put_by, dropped_by}
 use Rattle.live.specs.Redial.{IfReached, looked_by, Asked, DialCall, DialCalls, Dialed, BeginsTry}
-use Rattle.live.specs.Law.{AtClock}
+use Rattle.live.specs.Law.{AtClock, IsFoundGone}
+use Rattle.live.proofs.Reasons.{gone_so}
 use Rattle.live.proofs.Tries.{away_by, away_clock}
 use Rattle.live.specs.declared.redial.Dialled.{Dialled}
 use Rattle.live.specs.declared.redial.Dialled.TheVariants.{Reached, Pending, Failed}
@@ -221,45 +222,51 @@ pub reached_there : (old new : Redial) (got : Got) (buf : List ℕ) → IsRedial
 unfolding Waits
 reached_there old new got buf l away = (away_waits old new got buf l away).2
 
--- what one that is there finds
-Finds : (got : Got) → (old new : Redial) → Type 0
-Finds (Octets len) old new =
+-- what one that is there finds, and how it is left
+Finds : (got : Got) → (h : StreamHistory) → (old new : Redial) → Type 0
+Finds (Octets len) h old new =
     (new.wait ≡ 1000) × (new.presence ≡ Receiving) × (new.stream ≢ None)
-Finds Quiet old new = (new.wait ≡ old.wait) × (new.stream ≡ None → new.presence ≡ Away)
+Finds Quiet h old new = (new.wait ≡ old.wait)
+    × (new.stream ≡ None → (new.presence ≡ Away) × IsFoundGone (Some (is_some h)) new.gone)
     × (new.stream ≢ None → new.presence ≡ old.presence)
-Finds Gone old new = ⊥
+Finds Gone h old new = ⊥
 
 there_so : (s : Option StreamHistory) (now : ℕ) (answer : Dialled StreamHistory) (found : Got)
     (buf : List ℕ) (h : StreamHistory) (r : Redial) → s ≡ Some h
-    → (let p = looked_by s now answer found buf r in Finds p.0 r p.1)
+    → (let p = looked_by s now answer found buf r in Finds p.0 h r p.1)
 unfolding Finds
 there_so None now answer found buf h r there = absurd (cc)
 there_so (Some g) now answer (Octets len) buf h r there = (refl, refl, λ none. absurd (cc))
 there_so (Some g) now answer Quiet buf h r there = (refl, λ none. absurd (cc), λ some. refl)
-there_so (Some g) now answer Gone buf h r there = (refl, λ none. refl, λ some. absurd (some refl))
+there_so (Some g) now answer Gone buf h r there = (
+  refl,
+  λ none. (refl, gone_so (Some (is_some h)) g (ap (λ s. option_map (λ x. is_some x) s) there)),
+  λ some. absurd (some refl),
+)
 
 there_of : (old new : Redial) (got : Got) (buf : List ℕ) (h : StreamHistory)
-    → IsRedialled old got buf new → old.stream ≡ Some h → Finds got old new
+    → IsRedialled old got buf new → old.stream ≡ Some h → Finds got h old new
 there_of old new got buf h l there =
-    let P : Got × Redial → Type 0 = λ p. Finds p.0 old p.1 in
+    let P : Got × Redial → Type 0 = λ p. Finds p.0 h old p.1 in
     subst P (sym l.looked) (there_so old.stream l.now l.answer l.found buf h old there)
 
 octets_by : (s : Option StreamHistory) (old new : Redial) (len : ℕ) (buf : List ℕ)
-    → old.stream ≡ s → IsRedialled old (Octets len) buf new → Finds (Octets len) old new
+    → old.stream ≡ s → IsRedialled old (Octets len) buf new
+    → (h : StreamHistory) × Finds (Octets len) h old new
 octets_by None old new len buf is l =
     let quiet : Octets len ≡ Quiet =
     ap (λ (p : Got × Redial). p.0) (away_by old new (Octets len) buf l is) in absurd (cc)
-octets_by (Some h) old new len buf is l = there_of old new (Octets len) buf h l is
+octets_by (Some h) old new len buf is l = (h, there_of old new (Octets len) buf h l is)
 
 pub octets_wait : (old new : Redial) (len : ℕ) (buf : List ℕ)
     → IsRedialled old (Octets len) buf new → new.wait ≡ 1000
 unfolding Finds
-octets_wait old new len buf l = (octets_by old.stream old new len buf refl l).0
+octets_wait old new len buf l = (octets_by old.stream old new len buf refl l).1.0
 
 pub octets_receiving : (old new : Redial) (len : ℕ) (buf : List ℕ)
     → IsRedialled old (Octets len) buf new → new.presence ≡ Receiving
 unfolding Finds
-octets_receiving old new len buf l = (octets_by old.stream old new len buf refl l).1
+octets_receiving old new len buf l = (octets_by old.stream old new len buf refl l).1.1
 
 pub quiet_waits : (old new : Redial) (buf : List ℕ) (h : StreamHistory)
     → IsRedialled old Quiet buf new → old.stream ≡ Some h → new.wait ≡ old.wait
@@ -272,17 +279,19 @@ pub quiet_stays : (old new : Redial) (buf : List ℕ) (h : StreamHistory)
 unfolding Finds
 quiet_stays old new buf h l there some = (there_of old new Quiet buf h l there).2 some
 
-gone_by : (got : Got) (old new : Redial) → new.stream ≡ None → Finds got old new
-    → new.presence ≡ Away
+left_by : (got : Got) (h : StreamHistory) (old new : Redial) → new.stream ≡ None
+    → Finds got h old new
+    → (new.presence ≡ Away) × IsFoundGone (Some (is_some h)) new.gone
 unfolding Finds
-gone_by (Octets len) old new none k = absurd (k.2 none)
-gone_by Quiet old new none k = k.1 none
-gone_by Gone old new none k = absurd k
+left_by (Octets len) h old new none k = absurd (k.2 none)
+left_by Quiet h old new none k = k.1 none
+left_by Gone h old new none k = absurd k
 
 pub gone_away : (old new : Redial) (got : Got) (buf : List ℕ) (h : StreamHistory)
-    → IsRedialled old got buf new → old.stream ≡ Some h → new.stream ≡ None → new.presence ≡ Away
+    → IsRedialled old got buf new → old.stream ≡ Some h → new.stream ≡ None
+    → (new.presence ≡ Away) × IsFoundGone (Some (is_some h)) new.gone
 gone_away old new got buf h l there none =
-    gone_by got old new none (there_of old new got buf h l there)
+    left_by got h old new none (there_of old new got buf h l there)
 
 put_wait : (s : Option StreamHistory) (octets : List ℕ) (taken : Bool) (r : Redial)
     → (put_by s octets taken r).1.wait ≡ r.wait

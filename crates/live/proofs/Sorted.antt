@@ -1,10 +1,11 @@
 -- Those who come to a listener, one after another: who is let in, who is refused, and who stays.
 use Rattle.std.proofs.Common.{◌≡◌, ℕ, ◌+◌, arith, List, [], ◌∷◌, length, Option, Some, None, Ok}
-use Rattle.std.proofs.Common.{Err}
+use Rattle.std.proofs.Common.{Err, Result}
 use Rattle.std.proofs.Common.{Bool, true, false}
-use Rattle.std.proofs.Common.{refl, sym, ap, subst, ◌∙◌, IfSome}
+use Rattle.std.proofs.Common.{refl, sym, ap, subst, ◌∙◌, IfSome, if◌then◌else◌}
 use Rattle.std.specs.Prelude.{All, MatchResult, option_map}
 use Rattle.std.specs.Net.Socket.{socket_ip}
+use Rattle.std.specs.Result.{is_ok}
 use Rattle.std.proofs.lemmas.List.Elements.{All-cons, All-nil}
 use Rattle.std.specs.declared.io.Error.{Error}
 use Rattle.std.specs.declared.net.ip_addr.IpAddr.{IpAddr}
@@ -12,7 +13,8 @@ use Rattle.std.specs.declared.net.socket_addr.SocketAddr.{SocketAddr}
 use Rattle.std.specs.declared.net.tcp.TcpStream.{TcpStream}
 use Rattle.live.specs.AllowLists.{Allows, AreStrangers, IsPlain, RefusesStrangers, counted}
 use Rattle.live.specs.AllowLists.{one_more_refused}
-use Rattle.live.specs.Arrivals.{AcceptsNewest, Arrival, Arrivals, Comer, Enough, GoesOn}
+use Rattle.live.specs.Arrivals.{AcceptsNewest, Arrival, Arrivals, Comer, Enough, GoesOn, IsAccepted}
+use Rattle.live.specs.OctetStreams.{Attempts, attempted}
 use Rattle.live.specs.Arrivals.{IsPeerOf, LetIn, MeansComer, MeansFault, NobodyCame, NotTaken, Out}
 use Rattle.live.specs.Arrivals.{Sorts, TakesOne, TakesWaiting, TurnedAway, arrived}
 use Rattle.live.specs.declared.allow_list.AllowList.{AllowList}
@@ -205,21 +207,90 @@ newest_plain g old new said says newest peer its is t =
     let P : Option Comer → Type 0 = λ n. IfSome n (λ (n : Comer). Allows g n.0 × IsPlain n.0) in
     let both = subst P is (sorted_newest g t.answers t.refused newest t.sorted) in both.1
 
-pub accepted_newest : (g : AllowList) (old new : Arrivals) (said says : RefusedPeers)
-    (newest : Option Comer) (peer : IpAddr) (its : TcpStream) → newest ≡ Some (peer, its)
-    → TakesWaiting g old said newest new says
-    → AcceptsNewest g old said (Some peer) new says
-accepted_newest g old new said says newest peer its is t = record {
-  newest = newest;
-  takes = t;
-  is_newest = ap (λ (n : Option Comer). option_map (λ (c : Comer). c.0) n) is;
-}
+length_in : Option (List Bool) → ℕ
+length_in None = 0
+length_in (Some list) = length list
+
+-- a list isn't itself with one more
+longer : (b : Bool) (list : List Bool) → Some (b ∷ list) ≡ Some list → ⊥
+unfolding length_in
+longer b list e =
+    let same : length (b ∷ list) ≡ length list = ap length_in e in omega (arith, same)
+
+-- he is accepted where his stream can be used
+pub accepted_newest : (g : AllowList) (old mid new : Arrivals) (said says : RefusedPeers)
+    (newest : Option Comer) (peer : IpAddr) (its : TcpStream) (opened seen opens : Attempts)
+    (accepted : Option IpAddr) (b : Bool) → newest ≡ Some (peer, its)
+    → TakesWaiting g old said newest mid says → new ≡ mid → seen ≡ opened
+    → opens ≡ attempted seen b → accepted ≡ (if b then Some peer else None)
+    → AcceptsNewest g old said opened accepted new says opens
+accepted_newest g old mid new said says newest peer its opened seen opens accepted b is t unasked
+    same opened_so so =
+    let P : Option Comer → Type 0 = λ n. TakesWaiting g old said n new says in
+    let Q : Arrivals → Type 0 = λ a. TakesWaiting g old said newest a says in
+    let R : Attempts → Type 0 = λ a. opens ≡ attempted a b in
+    record {
+      newest = Some (peer, its);
+      takes = subst P is (subst Q (sym unasked) t);
+      is_accepted = (b, subst R same opened_so, so);
+    }
 
 pub accepted_nobody : (g : AllowList) (old new : Arrivals) (said says : RefusedPeers)
-    (newest : Option Comer) → TakesWaiting g old said newest new says
-    → AcceptsNewest g old said None new says
-accepted_nobody g old new said says newest t =
-    record { newest = newest; takes = t; is_newest = tt }
+    (newest : Option Comer) (opened opens : Attempts) (accepted : Option IpAddr) → newest ≡ None
+    → TakesWaiting g old said newest new says → opens ≡ opened → accepted ≡ None
+    → AcceptsNewest g old said opened accepted new says opens
+accepted_nobody g old new said says newest opened opens accepted is t same none =
+    let P : Option Comer → Type 0 = λ n. TakesWaiting g old said n new says in
+    record { newest = None; takes = subst P is t; is_accepted = (none, same) }
+
+-- nobody's address
+pub map_none : {A B : Type 0} (f : A → B) (o : Option A) → o ≡ None → option_map f o ≡ None
+map_none f o is = ap (λ x. option_map f x) is
+
+-- a stream was opened, and could be used or not
+pub opens_as : {A E : Type 0} (seen opens : Attempts) (answer : Result A E) (b : Bool)
+    → opens ≡ attempted seen (is_ok answer) → is_ok answer ≡ b → opens ≡ attempted seen b
+opens_as seen opens answer b opened is = opened ∙ ap (λ x. attempted seen x) is
+
+-- what the opening of streams says of who is accepted
+true_of : (b : Bool) (opened : List Bool) → Some (true ∷ opened) ≡ attempted (Some opened) b
+    → b ≡ true
+true_of b opened e = cc
+
+accepted_as : (newest : Option Comer) (opened : List Bool) (accepted : Option IpAddr)
+    → IsAccepted newest (Some opened) accepted (Some (true ∷ opened))
+    → (comer : Comer) × (newest ≡ Some comer) × (accepted ≡ Some comer.0)
+accepted_as None opened accepted h = absurd (longer true opened h.1)
+accepted_as (Some comer) opened accepted h = (
+  comer,
+  refl,
+  h.2 ∙ ap (λ b. if b then Some comer.0 else None) (true_of h.0 opened h.1),
+)
+
+unopened_as : (newest : Option Comer) (opened : List Bool) (accepted : Option IpAddr)
+    → IsAccepted newest (Some opened) accepted (Some opened)
+    → (newest ≡ None) × (accepted ≡ None)
+unopened_as None opened accepted h = (refl, h.0)
+unopened_as (Some comer) opened accepted h = absurd (longer h.0 opened (sym h.1))
+
+pub usable_accepted : (g : AllowList) (old new : Arrivals) (said says : RefusedPeers)
+    (opened : List Bool) (accepted : Option IpAddr)
+    → AcceptsNewest g old said (Some opened) accepted new says (Some (true ∷ opened))
+    → (newest : Comer) × TakesWaiting g old said (Some newest) new says
+    × (accepted ≡ Some newest.0)
+usable_accepted g old new said says opened accepted a =
+    let n = accepted_as a.newest opened accepted a.is_accepted in
+    let P : Option Comer → Type 0 = λ n. TakesWaiting g old said n new says in
+    (n.0, subst P n.1 a.takes, n.2)
+
+pub nobody_opened : (g : AllowList) (old new : Arrivals) (said says : RefusedPeers)
+    (opened : List Bool) (accepted : Option IpAddr)
+    → AcceptsNewest g old said (Some opened) accepted new says (Some opened)
+    → (accepted ≡ None) × TakesWaiting g old said None new says
+nobody_opened g old new said says opened accepted a =
+    let n = unopened_as a.newest opened accepted a.is_accepted in
+    let P : Option Comer → Type 0 = λ n. TakesWaiting g old said n new says in
+    (n.1, subst P n.0 a.takes)
 
 -- what answers say of those who came
 Refused : AllowList → List Arrival → List IpAddr → Option Comer → SocketAddr → Type 0

@@ -5,7 +5,7 @@ use Rattle.live.specs.Timing.{Moments, read_at}
 use Rattle.live.specs.OctetStreams.{StreamHistory, IsNew, Attempts, looked, noted}
 use Rattle.live.specs.Redial.{Redial, ended, IfReached, dialled_map, is_due, clock_read_at, settled}
 use Rattle.live.specs.Redial.{begun_by, tried_by, looked_by, is_due_by, IsTryAnswered, IsTriedOn}
-use Rattle.live.specs.Redial.{IsRedialled, answered, known_by, quieted}
+use Rattle.live.specs.Redial.{IsRedialled, answered, gone_by, known_by, quieted}
 use Rattle.live.specs.Redial.{Asked, DialCall, DialCalls, Dialed, dial_noted, is_reached}
 use Rattle.live.specs.Ends.{read_open}
 use Rattle.live.specs.Law.{AtClock}
@@ -220,7 +220,10 @@ away_clock old new got buf l Holds away h =
 
 -- a look at one that is there
 there_at : (found : Got) (buf : List ℕ) (h : StreamHistory) (old : Redial)
-    → IfSome (known_by found (record old { stream = read_open h found buf })).stream
+    → IfSome (known_by found (record old {
+      stream = read_open h found buf;
+      gone = gone_by h found old.gone;
+    })).stream
     (λ s. s ≡ noted h (looked (quieted found) buf))
 there_at (Octets len) buf h old = refl
 there_at Quiet buf h old = refl
@@ -228,7 +231,10 @@ there_at Gone buf h old = tt
 
 there_by : (found got : Got) (buf : List ℕ) (h : StreamHistory) (old new : Redial)
     → finds got new
-    ≡ finds (quieted found) (known_by found (record old { stream = read_open h found buf }))
+    ≡ finds (quieted found) (known_by found (record old {
+      stream = read_open h found buf;
+      gone = gone_by h found old.gone;
+    }))
     → IfSome new.stream (λ s. s ≡ noted h (looked got buf))
 there_by found got buf h old new is =
     let Q : Got × Redial → Type 0 = λ p. IfSome p.1.stream (λ s. s ≡ noted h (looked p.0 buf)) in

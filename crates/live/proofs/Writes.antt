@@ -1,12 +1,14 @@
 -- A write in two calls: what the first took isn't handed over again.
 use Rattle.std.proofs.Common.{◌≡◌, ℕ, ◌+◌, ◌-◌, ◌≤◌, ◌==◌, true, false, Bool, List, [], ◌++◌}
 use Rattle.std.proofs.Common.{length, take, drop, Some, None, Result, Ok, Err, arith, refl, sym, ap}
-use Rattle.std.proofs.Common.{subst, ◌∙◌}
+use Rattle.std.proofs.Common.{subst, ◌∙◌, ◌≢◌}
+use Rattle.std.specs.Result.{is_err, is_ok}
 use Rattle.std.specs.declared.io.Error.{Error}
 use Rattle.std.proofs.Math.Seq.{take-add, take-append_seam}
 use Rattle.std.proofs.lemmas.List.{append_assoc, append-nil, length-drop}
 use Rattle.live.specs.Streams.{Calls, Sent, Waits, called, taken_of, takes_all, took, Took}
-use Rattle.live.specs.Streams.{WritesOnce, WritesAll, WritesFront}
+use Rattle.live.specs.Streams.{WritesOnce, WritesAll, WritesFront, WritesInTwo, HandsOn, AtOnce}
+use Rattle.live.specs.Streams.{Unwaited, Again}
 
 -- octets that one call more took
 pub took_once : (old : Calls) (octets : List ℕ) (answer : Result ℕ Error)
@@ -21,25 +23,19 @@ took_by old new octets n w =
     let Q : ℕ → Type 0 = λ k. Took old (take k octets) (called old (Sent octets w.answer)) in
     subst P (sym w.asked) (subst Q (sym w.means) (took_once old octets w.answer))
 
--- the first call took them all, or it took a part and nothing more was handed over
+-- the first call took them all
 pub written_whole : (old new : Calls) (octets : List ℕ) (n : ℕ) → WritesOnce old octets n new
     → n ≡ length octets
-    → WritesFront old octets true new
+    → WritesInTwo old octets true new
 written_whole old new octets n w all = record {
-  count = n;
-  bound = grind (arith, all);
-  taken = took_by old new octets n w;
-  all = grind (arith, all);
-}
-
-pub written_part : (old new : Calls) (octets : List ℕ) (n : ℕ) → WritesOnce old octets n new
-    → n ≤ length octets
-    → (n == length octets) ≡ false → WritesFront old octets false new
-written_part old new octets n w some part = record {
-  count = n;
-  bound = some;
-  taken = took_by old new octets n w;
-  all = sym part;
+  front = record {
+    count = n;
+    bound = grind (arith, all);
+    taken = took_by old new octets n w;
+    all = grind (arith, all);
+  };
+  goes_on =
+      let P : ℕ → Type 0 = λ k. WritesOnce old octets k new in AtOnce (subst P all w);
 }
 
 -- octets that two calls took, one after the other
@@ -85,19 +81,26 @@ waits_none : (c : Calls) (w s : Bool) → Took c [] (called c (Waits w s))
 waits_none None w s = tt
 waits_none (Some before) w s = sym (append-nil (took before))
 
-pub written_refused : (old mid new : Calls) (octets : List ℕ) (n : ℕ) (w s : Bool)
+unlike : (n l : ℕ) → (n == l) ≡ false → n ≢ l
+unlike n l other e = let wrong : true ≡ false = sym (grind (arith, e)) ∙ other in absurd (cc)
+
+pub written_refused : (old mid new : Calls) (octets : List ℕ) (n : ℕ) (w : Bool)
     → WritesOnce old octets n mid
-    → n ≤ length octets → (n == length octets) ≡ false → new ≡ called mid (Waits w s)
-    → WritesFront old octets false new
-written_refused old mid new octets n w s once some part done =
+    → n ≤ length octets → n ≢ length octets → w ≡ false → new ≡ called mid (Waits true w)
+    → WritesInTwo old octets false new
+written_refused old mid new octets n w once some part off done =
     let P : Calls → Type 0 = λ c. Took old (take n octets) c in
+    let Q : Bool → Type 0 = λ b. new ≡ called mid (Waits true b) in
     record {
-      count = n;
-      bound = some;
-      taken =
-          subst P (sym done) (waits_took old mid (take n octets) w s
-          (took_by old mid octets n once));
-      all = sym part;
+      front = record {
+        count = n;
+        bound = some;
+        taken =
+            subst P (sym done) (waits_took old mid (take n octets) true w
+            (took_by old mid octets n once));
+        all = sym (unequal n (length octets) part);
+      };
+      goes_on = Unwaited n mid once part (subst Q off done);
     }
 
 -- the second call took the rest, or a part of it
@@ -134,14 +137,29 @@ rest_is n xs =
     ∙ (ap (λ ys. take (length rest) ys) (sym (append-nil rest)) ∙ take-append_seam rest [])
 
 pub written_slice : (old mid again last new : Calls) (octets : List ℕ) (n : ℕ)
-    (is_taken w s v r : Bool)
-    → WritesOnce old octets n mid → n ≤ length octets → (n ≡ length octets → ⊥)
-    → again ≡ called mid (Waits w s)
+    (is_taken s r : Bool)
+    → WritesOnce old octets n mid → n ≤ length octets → n ≢ length octets
+    → s ≡ true → again ≡ called mid (Waits true s)
     → WritesAll again (take (length octets - n) (drop n octets)) is_taken last
-    → new ≡ called last (Waits v r)
-    → WritesFront old octets is_taken new
-written_slice old mid again last new octets n is_taken w s v r once some part same a stays =
+    → new ≡ called last (Waits false r)
+    → WritesInTwo old octets is_taken new
+written_slice old mid again last new octets n is_taken s r once some part on same a stays =
     let P : List ℕ → Type 0 = λ rest. WritesAll again rest is_taken last in
-    written_rest old mid again last new octets n is_taken w s v r once some part same
-    (subst P (rest_is n octets) a)
-    stays
+    let Q : Calls → Type 0 = λ c. WritesAll c (drop n octets) is_taken last in
+    let rest : WritesAll again (drop n octets) is_taken last = subst P (rest_is n octets) a in
+    let set : again ≡ called mid (Waits true true) =
+    same ∙ ap (λ b. called mid (Waits true b)) on in
+    record {
+      front = written_rest old mid again last new octets n is_taken true s false r once some part
+          same rest stays;
+      goes_on = Again n mid last is_taken r once part (subst Q set rest) stays;
+    }
+
+-- a call that failed isn't one that was done
+pub not_done : {A E : Type 0} (answer : Result A E) → is_err answer ≡ true → is_ok answer ≡ false
+not_done (Ok value) e = let wrong : false ≡ true = e in absurd (cc)
+not_done (Err fault) e = refl
+
+pub done_so : {A E : Type 0} (answer : Result A E) → is_err answer ≡ false → is_ok answer ≡ true
+done_so (Ok value) e = refl
+done_so (Err fault) e = let wrong : true ≡ false = e in absurd (cc)

@@ -1,6 +1,7 @@
 -- Who comes to a listener of the system, and what becomes of him (this gateway's own profile).
 use Rattle.std.specs.Prelude.{◌≡◌, ◌≢◌, ◌⊎◌, List, [], ◌∷◌, ◌++◌, All, length, Option, Some}
-use Rattle.std.specs.Prelude.{None, IfSome, Result, Ok, Err, MatchResult, option_map}
+use Rattle.std.specs.Prelude.{None, Result, Ok, Err, MatchResult, option_map, Bool}
+use Rattle.std.specs.Prelude.{if◌then◌else◌}
 use Rattle.std.specs.IoError.{error_kind}
 use Rattle.std.specs.Net.Addr.{IsCanonicalOf, MatchIp}
 use Rattle.std.specs.Net.Socket.{socket_ip}
@@ -10,6 +11,7 @@ use Rattle.std.specs.declared.net.ip_addr.IpAddr.{IpAddr}
 use Rattle.std.specs.declared.net.socket_addr.SocketAddr.{SocketAddr}
 use Rattle.std.specs.declared.net.tcp.TcpStream.{TcpStream}
 use Rattle.live.specs.AllowLists.{Allows, counted, one_more_refused}
+use Rattle.live.specs.OctetStreams.{Attempts, attempted}
 use Rattle.live.specs.declared.allow_list.AllowList.{AllowList}
 use Rattle.live.specs.declared.arrivals.Arrived.{Arrived}
 use Rattle.live.specs.declared.arrivals.Arrived.TheVariants.{Allowed, Other, Nobody}
@@ -111,9 +113,18 @@ pub record TakesWaiting (allow_list : AllowList) (old : Arrivals) (said : Refuse
   pub asked : new ≡ arrived answers old
   pub counted_up : says ≡ counted refused said
 
--- And the newest, if there is one, is who is accepted; or his stream can't be used.
+-- The newest is accepted, if there is one, unless his stream can't be used.
+abbrev pub IsAccepted : (newest : Option Comer) → (opened : Attempts) → (accepted : Option IpAddr)
+    → (opens : Attempts) → Type 0
+IsAccepted None opened accepted opens = (accepted ≡ None) × (opens ≡ opened)
+IsAccepted (Some comer) opened accepted opens =
+    (is_usable : Bool) × (opens ≡ attempted opened is_usable)
+    × (accepted ≡ (if is_usable then Some comer.0 else None))
+
+-- So a look accepts, at a listener that opened those streams before.
 pub record AcceptsNewest (allow_list : AllowList) (old : Arrivals) (said : RefusedPeers)
-    (accepted : Option IpAddr) (new : Arrivals) (says : RefusedPeers) : Type 0 where
+    (opened : Attempts) (accepted : Option IpAddr) (new : Arrivals) (says : RefusedPeers)
+    (opens : Attempts) : Type 0 where
   pub newest : Option Comer
   pub takes : TakesWaiting allow_list old said newest new says
-  pub is_newest : IfSome accepted (λ peer. option_map (λ (n : Comer). n.0) newest ≡ Some peer)
+  pub is_accepted : IsAccepted newest opened accepted opens

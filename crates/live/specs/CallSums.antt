@@ -1,5 +1,7 @@
 -- What the calls of a stream came to (this gateway's own profile).
-use Rattle.std.specs.Prelude.{◌≡◌, ◌⊎◌, ℕ, ◌+◌, List, [], ◌∷◌, Bool, true}
+use Rattle.std.specs.Prelude.{◌≡◌, ◌⊎◌, ℕ, ◌+◌, List, [], ◌∷◌, Bool, true, false, length, drop}
+use Rattle.std.specs.Prelude.{Result}
+use Rattle.std.specs.declared.io.Error.{Error}
 use Rattle.live.specs.Streams.{Received, Sent, SystemCall, Waits, taken_of}
 
 -- how many calls were reads
@@ -28,3 +30,14 @@ pub record IsReadEmpty (before calls : List SystemCall) : Type 0 where
   pub is_set : Bool
   pub last : calls ≡ Waits true is_set ∷ reads
   pub out : BroughtNone reads ⊎ (received_in reads ≡ received_in before + 64)
+
+-- A write was handed to the stream whole, and all of it was taken. Or it was set to wait, unless it
+-- refused that, was handed what the first call left, and was set not to wait.
+abbrev pub IsHandedOn : (octets : List ℕ) → (first : Result ℕ Error)
+    → (before calls : List SystemCall) → Type 0
+IsHandedOn octets first before calls =
+    ((taken_of first ≡ length octets) × (calls ≡ Sent octets first ∷ before))
+    ⊎ ((calls ≡ Waits true false ∷ (Sent octets first ∷ before))
+    ⊎ ((second : Result ℕ Error) × (is_set : Bool) × (calls
+    ≡ Waits false is_set ∷ (Sent (drop (taken_of first) octets) second
+    ∷ (Waits true true ∷ (Sent octets first ∷ before))))))

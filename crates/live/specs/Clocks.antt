@@ -1,8 +1,9 @@
--- The system's clock (this gateway's own profile).
+-- The system's clocks (this gateway's own profile).
 use Rattle.std.specs.Prelude.{◌≡◌, ℕ, ◌+◌, ◌-◌, ◌/◌, ◌^◌, min, List, ◌∷◌, Option, Result, Ok, Err}
 use Rattle.std.specs.Prelude.{option_map}
-use Rattle.std.specs.Time.{instant_nanos}
+use Rattle.std.specs.Time.{instant_nanos, system_time_nanos}
 use Rattle.std.specs.declared.time.Instant.{Instant}
+use Rattle.std.specs.declared.time.SystemTime.{SystemTime}
 use Rattle.std.specs.declared.io.Error.{Error}
 
 -- the first moment is this one, and none later was given yet
@@ -31,3 +32,22 @@ pub record GoesOn (first : ℕ) (start : Instant) (old : Instants) (last : ℕ) 
   pub answer : Result Instant Error
   pub asked : new ≡ instant_noted answer old
   pub given : moment ≡ moment_by first start last answer
+
+-- what the system answered so far where it was asked what its wall clock shows
+abbrev pub WallTimes : Type 0
+WallTimes = Option (List (Result SystemTime Error))
+
+abbrev pub wall_noted : Result SystemTime Error → WallTimes → WallTimes
+wall_noted answer before = option_map (λ all. answer ∷ all) before
+
+-- How many ms the wall clock shows since 1970, as far as 64 bits count. Where it can't be read that
+-- is 0.
+abbrev pub wall_by : Result SystemTime Error → ℕ
+wall_by (Ok shown) = min (system_time_nanos shown / 1_000_000) (2 ^ 64 - 1)
+wall_by (Err fault) = 0
+
+-- it is read once, and shows that
+pub record ShowsWall (old new : WallTimes) (shown : ℕ) : Type 0 where
+  pub answer : Result SystemTime Error
+  pub asked : new ≡ wall_noted answer old
+  pub given : shown ≡ wall_by answer

@@ -11,8 +11,8 @@ use Rattle.session.specs.declared.kinds.Close.TheVariants.{Replaced}
 use Rattle.std.specs.declared.net.ip_addr.IpAddr.{IpAddr}
 use Rattle.live.specs.AllowLists.{Allows, AreStrangers, Refusals, refusing}
 use Rattle.live.specs.declared.allow_list.AllowList.{AllowList}
-use Rattle.live.specs.OctetStreams.{looked, Dropped, Wrote, StreamHistory, noted, IsNew, Attempts}
-use Rattle.live.specs.OctetStreams.{attempted}
+use Rattle.live.specs.OctetStreams.{looked, Dropped, WasGone, Wrote, StreamHistory, noted, IsNew}
+use Rattle.live.specs.OctetStreams.{Attempts, attempted}
 use Rattle.live.specs.declared.ends.Got.{Got}
 use Rattle.live.specs.declared.ends.Got.TheVariants.{Octets, Quiet, Gone}
 use Rattle.live.specs.Timing.{Moments, read_at, moment_at, is_behind, is_awaited, line_looked_at}
@@ -42,9 +42,10 @@ pub record IsAllowedPeer (allow_list : AllowList) (peer : Peer) : Type 0 where
 
 -- Who may connect; what happened at the line, and whether it is there, where it says that; what
 -- happened at the connection, if there is one, and at the listener, and whom that refused; octets
--- of
--- that connection that came and haven't been given; what the clock gave; the source that is looked
--- at first; whether a write to the connection failed, so that a cut is due; whether the run goes on
+-- of that connection that came and haven't been given; what happened at the stream of a connection
+-- that was found gone, until the ends are looked at again; what the clock gave; the source that is
+-- looked at first; whether a write to the connection failed, so that a cut is due; whether the run
+-- goes on
 -- after a restart; why the latest connection that was cut was cut; how often the line was gone; how
 -- many of its octets were dropped before requests; what decides the moment of an event; what the
 -- wall clock showed, and when it was given last; and the log, the newest entry first.
@@ -54,6 +55,7 @@ pub record LiveEnds : Type 0 where
   pub presence : Option Presence
   pub connection : Option Peer
   pub held : List ℕ
+  pub gone : Option StreamHistory
   pub listener : Attempts
   pub refusals : Refusals
   pub clock : Moments
@@ -77,6 +79,7 @@ begun_with allow_list line presence listener refusals clock walls answer_ms = re
   presence = presence;
   connection = None;
   held = [];
+  gone = None;
   listener = listener;
   refusals = refusals;
   clock = clock;
@@ -179,11 +182,17 @@ abbrev pub why_by_look : Option Peer → Got → CutCause → CutCause
 why_by_look (Some peer) Gone why = cause.Gone
 why_by_look _ got why = why
 
+-- its stream is the one that was found gone
+abbrev pub gone_by : Option Peer → Got → (before : Option StreamHistory) → Option StreamHistory
+gone_by (Some peer) Gone before = Some (noted peer.stream WasGone)
+gone_by _ got before = before
+
 -- the ends after a look at the connection
 abbrev pub peer_read : Option Peer → Got → (buf : List ℕ) → LiveEnds → LiveEnds
 peer_read peer got buf ends = record ends {
   connection = read_from peer got buf;
   why_cut = why_by_look peer got ends.why_cut;
+  gone = gone_by peer got ends.gone;
 }
 
 -- a line that is gone has failed once more
@@ -355,8 +364,9 @@ pub record TurnsToWall (old : LiveEnds) (event : Next) (new : LiveEnds) : Type 0
   pub due : is_wall_due old.walled begun ≡ true
   pub given : GivesWall begun (clock_read_at begun old) event new
 
+-- the ends are looked at, and the stream that was found gone before is let go
 abbrev pub looking : LiveEnds → LiveEnds
-looking ends = record ends { walled = record ends.walled { has_looked = true } }
+looking ends = record ends { walled = record ends.walled { has_looked = true }; gone = None }
 
 -- Behind a round that found nothing a tick is due where 100 ms have passed since the first round
 -- began, where the time of the exchange has ended since then, and where the wall clock is due.

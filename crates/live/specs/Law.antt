@@ -1,10 +1,10 @@
 -- Words of the laws (this gateway's own profile).
 use Rattle.std.specs.Prelude.{◌≡◌, ℕ, ◌+◌, ◌-◌, ◌<◌, ◌≤◌, true, false, List, [], ◌∷◌, ◌++◌, length}
-use Rattle.std.specs.Prelude.{◌⊎◌, Bool, Option, Some, None, option_map}
+use Rattle.std.specs.Prelude.{◌⊎◌, Bool, Option, Some, None, option_map, is_some}
 use Rattle.std.specs.declared.net.ip_addr.IpAddr.{IpAddr}
 use Rattle.live.specs.Ends.{LiveEnds, Peer}
 use Rattle.live.specs.AllowLists.{Allows}
-use Rattle.live.specs.OctetStreams.{StreamHistory, Dropped, Wrote}
+use Rattle.live.specs.OctetStreams.{Happening, StreamHistory, Dropped, WasGone, Wrote}
 use Rattle.live.specs.Timing.{Moments, is_awaited, is_behind}
 use Rattle.live.specs.Walls.{is_wall_due}
 use Rattle.live.specs.declared.timing.Timing.{Timing}
@@ -168,3 +168,14 @@ is_cut (next.Tick now) = false
 is_cut (next.Wall now number) = false
 is_cut next.Done = false
 is_cut next.Fault = false
+
+-- whether the stream of the connection notes what happens at it, where one is open
+abbrev pub notes_of : Option Peer → Option Bool
+notes_of connection = option_map (λ (p : Peer). is_some p.stream) connection
+
+-- There was such a connection, and the last look at its stream found it gone.
+abbrev pub IsFoundGone : (notes : Option Bool) → (left : Option StreamHistory) → Type 0
+IsFoundGone None left = ⊥
+IsFoundGone (Some false) left = Unit {0}
+IsFoundGone (Some true) left =
+    (before : List Happening) × (left ≡ Some (Some (WasGone ∷ before)))

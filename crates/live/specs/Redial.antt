@@ -1,7 +1,7 @@
 -- A stream that is reached again where it has gone (this gateway's own profile).
 use Rattle.std.specs.Prelude.{◌≡◌, ℕ, ◌-◌, ◌*◌, min, nat_le, List, ◌∷◌, Bool, true, false, Option}
 use Rattle.std.specs.Prelude.{IfSome, None, Some, is_some}
-use Rattle.live.specs.OctetStreams.{StreamHistory, Dropped, Wrote, noted, IsNew, Attempts}
+use Rattle.live.specs.OctetStreams.{StreamHistory, Dropped, WasGone, Wrote, noted, IsNew, Attempts}
 use Rattle.live.specs.OctetStreams.{attempted}
 use Rattle.live.specs.Timing.{Moments, read_at}
 use Rattle.live.specs.Ends.{read_open}
@@ -33,13 +33,16 @@ is_reached Pending = false
 is_reached Failed = false
 
 -- Whether each try that ended reached a stream, the dialler's calls, what the clock gave, what
--- happened at the stream, if there is one, when the last try began, whether it goes on, how long
--- after it the next one begins, in ms, and what is known of the stream.
+-- happened at the stream, if there is one, and at one that was found gone, until the next look,
+-- when
+-- the last try began, whether it goes on, how long after it the next one begins, in ms, and what is
+-- known of the stream.
 pub record Redial : Type 0 where
   pub tries : Attempts
   pub calls : DialCalls
   pub clock : Moments
   pub stream : Option StreamHistory
+  pub gone : Option StreamHistory
   pub tried : Option ℕ
   pub is_trying : Bool
   pub wait : ℕ
@@ -70,9 +73,9 @@ is_due r now = is_due_by r.is_trying r.tried r.wait now
 abbrev pub grown : ℕ → ℕ
 grown wait = min 30000 (2 * wait)
 
--- the clock gives this moment
+-- the clock gives this moment, and a stream that was found gone before is let go
 abbrev pub clock_read_at : ℕ → Redial → Redial
-clock_read_at now r = record r { clock = read_at r.clock now }
+clock_read_at now r = record r { clock = read_at r.clock now; gone = None }
 
 -- what has become of a try of such a stream
 abbrev pub dialled_map : {A B : Type 0} → (A → B) → Dialled A → Dialled B
@@ -130,14 +133,24 @@ known_by (Octets len) r = record r { wait = 1000; presence = Receiving }
 known_by Quiet r = r
 known_by Gone r = record r { presence = Away }
 
+-- the stream that was found gone
+abbrev pub gone_by : StreamHistory → Got → (before : Option StreamHistory) → Option StreamHistory
+gone_by stream Gone before = Some (noted stream WasGone)
+gone_by stream got before = before
+
 -- A look: at the stream, if there is one, which is none any more where it has gone; else it is
 -- tried to reach one.
 abbrev pub looked_by : Option StreamHistory → ℕ → Dialled StreamHistory → Got → (buf : List ℕ)
     → Redial
     → Got × Redial
 looked_by None now answer got buf r = (Quiet, tried_by r.is_trying now answer (clock_read_at now r))
-looked_by (Some stream) now answer got buf r =
-    (quieted got, known_by got (record r { stream = read_open stream got buf }))
+looked_by (Some stream) now answer got buf r = (
+  quieted got,
+  known_by got (record r {
+    stream = read_open stream got buf;
+    gone = gone_by stream got r.gone;
+  }),
+)
 
 pub record IsRedialled (old : Redial) (got : Got) (buf : List ℕ) (new : Redial) : Type 0 where
   pub now : ℕ

@@ -1,6 +1,6 @@
 -- What the answer of one call to a stream means (this gateway's own profile).
 use Rattle.std.specs.Prelude.{◌≡◌, ◌≢◌, ℕ, ◌+◌, ◌-◌, ◌≤◌, ◌==◌, ◌⊎◌, List, [], ◌∷◌, ◌++◌}
-use Rattle.std.specs.Prelude.{length, take, slice_index, ◌||◌}
+use Rattle.std.specs.Prelude.{length, take, drop, slice_index, ◌||◌}
 use Rattle.std.specs.Prelude.{All, not, Bool, true, false, Option, Some, None, Result, Ok, Err}
 use Rattle.std.specs.Prelude.{MatchResult, if◌then◌else◌}
 use Rattle.std.specs.declared.io.Error.{Error}
@@ -167,6 +167,24 @@ pub record WritesFront (old : Calls) (octets : List ℕ) (is_taken : Bool) (new 
   pub bound : count ≤ length octets
   pub taken : Took old (take count octets) new
   pub all : is_taken ≡ (count == length octets)
+
+-- How a write goes on behind what its first call took. It is over where that were all octets. Else
+-- what is left is handed over once more, where the stream can be set to wait, and behind that it is
+-- set not to wait again.
+pub data HandsOn (old : Calls) (octets : List ℕ) (new : Calls) : Type 0 where
+  AtOnce : WritesOnce old octets (length octets) new → HandsOn old octets new
+  Unwaited : (taken : ℕ) (mid : Calls) → WritesOnce old octets taken mid
+      → taken ≢ length octets → new ≡ called mid (Waits true false) → HandsOn old octets new
+  Again : (taken : ℕ) (mid last : Calls) (is_taken is_set : Bool)
+      → WritesOnce old octets taken mid → taken ≢ length octets
+      → WritesAll (called mid (Waits true true)) (drop taken octets) is_taken last
+      → new ≡ called last (Waits false is_set) → HandsOn old octets new
+
+-- A write of two calls at the most: what the stream took of it, and how it went on.
+pub record WritesInTwo (old : Calls) (octets : List ℕ) (is_taken : Bool) (new : Calls)
+    : Type 0 where
+  pub front : WritesFront old octets is_taken new
+  pub goes_on : HandsOn old octets new
 
 -- what a look was answered: the octets that came, and how many, or why none did
 pub record ReadAnswer : Type 0 where

@@ -1,15 +1,18 @@
 //! Who comes to a listener of the system.
 
+use crate::sockets::CentreSocket;
 use std::io;
 use std::io::Eprint;
 use std::net::{IpAddr, OpenListener, SocketAddr, TcpListener, TcpStream};
 
-/// A listener, as the system has it. One that notes its calls adds the answer of each, and each
-/// fault that is told.
+/// A listener, as the system has it. One that notes its calls adds the answer of each, each fault
+/// that is told, and whether the stream of each who was let in can be used.
 pub trait SystemListener {
     ghost use Rattle.std.specs.Prelude.{◌≡◌, [], ◌∷◌};
     ghost use Rattle.live.specs.Arrivals.{Arrivals, arrived};
+    ghost use Rattle.live.specs.OctetStreams.{Attempts, attempted};
     ghost use Rattle.live.specs.Telling.{ToldFaults, one_more_told};
+    ghost use Rattle.std.specs.Result.{is_ok};
 
     /// What the system answered so far, the newest first, where it notes that.
     ghost arrivals: { Self → Arrivals };
@@ -18,15 +21,26 @@ pub trait SystemListener {
     /// notes them.
     ghost told: { Self → ToldFaults };
 
+    /// Whether each stream that was opened can be used, the newest first, where it notes that.
+    ghost opened: { Self → Attempts };
+
     /// The next who waits.
     fn accept_next(&mut self) -> io::Result<(TcpStream, SocketAddr)>
         ensures asked { arrivals self.new ≡ arrived (result ∷ []) (arrivals self.old) }
+        ensures silent { told self.new ≡ told self.old }
+        ensures unopened { opened self.new ≡ opened self.old };
+
+    /// Opens a connection over the stream of somebody who came.
+    fn open(&mut self, stream: TcpStream) -> io::Result<CentreSocket>
+        ensures opens { opened self.new ≡ attempted (opened self.old) (is_ok result) }
+        ensures unasked { arrivals self.new ≡ arrivals self.old }
         ensures silent { told self.new ≡ told self.old };
 
     /// Tells on standard error that nobody can be accepted.
     fn tell<R: Eprint>(&mut self, rt: &R, fault: &io::Error)
         ensures told { told self.new ≡ one_more_told fault.now (told self.old) }
-        ensures unasked { arrivals self.new ≡ arrivals self.old };
+        ensures unasked { arrivals self.new ≡ arrivals self.old }
+        ensures unopened { opened self.new ≡ opened self.old };
 }
 
 impl SystemListener for TcpListener {
@@ -36,9 +50,15 @@ impl SystemListener for TcpListener {
 
     ghost told = { λ _. None };
 
+    ghost opened = { λ _. None };
+
     // What the system answers to it no clause of the kit's call says.
     fn accept_next(&mut self) -> io::Result<(TcpStream, SocketAddr)> {
         self.accept()
+    }
+
+    fn open(&mut self, stream: TcpStream) -> io::Result<CentreSocket> {
+        CentreSocket::new(stream)
     }
 
     // What stands on standard error no clause of the kit's call says either.

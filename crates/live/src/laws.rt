@@ -6,15 +6,16 @@ pub(crate) mod tries;
 ghost use Rattle.std.specs.Prelude.{◌⊎◌, ◌≡◌, ◌≢◌, All, IfSome, None, ◌+◌, ◌-◌, ◌<◌, ◌≤◌, ℕ, List};
 ghost use Rattle.std.specs.Prelude.{[], ◌∷◌, length, take, Some, true, false};
 ghost use Rattle.std.specs.Prelude.{◌*◌, ◌^◌, Ok, Err};
-ghost use Rattle.std.specs.Time.{instant_nanos};
+ghost use Rattle.std.specs.Time.{instant_nanos, system_time_nanos};
 ghost use Rattle.std.specs.declared.io.Error.{Error};
 ghost use Rattle.std.specs.declared.time.Instant.{Instant};
+ghost use Rattle.std.specs.declared.time.SystemTime.{SystemTime};
 ghost use Rattle.gateway.specs.declared.ports.Next.{Next};
 ghost use Rattle.live.specs.Ends.{LiveEnds, LogsTurn, LogsPut};
 ghost use Rattle.live.specs.Law.{AtMoment, AtBytes, AtClock, AtBegun, IsWaitedOut, AtRounds};
 ghost use Rattle.live.specs.Law.{first_of, IsTickDue, IfTick, AtWall, IsEve, IsOneOf};
-ghost use Rattle.live.specs.Law.{IsWrittenBehind, AsksNothing, is_cut};
-ghost use Rattle.live.specs.Clocks.{moment_by};
+ghost use Rattle.live.specs.Law.{IsWrittenBehind, AsksNothing, IsFoundGone, is_cut, notes_of};
+ghost use Rattle.live.specs.Clocks.{moment_by, wall_by};
 ghost use Rattle.live.specs.Cuts.{CutsFirst, shuts_nothing};
 ghost use Rattle.live.specs.Runs.{IsInRun, WallFirst};
 ghost use Rattle.live.specs.declared.ends.CutCause.TheVariants.{Gone, NotTaken};
@@ -170,13 +171,15 @@ pub fn a_run_begins_with_the_wall_clock()
     ensures { (ends : LiveEnds) → IsInRun ends → WallFirst ends.log }
 {}
 
-/// Why a connection was cut. A cut that wasn't due has a stream that was gone. A cut comes to be
-/// due by a write that failed, and then that is its reason. No other event and no other action
-/// changes the reason: so a cut that is due has the one for which it came to be due.
+/// Why a connection was cut. A cut that wasn't due is that of an open connection whose stream was
+/// found gone: none that is quiet is cut. A cut comes to be due by a write that failed, and then
+/// that is its reason. No other event and no other action changes the reason: so a cut that is due
+/// has the one for which it came to be due.
 pub fn a_cut_has_its_reason()
     ensures gone { (old new : LiveEnds) (event : Next) (buf : List ℕ) →
         LogsTurn old event buf new →
-        is_cut event ≡ true → old.is_cut_due ≡ false → new.why_cut ≡ Gone }
+        is_cut event ≡ true → old.is_cut_due ≡ false →
+        (new.why_cut ≡ Gone) × IsFoundGone (notes_of old.connection) new.gone }
     ensures due { (old new : LiveEnds) (event : Next) (buf : List ℕ) →
         LogsTurn old event buf new →
         is_cut event ≡ true → old.is_cut_due ≡ true → new.why_cut ≡ old.why_cut }
@@ -325,13 +328,17 @@ pub fn a_look_gives_what_its_calls_brought()
 {}
 
 /// The system's clock has gone on by so many ms where the system's own has, since the start. Where
-/// that can't be read, the moment before is given again.
+/// that can't be read, the moment before is given again. The wall clock shows as many ms as the
+/// system's own does since 1970, and 0 where that can't be read.
 pub fn a_clock_goes_on_with_the_systems()
     ensures goes_on { (first ms last : ℕ) (start now : Instant) →
         instant_nanos now ≡ instant_nanos start + ms * 1000000 → first + ms < 2 ^ 64 →
         moment_by first start last (Ok now) ≡ first + ms }
     ensures unread { (first last : ℕ) (start : Instant) (fault : Error) →
         moment_by first start last (Err fault) ≡ last }
+    ensures wall { (ms : ℕ) (shown : SystemTime) → system_time_nanos shown ≡ ms * 1000000 →
+        ms < 2 ^ 64 → wall_by (Ok shown) ≡ ms }
+    ensures no_wall { (fault : Error) → wall_by (Err fault) ≡ 0 }
 {}
 
 /// What the words of these laws count, by worked examples: the octets and requests of a log, those

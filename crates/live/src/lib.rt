@@ -88,9 +88,9 @@ pub use ends::{
     Accepted, CutCause, Got, Listener, OctetStream, Presence, Reached, RefusedPeers, RunClock,
 };
 pub use laws::arriving::{
-    allowed_addresses_by_example, only_allowed_addresses_connect, only_strangers_are_refused,
+    only_allowed_addresses_connect, only_strangers_are_refused,
     that_nobody_can_be_accepted_is_told_once, who_comes_is_refused_or_let_in,
-    who_was_refused_is_shown,
+    who_is_on_the_list_may_connect, who_was_refused_is_shown,
 };
 pub use laws::tries::{
     a_stream_that_is_away_is_tried_when_due, a_try_goes_on_until_it_ends,

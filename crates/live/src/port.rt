@@ -48,6 +48,8 @@ pub struct Live<S: OctetStream, L: Listener + Drop, C: RunClock + Drop> {
     connection: Option<Accepted<L::Stream>>,
     /// Octets of that connection that came and haven't been given.
     held: HeldOctets,
+    /// A connection that was found gone, until the ends are looked at again.
+    gone: Option<Accepted<L::Stream>>,
     /// The source that is looked at first.
     first: EventSource,
     /// A write to the connection failed, so that the next event is a cut.
@@ -80,6 +82,7 @@ impl<S: OctetStream, L: Listener + Drop, C: RunClock + Drop> Model for Live<S, L
         stream = L.Stream.history v.stream;
       }) a.connection;
       held = a.held;
+      gone = option_map (λ v. L.Stream.history v.stream) a.gone;
       listener = L.attempts a.listener;
       refusals = L.refusals a.listener;
       clock = C.moments a.clock;
@@ -137,6 +140,7 @@ impl<S: OctetStream, L: Listener + Drop, C: RunClock + Drop> Live<S, L, C> {
             clock,
             connection: None,
             held: HeldOctets::new(),
+            gone: None,
             first: EventSource::Listener,
             is_cut_due: false,
             goes_on: false,
@@ -318,7 +322,9 @@ impl<S: OctetStream, L: Listener + Drop, C: RunClock + Drop> Live<S, L, C> {
             Got::Octets(len) => Some(SourceEvent::Bytes(len)),
             Got::Quiet => None,
             Got::Gone => {
-                self.connection = None;
+                // Kept until the next looks, so that a clause can say what this one found
+                // (docs/DECISIONS.md, "A stream that was found gone").
+                self.gone = self.connection.take();
                 self.why_cut = CutCause::Gone;
                 Some(SourceEvent::Cut)
             }
@@ -410,6 +416,7 @@ impl<S: OctetStream, L: Listener + Drop, C: RunClock + Drop> Live<S, L, C> {
             return self.give_wall(first);
         }
         self.walled.look();
+        self.gone = None;
         let (now, found) = self.look_on(first, buf);
         self.give(now, found, buf)
     }

@@ -71,6 +71,8 @@ pub struct Redialled<D: Dialler + Drop, C: RunClock + Drop> {
     dialler: D,
     clock: C,
     stream: Option<D::Stream>,
+    /// A stream that was found gone, until the next look.
+    gone: Option<D::Stream>,
     /// When the last try began, in ms.
     tried: Option<u64>,
     /// That try goes on.
@@ -91,6 +93,7 @@ impl<D: Dialler + Drop, C: RunClock + Drop> Model for Redialled<D, C> {
       calls = D.calls a.dialler;
       clock = C.moments a.clock;
       stream = option_map (λ stream. D.Stream.history stream) a.stream;
+      gone = option_map (λ stream. D.Stream.history stream) a.gone;
       tried = a.tried;
       is_trying = a.is_trying;
       wait = a.wait;
@@ -106,6 +109,7 @@ impl<D: Dialler + Drop, C: RunClock + Drop> Redialled<D, C> {
           calls = D.calls dialler;
           clock = C.moments clock;
           stream = None;
+          gone = None;
           tried = None;
           is_trying = false;
           wait = 1000;
@@ -116,6 +120,7 @@ impl<D: Dialler + Drop, C: RunClock + Drop> Redialled<D, C> {
             dialler,
             clock,
             stream: None,
+            gone: None,
             tried: None,
             is_trying: false,
             wait: RETRY_MS,
@@ -184,9 +189,11 @@ impl<D: Dialler + Drop, C: RunClock + Drop> Redialled<D, C> {
         self.dialler.pause();
     }
 
+    /// Reads the clock, and lets a stream go that was found gone before.
     fn read_clock(&mut self) -> u64
         ensures { self.new ≡ clock_read_at result self.old }
     {
+        self.gone = None;
         self.clock.now_ms()
     }
 
@@ -251,7 +258,9 @@ impl<D: Dialler + Drop, C: RunClock + Drop> OctetStream for Redialled<D, C> {
             }
             Got::Quiet => Got::Quiet,
             Got::Gone => {
-                self.stream = None;
+                // Kept until the next look, as a port does (docs/DECISIONS.md, "A stream that was
+                // found gone").
+                self.gone = self.stream.take();
                 self.presence = Presence::Away;
                 Got::Quiet
             }

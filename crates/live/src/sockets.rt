@@ -9,10 +9,10 @@ ghost use Rattle.std.specs.Net.Addr.{IsCanonicalOf, MatchIp};
 ghost use Rattle.std.specs.Net.Socket.{socket_ip};
 ghost use Rattle.live.specs.AllowLists.{Allows, IsPlain, RefusesStrangers, nobody};
 ghost use Rattle.live.specs.Arrivals.{AcceptsNewest, TakesOne, TakesWaiting};
-ghost use Rattle.live.specs.Clocks.{BeginsAt, GoesOn};
+ghost use Rattle.live.specs.Clocks.{BeginsAt, GoesOn, ShowsWall};
 ghost use Rattle.live.specs.OctetStreams.{FitsBuffer, IsNew, attempted, noted, looked, Dropped};
 ghost use Rattle.live.specs.OctetStreams.{Wrote};
-ghost use Rattle.live.specs.Streams.{ReadsOnce, ReadsLine, DropsWaiting, WritesAll, WritesFront};
+ghost use Rattle.live.specs.Streams.{ReadsOnce, ReadsLine, DropsWaiting, WritesAll, WritesInTwo};
 ghost use Rattle.live.specs.Streams.{called, Waits};
 ghost use Rattle.live.specs.Telling.{Tells, told_unless};
 ghost use Rattle.live.specs.Reaching.{AtPath, Began, LookedUp, TriesOn, step_noted};
@@ -337,7 +337,7 @@ impl<S: SystemStream + Drop> Model for CentreSocket<S> {
 }
 
 impl CentreSocket<TcpStream> {
-    fn new(stream: TcpStream) -> io::Result<CentreSocket<TcpStream>> {
+    pub(crate) fn new(stream: TcpStream) -> io::Result<CentreSocket<TcpStream>> {
         stream.set_nodelay(true)?;
         stream.set_write_timeout(Some(Duration::from_millis(WRITE_MS)))?;
         // Of use only where a write had waited and the stream then refused to wait no more.
@@ -378,7 +378,7 @@ impl<S: SystemStream + Drop> OctetStream for CentreSocket<S> {
 
     fn write(&mut self, octets: &[u8]) -> bool
         ensures noted { None ≡ noted None (Wrote octets.now result) }
-        ensures writes { WritesFront self.old octets.now result self.new }
+        ensures writes { WritesInTwo self.old octets.now result self.new }
     {
         write_in_two(&mut self.stream, octets)
     }
@@ -500,6 +500,7 @@ impl<R: Eprint, T: SystemListener + Drop> CentreListener<'_, R, T> {
             (record { told = T.told self.old.listener; is_shut = self.old.is_shut }) }
         ensures arrivals { T.arrivals self.new.listener ≡ T.arrivals self.old.listener }
         ensures refused { self.new.refused ≡ self.old.refused }
+        ensures unopened { T.opened self.new.listener ≡ T.opened self.old.listener }
     {
         if !self.is_shut {
             self.listener.tell(self.rt, fault);
@@ -515,6 +516,7 @@ impl<R: Eprint, T: SystemListener + Drop> CentreListener<'_, R, T> {
             (record { told = T.told self.new.listener; is_shut = self.new.is_shut }) }
         ensures takes { TakesOne allow_list.now (T.arrivals self.old.listener)
             self.old.refused result (T.arrivals self.new.listener) self.new.refused }
+        ensures unopened { T.opened self.new.listener ≡ T.opened self.old.listener }
     {
         match self.listener.accept_next() {
             Ok((stream, address)) => {
@@ -550,6 +552,7 @@ impl<R: Eprint, T: SystemListener + Drop> CentreListener<'_, R, T> {
             (record { told = T.told self.new.listener; is_shut = self.new.is_shut }) }
         ensures takes { TakesWaiting allow_list.now (T.arrivals self.old.listener) self.old.refused
             result (T.arrivals self.new.listener) self.new.refused }
+        ensures unopened { T.opened self.new.listener ≡ T.opened self.old.listener }
     {
         let mut newest = None;
         for _ in 0..MOST_ACCEPTED {
@@ -582,15 +585,16 @@ impl<R: Net<Listener = TcpListener, Stream = TcpStream> + Eprint, T: SystemListe
             (record { peers = None; said = self.new.refused }) }
         ensures plain { IfSome result (λ accepted. IsPlain accepted.address) }
         ensures takes { AcceptsNewest allow_list.now (T.arrivals self.old.listener)
-            self.old.refused (option_map (λ accepted. accepted.address) result)
-            (T.arrivals self.new.listener) self.new.refused }
+            self.old.refused (T.opened self.old.listener)
+            (option_map (λ accepted. accepted.address) result)
+            (T.arrivals self.new.listener) self.new.refused (T.opened self.new.listener) }
         ensures tells { Tells (T.arrivals self.old.listener)
             (record { told = T.told self.old.listener; is_shut = self.old.is_shut })
             (T.arrivals self.new.listener)
             (record { told = T.told self.new.listener; is_shut = self.new.is_shut }) }
     {
         let (address, stream) = self.take_waiting(allow_list)?;
-        let stream = CentreSocket::new(stream).ok()?;
+        let stream = self.listener.open(stream).ok()?;
         Some(Accepted { address, stream })
     }
 
@@ -602,7 +606,7 @@ impl<R: Net<Listener = TcpListener, Stream = TcpStream> + Eprint, T: SystemListe
 }
 
 /// The system's clock that never goes back, from a first moment at its start. Where it can't be
-/// read the last moment is given again.
+/// read the last moment is given again. Beside it the system's wall clock.
 #[derive(Drop)]
 pub struct SystemClock<'a, R, I: SystemInstants + Drop = HostInstants> {
     rt: &'a R,
@@ -656,6 +660,7 @@ impl<R: std::rt::Clock, I: SystemInstants + Drop> RunClock for SystemClock<'_, R
         ensures start { self.new.start ≡ self.old.start }
         ensures goes_on { GoesOn self.old.first self.old.start (I.instants self.old.instants)
             self.old.now (I.instants self.new.instants) result }
+        ensures wall { I.wall_times self.new.instants ≡ I.wall_times self.old.instants }
     {
         if let Ok(now) = self.instants.now(self.rt) {
             let passed = now.duration_since(self.start);
@@ -666,8 +671,16 @@ impl<R: std::rt::Clock, I: SystemInstants + Drop> RunClock for SystemClock<'_, R
     }
 
     /// Where it can't be read, or shows a time before 1970, this is 0, which is near no time tag.
-    fn wall_ms(&mut self) -> u64 {
-        let Ok(shown) = SystemTime::now(self.rt) else {
+    fn wall_ms(&mut self) -> u64
+        ensures shown { ShowsWall (I.wall_times self.old.instants) (I.wall_times self.new.instants)
+            result }
+        ensures instants { I.instants self.new.instants ≡ I.instants self.old.instants }
+        // The clock that never goes back goes on as it did.
+        ensures first { self.new.first ≡ self.old.first }
+        ensures start { self.new.start ≡ self.old.start }
+        ensures last { self.new.now ≡ self.old.now }
+    {
+        let Ok(shown) = self.instants.wall_time(self.rt) else {
             return 0;
         };
         let Ok(passed) = shown.duration_since(SystemTime::UNIX_EPOCH) else {

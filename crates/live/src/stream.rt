@@ -1,7 +1,7 @@
 //! One call to a stream of the system, and what its answer means.
 ghost use Rattle.std.specs.Prelude.{◌≡◌, ◌≤◌, length, take};
 ghost use Rattle.live.specs.OctetStreams.{FitsBuffer};
-ghost use Rattle.live.specs.Streams.{ReadsOnce, WritesOnce, WritesAll, WritesFront};
+ghost use Rattle.live.specs.Streams.{ReadsOnce, WritesOnce, WritesAll, WritesInTwo};
 ghost use Rattle.live.specs.Streams.{DropsOnce, DropsWaiting, Drains, ReadsFrame, ReadsLine};
 ghost use Rattle.live.specs.Streams.{ReceivesOnce, ends_frame};
 
@@ -216,9 +216,9 @@ pub(crate) fn write_some<S: SystemStream>(stream: &mut S, octets: &[u8]) -> usiz
 
 /// Writes what the stream takes without a wait, and then, within its timeout, what is left. Answers
 /// whether all octets were taken.
-#[tactic(auto, using(crate::proofs::Writes::written_whole, crate::proofs::Writes::written_part, crate::proofs::Writes::written_refused))]
+#[tactic(auto, using(crate::proofs::Writes::written_whole))]
 pub(crate) fn write_in_two<S: SystemStream>(stream: &mut S, octets: &[u8]) -> bool
-    ensures { WritesFront (S.calls stream.old) octets.now result (S.calls stream.new) }
+    ensures { WritesInTwo (S.calls stream.old) octets.now result (S.calls stream.new) }
 {
     // Nearly every APDU goes out so, without two calls more.
     let taken = write_some(stream, octets);

@@ -1,12 +1,13 @@
 //! Laws of the calls to a stream of the system.
 ghost use Rattle.std.specs.Prelude.{◌≡◌, ◌≢◌, ◌⊎◌, ◌↔◌, ℕ, ◌+◌, ◌≤◌, List, [], ◌∷◌, ◌++◌, length};
-ghost use Rattle.std.specs.Prelude.{Bool, true, false, Some, Ok, Err};
+ghost use Rattle.std.specs.Prelude.{Bool, true, false, Some, Ok, Err, Result};
 ghost use Rattle.std.specs.declared.io.Error.{Error};
 ghost use Rattle.std.specs.declared.io.ErrorKind.TheVariants.{WouldBlock, TimedOut, Interrupted};
 ghost use Rattle.std.specs.IoError.{error_kind};
-ghost use Rattle.live.specs.CallSums.{BroughtNone, IsReadEmpty, brought_in, received_in};
+ghost use Rattle.live.specs.CallSums.{BroughtNone, IsHandedOn, IsReadEmpty, brought_in};
+ghost use Rattle.live.specs.CallSums.{received_in};
 ghost use Rattle.live.specs.Streams.{Calls, DropsWaiting, MeansGot, ReadsFrame, SystemCall};
-ghost use Rattle.live.specs.Streams.{Waits, WritesAll, WritesFront, ends_frame, took};
+ghost use Rattle.live.specs.Streams.{Waits, WritesAll, WritesInTwo, ends_frame, took};
 ghost use Rattle.live.specs.declared.ends.Got.{Got};
 ghost use Rattle.live.specs.declared.ends.Got.TheVariants.{Octets, Quiet, Gone};
 
@@ -24,14 +25,18 @@ pub fn answers_of_streams_mean_what_they_say()
 {}
 
 /// A write counts as taken exactly where the stream took all its octets, once and in their order:
-/// in one call, and in two. A part of a write isn't the whole.
+/// in one call, and in two. A part of a write isn't the whole. Each write in two is tried: the
+/// stream is handed all octets, and then, where it lets calls wait, what the first call left.
 pub fn a_write_is_taken_where_all_its_octets_are()
     ensures once { (old new : List SystemCall) (octets : List ℕ) (is_taken : Bool) →
         WritesAll (Some old) octets is_taken (Some new) → 1 ≤ length octets →
         (is_taken ≡ true) ↔ (took new ≡ took old ++ octets) }
     ensures front { (old new : List SystemCall) (octets : List ℕ) (is_taken : Bool) →
-        WritesFront (Some old) octets is_taken (Some new) →
+        WritesInTwo (Some old) octets is_taken (Some new) →
         (is_taken ≡ true) ↔ (took new ≡ took old ++ octets) }
+    ensures tried { (old new : List SystemCall) (octets : List ℕ) (is_taken : Bool) →
+        WritesInTwo (Some old) octets is_taken (Some new) →
+        (first : Result ℕ Error) × IsHandedOn octets first old new }
 {}
 
 /// A look at the line goes on until its octets end as a line frame does, a call brings none, or it

@@ -1,6 +1,6 @@
 //! Laws of those who come to the listener.
 ghost use Rattle.std.specs.Prelude.{◌⊎◌, ◌≡◌, None, ◌-◌, ℕ, List, [], ◌∷◌, length, min, Option};
-ghost use Rattle.std.specs.Prelude.{Some, Ok, Err, true, false, ◌↔◌, ◌^◌, ◌++◌, Vec, All};
+ghost use Rattle.std.specs.Prelude.{Some, Ok, Err, true, false, ◌↔◌, ◌^◌, ◌++◌, Vec, All, Bool};
 ghost use Rattle.std.specs.declared.net.ip_addr.IpAddr.{IpAddr};
 ghost use Rattle.std.specs.declared.alloc.Global.{Global};
 ghost use Rattle.gateway.specs.declared.ports.Next.{Next};
@@ -8,7 +8,9 @@ ghost use Rattle.live.specs.Ends.{LiveEnds, LogsTurn, LogsPut};
 ghost use Rattle.live.specs.Law.{KeepsOut, peer_of};
 ghost use Rattle.live.specs.Cuts.{shuts_nothing};
 ghost use Rattle.live.specs.AllowLists.{Allows, IsPlain, RefusesStrangers};
-ghost use Rattle.live.specs.Arrivals.{Arrival, Comer, GoesOn, IsPeerOf, Sorts};
+ghost use Rattle.live.specs.Arrivals.{AcceptsNewest, Arrival, Arrivals, Comer, GoesOn, IsPeerOf};
+ghost use Rattle.live.specs.Arrivals.{Sorts, TakesWaiting};
+ghost use Rattle.live.specs.declared.ends.RefusedPeers.{RefusedPeers};
 ghost use Rattle.live.specs.Telling.{IsNoComer, ShutsOut, Telling, one_more_told, told_by};
 ghost use Rattle.std.specs.IoError.{error_kind};
 ghost use Rattle.std.specs.declared.io.ErrorKind.TheVariants.{WouldBlock};
@@ -62,7 +64,8 @@ pub fn who_was_refused_is_shown()
 {}
 
 /// Whoever comes and may not connect is refused, and whoever may is let in, by the answers of the
-/// system alone; of those who may the newest stays. An IPv4 address that is written as an IPv6 one
+/// system alone; of those who may the newest stays. He is accepted, unless his stream can't be used,
+/// and where nobody's is opened there is no such one. An IPv4 address that is written as an IPv6 one
 /// counts as that IPv4 address.
 pub fn who_comes_is_refused_or_let_in()
     ensures nobody { (allow_list : AllowList) (refused : List IpAddr) (newest : Option Comer) →
@@ -83,16 +86,25 @@ pub fn who_comes_is_refused_or_let_in()
         (newest : Option Comer) (fault : Error) →
         Sorts allow_list (Err fault ∷ answers) refused newest →
         Sorts allow_list answers refused newest }
+    ensures accepted { (allow_list : AllowList) (old new : Arrivals) (said says : RefusedPeers)
+        (opened : List Bool) (accepted : Option IpAddr) →
+        AcceptsNewest allow_list old said (Some opened) accepted new says (Some (true ∷ opened)) →
+        (newest : Comer) × TakesWaiting allow_list old said (Some newest) new says
+        × (accepted ≡ Some newest.0) }
+    ensures unopened { (allow_list : AllowList) (old new : Arrivals) (said says : RefusedPeers)
+        (opened : List Bool) (accepted : Option IpAddr) →
+        AcceptsNewest allow_list old said (Some opened) accepted new says (Some opened) →
+        (accepted ≡ None) × TakesWaiting allow_list old said None new says }
     ensures plain { (socket : SocketAddr) (peer : IpAddr) → IsPeerOf socket peer → IsPlain peer }
 {}
 
-/// Who may connect, by examples: anyone where that is said, else who has one of the addresses that
-/// stand on the list, and nobody where none stands there.
-pub fn allowed_addresses_by_example()
+/// Who may connect: anyone where that is said. Else who has an address of the list, whichever of
+/// them, and nobody where none stands there.
+pub fn who_is_on_the_list_may_connect()
     ensures anyone { (address : IpAddr) → Allows Anyone address }
-    ensures two { (list : Vec IpAddr Global) (first second address : IpAddr) →
-        list.items ≡ first ∷ second ∷ [] →
-        Allows (Only list) address ↔ (address ≡ first) ⊎ (address ≡ second) }
+    ensures listed { (list others : Vec IpAddr Global) (first address : IpAddr) →
+        list.items ≡ first ∷ others.items →
+        Allows (Only list) address ↔ (address ≡ first) ⊎ Allows (Only others) address }
     ensures nobody { (list : Vec IpAddr Global) (address : IpAddr) → list.items ≡ [] →
         Allows (Only list) address → ⊥ }
 {}

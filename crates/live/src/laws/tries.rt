@@ -1,7 +1,7 @@
 //! Laws of a stream that is reached again where it has gone.
 ghost use Rattle.std.specs.Prelude.{◌≡◌, ◌≢◌, IfSome, None, ◌+◌, ◌-◌, ◌<◌, ◌≤◌, ℕ, List, ◌∷◌, Some};
 ghost use Rattle.std.specs.Prelude.{Bool, true, false, is_some};
-ghost use Rattle.live.specs.Law.{AtClock};
+ghost use Rattle.live.specs.Law.{AtClock, IsFoundGone};
 ghost use Rattle.live.specs.Redial.{Redial, clock_read_at, IsPut, HasDropped, BeginsTry, Asked};
 ghost use Rattle.live.specs.Redial.{DialCall, IsRedialled};
 ghost use Rattle.live.specs.declared.ends.Got.{Got};
@@ -82,7 +82,8 @@ pub fn tries_lie_farther_apart_while_nothing_comes()
 {}
 
 /// What is known of a stream that is reached again. It is there once it was reached, and receiving
-/// once octets came. It is away where it has gone, and where a try ended without it.
+/// once octets came. It is away where a look found it gone, and where a try ended without it. None
+/// is left but one that was found gone.
 pub fn what_is_known_of_a_stream_is_what_was_seen()
     ensures reached { (old new : Redial) (got : Got) (buf : List ℕ) → IsRedialled old got buf new →
         old.stream ≡ None → IfSome new.stream (λ _. new.presence ≡ There) }
@@ -93,7 +94,7 @@ pub fn what_is_known_of_a_stream_is_what_was_seen()
         IsRedialled old (Octets len) buf new → new.presence ≡ Receiving }
     ensures gone { (old new : Redial) (got : Got) (buf : List ℕ) (history : StreamHistory) →
         IsRedialled old got buf new → old.stream ≡ Some history → new.stream ≡ None →
-        new.presence ≡ Away }
+        (new.presence ≡ Away) × IsFoundGone (Some (is_some history)) new.gone }
     ensures quiet { (old new : Redial) (buf : List ℕ) (history : StreamHistory) →
         IsRedialled old Quiet buf new → old.stream ≡ Some history → new.stream ≢ None →
         new.presence ≡ old.presence }

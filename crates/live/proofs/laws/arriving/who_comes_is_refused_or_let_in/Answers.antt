@@ -1,4 +1,5 @@
-use Rattle.live.proofs.Sorted.{fault_came, guest_came, nobody_came, peer_plain, stranger_came}
+use Rattle.live.proofs.Sorted.{fault_came, guest_came, nobody_came, nobody_opened, peer_plain}
+use Rattle.live.proofs.Sorted.{stranger_came, usable_accepted}
 use Rattle.live.proofs.laws.arriving.who_comes_is_refused_or_let_in.Goals as goal
 
 pub returns-clause-nobody : goal.returns-clause-nobody
@@ -15,3 +16,9 @@ returns-clause-others c = fault_came
 
 pub returns-clause-plain : goal.returns-clause-plain
 returns-clause-plain c = peer_plain
+
+pub returns-clause-accepted : goal.returns-clause-accepted
+returns-clause-accepted c = usable_accepted
+
+pub returns-clause-unopened : goal.returns-clause-unopened
+returns-clause-unopened c = nobody_opened

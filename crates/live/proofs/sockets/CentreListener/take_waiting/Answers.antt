@@ -1,4 +1,4 @@
-use Rattle.std.proofs.Common.{◌+◌, Option, sym, subst, rules}
+use Rattle.std.proofs.Common.{◌+◌, Option, refl, sym, subst, rules, ◌∙◌}
 use Rattle.live.specs.Arrivals.{Comer}
 use Rattle.live.proofs.Sorted.{TakesSo, begun, enough, let_in, other, over}
 use Rattle.live.proofs.Told.{tells_more, tells_nothing}
@@ -6,7 +6,7 @@ use Rattle.live.proofs.sockets.CentreListener.take_waiting.Goals.{in-Allowed, in
 use Rattle.live.proofs.sockets.CentreListener.take_waiting.Goals as goal
 
 pub loop-init : goal.loop-init
-loop-init g c = (begun _ _ _, tells_nothing _ _)
+loop-init g c = (begun _ _ _, tells_nothing _ _, refl)
 
 pub returns-in-Nobody-clause-tells : goal.returns-in-Nobody-clause-tells
 returns-in-Nobody-clause-tells g c =
@@ -29,6 +29,7 @@ loop-preserved g c =
             (other _ _ _ _ _ _ _ _ _ c.loop.invariant.0 w.in-Other.ensures.takes)
       ],
       tells_more _ _ _ _ _ _ c.loop.invariant.1 c.take_one.ensures.tells,
+      c.take_one.ensures.unopened ∙ c.loop.invariant.2,
     )
 
 pub returns-clause-takes : goal.returns-clause-takes
@@ -36,3 +37,9 @@ returns-clause-takes g c = enough _ _ _ _ _ _ _ (search rules) c.loop.invariant.
 
 pub returns-clause-tells : goal.returns-clause-tells
 returns-clause-tells g c = c.loop.invariant.1
+
+pub returns-clause-unopened : goal.returns-clause-unopened
+returns-clause-unopened g c = c.loop.invariant.2
+
+pub returns-in-Nobody-clause-unopened : goal.returns-in-Nobody-clause-unopened
+returns-in-Nobody-clause-unopened g c = c.take_one.ensures.unopened ∙ c.loop.invariant.2

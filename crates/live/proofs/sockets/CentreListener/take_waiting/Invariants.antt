@@ -1,3 +1,4 @@
+use Rattle.std.proofs.Common.{◌≡◌}
 use Rattle.live.specs.Telling.{Tells}
 use Rattle.live.proofs.Sorted.{TakesSo}
 use Rattle.live.proofs.sockets.CentreListener.take_waiting.Given as goal
@@ -10,3 +11,4 @@ invariant-loop g l =
     (record { told = g.T.SystemListener.told l.fn.self.listener; is_shut = l.fn.self.is_shut })
     (g.T.SystemListener.arrivals l.self.listener)
     (record { told = g.T.SystemListener.told l.self.listener; is_shut = l.self.is_shut })
+    × (g.T.SystemListener.opened l.self.listener ≡ g.T.SystemListener.opened l.fn.self.listener)
