@@ -64,9 +64,9 @@ pub fn who_was_refused_is_shown()
 {}
 
 /// Whoever comes and may not connect is refused, and whoever may is let in, by the answers of the
-/// system alone; of those who may the newest stays. He is accepted, unless his stream can't be used,
-/// and where nobody's is opened there is no such one. An IPv4 address that is written as an IPv6 one
-/// counts as that IPv4 address.
+/// system alone. Of those who may the newest stays. He is accepted, unless his stream can't be
+/// used. Where nobody's is opened there is no such one. An IPv4 address that is written as an IPv6
+/// one counts as that IPv4 address.
 pub fn who_comes_is_refused_or_let_in()
     ensures nobody { (allow_list : AllowList) (refused : List IpAddr) (newest : Option Comer) →
         Sorts allow_list [] refused newest → (refused ≡ []) × (newest ≡ None) }
