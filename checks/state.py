@@ -17,6 +17,8 @@ centre goes and comes.
   command was operated twice, or confirmed by nobody.
 - Then come a second process on the directory, a state that can't be read, a line of it that can't,
   a disk that is full (a limit of file size), and settings that change between two runs, row by row.
+- States as another version may leave them are made of a good one: each goes on, or is put aside, as
+  docs/RUNNING.md says.
 - `telegate state` shows each of these, beside a run and without one, and changes nothing.
 
 All of it is on the loopback. No case depends on how fast the machine is: an outstation that is late
@@ -32,6 +34,7 @@ import subprocess
 import sys
 import tempfile
 import time
+import zlib
 
 import ends
 import frame
@@ -500,6 +503,91 @@ def a_rotten_line(count, program):
         gateway.field.server.close()
 
 
+def newest_of(folder):
+    """The file of the newest log."""
+    return max((os.path.join(folder, name) for name in ("segments", "segments-wal")), key=head_of)
+
+
+def rename_form(path):
+    """Its first line names another form."""
+    with open(path, "r+b") as file:
+        file.seek(len("telegate state 1 rules "))
+        file.write(b"2")
+
+
+def write_checkpoint(path, change):
+    """Changes the lines of the checkpoint, and makes the first line fit."""
+    with open(path, "rb") as file:
+        octets = file.read()
+    number, end = head_of(path)
+    lines = change(octets[87:end].split(b"\n"))
+    text = b"\n".join(lines)
+    head = f"telegate state 1 rules 1 segment {number:016x} octets {len(text):016x} sum {zlib.crc32(text):08x}\n"
+    with open(path, "wb") as file:
+        file.write(head.encode() + text + octets[end:])
+
+
+def with_unknown_key(lines):
+    """The settings at the head have a key that this version doesn't know."""
+    settings = bytes.fromhex(lines[0][1:].decode()).replace(b"[tcp]\n", b"[tcp]\nunheard = 1\n")
+    return [b"x" + settings.hex().encode(), *lines[1:]]
+
+
+def with_offered_commands(lines):
+    """Each station has a command in its third line, as in versions that handed one to the line."""
+    command = b"1 45 1 6 1 10 0 1"
+    places = [at for at, line in enumerate(lines[:-2]) if len(line.split()) == 5 and lines[at + 2] == b"0"]
+    return [command if at - 2 in places else line for at, line in enumerate(lines)]
+
+
+def of_another_version(count, program, name, make, told, wanted):
+    """A state is changed to what another version may leave. The start says this, and these reports come."""
+    with tempfile.TemporaryDirectory() as folder:
+        gateway = quiet(program, folder)
+        gateway.start()
+        gateway.waits("listening")
+        queue_up(gateway, 2)
+        drained(gateway)
+        gateway.kill()
+        gateway.start()
+        gateway.waits("goes on")
+        queue_up(gateway, 2)
+        gateway.kill()
+        resets = resets_of(gateway)
+        make(gateway.state)
+        gateway.start()
+        is_told = gateway.waits(told)
+        queue_up(gateway, 2)
+        got = drained(gateway, numbered(gateway, *wanted))
+        said = gateway.kill()
+        count.judge(f"{name}: what it says", is_told, said)
+        count.judge(f"{name}: which reports come", all(numbers == wanted for numbers in got.values()), got)
+        anew = {a: n - resets[a] for a, n in resets_of(gateway).items()}
+        count.judge(f"{name}: links", set(anew.values()) == {int("goes on" not in told)}, anew)
+        is_stale = "stale" in told
+        count.judge(f"{name}: gaps", all((f"station {a} gap" in said) == is_stale for a in resets), said)
+        count.judge(f"{name}: no command is sent", not any(s.accepted for s in gateway.field.stations.values()), said)
+        gateway.field.server.close()
+
+
+def form_of_newer(folder):
+    rename_form(newest_of(folder))
+
+
+def form_of_both(folder):
+    for name in ("segments", "segments-wal"):
+        rename_form(os.path.join(folder, name))
+
+
+# By name: what is changed, what the start says, and the numbers of the reports that come then.
+VERSIONS = {
+    "newer file": (form_of_newer, "state is stale: each link is reset", [5, 6]),
+    "both files": (form_of_both, "state can't be read: put aside", [5, 6]),
+    "unknown key": (lambda folder: write_checkpoint(newest_of(folder), with_unknown_key), "state can't be read: put aside", [5, 6]),
+    "offered command": (lambda folder: write_checkpoint(newest_of(folder), with_offered_commands), "state: goes on, ", [3, 4, 5, 6]),
+}
+
+
 def limit_files(size):
     """In a child: no file may grow beyond this, and who tries gets an error."""
 
@@ -847,6 +935,7 @@ PARTS = [
     alone("second", a_second_process),
     alone("unread", a_state_that_is_no_state),
     alone("rotten line", a_rotten_line),
+    *(alone(f"version {name}", of_another_version, name, *row) for name, row in VERSIONS.items()),
     alone("look", a_look),
     alone("full disk", a_full_disk),
     alone("command", a_command_at_a_restart),
