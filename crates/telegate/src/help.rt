@@ -4,7 +4,7 @@
 pub(crate) const VERSION: &str = "1.0.0 (rattle, logic dac8208d650f15bf)";
 
 pub(crate) const PROGRAM: &str = "\
-`telegate COMMAND --help` logs what the files of a command hold.
+`telegate COMMAND --help` says what the files of a command hold.
 Exit status: 0 done, 1 a bad frame or a file with wrong content, 2 usage, 3 a file or a device
 failed, 4 no memory. A fault is one line on standard error.";
 
@@ -39,7 +39,7 @@ SCRIPT has lines of these forms, others empty or a comment `#`; a number has 1 t
   turns N               how many events the run has (required, once)
   ack N                 the control centre acknowledges each N I frames (1 to 32767, default 1)
   report S CLASS HEX    station S, from 1, has this ASDU of class 1 or 2
-  lose request N        the Nth request on the line isn't arrived
+  lose request N        the Nth request on the line doesn't arrive
   lose answer N         the answer to it is lost
   spoil answer N P      the octet at place P of that answer is changed
   cut N                 at event N the connection is cut
@@ -90,7 +90,7 @@ answers as a live run does, or the output failed, 4 no memory";
 pub(crate) const STATE: &str = "\
 Printed: how a run that begins there would go on, in the words that it would log, the segment that
 counts, how many events stand behind its head, the wall clock, how the link to each station stands,
-and the settings under which that was kept. With CONFIG it is logged too whether they are others.
+and the settings under which that was kept. With CONFIG it says too whether they are others.
 Nothing in DIR is changed, and a run may have it.
 Exit status: 0 done, 1 what is there can't be read, so that a run would put it aside and begin anew,
 2 usage, 3 a file or the output failed, 4 no memory";
@@ -114,18 +114,18 @@ Exit status: 0 done, 1 wrong settings or record, 2 usage, 3 a file or the output
 pub(crate) const STATIONS: &str = "\
 SCRIPT has the lines of a script of `sim`. Those of the outstations count:
   report S CLASS HEX    station S, from 1, has this ASDU of class 1 or 2
-  lose request N        the Nth request since the start isn't arrived
+  lose request N        the Nth request since the start doesn't arrive
   lose answer N         the answer to it is lost
   spoil answer N P      the octet at place P of that answer is changed
 Other lines are known here alone, with MS from 10 ms to a day:
   at MS report S CLASS HEX     once MS ms have passed since a gateway came first
   every MS report S CLASS HEX  and again each MS ms
-  confirm S             station S confirms commands, and logs when they are done
+  confirm S             station S confirms commands, and says when they are done
   refuse S              station S refuses them
   delay answer N MS     the answer to the Nth request goes out MS ms late
 `turns` is required once, and means nothing here, as `ack`, `cut`, `wall` and `send` do. The command
 listens at `live.line` of CONFIG (tcp:HOST:PORT or unix:PATH), where `run` finds the outstations,
-and goes on until it is ended. It confirms commands on the link, and does nothing with them. Nothing
-is printed.
+and goes on until it is ended. A station that neither confirms nor refuses commands takes them on
+the link alone. Nothing is printed.
 Exit status: 1 wrong settings or script, 2 usage, 3 a file can't be read, or listening failed, \
 4 no memory";
