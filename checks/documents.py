@@ -35,8 +35,8 @@ SENTENCE = 30
 PLAIN = ["README.md", "CONTRIBUTING.md", "SECURITY.md", "packaging/README.md", "docs/README.md"]
 PLAIN += [f"docs/{name}.md" for name in ("COMMISSIONING", "RUNNING", "TROUBLE", "GLOSSARY")]
 PLAIN += [f"docs/{name}.md" for name in ("SETTINGS", "SITE", "STATUS", "TEXTS", "STATIONS")]
-PLAIN += [f"docs/{name}.md" for name in ("PROFILE", "INTEROPERABILITY", "LIBRARY")]
-PLAIN += [f"docs/{name}.md" for name in ("PROOFS", "MISREADINGS", "PERFORMANCE")]
+PLAIN += [f"docs/{name}.md" for name in ("PROFILE", "INTEROPERABILITY", "LIBRARY", "PERFORMANCE")]
+PLAIN += [f"docs/{name}.md" for name in ("PROOFS", "MISREADINGS", "MISREADINGS_PROGRAM")]
 PLAIN += [f"docs/{name}.md" for name in ("ARCHITECTURE", "CHANGING", "DECISIONS", "TESTS", "GATE")]
 # What a sentence names as a file: a path with one of these endings, or in one of these folders.
 NAMED = re.compile(r"`?(?<![\w/])((?:bench|checks|crates|docs|examples|packaging|tools|specs|src|\.ci)/[\w./*-]*\w|[\w-]+\.(?:md|txt|py))`?")
