@@ -1,6 +1,8 @@
 -- The faults with which a live run doesn't begin.
 use Rattle.std.proofs.Common.{◌≡◌, Bool, true, false, refl, sym, subst}
+use Rattle.std.proofs.Common.{Result, Ok, Err}
 use Rattle.runlog.specs.Logging.{Book}
+use Rattle.telegate.specs.Asked.{Asked, UnclockedIfErr}
 use Rattle.telegate.specs.Kept.{IsEndFault, IsKeptFault}
 use Rattle.telegate.specs.Logged.{IsUnkept, fault_of}
 use Rattle.telegate.specs.declared.fault.Fault.{Fault}
@@ -30,3 +32,9 @@ by_memory false = tt
 pub refused_is_end : (fault : Fault) (is_memory : Bool) → fault ≡ fault_of is_memory
     → IsEndFault fault
 refused_is_end fault is_memory is = subst IsEndFault (sym is) (by_memory is_memory)
+
+-- no clock was given, whatever the error
+pub still_unclocked : {A E : Type 0} (result : Result A E) (old new : Asked)
+    → new.clocks ≡ old.clocks → UnclockedIfErr result old new
+still_unclocked (Ok value) old new is = tt
+still_unclocked (Err fault) old new is = is

@@ -1,42 +1,56 @@
 -- What came of a live run as it was wished.
-use Rattle.std.proofs.Common.{◌≡◌, [], false, Option, Some, None, Result, sym, subst, ap, is_some}
+use Rattle.std.proofs.Common.{◌≡◌, ℕ, Bool, List, [], ◌∷◌, ◌++◌, false, true, Option, Some, None}
+use Rattle.std.proofs.Common.{Result, refl, sym, subst, ap, ◌∙◌, is_some}
 use Rattle.std.specs.Borrow.{Bor}
 use Rattle.std.specs.Prelude.{MatchOption}
 use Rattle.clap.specs.Words.{Text}
 use Rattle.gateway.specs.Config.{Settings}
 use Rattle.live.specs.Ends.{Fixture}
+use Rattle.settings.specs.Live.{Places}
 use Rattle.state.specs.declared.beginning.Origin.{Origin}
 use Rattle.telegate.specs.AsWished.{IsAsWished}
-use Rattle.telegate.specs.Kept.{HasLivedFrom}
+use Rattle.telegate.specs.Asked.{Asked, StateIn, asked_for, call_if, ends_asked, run_asked}
+use Rattle.telegate.specs.Asked.{LineAt, ListenAt, LogAt, RecordAt, SiteCall, StatusAt}
+use Rattle.telegate.specs.Asked.{scribes_asked}
+use Rattle.telegate.specs.Kept.{HasLivedFrom, first_moment}
 use Rattle.telegate.specs.Living.{HasLived}
 use Rattle.telegate.specs.Ran.{HasLivedAnew, HasLivedAs, HasLivedKept, RunLeft}
 use Rattle.telegate.specs.declared.host.Wishes.{Wishes}
 
 pub lived_anew : {E : Type 0} (begins : Origin → Type 0) (settings : Settings) (wishes : Wishes)
-    (left : RunLeft) (ended : Result (Unit {0}) E) → wishes.state ≡ None → left.before ≡ []
+    (old new : Asked) (left : RunLeft) (ended : Result (Unit {0}) E) → wishes.state ≡ None
+    → new ≡ ends_asked wishes.redial 0 (scribes_asked wishes.status old) → left.before ≡ []
     → HasLived settings wishes.allow_list false [] left.port left.pen ended
     → IsAsWished wishes left.book left.pen left.is_shown
-    → HasLivedAs begins settings wishes left ended
-lived_anew begins settings wishes left ended none anew lived wished =
+    → HasLivedAs begins settings wishes old new left ended
+lived_anew begins settings wishes old new left ended none asked anew lived wished =
     let P : Option (Bor Text) → Type 0 = λ state.
-    MatchOption state (HasLivedAnew settings wishes left ended)
-    (λ _. HasLivedKept begins settings wishes left ended) in
+    MatchOption state (HasLivedAnew settings wishes old new left ended)
+    (λ _. HasLivedKept begins settings wishes old new left ended) in
+    let A : Option (Bor Text) → Type 0 = λ state.
+    new ≡ ends_asked wishes.redial 0 (asked_for (call_if StateIn state)
+    (scribes_asked wishes.status old)) in
     subst P (sym none)
-    (record { anew = anew; lived = lived; wished = wished })
+    (record { asked = subst A (sym none) asked; anew = anew; lived = lived; wished = wished })
 
 pub lived_kept : {E : Type 0} (begins : Origin → Type 0) (settings : Settings) (wishes : Wishes)
-    (directory : Bor Text) (left : RunLeft) (ended : Result (Unit {0}) E)
+    (old new : Asked) (directory : Bor Text) (left : RunLeft) (ended : Result (Unit {0}) E)
     → wishes.state ≡ Some directory
-    → HasLivedFrom begins settings wishes.allow_list left.before left.port left.pen ended
+    → HasLivedFrom begins settings wishes.allow_list
+    (λ moment. new ≡ ends_asked wishes.redial moment (asked_for (StateIn directory.now true ∷ [])
+    (scribes_asked wishes.status old))) left.before left.port left.pen ended
     → IsAsWished wishes left.book left.pen left.is_shown
     → left.bears_loss ≡ Some wishes.bears_loss
-    → HasLivedAs begins settings wishes left ended
-lived_kept begins settings wishes directory left ended named lived wished bears =
+    → HasLivedAs begins settings wishes old new left ended
+lived_kept begins settings wishes old new directory left ended named lived wished bears =
     let P : Option (Bor Text) → Type 0 = λ state.
-    MatchOption state (HasLivedAnew settings wishes left ended)
-    (λ _. HasLivedKept begins settings wishes left ended) in
+    MatchOption state (HasLivedAnew settings wishes old new left ended)
+    (λ _. HasLivedKept begins settings wishes old new left ended) in
+    let F : Option (Bor Text) → Type 0 = λ state. HasLivedFrom begins settings wishes.allow_list
+    (λ moment. new ≡ ends_asked wishes.redial moment (asked_for (call_if StateIn state)
+    (scribes_asked wishes.status old))) left.before left.port left.pen ended in
     subst P (sym named)
-    (record { lived = lived; wished = wished; bears = bears })
+    (record { lived = subst F (sym named) lived; wished = wished; bears = bears })
 
 by_state : {P A K : Type 0} (state : Option (Bor Text)) → (A → P) → (K → P)
     → MatchOption state A (λ _. K) → P
@@ -45,20 +59,21 @@ by_state (Some directory) anew kept h = kept h
 
 -- what is left of it is as it was wished
 pub as_wished : {E : Type 0} (begins : Origin → Type 0) (settings : Settings) (wishes : Wishes)
-    (left : RunLeft) (ended : Result (Unit {0}) E) → HasLivedAs begins settings wishes left ended
+    (old new : Asked) (left : RunLeft) (ended : Result (Unit {0}) E)
+    → HasLivedAs begins settings wishes old new left ended
     → (left.book.is_wished ≡ wishes.log) × (left.pen.is_wished ≡ wishes.«record»)
     × (left.book.is_watching ≡ is_some wishes.status) × (left.is_shown ≡ is_some wishes.status)
     × (left.port.allow_list ≡ wishes.allow_list)
-as_wished begins settings wishes left ended h =
+as_wished begins settings wishes old new left ended h =
     by_state wishes.state
-    (λ (a : HasLivedAnew settings wishes left ended). (
+    (λ (a : HasLivedAnew settings wishes old new left ended). (
       a.wished.logged,
       a.wished.recorded,
       a.wished.watched,
       a.wished.shown,
       ap (λ (f : Fixture). f.allow_list) a.lived.port_is.fixed,
     ))
-    (λ (k : HasLivedKept begins settings wishes left ended). (
+    (λ (k : HasLivedKept begins settings wishes old new left ended). (
       k.wished.logged,
       k.wished.recorded,
       k.wished.watched,
@@ -67,12 +82,51 @@ as_wished begins settings wishes left ended h =
     )) h
 
 pub bears_as_wished : {E : Type 0} (begins : Origin → Type 0) (settings : Settings)
-    (wishes : Wishes) (left : RunLeft) (ended : Result (Unit {0}) E) (directory : Bor Text)
-    → HasLivedAs begins settings wishes left ended → wishes.state ≡ Some directory
-    → left.bears_loss ≡ Some wishes.bears_loss
-bears_as_wished begins settings wishes left ended directory h named =
+    (wishes : Wishes) (old new : Asked) (left : RunLeft) (ended : Result (Unit {0}) E)
+    (directory : Bor Text) → HasLivedAs begins settings wishes old new left ended
+    → wishes.state ≡ Some directory → left.bears_loss ≡ Some wishes.bears_loss
+bears_as_wished begins settings wishes old new left ended directory h named =
     let P : Option (Bor Text) → Type 0 = λ state.
-    MatchOption state (HasLivedAnew settings wishes left ended)
-    (λ _. HasLivedKept begins settings wishes left ended) in
-    let kept : HasLivedKept begins settings wishes left ended = subst P named h in
+    MatchOption state (HasLivedAnew settings wishes old new left ended)
+    (λ _. HasLivedKept begins settings wishes old new left ended) in
+    let kept : HasLivedKept begins settings wishes old new left ended = subst P named h in
     kept.bears
+
+-- each call that is asked for is noted
+all_noted : (again : Bool) (moment : ℕ) (state status : Option (Bor Text)) (places : Places)
+    (before : List SiteCall) (moments : List ℕ)
+    → let a : Asked = ends_asked again moment (asked_for (call_if StateIn state)
+    (scribes_asked status
+    (record { places = places; calls = Some before; clocks = Some moments }))) in
+    (a.calls ≡ Some (LineAt places.line again true ∷ ListenAt places.listen true
+    ∷ call_if StateIn state ++ RecordAt ∷ call_if StatusAt status ++ LogAt ∷ before))
+    × (a.clocks ≡ Some (moment ∷ moments))
+all_noted again moment None None places before moments = (refl, refl)
+all_noted again moment None (Some place) places before moments = (refl, refl)
+all_noted again moment (Some name) None places before moments = (refl, refl)
+all_noted again moment (Some name) (Some place) places before moments = (refl, refl)
+
+-- so is what it asked for
+pub asked_as_wished : {E : Type 0} (begins : Origin → Type 0) (settings : Settings)
+    (wishes : Wishes) (places : Places) (before : List SiteCall) (moments : List ℕ) (new : Asked)
+    (left : RunLeft) (ended : Result (Unit {0}) E)
+    → HasLivedAs begins settings wishes
+    (record { places = places; calls = Some before; clocks = Some moments }) new left ended
+    → (moment : ℕ) × (new.calls ≡ Some (LineAt places.line wishes.redial true
+    ∷ ListenAt places.listen true
+    ∷ call_if StateIn wishes.state ++ RecordAt ∷ call_if StatusAt wishes.status ++ LogAt ∷ before))
+    × (new.clocks ≡ Some (moment ∷ moments))
+asked_as_wished begins settings wishes places before moments new left ended h =
+    let old : Asked = record { places = places; calls = Some before; clocks = Some moments } in
+    let at : (moment : ℕ) × (new ≡ run_asked wishes moment old) =
+    by_state wishes.state
+    (λ (a : HasLivedAnew settings wishes old new left ended). (0, a.asked))
+    (λ (k : HasLivedKept begins settings wishes old new left ended). (
+      first_moment k.lived.origin.moment,
+      k.lived.clock,
+    )) h in
+    let all = all_noted wishes.redial at.0 wishes.state wishes.status places before moments in (
+      at.0,
+      ap (λ (a : Asked). a.calls) at.1 ∙ all.0,
+      ap (λ (a : Asked). a.clocks) at.1 ∙ all.1,
+    )

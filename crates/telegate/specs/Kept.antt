@@ -42,10 +42,11 @@ pub record HasLivedOn {E : Type 0} (settings : Settings) (allow_list : AllowList
       Rests (setup_of settings) (Some before) →
       HasLived settings allow_list (is_some origin.moment) before port pen ended
 
--- A run whose state is kept is over. It began so, and went on from there.
+-- A run whose state is kept is over. It began so, and went on from there, with its clock.
 pub record HasLivedFrom {E : Type 0} (begins : Origin → Type 0) (settings : Settings)
-    (allow_list : AllowList) (before : Log) (port : LiveEnds) (pen : Recording)
-    (ended : Result (Unit {0}) E) : Type 0 where
+    (allow_list : AllowList) (clocked : (moment : ℕ) → Type 0) (before : Log) (port : LiveEnds)
+    (pen : Recording) (ended : Result (Unit {0}) E) : Type 0 where
   pub origin : Origin
   pub begun : begins origin
+  pub clock : clocked (first_moment origin.moment)
   pub on : HasLivedOn settings allow_list origin before port pen ended

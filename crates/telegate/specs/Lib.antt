@@ -20,6 +20,7 @@ pub mod Lines
 pub mod Living
 pub mod Logged
 pub mod AsWished
+pub mod Asked
 pub mod Kept
 pub mod Manners
 pub mod SimulatedInWords

@@ -6,10 +6,12 @@ use Rattle.gateway.specs.Log.{Log}
 use Rattle.live.specs.Ends.{LiveEnds}
 use Rattle.record.specs.Recording.{Recording}
 use Rattle.runlog.specs.Logging.{Book}
+use Rattle.settings.specs.Live.{places_of}
 use Rattle.settings.specs.Settings.{IsLiveReadOfText}
 use Rattle.settings.specs.declared.live.LiveSettings.{LiveSettings}
 use Rattle.state.specs.declared.beginning.Origin.{Origin}
 use Rattle.telegate.specs.AsWished.{IsAsWished}
+use Rattle.telegate.specs.Asked.{Asked, run_asked}
 use Rattle.telegate.specs.Kept.{HasLivedFrom, IsKeptFault}
 use Rattle.telegate.specs.Living.{HasLived}
 use Rattle.telegate.specs.Running.{IsLiveConfigFault}
@@ -30,27 +32,32 @@ pub record RunLeft : Type 0 where
   pub is_shown : Bool
   pub bears_loss : Option Bool
 
--- a run without a state is over: it began anew, and was as it was wished
-pub record HasLivedAnew {E : Type 0} (settings : Settings) (wishes : Wishes) (left : RunLeft)
-    (ended : Result (Unit {0}) E) : Type 0 where
+-- A run without a state is over. It began anew, and was as it was wished. It asked its site for
+-- what it is to ask for, with a clock that begins at 0.
+pub record HasLivedAnew {E : Type 0} (settings : Settings) (wishes : Wishes) (old new : Asked)
+    (left : RunLeft) (ended : Result (Unit {0}) E) : Type 0 where
+  pub asked : new ≡ run_asked wishes 0 old
   pub anew : left.before ≡ []
   pub lived : HasLived settings wishes.allow_list false [] left.port left.pen ended
   pub wished : IsAsWished wishes left.book left.pen left.is_shown
 
 -- A run whose state is kept is over: it began so, went on from there, and was as it was wished. It
--- bore the loss of its state where that was wished.
+-- bore the loss of its state where that was wished. Its clock began where it went on.
 pub record HasLivedKept {E : Type 0} (begins : Origin → Type 0) (settings : Settings)
-    (wishes : Wishes) (left : RunLeft) (ended : Result (Unit {0}) E) : Type 0 where
-  pub lived : HasLivedFrom begins settings wishes.allow_list left.before left.port left.pen ended
+    (wishes : Wishes) (old new : Asked) (left : RunLeft) (ended : Result (Unit {0}) E)
+    : Type 0 where
+  pub lived : HasLivedFrom begins settings wishes.allow_list
+      (λ moment. new ≡ run_asked wishes moment old) left.before left.port left.pen ended
   pub wished : IsAsWished wishes left.book left.pen left.is_shown
   pub bears : left.bears_loss ≡ Some wishes.bears_loss
 
--- a run with these settings is over, of which this is left, as it was wished
-abbrev pub HasLivedAs : {E : Type 0} → (begins : Origin → Type 0) → Settings → Wishes → RunLeft
-    → Result (Unit {0}) E → Type 0
-HasLivedAs begins settings wishes left ended =
-    MatchOption wishes.state (HasLivedAnew settings wishes left ended)
-    (λ _. HasLivedKept begins settings wishes left ended)
+-- A run with these settings is over, of which this is left, as it was wished. Its site was asked
+-- for this before and after it.
+abbrev pub HasLivedAs : {E : Type 0} → (begins : Origin → Type 0) → Settings → Wishes
+    → (old new : Asked) → RunLeft → Result (Unit {0}) E → Type 0
+HasLivedAs begins settings wishes old new left ended =
+    MatchOption wishes.state (HasLivedAnew settings wishes old new left ended)
+    (λ _. HasLivedKept begins settings wishes old new left ended)
 
 -- this holds of a run that began anew, or that of one whose state is kept
 abbrev pub IfOver : {A K : Type 0} → Over A K → (A → Type 0) → (K → Type 0) → Type 0
@@ -62,12 +69,15 @@ abbrev pub answer_to : Result (Unit {0}) DeviceFailed → Result (Unit {0}) Faul
 answer_to (Ok done) = Ok done
 answer_to (Err failed) = Err Device
 
--- a run with these settings is over, and this is answered of it
-pub record IsOver (begins : Origin → Type 0) (settings : Settings) (wishes : Wishes)
-    (answer : Result (Unit {0}) Fault) : Type 0 where
+-- a run with these settings is over, at a site with their places, and this is answered of it
+pub record IsOver (begins : Origin → Type 0) (settings : Settings) (places : LiveSettings)
+    (wishes : Wishes) (answer : Result (Unit {0}) Fault) : Type 0 where
+  pub old : Asked
+  pub at : old.places ≡ places_of places
+  pub new : Asked
   pub left : RunLeft
   pub ended : Result (Unit {0}) DeviceFailed
-  pub lived : HasLivedAs begins settings wishes left ended
+  pub lived : HasLivedAs begins settings wishes old new left ended
   pub answered : answer ≡ answer_to ended
 
 -- it didn't begin: an end of it, or its state, can't be had
@@ -81,7 +91,8 @@ pub record HasRunWith (begins : Settings → List ℕ → Origin → Type 0) (te
   pub settings : Settings
   pub places : LiveSettings
   pub are : IsLiveReadOfText text (Ok (settings, places))
-  pub came : HasNotBegun answer ⊎ IsOver (begins settings text) settings wishes answer
+  pub came : HasNotBegun answer
+      ⊎ IsOver (begins settings text) settings places wishes answer
 
 -- or the file is refused by the first fault, and nothing is run
 abbrev pub IsRefused : List ℕ → Result (Unit {0}) Fault → Type 0

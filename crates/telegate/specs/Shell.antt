@@ -17,8 +17,8 @@ use Rattle.telegate.specs.Captures.{IsCapturedBy}
 use Rattle.telegate.specs.Faults.{status_of_end}
 use Rattle.telegate.specs.Checks.{IsCheckDone, IsRefusalAnswered}
 use Rattle.telegate.specs.CommandLine.{IsRequestOf, text_of, program}
-use Rattle.telegate.specs.Wishes.{CameAt, HasRunAsSaid, HasRunLive, HasWrongSite, site_files}
-use Rattle.telegate.specs.Wishes.{IsFirstSiteFault, IsGoodSite}
+use Rattle.telegate.specs.Wishes.{CameAt, HasRunAsAsked, HasRunAsSaid, HasRunLive, HasWrongSite}
+use Rattle.telegate.specs.Wishes.{IsFirstSiteFault, IsGoodSite, site_files}
 use Rattle.telegate.specs.Manners.{manner_of}
 use Rattle.telegate.specs.Piping.{HasPiped, PipesLine}
 use Rattle.telegate.specs.Stood.{IsStateShown}
@@ -273,6 +273,21 @@ abbrev pub RunsAsSaid : (has : Text → List ℕ → Type 0) → (lacks : Text �
 RunsAsSaid has lacks ran config words exit =
     HasRunAsSaid has ran config words exit
     ⊎ IsNotRead has lacks (site_files (text_of words.site) ++ config ∷ []) exit
+
+-- the gateway ran live, as a request asks for it
+abbrev pub IsRunOf : (has : Text → List ℕ → Type 0)
+    → (ran : List ℕ → Wishes → Result (Unit {0}) Fault → Type 0) → CommandRequest → (exit : ℕ)
+    → Type 0
+IsRunOf has ran (Run config words) exit = HasRunAsAsked has ran config.now words exit
+IsRunOf has ran request exit = ⊥
+
+-- the same, as words ask for it
+pub record IsRunAskedFor (has : Text → List ℕ → Type 0)
+    (ran : List ℕ → Wishes → Result (Unit {0}) Fault → Type 0) (words : List Text)
+    (exit : ℕ) : Type 0 where
+  pub request : CommandRequest
+  pub asked : IsRequestOf (subcommand_of program words) (Some request)
+  pub run : IsRunOf has ran request exit
 
 -- the name of standard input
 abbrev pub input : Text

@@ -205,6 +205,14 @@ pub record HasRunAsWished (has : Text → List ℕ → Type 0)
       (names_of site.names) wishes
   pub live : HasRunLive has ran config wishes exit
 
+-- the same at the site whose file they name
+pub record HasRunAsAsked (has : Text → List ℕ → Type 0)
+    (ran : List ℕ → Wishes → Result (Unit {0}) Fault → Type 0) (config : Text)
+    (words : RunWords) (exit : ℕ) : Type 0 where
+  pub site : SiteFile
+  pub is : IsSiteIn has (text_of words.site) site
+  pub run : HasRunAsWished has ran config words site exit
+
 -- what they wish for can't be, and the settings weren't read
 pub record HasNoWishes (words : RunWords) (site : SiteFile) (exit : ℕ) : Type 0 where
   pub fault : Fault
@@ -218,7 +226,7 @@ abbrev pub CameAt : (has : Text → List ℕ → Type 0)
 CameAt has ran config words site exit =
     HasRunAsWished has ran config words site exit ⊎ HasNoWishes words site exit
 
--- the same at the site whose file they name
+-- what came of them at the site whose file they name
 pub record HasRunAtSite (has : Text → List ℕ → Type 0)
     (ran : List ℕ → Wishes → Result (Unit {0}) Fault → Type 0) (config : Text)
     (words : RunWords) (exit : ℕ) : Type 0 where

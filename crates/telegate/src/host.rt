@@ -77,9 +77,9 @@ pub(crate) trait Host {
     // The file of this name can't be read.
     ghost lacks: { Self → List ℕ → Type 0 };
 
-    // The gateway ran live, by settings of these octets and these wishes, and this is how that
-    // ended.
-    ghost ran: { Self → List ℕ → Wishes → Result (Unit {0}) Fault → Type 0 };
+    // The gateway ran live, once, by settings of these octets and these wishes, and this is how
+    // that ended. The system came from the one to the other by that.
+    ghost ran: { Self → Self → List ℕ → Wishes → Result (Unit {0}) Fault → Type 0 };
 
     // The outstations of a script of these octets were played, by settings of these, and this is
     // how that ended.
@@ -121,8 +121,8 @@ pub(crate) trait Host {
         ensures { result ≡ colours self.now };
 
     /// Runs the gateway live, by settings of these octets, until it ends.
-    fn run(&self, config: &[u8], wishes: Wishes<'_>) -> Result<(), Fault>
-        ensures { ran self.now config.now wishes.entry result };
+    fn run(&mut self, config: &[u8], wishes: Wishes<'_>) -> Result<(), Fault>
+        ensures { ran self.old self.new config.now wishes.entry result };
 
     /// Plays the outstations of a script, at the place where a live run with settings of these
     /// octets looks for its line.
@@ -160,7 +160,7 @@ impl Host for System<'_> {
     ghost use Rattle.state.specs.Directories.{BeginsIn};
     ghost use Rattle.telegate.specs.Ran.{HasRunBy};
 
-    ghost ran = { λ _ text wishes ended. HasRunBy (λ settings kept. BeginsIn
+    ghost ran = { λ _ _ text wishes ended. HasRunBy (λ settings kept. BeginsIn
         ⟦<DiskFile as Disk>⟧ settings kept ⟦<Directory as Folder>⟧.lineage)
         text wishes ended };
 
@@ -209,7 +209,7 @@ impl Host for System<'_> {
         self.has_colours
     }
 
-    fn run(&self, config: &[u8], wishes: Wishes<'_>) -> Result<(), Fault> {
+    fn run(&mut self, config: &[u8], wishes: Wishes<'_>) -> Result<(), Fault> {
         let (settings, places) = read_live(self.rt.alloc(), config)?;
         let Ok(stations) = names_of(self.rt.alloc(), wishes.names) else {
             return Err(Fault::NoMemory);
@@ -219,8 +219,8 @@ impl Host for System<'_> {
             return Err(Fault::EndUnusable);
         };
         let names = named_by(wishes.names, stations.as_slice());
-        let site = process_of(self.rt, &places, names, wishes.log_severity);
-        match run_at(&site, &settings, config, wishes) {
+        let mut site = process_of(self.rt, &places, names, wishes.log_severity);
+        match run_at(&mut site, &settings, config, wishes) {
             Ok(Over::Anew(run)) => answer_to(run.ended),
             Ok(Over::Kept(run)) => answer_to(run.ended),
             Err(fault) => Err(fault),
@@ -292,6 +292,7 @@ fn process_of<'a>(
     has_severity: bool,
 ) -> Process<'a>
     ensures severity { result.has_severity ≡ has_severity }
+    ensures places { result.places.now ≡ places.now }
 {
     Process {
         rt,

@@ -1,9 +1,10 @@
 //! What of a run's ends is seen by its log and by its page, and what is said of a run.
-ghost use Rattle.std.specs.Prelude.{◌≡◌, ◌||◌, ℕ, List, not, Some, Result};
+ghost use Rattle.std.specs.Prelude.{◌≡◌, ◌||◌, ◌∷◌, ◌++◌, ℕ, List, not, Some, Result, true};
 ghost use Rattle.std.specs.Borrow.{Bor};
 ghost use Rattle.std.specs.Option.{is_some, option_or};
 ghost use Rattle.clap.specs.Words.{Text};
 ghost use Rattle.gateway.specs.Config.{Settings};
+ghost use Rattle.settings.specs.Live.{Places};
 ghost use Rattle.sitefile.specs.Site.{SiteNames, SiteValues, names_of};
 ghost use Rattle.state.specs.Directories.{BeginsIn};
 ghost use Rattle.live.specs.Redial.{Redial};
@@ -11,6 +12,8 @@ ghost use Rattle.live.specs.Runs.{ShowsRun};
 ghost use Rattle.live.specs.Streams.{Calls};
 ghost use Rattle.live.specs.declared.watched.EndsSight.{EndsSight};
 ghost use Rattle.telegate.specs.AllowLists.{IsAllowListOf};
+ghost use Rattle.telegate.specs.Asked.{Asked, LineAt, ListenAt, LogAt, RecordAt};
+ghost use Rattle.telegate.specs.Asked.{SiteCall, StateIn, StatusAt, call_if};
 ghost use Rattle.telegate.specs.CommandLine.{text_of, texts_of};
 ghost use Rattle.telegate.specs.Ran.{HasLivedAs, RunLeft};
 ghost use Rattle.telegate.specs.Wishes.{AreWishes, Said, said_by, said_in, said_of};
@@ -92,15 +95,32 @@ pub fn what_is_said_keeps_its_name()
 /// connect. Where its state was kept it bore the loss of that if that was wished.
 #[tactic(auto, using(crate::proofs::RanLemmas::as_wished, crate::proofs::RanLemmas::bears_as_wished))]
 pub fn runs_are_as_they_were_wished<T: RunSite>()
-    ensures all { (c : Settings) (text : List ℕ) (w : Wishes) (left : RunLeft)
+    ensures all { (c : Settings) (text : List ℕ) (w : Wishes) (old new : Asked) (left : RunLeft)
         (ended : Result (Unit {0}) DeviceFailed) →
-        HasLivedAs (BeginsIn T.Folder.File.Disk c text T.Folder.lineage) c w left ended →
+        HasLivedAs (BeginsIn T.Folder.File.Disk c text T.Folder.lineage) c w old new left ended →
         (left.book.is_wished ≡ w.log) × (left.pen.is_wished ≡ w.record)
         × (left.book.is_watching ≡ is_some w.status) × (left.is_shown ≡ is_some w.status)
         × (left.port.allow_list ≡ w.allow_list) }
-    ensures bears { (c : Settings) (text : List ℕ) (w : Wishes) (left : RunLeft)
-        (ended : Result (Unit {0}) DeviceFailed) (directory : Bor Text) →
-        HasLivedAs (BeginsIn T.Folder.File.Disk c text T.Folder.lineage) c w left ended →
+    ensures bears { (c : Settings) (text : List ℕ) (w : Wishes) (old new : Asked)
+        (left : RunLeft) (ended : Result (Unit {0}) DeviceFailed) (directory : Bor Text) →
+        HasLivedAs (BeginsIn T.Folder.File.Disk c text T.Folder.lineage) c w old new left ended →
         w.state ≡ Some directory →
         left.bears_loss ≡ Some w.bears_loss }
+{}
+
+/// A live run that is over asked its site, where that notes its calls, for each of these once, and
+/// got it: the log, the listener for visitors at the place that is named for them, the record, the
+/// directory that is named for the state, the listener and the line at the places of the settings,
+/// and one clock. The line was to be reached again where that was wished.
+#[tactic(auto, using(crate::proofs::RanLemmas::asked_as_wished))]
+pub fn runs_ask_for_the_places_of_their_settings<T: RunSite>()
+    ensures { (c : Settings) (text : List ℕ) (w : Wishes) (places : Places)
+        (before : List SiteCall) (moments : List ℕ) (new : Asked) (left : RunLeft)
+        (ended : Result (Unit {0}) DeviceFailed) →
+        HasLivedAs (BeginsIn T.Folder.File.Disk c text T.Folder.lineage) c w
+        (record { places = places; calls = Some before; clocks = Some moments }) new left ended →
+        (moment : ℕ) × (new.calls ≡ Some (LineAt places.line w.redial true
+        ∷ ListenAt places.listen true
+        ∷ call_if StateIn w.state ++ RecordAt ∷ call_if StatusAt w.status ++ LogAt ∷ before))
+        × (new.clocks ≡ Some (moment ∷ moments)) }
 {}

@@ -1,6 +1,6 @@
 //! The command that runs the gateway between a line and a control centre.
 ghost use Rattle.std.specs.Prelude.{◌≡◌, ◌+◌, IfOk, IfErr, Some, None, Option, is_some, []};
-ghost use Rattle.std.specs.Prelude.{false, not};
+ghost use Rattle.std.specs.Prelude.{false, not, true, ◌∷◌};
 ghost use Rattle.std.specs.declared.net.socket_addr.SocketAddr.{SocketAddr};
 ghost use Rattle.gateway.specs.Agrees.{Follows};
 ghost use Rattle.gateway.specs.Setups.{setup_of};
@@ -9,6 +9,8 @@ ghost use Rattle.runlog.specs.Logging.{book_fixture};
 ghost use Rattle.state.specs.Directories.{BeginsIn};
 ghost use Rattle.state.specs.Origins.{IsBegun};
 ghost use Rattle.telegate.specs.AsWished.{IsAsWished};
+ghost use Rattle.telegate.specs.Asked.{RecordAt, StateIn, StatusAt, UnclockedIfErr, asked_for};
+ghost use Rattle.telegate.specs.Asked.{call_if, ends_asked, listen_asked, scribes_asked};
 ghost use Rattle.telegate.specs.Kept.{HasLivedFrom, HasLivedOn, IsEndFault, IsKeptFault};
 ghost use Rattle.telegate.specs.Kept.{first_moment};
 ghost use Rattle.telegate.specs.Living.{HasLived, IsPortOf};
@@ -46,9 +48,9 @@ pub(crate) fn read_live(alloc: Global, config: &[u8]) -> Result<(Config, LiveSet
 
 /// What logs a run, if it is to be logged, records it, if it is to be recorded, and shows it, if it
 /// is to be shown.
-#[tactic(auto, using(crate::proofs::KeptLemmas::memory_is_end))]
+#[tactic(auto, using(crate::proofs::KeptLemmas::memory_is_end, crate::proofs::KeptLemmas::still_unclocked))]
 fn scribes_of<T: RunSite>(
-    site: &T,
+    site: &mut T,
     config: &Config,
     wishes: &Wishes<'_>,
 ) -> Result<Scribes<T::Sink, T::Sheet, T::Glass>, Fault>
@@ -58,6 +60,9 @@ fn scribes_of<T: RunSite>(
     ensures records { IfOk result (λ scribes. scribes.pen.is_over ≡ not wishes.now.record) }
     ensures wished { IfOk result (λ scribes.
         IsAsWished wishes.now scribes.logger scribes.pen (is_some scribes.lookout)) }
+    ensures asked { IfOk result (λ _. T.asked site.new
+        ≡ scribes_asked wishes.now.status (T.asked site.old)) }
+    ensures none { UnclockedIfErr result (T.asked site.old) (T.asked site.new) }
     ensures fault { IfErr result IsEndFault }
 {
     let watch = Watch::new(site.alloc(), config)?;
@@ -74,14 +79,18 @@ fn scribes_of<T: RunSite>(
 }
 
 /// Who looks at a run, if there is to be a listener for it.
+#[tactic(auto, using(crate::proofs::KeptLemmas::still_unclocked))]
 fn lookout_of<T: RunSite>(
-    site: &T,
+    site: &mut T,
     config: &Config,
     wishes: &Wishes<'_>,
     logger: &mut Logger<T::Sink>,
 ) -> Result<Option<Lookout<T::Glass>>, Fault>
     ensures shows { IfOk result (λ lookout. is_some lookout ≡ is_some wishes.now.status) }
     ensures quiet { IfOk result (λ _. logger.new ≡ logger.old) }
+    ensures asked { IfOk result (λ _. T.asked site.new
+        ≡ asked_for (call_if StatusAt wishes.now.status) (T.asked site.old)) }
+    ensures none { UnclockedIfErr result (T.asked site.old) (T.asked site.new) }
     ensures fault { IfErr result IsEndFault }
 {
     let Some(place) = wishes.status else {
@@ -98,10 +107,11 @@ fn lookout_of<T: RunSite>(
 
 /// What writes the record of a run, if it is to have one.
 #[tactic(auto, using(crate::proofs::Begins::new_is_written, crate::proofs::Begins::added_nothing, crate::proofs::Begins::new_has_nothing))]
-fn pen_of<T: RunSite>(site: &T, is_recorded: bool) -> Pen<T::Sheet>
+fn pen_of<T: RunSite>(site: &mut T, is_recorded: bool) -> Pen<T::Sheet>
     ensures new { logged_first (log_of result) (Some []) ≡ Some [] }
     ensures records { result.is_over ≡ not is_recorded }
     ensures wished { result.is_wished ≡ is_recorded }
+    ensures asked { T.asked site.new ≡ asked_for (RecordAt ∷ []) (T.asked site.old) }
 {
     if is_recorded {
         // Anew behind a restart too: a run goes on from its state, which is synced, and a record
@@ -124,13 +134,15 @@ struct RunEnds<S: OctetStream, L: Listener + Drop, C: live::RunClock + Drop> {
 /// begins at this moment, in ms. A second process that is started by mistake ends at the listener,
 /// and leaves the line of the first alone.
 fn opened<T: RunSite>(
-    site: &T,
+    site: &mut T,
     wishes: &Wishes<'_>,
     moment: u64,
     logger: &mut Logger<T::Sink>,
 ) -> Result<RunEnds<T::Line, T::Listener, T::Clock>, Fault>
     ensures clock { IfOk result (λ ends. T.begins_at ends.clock moment) }
-    ensures line { IfOk result (λ ends. T.comes_back ends.line ≡ wishes.now.redial) }
+    ensures asked { IfOk result (λ _. T.asked site.new
+        ≡ ends_asked wishes.now.redial moment (T.asked site.old)) }
+    ensures none { UnclockedIfErr result (T.asked site.old) (T.asked site.new) }
     ensures fixed { book_fixture logger.new ≡ book_fixture logger.old }
     ensures fault { IfErr result IsEndFault }
 {
@@ -152,10 +164,12 @@ fn opened<T: RunSite>(
 }
 
 /// The listener, opened. Its address is logged, if that is known.
-fn listener_of<T: RunSite>(site: &T, logger: &mut Logger<T::Sink>) -> Result<T::Listener, Fault>
+fn listener_of<T: RunSite>(site: &mut T, logger: &mut Logger<T::Sink>) -> Result<T::Listener, Fault>
     ensures logged { IfOk result (λ _. (address : Option SocketAddr)
         × LogsNoteIf (note_of_address address) logger.old logger.new) }
     ensures refused { IfErr result (λ fault. IsRefused fault logger.old logger.new) }
+    ensures asked { IfOk result (λ _. T.asked site.new ≡ listen_asked true (T.asked site.old)) }
+    ensures none { UnclockedIfErr result (T.asked site.old) (T.asked site.new) }
     ensures fixed { book_fixture logger.new ≡ book_fixture logger.old }
     ensures fault { IfErr result IsEndFault }
 {
@@ -239,18 +253,18 @@ pub(crate) type RunOver<T> = Over<
 
 /// Runs the gateway live with these settings, which were read from this text, and answers what is
 /// left of that. An `Err` says why it didn't begin.
-#[tactic(auto, using(crate::proofs::KeptLemmas::end_is_kept))]
+#[tactic(auto, using(crate::proofs::KeptLemmas::end_is_kept, crate::proofs::KeptLemmas::still_unclocked))]
 pub(crate) fn run_at<T: RunSite>(
-    site: &T,
+    site: &mut T,
     config: &Config,
     text: &[u8],
     wishes: Wishes<'_>,
 ) -> Result<RunOver<T>, Fault>
-    requires severity { T.severe site.now ≡ wishes.log_severity }
+    requires severity { T.severe site.old ≡ wishes.log_severity }
     // A run as wished lived, and so it ended.
     ensures lived { IfOk result (λ over. IfOver over
         (λ anew. HasLivedAs (BeginsIn T.Folder.File.Disk config.now text.now T.Folder.lineage)
-        config.now wishes.entry (record {
+        config.now wishes.entry (T.asked site.old) (T.asked site.new) (record {
           before = anew.run_log.port.before.entries;
           port = anew.run_log.port.port.port;
           pen = anew.run_log.port.port.pen;
@@ -259,7 +273,7 @@ pub(crate) fn run_at<T: RunSite>(
           bears_loss = None;
         }) anew.ended)
         (λ kept. HasLivedAs (BeginsIn T.Folder.File.Disk config.now text.now T.Folder.lineage)
-        config.now wishes.entry (record {
+        config.now wishes.entry (T.asked site.old) (T.asked site.new) (record {
           before = kept.run_log.port.before.entries;
           port = kept.run_log.port.port.port.ends.port;
           pen = kept.run_log.port.port.pen;
@@ -267,6 +281,8 @@ pub(crate) fn run_at<T: RunSite>(
           is_shown = is_some kept.lookout;
           bears_loss = Some kept.run_log.port.port.port.bears_loss;
         }) kept.ended)) }
+    // Without a clock nothing has run.
+    ensures none { UnclockedIfErr result (T.asked site.old) (T.asked site.new) }
     ensures fault { IfErr result IsKeptFault }
 {
     match wishes.state {
@@ -276,9 +292,9 @@ pub(crate) fn run_at<T: RunSite>(
 }
 
 /// Runs the gateway anew, without a state on the disk.
-#[tactic(auto, using(crate::proofs::KeptLemmas::memory_is_end))]
+#[tactic(auto, using(crate::proofs::KeptLemmas::memory_is_end, crate::proofs::KeptLemmas::still_unclocked))]
 fn run_anew<T: RunSite>(
-    site: &T,
+    site: &mut T,
     config: &Config,
     wishes: Wishes<'_>,
 ) -> Result<Lived<RunPort<T::Line, T::Listener, T::Clock>, T::Sheet, T::Sink, T::Glass>, Fault>
@@ -287,6 +303,9 @@ fn run_anew<T: RunSite>(
     ensures before { IfOk result (λ lived. lived.run_log.port.before.entries ≡ []) }
     ensures wished { IfOk result (λ lived. IsAsWished wishes.entry lived.run_log.logger
         lived.run_log.port.port.pen (is_some lived.lookout)) }
+    ensures asked { IfOk result (λ _. T.asked site.new
+        ≡ ends_asked wishes.entry.redial 0 (scribes_asked wishes.entry.status (T.asked site.old))) }
+    ensures none { UnclockedIfErr result (T.asked site.old) (T.asked site.new) }
     ensures fault { IfErr result IsEndFault }
 {
     let gateway = Gateway::new(site.alloc(), config)?;
@@ -352,9 +371,9 @@ fn keeper_between<T: RunSite>(
 }
 
 /// Runs the gateway with the state that this directory has, or anew, and keeps it there.
-#[tactic(auto, using(crate::proofs::KeptLemmas::end_is_kept, crate::proofs::KeptLemmas::unkept_is_kept))]
+#[tactic(auto, using(crate::proofs::KeptLemmas::end_is_kept, crate::proofs::KeptLemmas::unkept_is_kept, crate::proofs::KeptLemmas::still_unclocked))]
 fn run_kept<T: RunSite>(
-    site: &T,
+    site: &mut T,
     config: &Config,
     text: &[u8],
     directory: &str,
@@ -363,13 +382,17 @@ fn run_kept<T: RunSite>(
     // It went on from what the directory had.
     ensures lived { IfOk result (λ lived. HasLivedFrom
         (BeginsIn T.Folder.File.Disk config.now text.now T.Folder.lineage) config.now
-        wishes.entry.allow_list lived.run_log.port.before.entries
-        lived.run_log.port.port.port.ends.port lived.run_log.port.port.pen lived.ended) }
+        wishes.entry.allow_list (λ moment. T.asked site.new
+        ≡ ends_asked wishes.entry.redial moment (asked_for (StateIn directory.now true ∷ [])
+        (scribes_asked wishes.entry.status (T.asked site.old))))
+        lived.run_log.port.before.entries lived.run_log.port.port.port.ends.port
+        lived.run_log.port.port.pen lived.ended) }
     ensures wished { IfOk result (λ lived. IsAsWished wishes.entry lived.run_log.logger
         lived.run_log.port.port.pen (is_some lived.lookout)) }
     // It bore the loss of its state where that was wished.
     ensures bears { IfOk result (λ lived.
         lived.run_log.port.port.port.bears_loss ≡ wishes.entry.bears_loss) }
+    ensures none { UnclockedIfErr result (T.asked site.old) (T.asked site.new) }
     ensures fault { IfErr result IsKeptFault }
 {
     let mut scribes = scribes_of(site, config, &wishes)?;
@@ -420,9 +443,9 @@ fn run_from<T: RunSite>(
 }
 
 /// What this directory has, or a new state, which is logged.
-#[tactic(auto, using(crate::proofs::KeptLemmas::memory_is_unkept))]
+#[tactic(auto, using(crate::proofs::KeptLemmas::memory_is_unkept, crate::proofs::KeptLemmas::still_unclocked))]
 fn begun_in<T: RunSite>(
-    site: &T,
+    site: &mut T,
     config: &Config,
     text: &[u8],
     directory: &str,
@@ -434,6 +457,9 @@ fn begun_in<T: RunSite>(
     ensures logged { IfOk result (λ b. LogsBeginning b.origin logger.old logger.new) }
     ensures fixed { IfOk result (λ _. book_fixture logger.new ≡ book_fixture logger.old) }
     ensures unkept { IfErr result (λ fault. IsUnkept fault logger.old logger.new) }
+    ensures asked { IfOk result (λ _. T.asked site.new
+        ≡ asked_for (StateIn directory.now true ∷ []) (T.asked site.old)) }
+    ensures none { UnclockedIfErr result (T.asked site.old) (T.asked site.new) }
 {
     let folder = site.folder(directory)?;
     match begin(site.alloc(), config, text, folder) {

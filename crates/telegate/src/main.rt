@@ -73,18 +73,18 @@ fn main(rt: HostRuntime) -> ExitCode {
     // "How far a run has come").
     let is_watched = err.is_terminal() && !out.is_terminal();
     let has_colours = shows_colours(out.is_terminal(), &env::var(&rt, "NO_COLOR"));
-    let system = System {
+    let mut system = System {
         rt: &rt,
         is_watched,
         has_colours,
     };
-    ExitCode::from(run(&rt, &system, &mut out, &mut err))
+    ExitCode::from(run(&rt, &mut system, &mut out, &mut err))
 }
 
 /// Does what the process's words ask for, and answers the exit status.
 fn run<R: Env + AllocGlobal, H: Host, W: Write, E: Write>(
     rt: &R,
-    system: &H,
+    system: &mut H,
     out: &mut W,
     err: &mut E,
 ) -> u8 {

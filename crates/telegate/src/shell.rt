@@ -11,10 +11,11 @@ ghost use Rattle.telegate.specs.Shell.{HaveEnded, IsGivenIn, PlayFiles, ShowsDir
 ghost use Rattle.telegate.specs.Shell.{ShowsState};
 ghost use Rattle.telegate.specs.Stood.{octets_of};
 ghost use Rattle.telegate.specs.Shell.{AuditsFile, ChecksBehind, ChecksFile, IsNoSite, IsNotRead};
-ghost use Rattle.telegate.specs.Shell.{IsSilent, IsUsageAnswered, Obeys};
+ghost use Rattle.telegate.specs.Shell.{IsRunAskedFor, IsRunOf, IsSilent, IsUsageAnswered, Obeys};
 ghost use Rattle.telegate.specs.Shell.{ReplaysFile, Responds, RunsAsSaid, RunsAtSite, RunsFile};
 ghost use Rattle.telegate.specs.Shell.{input, unreadable_line};
-ghost use Rattle.telegate.specs.Wishes.{HasEndedLive, IsSiteIn, site_files};
+ghost use Rattle.telegate.specs.Wishes.{HasEndedLive, HasRunAsAsked, HasRunAsWished, HasRunLive};
+ghost use Rattle.telegate.specs.Wishes.{IsSiteIn, site_files};
 
 use crate::asking::ask_status;
 use crate::auditing::audit;
@@ -45,14 +46,18 @@ use std::io::Write;
 /// version.
 pub(crate) fn obey<H: Host, W: Write, E: Write>(
     alloc: Global,
-    host: &H,
+    host: &mut H,
     words: &[String],
     out: &mut W,
     err: &mut E,
 ) -> u8
-    ensures { Obeys (H.has host.now) (H.lacks host.now) (H.ran host.now) (H.answered host.now)
-        (H.silent host.now) (H.played host.now) (H.stands host.now) (H.colours host.now)
-        (map string_bytes words.now) (W.contents out.old) (W.contents out.new) result }
+    ensures obeys { Obeys (H.has host.old) (H.lacks host.old) (H.ran host.old host.new)
+        (H.answered host.old) (H.silent host.old) (H.played host.old) (H.stands host.old)
+        (H.colours host.old) (map string_bytes words.now) (W.contents out.old)
+        (W.contents out.new) result }
+    // Nothing is run live unless the words ask for it, and then once.
+    ensures alone { (host.new ≡ host.old) ⊎ IsRunAskedFor (H.has host.old)
+        (H.ran host.old host.new) (map string_bytes words.now) result }
 {
     match parse(alloc, words) {
         Ok(matches) => match request_of(&matches) {
@@ -100,14 +105,16 @@ fn show<W: Write>(fault: &Error, to: &mut W) -> io::Result<()> {
 /// is read while it is judged, and again while it is run.
 pub(crate) fn respond<H: Host, W: Write, E: Write>(
     alloc: Global,
-    host: &H,
+    host: &mut H,
     request: &CommandRequest<'_, '_>,
     out: &mut W,
     err: &mut E,
 ) -> u8
-    ensures { Responds (H.has host.now) (H.lacks host.now) (H.ran host.now) (H.answered host.now)
-        (H.silent host.now) (H.played host.now) (H.stands host.now) (H.colours host.now)
-        request.now (W.contents out.old) (W.contents out.new) result }
+    ensures responds { Responds (H.has host.old) (H.lacks host.old) (H.ran host.old host.new)
+        (H.answered host.old) (H.silent host.old) (H.played host.old) (H.stands host.old)
+        (H.colours host.old) request.now (W.contents out.old) (W.contents out.new) result }
+    ensures alone { (host.new ≡ host.old) ⊎ IsRunOf (H.has host.old) (H.ran host.old host.new)
+        request.now result }
 {
     let is_watched = host.is_watched();
     let has_colours = host.shows_colours();
@@ -452,13 +459,15 @@ fn play_live<H: Host, E: Write>(host: &H, config: &[u8], script: &[u8], err: &mu
 /// judged before the settings are. Answers the exit status.
 fn run_wished<H: Host, E: Write>(
     alloc: Global,
-    host: &H,
+    host: &mut H,
     config: &str,
     words: &RunWords<'_, '_>,
     err: &mut E,
 ) -> u8
-    ensures { RunsAsSaid (H.has host.now) (H.lacks host.now) (H.ran host.now) config.now
-        words.now result }
+    ensures runs { RunsAsSaid (H.has host.old) (H.lacks host.old) (H.ran host.old host.new)
+        config.now words.now result }
+    ensures alone { (host.new ≡ host.old) ⊎ HasRunAsAsked (H.has host.old)
+        (H.ran host.old host.new) config.now words.now result }
 {
     match site_of(alloc, host, words.site, err) {
         Ok(site) => run_at_site(alloc, host, config, words, &site, err),
@@ -493,14 +502,16 @@ fn site_of<H: Host, E: Write>(
 /// Runs the gateway live as words and this site say, and answers the exit status.
 fn run_at_site<H: Host, E: Write>(
     alloc: Global,
-    host: &H,
+    host: &mut H,
     config: &str,
     words: &RunWords<'_, '_>,
     site: &Site,
     err: &mut E,
 ) -> u8
-    ensures { RunsAtSite (H.has host.now) (H.lacks host.now) (H.ran host.now) config.now
-        words.now site.now result }
+    ensures runs { RunsAtSite (H.has host.old) (H.lacks host.old) (H.ran host.old host.new)
+        config.now words.now site.now result }
+    ensures alone { (host.new ≡ host.old) ⊎ HasRunAsWished (H.has host.old)
+        (H.ran host.old host.new) config.now words.now site.now result }
 {
     match wishes_of(alloc, words, site) {
         Ok(wishes) => run_file(host, config, wishes, err),
@@ -509,9 +520,11 @@ fn run_at_site<H: Host, E: Write>(
 }
 
 /// Runs the gateway live by the settings of a file, and answers the exit status.
-fn run_file<H: Host, E: Write>(host: &H, config: &str, wishes: Wishes<'_>, err: &mut E) -> u8
-    ensures { RunsFile (H.has host.now) (H.lacks host.now) (H.ran host.now) config.now
-        wishes.entry result }
+fn run_file<H: Host, E: Write>(host: &mut H, config: &str, wishes: Wishes<'_>, err: &mut E) -> u8
+    ensures runs { RunsFile (H.has host.old) (H.lacks host.old) (H.ran host.old host.new)
+        config.now wishes.entry result }
+    ensures alone { (host.new ≡ host.old) ⊎ HasRunLive (H.has host.old)
+        (H.ran host.old host.new) config.now wishes.entry result }
 {
     match read_file(host, config, err) {
         Ok(config) => run_live(host, config.as_slice(), wishes, err),
@@ -520,8 +533,8 @@ fn run_file<H: Host, E: Write>(host: &H, config: &str, wishes: Wishes<'_>, err: 
 }
 
 /// Runs the gateway live by settings of these octets.
-fn run_live<H: Host, E: Write>(host: &H, config: &[u8], wishes: Wishes<'_>, err: &mut E) -> u8
-    ensures { HasEndedLive (H.ran host.now) config.now wishes.entry result }
+fn run_live<H: Host, E: Write>(host: &mut H, config: &[u8], wishes: Wishes<'_>, err: &mut E) -> u8
+    ensures { HasEndedLive (H.ran host.old host.new) config.now wishes.entry result }
 {
     match host.run(config, wishes) {
         Ok(()) => DONE,

@@ -40,8 +40,13 @@ impl From<EndRefusal> for Fault {
     }
 }
 
-/// Where a live run finds its ends, and where its log and its record go.
+/// Where a live run finds its ends, and where its log and its record go. It notes what it was asked
+/// for. Nothing runs without a clock, and who has none but of a site can have no other.
 pub(crate) trait RunSite {
+    ghost use Rattle.std.specs.Result.{is_ok};
+    ghost use Rattle.std.specs.Prelude.{◌∷◌, []};
+    ghost use Rattle.telegate.specs.Asked.{Asked, LogAt, RecordAt, StateIn, StatusAt, asked_for};
+    ghost use Rattle.telegate.specs.Asked.{clock_asked, line_asked, listen_asked};
     ghost use Rattle.telegate.specs.Sites.{IsNew};
 
     type Line: OctetStream + Reached;
@@ -71,35 +76,47 @@ pub(crate) trait RunSite {
     // So it is to be with each log here.
     ghost severe: { Self → Bool };
 
+    // Its places, and what it was asked for so far, the newest first.
+    ghost asked: { Self → Asked };
+
     fn alloc(&self) -> Global;
 
     /// Where the lines of the log go.
-    fn sink(&self) -> Self::Sink
-        ensures severity { marks result ≡ severe self.now };
+    fn sink(&mut self) -> Self::Sink
+        ensures severity { marks result ≡ severe self.old }
+        ensures asked { asked self.new ≡ asked_for (LogAt ∷ []) (asked self.old) };
 
     /// What the line and the stations are called.
     fn names(&self) -> LogNames<'_>;
 
     /// What the record is written on: nothing stands there yet.
-    fn sheet(&self) -> Self::Sheet
-        ensures { IsNew (Self.Sheet.taken result) (Self.Sheet.missed result) };
+    fn sheet(&mut self) -> Self::Sheet
+        ensures new { IsNew (Self.Sheet.taken result) (Self.Sheet.missed result) }
+        ensures asked { asked self.new ≡ asked_for (RecordAt ∷ []) (asked self.old) };
 
     /// The listener, open, and its address, if that is known.
-    fn listener(&self) -> Result<(Self::Listener, Option<SocketAddr>), EndRefusal>;
+    fn listener(&mut self) -> Result<(Self::Listener, Option<SocketAddr>), EndRefusal>
+        ensures asked { asked self.new ≡ listen_asked (is_ok result) (asked self.old) };
 
     /// The listener for visitors at this place, open.
-    fn status_listener(&self, place: &str) -> Result<Self::Glass, EndRefusal>;
+    fn status_listener(&mut self, place: &str) -> Result<Self::Glass, EndRefusal>
+        ensures asked { asked self.new
+            ≡ asked_for (StatusAt place.now (is_ok result) ∷ []) (asked self.old) };
 
     /// The line: one that is there, or one that is reached again where it ends.
-    fn line(&self, redial: bool) -> Result<Self::Line, EndRefusal>
-        ensures { IfOk result (λ line. comes_back line ≡ redial) };
+    fn line(&mut self, redial: bool) -> Result<Self::Line, EndRefusal>
+        ensures again { IfOk result (λ line. comes_back line ≡ redial) }
+        ensures asked { asked self.new ≡ line_asked redial (is_ok result) (asked self.old) };
 
     /// A clock that begins at this moment, in ms.
-    fn clock(&self, moment: u64) -> Result<Self::Clock, EndRefusal>
-        ensures { IfOk result (λ clock. begins_at clock moment) };
+    fn clock(&mut self, moment: u64) -> Result<Self::Clock, EndRefusal>
+        ensures begins { IfOk result (λ clock. begins_at clock moment) }
+        ensures asked { asked self.new ≡ clock_asked (is_ok result) moment (asked self.old) };
 
     /// The directory of this name, in which a state is kept. Nothing in it is touched yet.
-    fn folder(&self, name: &str) -> Result<Self::Folder, AllocError>;
+    fn folder(&mut self, name: &str) -> Result<Self::Folder, AllocError>
+        ensures asked { asked self.new
+            ≡ asked_for (StateIn name.now (is_ok result) ∷ []) (asked self.old) };
 }
 
 /// The ends that a process has at these places.
@@ -191,11 +208,21 @@ impl<'r> RunSite for Process<'r> {
 
     ghost severe = { λ process. process.has_severity };
 
+    ghost use Rattle.settings.specs.Live.{places_of};
+    ghost use Rattle.std.specs.Prelude.{None};
+
+    // A process notes none of its calls.
+    ghost asked = { λ process. record {
+      places = places_of process.places.now;
+      calls = None;
+      clocks = None;
+    } };
+
     fn alloc(&self) -> Global {
         self.rt.alloc()
     }
 
-    fn sink(&self) -> StandardError<'r, 'r, HostRuntime> {
+    fn sink(&mut self) -> StandardError<'r, 'r, HostRuntime> {
         let lines = StandardError::new(self.rt, self.names);
         if self.has_severity {
             lines.with_severity()
@@ -208,12 +235,12 @@ impl<'r> RunSite for Process<'r> {
         self.names
     }
 
-    fn sheet(&self) -> StandardOutput<'r, HostRuntime> {
+    fn sheet(&mut self) -> StandardOutput<'r, HostRuntime> {
         StandardOutput::new(self.rt)
     }
 
     fn listener(
-        &self,
+        &mut self,
     ) -> Result<(CentreListener<'r, HostRuntime>, Option<SocketAddr>), EndRefusal> {
         match CentreListener::listen(self.rt, self.places.listen.as_str()) {
             Ok(listener) => {
@@ -224,28 +251,28 @@ impl<'r> RunSite for Process<'r> {
         }
     }
 
-    fn status_listener(&self, place: &str) -> Result<VisitorListener, EndRefusal> {
+    fn status_listener(&mut self, place: &str) -> Result<VisitorListener, EndRefusal> {
         match VisitorListener::listen(self.rt, place) {
             Ok(listener) => Ok(listener),
             Err(fault) => Err(refusal_by(Trouble::StatusUnusable, &fault)),
         }
     }
 
-    fn line(&self, redial: bool) -> Result<SystemLine<'r, HostRuntime>, EndRefusal> {
+    fn line(&mut self, redial: bool) -> Result<SystemLine<'r, HostRuntime>, EndRefusal> {
         match reached(self.rt, self.places.line.as_str(), redial) {
             Ok(line) => Ok(line),
             Err(fault) => Err(refusal_by(line_trouble(&fault), &fault)),
         }
     }
 
-    fn clock(&self, moment: u64) -> Result<SystemClock<'r, HostRuntime>, EndRefusal> {
+    fn clock(&mut self, moment: u64) -> Result<SystemClock<'r, HostRuntime>, EndRefusal> {
         match SystemClock::start_at(self.rt, moment) {
             Ok(clock) => Ok(clock),
             Err(fault) => Err(refusal_by(Trouble::LineUnreached, &fault)),
         }
     }
 
-    fn folder(&self, name: &str) -> Result<Directory, AllocError> {
+    fn folder(&mut self, name: &str) -> Result<Directory, AllocError> {
         Ok(Directory::new(*self.rt, String::from_str(self.rt.alloc(), name)?))
     }
 }

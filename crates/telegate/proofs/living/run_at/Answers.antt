@@ -5,20 +5,21 @@ use Rattle.telegate.proofs.living.run_at.Goals as goal
 pub returns-in_ok-run_anew-in-None-clause-lived : goal.returns-in_ok-run_anew-in-None-clause-lived
 returns-in_ok-run_anew-in-None-clause-lived g c =
     let run = c.in_ok-run_anew-in-None.field-0 in
-    lived_anew _ c.args.config.now c.args.wishes (record {
+    lived_anew _ c.args.config.now c.args.wishes _ _ (record {
       before = run.run_log.port.before.entries;
       port = run.run_log.port.port.port;
       pen = run.run_log.port.port.pen;
       book = run.run_log.logger;
       is_shown = is_some run.lookout;
       bears_loss = None;
-    }) run.ended c.in-None.is c.in_ok-run_anew-in-None.ensures.before
+    }) run.ended c.in-None.is c.in_ok-run_anew-in-None.ensures.asked
+    c.in_ok-run_anew-in-None.ensures.before
     c.in_ok-run_anew-in-None.ensures.lived c.in_ok-run_anew-in-None.ensures.wished
 
 pub returns-in_ok-run_kept-in-Some-clause-lived : goal.returns-in_ok-run_kept-in-Some-clause-lived
 returns-in_ok-run_kept-in-Some-clause-lived g c =
     let run = c.in_ok-run_kept-in-Some.field-0 in
-    lived_kept _ c.args.config.now c.args.wishes c.in-Some.directory (record {
+    lived_kept _ c.args.config.now c.args.wishes _ _ c.in-Some.directory (record {
       before = run.run_log.port.before.entries;
       port = run.run_log.port.port.port.ends.port;
       pen = run.run_log.port.port.pen;

@@ -7,20 +7,20 @@ use Rattle.telegate.proofs.Files.{have_played}
 use Rattle.telegate.proofs.Files.{unanswered}
 use Rattle.telegate.proofs.shell.respond.Goals as goal
 
-pub returns-in-Check : goal.returns-in-Check
-returns-in-Check g c =
+pub returns-in-Check-clause-responds : goal.returns-in-Check-clause-responds
+returns-in-Check-clause-responds g c =
     has_checked (g.H.Host.has c.args.host.now) (g.H.Host.lacks c.args.host.now)
-    (g.H.Host.ran c.args.host.now) (g.H.Host.answered c.args.host.now)
+    (g.H.Host.ran c.args.host.now c.args.host.now) (g.H.Host.answered c.args.host.now)
     (g.H.Host.silent c.args.host.now) (g.H.Host.played c.args.host.now)
     (g.H.Host.stands c.args.host.now) (g.H.Host.colours c.args.host.now)
     c.args.request.now c.in-Check.config c.in-Check.site c.in-Check.live c.in-Check.explain
     (g.W.Write.contents c.args.out.now) (g.W.Write.contents c.check_behind.new.out)
     c.check_behind.result c.in-Check.is c.check_behind.ensures
 
-pub returns-in-Err : goal.returns-in-Err
-returns-in-Err g c =
+pub returns-in-Err-clause-responds : goal.returns-in-Err-clause-responds
+returns-in-Err-clause-responds g c =
     unanswered (g.H.Host.has c.args.host.now) (g.H.Host.lacks c.args.host.now)
-    (g.H.Host.ran c.args.host.now) (g.H.Host.answered c.args.host.now)
+    (g.H.Host.ran c.args.host.now c.args.host.now) (g.H.Host.answered c.args.host.now)
     (g.H.Host.silent c.args.host.now) (g.H.Host.played c.args.host.now)
     (g.H.Host.stands c.args.host.now) (g.H.Host.colours c.args.host.now)
     c.args.request.now _ (g.W.Write.contents c.args.out.now) c.in-Err.status
@@ -29,20 +29,20 @@ returns-in-Err g c =
     c.in-Replay.config.now
     (c.in-Replay.trace.now ∷ []) c.in-Err.status c.in-Err.ensures.unread)
 
-pub returns-in-Err-read_files : goal.returns-in-Err-read_files
-returns-in-Err-read_files g c =
+pub returns-in-Err-read_files-clause-responds : goal.returns-in-Err-read_files-clause-responds
+returns-in-Err-read_files-clause-responds g c =
     unanswered (g.H.Host.has c.args.host.now) (g.H.Host.lacks c.args.host.now)
-    (g.H.Host.ran c.args.host.now) (g.H.Host.answered c.args.host.now)
+    (g.H.Host.ran c.args.host.now c.args.host.now) (g.H.Host.answered c.args.host.now)
     (g.H.Host.silent c.args.host.now) (g.H.Host.played c.args.host.now)
     (g.H.Host.stands c.args.host.now) (g.H.Host.colours c.args.host.now)
     c.args.request.now _
     (g.W.Write.contents c.args.out.now) c.in-Err-read_files.status
     (ap files_of c.in-Sim.is) c.in-Err-read_files.ensures.unread
 
-pub returns-in-Err-read_file : goal.returns-in-Err-read_file
-returns-in-Err-read_file g c =
+pub returns-in-Err-read_file-clause-responds : goal.returns-in-Err-read_file-clause-responds
+returns-in-Err-read_file-clause-responds g c =
     unanswered (g.H.Host.has c.args.host.now) (g.H.Host.lacks c.args.host.now)
-    (g.H.Host.ran c.args.host.now) (g.H.Host.answered c.args.host.now)
+    (g.H.Host.ran c.args.host.now c.args.host.now) (g.H.Host.answered c.args.host.now)
     (g.H.Host.silent c.args.host.now) (g.H.Host.played c.args.host.now)
     (g.H.Host.stands c.args.host.now) (g.H.Host.colours c.args.host.now)
     c.args.request.now _ (g.W.Write.contents c.args.out.now) c.in-Err-read_file.status
@@ -51,19 +51,19 @@ returns-in-Err-read_file g c =
     c.in-Audit.config.now
     (c.in-Audit.text.now ∷ []) c.in-Err-read_file.status c.in-Err-read_file.ensures.unread)
 
-pub returns-in-Run : goal.returns-in-Run
-returns-in-Run g c =
+pub returns-in-Run-clause-responds : goal.returns-in-Run-clause-responds
+returns-in-Run-clause-responds g c =
     has_run (g.H.Host.has c.args.host.now) (g.H.Host.lacks c.args.host.now)
-    (g.H.Host.ran c.args.host.now) (g.H.Host.answered c.args.host.now)
+    (g.H.Host.ran c.args.host.now c.run_wished.new.host) (g.H.Host.answered c.args.host.now)
     (g.H.Host.silent c.args.host.now) (g.H.Host.played c.args.host.now)
     (g.H.Host.stands c.args.host.now) (g.H.Host.colours c.args.host.now)
     c.args.request.now c.in-Run.config c.in-Run.words
-    (g.W.Write.contents c.args.out.now) c.run_wished.result c.in-Run.is c.run_wished.ensures
+    (g.W.Write.contents c.args.out.now) c.run_wished.result c.in-Run.is c.run_wished.ensures.runs
 
-pub returns-in-Ok : goal.returns-in-Ok
-returns-in-Ok g c =
+pub returns-in-Ok-clause-responds : goal.returns-in-Ok-clause-responds
+returns-in-Ok-clause-responds g c =
     has_replayed (g.H.Host.has c.args.host.now) (g.H.Host.lacks c.args.host.now)
-    (g.H.Host.ran c.args.host.now) (g.H.Host.answered c.args.host.now)
+    (g.H.Host.ran c.args.host.now c.args.host.now) (g.H.Host.answered c.args.host.now)
     (g.H.Host.silent c.args.host.now) (g.H.Host.played c.args.host.now)
     (g.H.Host.stands c.args.host.now) (g.H.Host.colours c.args.host.now)
     c.args.request.now c.in-Replay.config c.in-Replay.trace c.in-Replay.left c.in-Replay.counts
@@ -88,10 +88,10 @@ returns-in-Ok g c =
     c.as_slice.ensures.value
     c.replay_file.ensures))
 
-pub returns-in-Err-read_file-2 : goal.returns-in-Err-read_file-2
-returns-in-Err-read_file-2 g c =
+pub returns-in-Err-read_file-2-clause-responds : goal.returns-in-Err-read_file-2-clause-responds
+returns-in-Err-read_file-2-clause-responds g c =
     unanswered (g.H.Host.has c.args.host.now) (g.H.Host.lacks c.args.host.now)
-    (g.H.Host.ran c.args.host.now) (g.H.Host.answered c.args.host.now)
+    (g.H.Host.ran c.args.host.now c.args.host.now) (g.H.Host.answered c.args.host.now)
     (g.H.Host.silent c.args.host.now) (g.H.Host.played c.args.host.now)
     (g.H.Host.stands c.args.host.now) (g.H.Host.colours c.args.host.now)
     c.args.request.now _ (g.W.Write.contents c.args.out.now) c.in-Err-read_file-2.status
@@ -100,19 +100,19 @@ returns-in-Err-read_file-2 g c =
     c.in-Capture.config.now
     (c.in-Capture.text.now ∷ []) c.in-Err-read_file-2.status c.in-Err-read_file-2.ensures.unread)
 
-pub returns-in-Stations : goal.returns-in-Stations
-returns-in-Stations g c =
+pub returns-in-Stations-clause-responds : goal.returns-in-Stations-clause-responds
+returns-in-Stations-clause-responds g c =
     have_played (g.H.Host.has c.args.host.now) (g.H.Host.lacks c.args.host.now)
-    (g.H.Host.ran c.args.host.now) (g.H.Host.answered c.args.host.now)
+    (g.H.Host.ran c.args.host.now c.args.host.now) (g.H.Host.answered c.args.host.now)
     (g.H.Host.silent c.args.host.now) (g.H.Host.played c.args.host.now)
     (g.H.Host.stands c.args.host.now) (g.H.Host.colours c.args.host.now)
     c.args.request.now c.in-Stations.config c.in-Stations.script
     (g.W.Write.contents c.args.out.now) c.play_files.result c.in-Stations.is c.play_files.ensures
 
-pub returns-in-State : goal.returns-in-State
-returns-in-State g c =
+pub returns-in-State-clause-responds : goal.returns-in-State-clause-responds
+returns-in-State-clause-responds g c =
     has_shown (g.H.Host.has c.args.host.now) (g.H.Host.lacks c.args.host.now)
-    (g.H.Host.ran c.args.host.now) (g.H.Host.answered c.args.host.now)
+    (g.H.Host.ran c.args.host.now c.args.host.now) (g.H.Host.answered c.args.host.now)
     (g.H.Host.silent c.args.host.now) (g.H.Host.played c.args.host.now)
     (g.H.Host.stands c.args.host.now) (g.H.Host.colours c.args.host.now)
     c.args.request.now c.in-State.directory c.in-State.config (g.W.Write.contents c.args.out.now)

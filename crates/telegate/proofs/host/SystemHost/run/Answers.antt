@@ -1,4 +1,5 @@
-use Rattle.std.proofs.Common.{Some, None, inl, inr, is_some}
+use Rattle.std.proofs.Common.{Some, None, inl, inr, ap, is_some}
+use Rattle.settings.specs.Live.{places_of}
 use Rattle.telegate.proofs.host.SystemHost.run.Goals as goal
 
 pub returns-in_default : goal.returns-in_default
@@ -28,6 +29,13 @@ returns-in-Ok-Anew c =
       places = c.in_ok-settings.places;
       are = c.in_ok-settings.ensures;
       came = inr (record {
+        old = record {
+          places = places_of c.process_of-site.result.places.now;
+          calls = None;
+          clocks = None;
+        };
+        at = ap places_of c.process_of-site.ensures.places;
+        new = _;
         left = record {
           before = run.run_log.port.before.entries;
           port = run.run_log.port.port.port;
@@ -51,6 +59,13 @@ returns-in-Ok-Kept c =
       places = c.in_ok-settings.places;
       are = c.in_ok-settings.ensures;
       came = inr (record {
+        old = record {
+          places = places_of c.process_of-site.result.places.now;
+          calls = None;
+          clocks = None;
+        };
+        at = ap places_of c.process_of-site.ensures.places;
+        new = _;
         left = record {
           before = run.run_log.port.before.entries;
           port = run.run_log.port.port.port.ends.port;
