@@ -81,7 +81,7 @@ silent_logged k (outcome.Report station asdu) w = refl
 
 -- Reports of command types
 
-reports_more : (sizes : Sizes) (rs : List (ℕ × List ℕ)) (r : ℕ × List ℕ)
+pub reports_more : (sizes : Sizes) (rs : List (ℕ × List ℕ)) (r : ℕ × List ℕ)
     → command_reports sizes (rs ++ r ∷ []) ≡ command_reports sizes rs
     ++ (if is_command_report sizes r.1 then r.1 ∷ [] else [])
 reports_more sizes [] r = refl

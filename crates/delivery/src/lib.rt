@@ -39,6 +39,7 @@
 // Apart from the gateway, of which it needs the log and `IsFaithful` alone: so the gateway's chain
 // stays short (docs/DECISIONS.md, "`delivery` stands apart").
 mod commands;
+mod counting;
 mod laws;
 mod passed_on;
 mod received;
@@ -47,6 +48,7 @@ pub use commands::{
     each_command_is_given_once, selections_end_in_time, settings_are_set_up,
     the_course_is_the_logs, what_is_refused_is_answered,
 };
+pub use counting::{commands_lost_at_new_settings_are_counted, counts_of_commands_are_the_logs};
 pub use laws::{
     each_session_is_known, gaps_are_reported_by_their_station, losses_are_reported,
     losses_have_gaps, nothing_is_lost, silence_is_no_reset,
