@@ -15,9 +15,8 @@ use Rattle.session.specs.declared.kinds.Close.{Close}
 use Rattle.session.specs.declared.kinds.Close.TheVariants.{Grammar, SendNumber, ReceiveNumber}
 use Rattle.session.specs.declared.kinds.Close.TheVariants.{Stopped, Timeout, OwnAnswers, Replaced}
 use Rattle.session.specs.History.{is_started}
-use Rattle.command.specs.State.{is_used, line_of}
 use Rattle.gateway.specs.declared.counts.Tally.{Tally}
-use Rattle.gateway.specs.Counting.{one_lost, one_skipped, is_answer_type, counted_by}
+use Rattle.gateway.specs.Counting.{one_skipped, is_answer_type, counted_by}
 use Rattle.gateway.specs.Objects.{has_objects}
 use Rattle.gateway.specs.Log.{Log, Came, Went, Opened, LineIn, TcpIn, CutOff, Ticked, WallIs}
 use Rattle.gateway.specs.Log.{Restarted, LineOut, TcpOut, Closed, GapOut, latest}
@@ -37,6 +36,7 @@ use Rattle.gateway.proofs.Waiting.{AnswersStay}
 use Rattle.delivery.specs.Joined.{IsSetUp, command_reports}
 use Rattle.delivery.specs.Counts.{answers_on, CameStopped}
 use Rattle.delivery.proofs.LinkLaws.{LinkLaws}
+use Rattle.delivery.proofs.Skipping.{lost_mirrors}
 use Rattle.delivery.proofs.Works.{reports_more}
 use Rattle.delivery.proofs.Joining.{joins, left_joins}
 
@@ -44,10 +44,6 @@ abbrev mirrors_of : Works → ℕ
 mirrors_of w = w.serial.counts.mirrors
 
 -- ---- What is counted elsewhere
-
-lost_elsewhere : (b : Bool) (t : Tally) → (if b then one_lost t else t).mirrors ≡ t.mirrors
-lost_elsewhere true t = refl
-lost_elsewhere false t = refl
 
 skipped_elsewhere : (objects : List InformationObject) (t : Tally)
     → (counted_by objects t).mirrors ≡ t.mirrors
@@ -61,7 +57,7 @@ skipped_elsewhere (o ∷ objects) t = go (is_answer_type o.kind) (is_passed_on o
 
 silent_elsewhere : (o : Option ℕ) (w : Works) → mirrors_of (unless_silent_works o w) ≡ mirrors_of w
 silent_elsewhere None w = refl
-silent_elsewhere (Some k) w = lost_elsewhere (is_used (line_of k w.serial.commands)) w.serial.counts
+silent_elsewhere (Some k) w = lost_mirrors k w.serial
 
 settled_elsewhere : (at : ℕ) (w : Works) → mirrors_of (settled_works at w) ≡ mirrors_of w
 settled_elsewhere at w = silent_elsewhere w.serial.silent w
@@ -102,7 +98,7 @@ sent_elsewhere (U u) w = refl
 restarted_elsewhere : (w : Works) → mirrors_of (restarted_works w) ≡ mirrors_of w
 restarted_elsewhere w =
     kept_over (λ (z : Works). mirrors_of z ≡ mirrors_of w)
-    (λ station v e. lost_elsewhere (is_used (line_of station v.serial.commands)) v.serial.counts ∙ e)
+    (λ station v e. lost_mirrors station v.serial ∙ e)
     w refl
 
 closed_elsewhere : (p : Setup) (cause : Close) (is_open : Bool) (at : ℕ) (c : Course)
@@ -183,7 +179,7 @@ module _ (p : Setup) (at : ℕ) (w : Works) (rs : List (ℕ × List ℕ)) (n : �
   learnt running (outcome.Busy station) z learns = same_count running z (ap mirrors_of learns)
   learnt running (outcome.Down station) z learns = same_count running z
       (ap mirrors_of learns
-      ∙ lost_elsewhere (is_used (line_of station w.serial.commands)) w.serial.counts)
+      ∙ lost_mirrors station w.serial)
   learnt running outcome.None z learns = same_count running z (ap mirrors_of learns)
   learnt running (outcome.Started station) z learns = same_count running z (ap mirrors_of learns)
   learnt running (outcome.StartedGap station session) z learns =
