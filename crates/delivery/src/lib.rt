@@ -11,7 +11,9 @@
 //! Downwards: [`each_command_is_given_once`], and what isn't given is answered
 //! ([`what_is_refused_is_answered`]). Between them: [`the_course_is_the_logs`], that what the
 //! gateway's course logs of the line and of commands is what the octets of the log show; and
-//! [`selections_end_in_time`], by the log's moments. What a station says of a command goes on as it
+//! [`selections_end_in_time`], by the log's moments. What is counted of commands is what the log
+//! shows ([`counts_of_commands_are_the_logs`]), and at other settings what stood on the lines
+//! ([`commands_lost_at_new_settings_are_counted`]). What a station says of a command goes on as it
 //! came ([`answers_are_passed_on_as_they_came`]), with the command's tag
 //! ([`answers_bear_the_tag_of_their_command`]), once ([`each_answer_is_given_once`]; on each log
 //! [`answers_of_stations_are_heeded`]) and in ASDUs of as many objects as fit
