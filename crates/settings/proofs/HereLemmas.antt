@@ -5,7 +5,8 @@ use Rattle.std.proofs.Common.{nat_eq}
 use Rattle.std.specs.Prelude.{codes, nat_le}
 use Rattle.std.specs.List.{AllByRecursion, list_all}
 use Rattle.traces.specs.Fields.{decimal_of}
-use Rattle.settings.specs.Live.{is_here, is_localhost, is_loopback, is_numeric, is_port, is_port_number}
+use Rattle.settings.specs.Live.{is_here, is_localhost, is_loopback, is_numeric, is_port}
+use Rattle.settings.specs.Live.{is_port_number}
 use Rattle.settings.specs.Here.{IsOfAddress, LinesAreHere}
 
 port_true : (port : List ℕ) (n : ℕ) → decimal_of port ≡ Some n → 1 ≤ n → n ≤ 65535
@@ -44,7 +45,8 @@ one_not [] behind c e = ap (λ (b : Bool). b && list_all is_numeric behind) e
 one_not (x ∷ before) behind c e =
     ap (λ (b : Bool). is_numeric x && b) (one_not before behind c e) ∙ stops (is_numeric x)
 
-named : (port : List ℕ) → is_here (codes "tcp:localhost:" ++ port) ≡ (is_port port || false) || false
+named : (port : List ℕ)
+    → is_here (codes "tcp:localhost:" ++ port) ≡ (is_port port || false) || false
 unfolding is_localhost
 named port = refl
 
