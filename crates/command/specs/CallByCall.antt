@@ -1,14 +1,14 @@
 -- What each call makes of the commands that wait, of what stands on a line, and of the own answers
 -- (IEC 60870-5-101, 6.4 and 7.2.3; first in, first out is this gateway's own profile).
-use Rattle.std.specs.Prelude.{◌≡◌, ℕ, suc, ◌<◌, ◌≤◌, ◌==◌, ◌⊎◌, ◌||◌, Bool, true, false, List, []}
-use Rattle.std.specs.Prelude.{◌∷◌, ◌++◌, length, slice_get, Option, Some, None}
+use Rattle.std.specs.Prelude.{◌≡◌, ℕ, suc, ◌<◌, ◌≤◌, ◌==◌, ◌⊎◌, ◌||◌, ◌&&◌, not, Bool, true, false}
+use Rattle.std.specs.Prelude.{List, [], ◌∷◌, ◌++◌, length, slice_get, Option, Some, None, is_none}
 use Rattle.asdu.specs.declared.sizes.Sizes.{Sizes}
 use Rattle.command.specs.declared.station.StationInfo.{StationInfo}
 use Rattle.command.specs.Octets.{answer}
 use Rattle.command.specs.Standard.{negative_of, is_for_station}
 use Rattle.command.specs.Judging.{judged}
-use Rattle.command.specs.State.{line_of, refusal_of}
-use Rattle.command.specs.History.{forwarded_to, sent_count, next_for}
+use Rattle.command.specs.State.{line_of, refusal_of, octets_waiting}
+use Rattle.command.specs.History.{GivenUp, forwarded_to, sent_count, next_for}
 use Rattle.command.specs.Calls.{Call, Judge, PutOnLine, Accept, Busy, Lose, Own, SendOwn, Cut, Run}
 use Rattle.command.specs.Calls.{run}
 use Rattle.command.specs.Confirming.{GoOn, clears_line}
@@ -29,6 +29,21 @@ abbrev pub is_own : Call → Bool
 is_own (Own octets) = true
 is_own SendOwn = true
 is_own call = false
+
+-- the station accepted what stood on its line, refused it as busy, or was given up
+abbrev pub is_done : ℕ → Call → Bool
+is_done k (Accept j) = k == j
+is_done k (Busy j) = k == j
+is_done k (Lose j) = k == j
+is_done k call = false
+
+module _ (stations : List StationInfo) (sizes : Sizes) (select_ms max_age_ms : ℕ) where
+  -- a command goes out to the station: one waits for it
+  abbrev pub goes_out : ℕ → Call → List Call → Bool
+  goes_out k (PutOnLine j) earlier =
+      k == j && not (is_none (octets_waiting j
+      (run stations sizes select_ms max_age_ms earlier).state))
+  goes_out k call earlier = false
 
 module _ (stations : List StationInfo) (sizes : Sizes) (select_ms max_age_ms : ℕ)
     (calls : List Call) where
@@ -94,3 +109,17 @@ module _ (stations : List StationInfo) (sizes : Sizes) (select_ms max_age_ms : �
     pub stays : (call : Call) → (is_own call || is_cut call) ≡ false →
         (after (call ∷ calls)).state.answers ≡ (after calls).state.answers
     pub cut : (after (Cut ∷ calls)).state.answers ≡ []
+
+  -- A command that went out, and whose station is then given up, is lost, whatever else lies
+  -- between: other stations' commands, answers, and the end of its connection too. It is lost once.
+  -- What is done, or never went out, isn't lost.
+  pub record IsLostOnTheLine (k : ℕ) : Type 0 where
+    pub lost : (octets : List ℕ) (on_line : List Call) →
+        octets_waiting k (after calls).state ≡ Some octets →
+        GoOn (λ call before. is_done k call) (PutOnLine k ∷ calls) on_line →
+        (after (Lose k ∷ on_line)).history ≡ GivenUp k true ∷ (after on_line).history
+    pub done : (call : Call) (free : List Call) → is_done k call ≡ true →
+        GoOn (goes_out stations sizes select_ms max_age_ms k) (call ∷ calls) free →
+        (after (Lose k ∷ free)).history ≡ GivenUp k false ∷ (after free).history
+    pub never : GoOn (goes_out stations sizes select_ms max_age_ms k) [] calls →
+        (after (Lose k ∷ calls)).history ≡ GivenUp k false ∷ (after calls).history

@@ -33,7 +33,7 @@ ghost use Rattle.command.specs.Passing.{FindsPlaces, of_others};
 ghost use Rattle.command.specs.Calls.{Call, Judge, Cut, run};
 ghost use Rattle.command.specs.Confirming.{IsExchanged};
 ghost use Rattle.command.specs.LineForms.{LinesAreSpelled};
-ghost use Rattle.command.specs.CallByCall.{GoInTurn, IsAnsweredBusy, WaitInTurn};
+ghost use Rattle.command.specs.CallByCall.{GoInTurn, IsAnsweredBusy, WaitInTurn, IsLostOnTheLine};
 ghost use Rattle.command.specs.Selections.{AreDistinct, IsStanding, IsInTime};
 ghost use Rattle.command.specs.Examples.{OctetExamples, IsRight, WaitsSo, rule_examples};
 ghost use Rattle.command.specs.Examples.{selection_examples, line_examples, tag_examples, BearsIt};
@@ -231,6 +231,15 @@ pub fn own_answers_are_given()
         (calls : List Call) → WaitInTurn stations sizes select_ms max_age_ms calls }
     ensures spelled { (cause : ℕ) (xs : List ℕ) → cause < 64 → 9 ≤ length xs
         → slice_index xs 2 < 256 → IsRefusal cause xs (answer cause xs) }
+{}
+
+/// A command that went out, and whose station's link then goes down, is told as lost, call by call:
+/// at each station, whatever lies between. Other stations' commands and answers don't matter, and
+/// neither does the end of its connection. It is told once. What its station accepted or refused as
+/// busy isn't told as lost, nor is a command that never went out.
+pub fn commands_are_lost_on_the_line()
+    ensures { (stations : List StationInfo) (sizes : Sizes) (select_ms max_age_ms : ℕ)
+        (calls : List Call) (k : ℕ) → IsLostOnTheLine stations sizes select_ms max_age_ms calls k }
 {}
 
 /// No call changes the settings.

@@ -265,7 +265,7 @@ module _ (laws : LinkLaws) (stay : AnswersStay) (p : Setup) where
       go true is = (refl, unasked (none is))
       go false is = (j.left is, j)
 
-  left_joins : (log : Log) (before after : Course) (e : Exchanges) → IsLeft p log before after
+  pub left_joins : (log : Log) (before after : Course) (e : Exchanges) → IsLeft p log before after
       → Joins p e before.works
       → (after.works.serial.silent ≡ None) × Joins p e after.works
   left_joins log before after e left j = subst (λ (c : Course). (c.works.serial.silent ≡ None)

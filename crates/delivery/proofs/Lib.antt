@@ -43,3 +43,6 @@ pub mod Here
 pub mod Closing
 pub mod OwnAnswers
 pub mod Places
+pub mod Counts
+pub mod Unpassed
+pub mod NewSettings

@@ -183,7 +183,7 @@ module _ (laws : LinkLaws) (stay : AnswersStay) (p : Setup) where
     silent = g.silent;
     fits = one_fits stay p (Lose j) (tasks_of z) tt g.fits;
     mirrored = g.mirrored;
-    skipped = lost_skips (is_used (line_of j z.serial.commands)) z.serial.counts ∙ g.skipped;
+    skipped = lost_skips j z.serial ∙ g.skipped;
   }
     where
       holds : holds_command (link_after p.link (address_at p.addresses j) Down

@@ -1,7 +1,7 @@
 -- What is counted as skipped are the reports that are skipped.
 use Rattle.std.specs.Prelude.{◌==◌, slice_index, map}
 use Rattle.std.proofs.Common.{◌≡◌, ℕ, suc, ◌&&◌, Bool, true, false, not, Option, Some, None, List}
-use Rattle.std.proofs.Common.{[], ◌∷◌, ◌++◌, length, refl, ap, sym, ◌∙◌, arith, if◌then◌else◌}
+use Rattle.std.proofs.Common.{[], ◌∷◌, ◌++◌, length, refl, ap, sym, ◌∙◌, arith, rules, if◌then◌else◌}
 use Rattle.std.proofs.lemmas.Bool.{eqb-true}
 use Rattle.elements.specs.declared.types.TypeId.{TypeId}
 use Rattle.elements.specs.Types.{type_of}
@@ -15,7 +15,8 @@ use Rattle.asdu.specs.InformationObjects.{monitor_objects_of}
 use Rattle.std.specs.Io.Iter.{u64_saturate}
 use Rattle.gateway.specs.declared.counts.Tally.{Tally}
 use Rattle.gateway.specs.Objects.{monitor_objects}
-use Rattle.gateway.specs.Counting.{one_more, one_skipped, one_lost, is_answer_type, counted_by}
+use Rattle.gateway.specs.Serial.{Serial, loss_counted}
+use Rattle.gateway.specs.Counting.{one_more, one_skipped, is_answer_type, counted_by}
 use Rattle.gateway.specs.Counting.{counted}
 use Rattle.gateway.specs.Works.{is_command_by, is_command_report}
 use Rattle.delivery.specs.Joined.{is_skipped, skipped_among}
@@ -130,6 +131,8 @@ skip_none sizes station report rs command = go (length (monitor_objects sizes re
     go none false is more = cc
 
 -- a command that is given up counts elsewhere
-pub lost_skips : (b : Bool) (c : Tally) → (if b then one_lost c else c).skipped ≡ c.skipped
-lost_skips true c = refl
-lost_skips false c = refl
+pub lost_skips : (station : ℕ) (s : Serial) → (loss_counted station s).skipped ≡ s.counts.skipped
+lost_skips station s = grind rules
+
+pub lost_mirrors : (station : ℕ) (s : Serial) → (loss_counted station s).mirrors ≡ s.counts.mirrors
+lost_mirrors station s = grind rules

@@ -20,7 +20,6 @@ use Rattle.link.specs.Primary.{is_command}
 use Rattle.link.specs.Matching.{report_in}
 use Rattle.command.specs.declared.waiting.Waiting.{Waiting}
 use Rattle.command.specs.State.{State, octets_waiting, oldest_for}
-use Rattle.command.specs.State.{is_used, line_of}
 use Rattle.command.specs.Judging.{judged}
 use Rattle.command.specs.History.{History, Sent}
 use Rattle.command.specs.Calls.{Judge, PutOnLine, Accept, Busy, Lose, Mirror, SendOwn, Run}
@@ -81,7 +80,7 @@ silent_logged k (outcome.Report station asdu) w = refl
 
 -- Reports of command types
 
-reports_more : (sizes : Sizes) (rs : List (ℕ × List ℕ)) (r : ℕ × List ℕ)
+pub reports_more : (sizes : Sizes) (rs : List (ℕ × List ℕ)) (r : ℕ × List ℕ)
     → command_reports sizes (rs ++ r ∷ []) ≡ command_reports sizes rs
     ++ (if is_command_report sizes r.1 then r.1 ∷ [] else [])
 reports_more sizes [] r = refl
@@ -209,7 +208,7 @@ down_learnt stay p station w = record {
   judged = refl;
   skips = λ rs h. same_skips p.sizes (given_up_works station w).serial.counts.skipped
       w.serial.counts.skipped rs
-      (lost_skips (is_used (line_of station w.serial.commands)) w.serial.counts) h;
+      (lost_skips station w.serial) h;
 }
 
 module _ (stay : AnswersStay) (p : Setup) (at : ℕ) (station : ℕ) (asdu : ArrayVec ℕ)
@@ -443,7 +442,7 @@ settled_quiet stay p at w = record {
     count : (o : Option ℕ) → (unless_silent_works o w).serial.counts.skipped
         ≡ w.serial.counts.skipped
     count None = refl
-    count (Some station) = lost_skips (is_used (line_of station w.serial.commands)) w.serial.counts
+    count (Some station) = lost_skips station w.serial
 
 pub settled_line : (at : ℕ) (w : Works) → (settled_works at w).serial.line ≡ w.serial.line
 settled_line at w = go w.serial.silent

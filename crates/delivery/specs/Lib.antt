@@ -10,3 +10,4 @@ pub mod Closing
 pub mod Answers
 pub mod OwnAnswers
 pub mod Octets
+pub mod Counts

@@ -11,7 +11,9 @@
 //! Downwards: [`each_command_is_given_once`], and what isn't given is answered
 //! ([`what_is_refused_is_answered`]). Between them: [`the_course_is_the_logs`], that what the
 //! gateway's course logs of the line and of commands is what the octets of the log show; and
-//! [`selections_end_in_time`], by the log's moments. What a station says of a command goes on as it
+//! [`selections_end_in_time`], by the log's moments. What is counted of commands is what the log
+//! shows ([`counts_of_commands_are_the_logs`]), and at other settings what stood on the lines
+//! ([`commands_lost_at_new_settings_are_counted`]). What a station says of a command goes on as it
 //! came ([`answers_are_passed_on_as_they_came`]), with the command's tag
 //! ([`answers_bear_the_tag_of_their_command`]), once ([`each_answer_is_given_once`]; on each log
 //! [`answers_of_stations_are_heeded`]) and in ASDUs of as many objects as fit
@@ -39,6 +41,7 @@
 // Apart from the gateway, of which it needs the log and `IsFaithful` alone: so the gateway's chain
 // stays short (docs/DECISIONS.md, "`delivery` stands apart").
 mod commands;
+mod counting;
 mod laws;
 mod passed_on;
 mod received;
@@ -47,6 +50,7 @@ pub use commands::{
     each_command_is_given_once, selections_end_in_time, settings_are_set_up,
     the_course_is_the_logs, what_is_refused_is_answered,
 };
+pub use counting::{commands_lost_at_new_settings_are_counted, counts_of_commands_are_the_logs};
 pub use laws::{
     each_session_is_known, gaps_are_reported_by_their_station, losses_are_reported,
     losses_have_gaps, nothing_is_lost, silence_is_no_reset,

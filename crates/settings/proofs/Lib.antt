@@ -12,3 +12,4 @@ pub mod Refusing
 mod UnknownNamed
 mod Faulting
 mod Wording
+pub mod HereLemmas

@@ -12,3 +12,4 @@ pub mod Known
 pub mod Files
 pub mod FirstUnknown
 pub mod FirstWrong
+pub mod Here

@@ -4,6 +4,7 @@ ghost use Rattle.gateway.specs.Config.{Settings};
 ghost use Rattle.settings.specs.Files.{AreEndsOf, HasNoOtherKeys, HasPlaces, IsFileOf, IsFromFile};
 ghost use Rattle.settings.specs.Files.{IsReadAs, IsReadWith};
 ghost use Rattle.settings.specs.FirstWrong.{AreWordsRight, IsFaultNamed, end_entries, text_entries};
+ghost use Rattle.settings.specs.Here.{LinesAreHere};
 ghost use Rattle.settings.specs.Live.{Places};
 ghost use Rattle.settings.specs.Settings.{IsLiveReadOfText, IsReadFor, IsReadOfText, Values};
 ghost use Rattle.settings.specs.declared.fault.ConfigFault.{ConfigFault};
@@ -64,4 +65,11 @@ pub fn faults_name_the_first_wrong_key()
 /// what it may have: those of the rows by which faults are named.
 pub fn words_are_those_of_the_rows()
     ensures { AreWordsRight }
+{}
+
+/// A line is on this machine by its name where it is a path, or its host is `localhost`, `::1` or
+/// an address of 127.0.0.0/8, at each port. A host that begins otherwise isn't, nor is a name that
+/// only begins as one of these.
+pub fn lines_are_here_by_their_names()
+    ensures { LinesAreHere }
 {}
