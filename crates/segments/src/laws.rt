@@ -1,11 +1,12 @@
 //! What holds of both files over a crash.
-ghost use Rattle.std.specs.Prelude.{◌≡◌, ◌<◌, ◌≤◌, ℕ, List, [], ◌∷◌, ◌++◌, codes, length, take};
+ghost use Rattle.std.specs.Prelude.{◌≡◌, ◌⊎◌, ◌+◌, ◌-◌, ◌^◌, ◌<◌, ◌≤◌, ℕ, List, [], ◌∷◌, ◌++◌};
+ghost use Rattle.std.specs.Prelude.{codes, length, take};
 ghost use Rattle.segments.specs.Crash.{HasNoOther, IsShut, IsTextIfOpen};
 ghost use Rattle.segments.specs.Crashes.{AreBoth, AreOlder, AreShutOr, IsThatOf, StaysBacked};
 ghost use Rattle.segments.specs.Crashes.{Survives};
 ghost use Rattle.segments.specs.Crashes.{lines_behind};
 ghost use Rattle.segments.specs.Head.{Fits, head_for, head_of, whole_text};
-ghost use Rattle.segments.specs.Starts.{IsBacked, IsFoundIn, IsNewest};
+ghost use Rattle.segments.specs.Starts.{IsAbove, IsBacked, IsFoundIn, IsNewest, IsNext};
 ghost use Rattle.segments.specs.declared.head.SegmentHead.{SegmentHead};
 ghost use Rattle.sqlite_disk.specs.Disk.{Holds};
 ghost use Rattle.statetext.specs.Sum.{sum_of};
