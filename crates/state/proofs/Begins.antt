@@ -150,8 +150,11 @@ module _ {D : Type 0} {g : Ghosts D} where
         it.left,
         elim it.gone [
           | inl kept ↦ inl (trusted_on o.beginning kept.0, sym same.wrote ∙ kept.1, kept.2, kept.3)
-          | inr moved ↦ inr (subst (λ (t : List ℕ). IsReadOfText t (Ok it.wrote)) same.wrote
-              moved.0, moved.1)
+          | inr moved ↦ inr (
+            subst (λ (t : List ℕ). IsReadOfText t (Ok it.wrote)) same.wrote
+                moved.0,
+            moved.1,
+          )
         ],
         λ follows rests.
             let replayed = it.went.read first rest same.state savable follows rests in (

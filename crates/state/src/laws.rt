@@ -1,6 +1,7 @@
 //! What holds of each history.
 ghost use Rattle.std.specs.Prelude.{◌≡◌, ◌++◌, ◌∷◌, [], ℕ, ◌+◌, ◌<◌, ◌≤◌, ◌⊎◌, Bool, true, false};
 ghost use Rattle.std.specs.Prelude.{List, Option, Ok, Some, None, length, slice_get, slice_index};
+ghost use Rattle.std.specs.Prelude.{IsTrue};
 ghost use Rattle.std.specs.List.{AllByRecursion};
 ghost use Rattle.std.specs.Option.{is_some};
 ghost use Rattle.checkpoint.specs.Octets.{IsOctetLine};
@@ -42,7 +43,7 @@ ghost use Rattle.state.specs.Replays.{IsQuiet, last_gap, whole_lines};
 ghost use Rattle.state.specs.Returns.{GoesOnOver};
 ghost use Rattle.state.specs.Standings.{is_lost, is_stopped};
 ghost use Rattle.state.specs.Stores.{led_to_head, safe};
-ghost use Rattle.state.specs.Unread.{IsUnread};
+ghost use Rattle.state.specs.Unread.{IsUnread, WasAside};
 ghost use Rattle.state.specs.declared.beginning.Origin.{Origin};
 ghost use Rattle.state.specs.declared.loss.Loss.{Loss};
 ghost use Rattle.state.specs.declared.loss.Loss.TheVariants.{Marked, Unmarked};
@@ -52,6 +53,7 @@ ghost use Rattle.traces.specs.Printed.{line_of_entry, lines_of_log};
 ghost use Rattle.traces.specs.Trace.{logged};
 
 use crate::ends::Ends;
+use crate::folder::Folder;
 use crate::standing::Standing;
 use crate::start::Beginning;
 use gateway::no_link_goes_on_but_of_a_station_as_it_was;
@@ -329,8 +331,9 @@ pub fn no_link_is_up_behind_a_reset<D: Disk + Drop>()
 
 /// A state that a run has written is never put aside by one with the same settings: a checkpoint
 /// that is whole and says the settings, a file of settings that can be read, and the state of a
-/// gateway with these. And both files are never put aside where they are shut.
-pub fn a_state_that_can_be_read_is_not_put_aside()
+/// gateway with these. And both files are never put aside where they are shut. So it is of what a
+/// start has put aside, where each read of the two files has gone well.
+pub fn a_state_that_can_be_read_is_not_put_aside<F: Folder + Drop>()
     ensures kept { (c : Settings) (text newest other : List ℕ) (head : SegmentHead)
         (body : List ℕ) (state : State) → Fits head → IsFoundIn newest head body →
         lines_in body ≡ text ∷ state_lines state → IsOctetLine text →
@@ -339,4 +342,10 @@ pub fn a_state_that_can_be_read_is_not_put_aside()
         IsUnread c text newest other → ⊥ }
     ensures shut { (c : Settings) (text newest other : List ℕ) → IsShut newest → IsShut other →
         IsUnread c text newest other → ⊥ }
+    ensures put { (folder : F) (c : Settings) (text : List ℕ) (head : SegmentHead)
+        (body : List ℕ) (state : State) (was : WasAside F.File.Disk (F.aside folder) c text) →
+        IsTrue (F.File.is_clean was.newest) → IsTrue (F.File.is_clean was.other) → Fits head →
+        IsFoundIn (F.File.seen was.newest) head body → lines_in body ≡ text ∷ state_lines state →
+        IsOctetLine text → IsReadOfText text (Ok c) → IsSavable state → HasSettings c state →
+        ((by : Settings) → IsReadOfText text (Ok by) → HasSettings by state) → ⊥ }
 {}

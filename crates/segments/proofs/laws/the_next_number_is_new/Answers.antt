@@ -15,8 +15,16 @@ saturates n = min-le_left n (2 ^ 64 - 1)
 pub returns-clause-next : goal.returns-clause-next
 returns-clause-next c number newest other next more = elim next [
   | inl first ↦ absurd (omega (arith, first, more))
-  | inr (inl behind) ↦ (behind.0, behind.1, inl behind.2,
-      omega (arith, behind.3, saturates (behind.0.number + 1)))
-  | inr (inr behind) ↦ (behind.0, behind.1, inr behind.2,
-      omega (arith, behind.3, saturates (behind.0.number + 1)))
+  | inr (inl behind) ↦ (
+    behind.0,
+    behind.1,
+    inl behind.2,
+    omega (arith, behind.3, saturates (behind.0.number + 1)),
+  )
+  | inr (inr behind) ↦ (
+    behind.0,
+    behind.1,
+    inr behind.2,
+    omega (arith, behind.3, saturates (behind.0.number + 1)),
+  )
 ]
