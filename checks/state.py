@@ -3,7 +3,7 @@
 lost, and nothing is operated twice.
 
     checks/state.py [--program FILE] [--only NAME] [--lives N] [--calls N] [--seed N]
-                    [--stretch SECONDS]
+                    [--stretch SECONDS] [--part NAME]
 
 Outstations outlive the gateway: they answer, lose answers, report and take commands. A control
 centre goes and comes.
@@ -24,6 +24,7 @@ centre goes and comes.
 All of it is on the loopback. No case depends on how fast the machine is: an outstation that is late
 doesn't answer, and what a case waits for may take a minute.
 """
+import argparse
 import os
 import random
 import re
@@ -966,8 +967,20 @@ def apart(name):
     return name, judged
 
 
+def wanted_parts(words):
+    """The part that these words ask for alone, as `--part NAME` or `--part=NAME`, or else all of them."""
+    parser = argparse.ArgumentParser(add_help=False)
+    parser.add_argument("--part")
+    wanted = parser.parse_known_args(words)[0].part
+    if not wanted:
+        # Most of the time they wait, so they run side by side.
+        return [apart(name) for name, _ in PARTS]
+    chosen = [part for part in PARTS if part[0] == wanted]
+    if not chosen:
+        sys.exit(f"no part {wanted!r}: there are {', '.join(name for name, _ in PARTS)}")
+    return chosen
+
+
 if __name__ == "__main__":
-    wanted = next((word.removeprefix("--part=") for word in sys.argv if word.startswith("--part=")), None)
-    # Most of the time they wait, so they run side by side.
-    chosen = [part for part in PARTS if part[0] == wanted] or [apart(name) for name, _ in PARTS]
+    chosen = wanted_parts(sys.argv[1:])
     frame.main(*chosen, side_by_side=True, words=WORDS)

@@ -1,11 +1,12 @@
 //! What holds of both files over a crash.
-ghost use Rattle.std.specs.Prelude.{◌≡◌, ◌<◌, ◌≤◌, ℕ, List, [], ◌∷◌, ◌++◌, codes, length, take};
+ghost use Rattle.std.specs.Prelude.{◌≡◌, ◌⊎◌, ◌+◌, ◌-◌, ◌^◌, ◌<◌, ◌≤◌, ℕ, List, [], ◌∷◌, ◌++◌};
+ghost use Rattle.std.specs.Prelude.{codes, length, take};
 ghost use Rattle.segments.specs.Crash.{HasNoOther, IsShut, IsTextIfOpen};
 ghost use Rattle.segments.specs.Crashes.{AreBoth, AreOlder, AreShutOr, IsThatOf, StaysBacked};
 ghost use Rattle.segments.specs.Crashes.{Survives};
 ghost use Rattle.segments.specs.Crashes.{lines_behind};
 ghost use Rattle.segments.specs.Head.{Fits, head_for, head_of, whole_text};
-ghost use Rattle.segments.specs.Starts.{IsBacked, IsFoundIn, IsNewest};
+ghost use Rattle.segments.specs.Starts.{IsAbove, IsBacked, IsFoundIn, IsNewest, IsNext};
 ghost use Rattle.segments.specs.declared.head.SegmentHead.{SegmentHead};
 ghost use Rattle.sqlite_disk.specs.Disk.{Holds};
 ghost use Rattle.statetext.specs.Sum.{sum_of};
@@ -79,6 +80,19 @@ pub fn no_crash_takes_both_files<D: Disk>()
         (own : SegmentHead) × (body : List ℕ) × Fits own × Holds c 0 (head_of own) ×
         (0 < length body → Holds c 87 body) × (length body ≡ own.octets) ×
         (sum_of body ≡ own.sum) × (head.number ≤ own.number) }
+{}
+
+/// The number of the next segment is its own. It is above the number of each first line that stands
+/// in one of the files, until the 64 bits of a number are used up: so the newest segment is never
+/// one of two. And none is left out: the number before it stands there, unless it is the first.
+pub fn the_next_number_is_new()
+    ensures above { (number : ℕ) (file : List ℕ) (head : SegmentHead) → IsAbove number file →
+        Fits head → Holds file 0 (head_of head) → head.number < 2 ^ 64 - 1 →
+        head.number < number }
+    ensures next { (number : ℕ) (newest other : List ℕ) → IsNext number newest other →
+        1 < number → (head : SegmentHead) × Fits head
+        × (Holds newest 0 (head_of head) ⊎ Holds other 0 (head_of head))
+        × (number ≤ head.number + 1) }
 {}
 
 /// The first line of a segment, by literal numbers: states that older versions wrote are read.

@@ -1,7 +1,7 @@
 -- The gap that the last step has reported.
 use Rattle.std.proofs.Common.{◌≡◌, ℕ, List, [], ◌∷◌, ◌++◌, Some, None, refl}
 use Rattle.std.specs.List.{AllByRecursion}
-use Rattle.gateway.specs.Log.{Log, Came, Went, Input, LineOut, TcpOut, Closed, GapOut}
+use Rattle.gateway.specs.Log.{Log, Came, Went, Input, Output, LineOut, TcpOut, Closed, GapOut}
 use Rattle.state.specs.Replays.{IsQuiet, last_gap}
 
 -- what isn't a gap, and no event, is passed over
@@ -32,3 +32,11 @@ no_gap (Went now (TcpOut octets) ∷ quiet) all = no_gap quiet all.1
 no_gap (Went now (Closed cause) ∷ quiet) all = no_gap quiet all.1
 no_gap (Went now (GapOut station session) ∷ quiet) all =
     absurd (all.0.other now station session refl)
+
+-- each action is passed over but a gap
+pub quiet_else : (now : ℕ) (action : Output)
+    → ((station session : ℕ) → action ≡ GapOut station session → ⊥) → IsQuiet (Went now action)
+quiet_else now action none = record {
+  action = λ at event is. absurd (cc);
+  other = λ at station session is. none station session (cc);
+}

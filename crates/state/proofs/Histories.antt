@@ -1,10 +1,12 @@
 -- What holds of each history, deed by deed.
-use Rattle.std.proofs.Common.{◌≡◌, ◌+◌, ◌-◌, ◌<◌, Bool, true, false, [], ◌∷◌, ◌++◌, None, refl, sym}
-use Rattle.std.proofs.Common.{ap, ◌∙◌, inl, inr, arith}
+use Rattle.std.proofs.Common.{◌≡◌, ◌+◌, ◌-◌, ◌<◌, Bool, true, false, [], ◌∷◌, ◌++◌, None, Some, refl, sym}
+use Rattle.std.proofs.Common.{ap, ◌∙◌, ◌⊎◌, inl, inr, arith}
 use Rattle.std.specs.Option.{is_some}
 use Rattle.gateway.specs.Log.{Log, LogEntry}
 use Rattle.state.specs.Deeds.{Deed, Deeds, AreRight, IsAllOnDisk, IsSafe, MayBe, Received, Appended}
-use Rattle.state.specs.Deeds.{Synced, Begun, GivenUp, PutOut, IsInTime, appended, loss_of}
+use Rattle.state.specs.Deeds.{Synced, Begun, GivenUp, PutOut, IsInTime, appended, arrived, is_kept}
+use Rattle.state.specs.Deeds.{loss_of}
+use Rattle.state.specs.declared.loss.Loss.TheVariants.{Marked}
 use Rattle.state.specs.Deeds.{moment_of, oldest, on_disk, span, waiting, written}
 use Rattle.state.specs.Stores.{led_to_head, safe}
 
@@ -84,3 +86,34 @@ all_written (Synced ∷ deeds) = refl
 all_written (Begun state ∷ deeds) = refl
 all_written (GivenUp fault loss ∷ deeds) = all_written deeds
 all_written (PutOut action ∷ deeds) = all_written deeds
+
+-- the events that were received, each in its order
+pub all_arrived : (later earlier : Deeds) (event : LogEntry)
+    → arrived (later ++ Received event ∷ earlier) ≡ arrived later ++ event ∷ arrived earlier
+all_arrived [] earlier event = refl
+all_arrived (Received other ∷ later) earlier event =
+    ap (λ log. other ∷ log) (all_arrived later earlier event)
+all_arrived (Appended other ∷ later) earlier event = all_arrived later earlier event
+all_arrived (Synced ∷ later) earlier event = all_arrived later earlier event
+all_arrived (Begun state ∷ later) earlier event = all_arrived later earlier event
+all_arrived (GivenUp fault loss ∷ later) earlier event = all_arrived later earlier event
+all_arrived (PutOut action ∷ later) earlier event = all_arrived later earlier event
+
+-- where they are on the disk
+on_it : (deeds : Deeds) → IsAllOnDisk deeds
+    → (is_kept deeds ≡ true) × (arrived deeds ≡ safe deeds ++ led_to_head deeds)
+on_it deeds disk = (disk.0, sym disk.1 ∙ all_on_disk deeds)
+
+pub put_on_disk : (later earlier : Deeds) (action : LogEntry)
+    → AreRight false (later ++ PutOut action ∷ earlier)
+    → (is_kept earlier ≡ true) × (arrived earlier ≡ safe earlier ++ led_to_head earlier)
+put_on_disk later earlier action right = on_it earlier (put_strictly later earlier action right)
+
+pub put_if_borne : (later earlier : Deeds) (action : LogEntry)
+    → AreRight true (later ++ PutOut action ∷ earlier)
+    → ((is_kept earlier ≡ true) × (arrived earlier ≡ safe earlier ++ led_to_head earlier))
+    ⊎ (loss_of earlier ≡ Some Marked)
+put_if_borne later earlier action right = elim (put_safely true later earlier action right) [
+  | inl disk ↦ inl (on_it earlier disk)
+  | inr lost ↦ inr lost
+]

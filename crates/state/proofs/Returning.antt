@@ -34,13 +34,13 @@ unmarked : {P : Type 0} → Some false ≡ Some true → P
 unmarked is = absurd (cc)
 
 -- two readings of one head
-record AreSame (begins begins' : ℕ) (settings settings' : List ℕ) (lines lines' : List (List ℕ)) :
+pub record AreSame (begins begins' : ℕ) (settings settings' : List ℕ) (lines lines' : List (List ℕ)) :
     Type 0 where
-  place : begins ≡ begins'
-  wrote : settings ≡ settings'
-  state : lines ≡ lines'
+  pub place : begins ≡ begins'
+  pub wrote : settings ≡ settings'
+  pub state : lines ≡ lines'
 
-same_head : (file : List ℕ) (begins begins' : ℕ) (settings settings' : List ℕ)
+pub same_head : (file : List ℕ) (begins begins' : ℕ) (settings settings' : List ℕ)
     (lines lines' : List (List ℕ)) → IsHeadOf file begins settings lines
     → IsHeadOf file begins' settings' lines'
     → AreSame begins begins' settings settings' lines lines'

@@ -1,15 +1,18 @@
 //! What holds of each history.
 ghost use Rattle.std.specs.Prelude.{◌≡◌, ◌++◌, ◌∷◌, [], ℕ, ◌+◌, ◌<◌, ◌≤◌, ◌⊎◌, Bool, true, false};
 ghost use Rattle.std.specs.Prelude.{List, Option, Ok, Some, None, length, slice_get, slice_index};
+ghost use Rattle.std.specs.Prelude.{IsTrue};
 ghost use Rattle.std.specs.List.{AllByRecursion};
 ghost use Rattle.std.specs.Option.{is_some};
 ghost use Rattle.checkpoint.specs.Octets.{IsOctetLine};
 ghost use Rattle.gateway.specs.Carried.{carried};
 ghost use Rattle.gateway.specs.Config.{Settings};
+ghost use Rattle.gateway.specs.Log.{CutOff, Output, TcpIn, Ticked, WallIs};
 ghost use Rattle.gateway.specs.Log.{Log, LogEntry, Came, Went, Input, LineIn, GapOut};
 ghost use Rattle.gateway.specs.Restored.{HasSettings, IsSavable, state_lines};
 ghost use Rattle.gateway.specs.State.{State};
 ghost use Rattle.gateway.specs.declared.settings.StationSettings.{StationSettings};
+ghost use Rattle.hex.specs.Hex.{IsBytes};
 ghost use Rattle.link.specs.Procedure.{is_up};
 ghost use Rattle.link.specs.Turns.{station_at};
 ghost use Rattle.segments.specs.Crashes.{lines_behind};
@@ -26,10 +29,11 @@ ghost use Rattle.live.specs.declared.watched.Failure.{Failure};
 ghost use Rattle.live.specs.declared.watched.Notice.{Notice};
 ghost use Rattle.live.specs.declared.watched.Notice.TheVariants.{NotKept, KeptAgain};
 ghost use Rattle.state.specs.Deeds.{AreRight, Deeds, GivenUp, IsAllOnDisk, IsSafe, PutOut};
-ghost use Rattle.state.specs.Deeds.{Received, appended, arrived, loss_of, moment_of, on_disk};
+ghost use Rattle.state.specs.Deeds.{Appended, Begun, Received, Synced, appended, arrived, is_kept};
+ghost use Rattle.state.specs.Deeds.{loss_of, moment_of, on_disk};
 ghost use Rattle.state.specs.Deeds.{waiting, written};
 ghost use Rattle.state.specs.Directories.{BeginsOver};
-ghost use Rattle.state.specs.Keeping.{failure_of};
+ghost use Rattle.state.specs.Keeping.{HasTended, Keeping, failure_of};
 ghost use Rattle.state.specs.Lines.{IsWritable, is_renewal_due};
 ghost use Rattle.state.specs.Logs.{IsOlderBeside};
 ghost use Rattle.state.specs.Origins.{IsBegun};
@@ -37,17 +41,19 @@ ghost use Rattle.state.specs.Notices.{Call, latest, patience_behind, told, tries
 ghost use Rattle.state.specs.Renewals.{is_try_due, notice_of};
 ghost use Rattle.state.specs.Replays.{IsQuiet, last_gap, whole_lines};
 ghost use Rattle.state.specs.Returns.{GoesOnOver};
-ghost use Rattle.state.specs.Standings.{is_stopped};
+ghost use Rattle.state.specs.Standings.{is_lost, is_stopped};
 ghost use Rattle.state.specs.Stores.{led_to_head, safe};
-ghost use Rattle.state.specs.Unread.{IsUnread};
+ghost use Rattle.state.specs.Unread.{IsUnread, WasAside};
 ghost use Rattle.state.specs.declared.beginning.Origin.{Origin};
 ghost use Rattle.state.specs.declared.loss.Loss.{Loss};
 ghost use Rattle.state.specs.declared.loss.Loss.TheVariants.{Marked, Unmarked};
-ghost use Rattle.state.specs.declared.loss.StoreFault.TheVariants.{Full, Unwritable};
+ghost use Rattle.state.specs.declared.loss.StoreFault.TheVariants.{Failed, Full, Unwritable};
 ghost use Rattle.state.specs.declared.opened.Opened.{Opened};
 ghost use Rattle.traces.specs.Printed.{line_of_entry, lines_of_log};
 ghost use Rattle.traces.specs.Trace.{logged};
 
+use crate::ends::Ends;
+use crate::folder::Folder;
 use crate::standing::Standing;
 use crate::start::Beginning;
 use gateway::no_link_goes_on_but_of_a_station_as_it_was;
@@ -55,12 +61,20 @@ use live::Failure;
 use sqlite_disk::Disk;
 
 /// Whatever action was handed out: when it was, all received events were on the disk, or the state
-/// there was marked as stale; and where a loss isn't borne, they were on the disk.
+/// there was marked as stale; and where a loss isn't borne, they were on the disk. There they led
+/// to the state at the head of the log, or their lines behind it are synced.
 pub fn nothing_goes_out_before_it_is_on_disk()
     ensures safe { (bears : Bool) (later earlier : Deeds) (action : LogEntry) →
         AreRight bears (later ++ PutOut action ∷ earlier) → IsSafe earlier }
     ensures strict { (later earlier : Deeds) (action : LogEntry) →
         AreRight false (later ++ PutOut action ∷ earlier) → IsAllOnDisk earlier }
+    ensures disk { (later earlier : Deeds) (action : LogEntry) →
+        AreRight false (later ++ PutOut action ∷ earlier) → (is_kept earlier ≡ true)
+        × (arrived earlier ≡ safe earlier ++ led_to_head earlier) }
+    ensures borne { (later earlier : Deeds) (action : LogEntry) →
+        AreRight true (later ++ PutOut action ∷ earlier) → ((is_kept earlier ≡ true)
+        × (arrived earlier ≡ safe earlier ++ led_to_head earlier))
+        ⊎ (loss_of earlier ≡ Some Marked) }
 {}
 
 /// No event waits for the disk for a second while others come: where the gateway is about to
@@ -95,6 +109,9 @@ pub fn a_gap_of_the_last_step_is_reported_again()
     ensures past { (quiet earlier : Log) (now : ℕ) (event : Input) → AllByRecursion IsQuiet quiet →
         last_gap (quiet ++ Came now event ∷ earlier) ≡ None }
     ensures none { (quiet : Log) → AllByRecursion IsQuiet quiet → last_gap quiet ≡ None }
+    ensures quiet { (now : ℕ) (action : Output) →
+        ((station session : ℕ) → action ≡ GapOut station session → ⊥) →
+        IsQuiet (Went now action) }
 {}
 
 /// A log is begun anew behind more than 3,900,000 octets of events. One that couldn't be begun is
@@ -155,11 +172,53 @@ pub fn losses_by_example()
 {}
 
 /// The events that are on the disk are those that led to the state at the head of the log, and
-/// those whose lines behind it are synced.
+/// those whose lines behind it are synced. Each event that was received counts, in its order. A
+/// line that was appended waits until the next sync, and each line is synced by that.
 pub fn what_is_on_disk_is_in_the_log()
     ensures appended { (deeds : Deeds) → appended deeds ≡ written deeds ++ led_to_head deeds }
     ensures on_disk { (deeds : Deeds) → on_disk deeds ≡ safe deeds ++ led_to_head deeds }
     ensures behind { (deeds : Deeds) → written deeds ≡ waiting deeds ++ safe deeds }
+    ensures arrived { (later earlier : Deeds) (event : LogEntry) →
+        arrived (later ++ Received event ∷ earlier) ≡ arrived later ++ event ∷ arrived earlier }
+    ensures waits { (deeds : Deeds) (event : LogEntry) →
+        safe (Appended event ∷ deeds) ≡ safe deeds }
+    ensures synced { (deeds : Deeds) → safe (Synced ∷ deeds) ≡ written deeds }
+{}
+
+/// A line can hold each event that a port may give: up to the last moment, each number of octets
+/// that fits the buffer, and each state of the wall clock. So no store is ever given up for the
+/// moment, or for the octets, of an event.
+pub fn a_line_can_hold_each_event()
+    ensures octets { (now : ℕ) (octets : List ℕ) → now ≤ 999999999999999 → IsBytes octets →
+        1 ≤ length octets → length octets ≤ 1024 →
+        IsWritable (Came now (LineIn octets)) × IsWritable (Came now (TcpIn octets)) }
+    ensures bare { (now : ℕ) → now ≤ 999999999999999 → IsWritable (Came now Input.Opened)
+        × IsWritable (Came now CutOff) × IsWritable (Came now Ticked) }
+    ensures wall { (now number : ℕ) → now ≤ 999999999999999 → number ≤ 999999999999999 →
+        IsWritable (Came now (WallIs number)) }
+{}
+
+/// Between two steps a log is begun where one is due, with the state of the gateway there: behind
+/// more than 3,900,000 octets of events, and where the store has failed as soon as that is to be
+/// tried again. Else nothing is done at the store.
+pub fn a_log_is_begun_where_one_is_due<E: Ends + Drop>()
+    ensures grown { (old new : Keeping E) (state : State) (notice : Option Notice) →
+        HasTended E.deeds old state new notice → is_lost old.standing ≡ false →
+        3900000 < length (lines_of_log (written (E.deeds old.ends))) →
+        (E.deeds new.ends ≡ Begun state ∷ E.deeds old.ends)
+        ⊎ ((loss : Loss) × (E.deeds new.ends ≡ GivenUp Failed loss ∷ E.deeds old.ends)) }
+    ensures lost { (old new : Keeping E) (state : State) (notice : Option Notice) →
+        HasTended E.deeds old state new notice → is_lost old.standing ≡ true →
+        is_try_due old.patience ≡ true →
+        (E.deeds new.ends ≡ Begun state ∷ E.deeds old.ends)
+        ⊎ ((loss : Loss) × (E.deeds new.ends ≡ GivenUp Failed loss ∷ E.deeds old.ends)) }
+    ensures small { (old new : Keeping E) (state : State) (notice : Option Notice) →
+        HasTended E.deeds old state new notice → is_lost old.standing ≡ false →
+        length (lines_of_log (written (E.deeds old.ends))) ≤ 3900000 →
+        E.deeds new.ends ≡ E.deeds old.ends }
+    ensures waits { (old new : Keeping E) (state : State) (notice : Option Notice) →
+        HasTended E.deeds old state new notice → is_lost old.standing ≡ true →
+        is_try_due old.patience ≡ false → E.deeds new.ends ≡ E.deeds old.ends }
 {}
 
 /// The line of an event has 2,067 octets at most, whatever the event and the settings are: a moment
@@ -272,8 +331,9 @@ pub fn no_link_is_up_behind_a_reset<D: Disk + Drop>()
 
 /// A state that a run has written is never put aside by one with the same settings: a checkpoint
 /// that is whole and says the settings, a file of settings that can be read, and the state of a
-/// gateway with these. And both files are never put aside where they are shut.
-pub fn a_state_that_can_be_read_is_not_put_aside()
+/// gateway with these. And both files are never put aside where they are shut. So it is of what a
+/// start has put aside, where each read of the two files has gone well.
+pub fn a_state_that_can_be_read_is_not_put_aside<F: Folder + Drop>()
     ensures kept { (c : Settings) (text newest other : List ℕ) (head : SegmentHead)
         (body : List ℕ) (state : State) → Fits head → IsFoundIn newest head body →
         lines_in body ≡ text ∷ state_lines state → IsOctetLine text →
@@ -282,4 +342,10 @@ pub fn a_state_that_can_be_read_is_not_put_aside()
         IsUnread c text newest other → ⊥ }
     ensures shut { (c : Settings) (text newest other : List ℕ) → IsShut newest → IsShut other →
         IsUnread c text newest other → ⊥ }
+    ensures put { (folder : F) (c : Settings) (text : List ℕ) (head : SegmentHead)
+        (body : List ℕ) (state : State) (was : WasAside F.File.Disk (F.aside folder) c text) →
+        IsTrue (F.File.is_clean was.newest) → IsTrue (F.File.is_clean was.other) → Fits head →
+        IsFoundIn (F.File.seen was.newest) head body → lines_in body ≡ text ∷ state_lines state →
+        IsOctetLine text → IsReadOfText text (Ok c) → IsSavable state → HasSettings c state →
+        ((by : Settings) → IsReadOfText text (Ok by) → HasSettings by state) → ⊥ }
 {}

@@ -18,6 +18,7 @@ mod renewal;
 mod replaying;
 mod standing;
 mod start;
+mod start_laws;
 mod store;
 mod trail;
 
@@ -29,7 +30,8 @@ pub use folder::{Folder, FolderFault};
 pub use keeper::Keeper;
 pub use laws::{
     a_clock_goes_on_where_the_gateway_stood, a_damaged_state_never_goes_on_as_whole,
-    a_gap_of_the_last_step_is_reported_again, a_log_has_room_for_each_line,
+    a_gap_of_the_last_step_is_reported_again, a_line_can_hold_each_event,
+    a_log_has_room_for_each_line, a_log_is_begun_where_one_is_due,
     a_log_that_could_not_be_begun_is_tried_each_ten_seconds,
     a_loss_is_reported_each_minute_until_it_is_over, a_start_goes_on_behind_a_crash,
     a_state_that_can_be_read_is_not_put_aside, losses_by_example, no_crash_leaves_another_line,
@@ -44,5 +46,9 @@ pub use renewal::{Patience, is_renewal_due};
 pub use replaying::{EventLines, Lineage, Replayed, ReportedGap, replay};
 pub use standing::Standing;
 pub use start::{Beginning, Found, beginning_of};
+pub use start_laws::{
+    each_log_is_received_again_under_its_settings, no_command_outlives_a_start,
+    what_is_shown_is_what_a_start_finds,
+};
 pub use store::Store;
 pub use trail::{Done, Trail};

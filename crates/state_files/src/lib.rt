@@ -20,12 +20,14 @@ ghost use Rattle.std.specs.Prelude.{◌≡◌, IfOk, IsTrue, None, false, true};
 ghost use Rattle.state_files.specs.Faults.{fault_by, refusal_of};
 ghost use Rattle.std.specs.IoError.{error_kind};
 
+mod laws;
 mod looking;
 mod marks;
 mod names;
 
 use crate::marks::Marks;
 use crate::names::SystemNames;
+pub use laws::{a_mark_is_on_the_disk_where_it_is_told, files_are_put_aside_in_pairs};
 pub use looking::{Stood, stood_in};
 use segments::Segment;
 use sqlite_disk::{Disk, Files};

@@ -1,5 +1,10 @@
-use Rattle.state.proofs.Histories.{put_safely, put_strictly}
+use Rattle.state.proofs.Histories.{put_if_borne, put_on_disk, put_safely, put_strictly}
 use Rattle.state.proofs.laws.nothing_goes_out_before_it_is_on_disk.Goals as goal
 
 pub returns : goal.returns
-returns c = record { safe = put_safely; strict = put_strictly }
+returns c = record {
+  safe = put_safely;
+  strict = put_strictly;
+  disk = put_on_disk;
+  borne = put_if_borne;
+}

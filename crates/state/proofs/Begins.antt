@@ -1,0 +1,375 @@
+-- What a start makes of a log, and what is shown of it.
+use Rattle.std.proofs.Common.{◌≡◌, ◌∙◌, ◌⊎◌, inl, inr, ℕ, ◌+◌, ◌<◌, Bool, true, false, List, [], ◌∷◌}
+use Rattle.std.proofs.Common.{◌++◌, drop, length, Option, Some, None, Ok, refl, sym, ap, subst}
+use Rattle.std.proofs.Common.{arith, zero, suc}
+use Rattle.std.specs.Prelude.{not, ◌&&◌, if◌then◌else◌, MatchOption}
+use Rattle.sqlite_disk.specs.declared.Disk.{Ghosts}
+use Rattle.gateway.specs.Agrees.{Follows, Rests}
+use Rattle.gateway.specs.Carried.{carried, command_given_up, commands_given_up_upto}
+use Rattle.gateway.specs.Carried.{link_given_up, without_commands}
+use Rattle.gateway.specs.Config.{Settings}
+use Rattle.gateway.specs.Log.{Came, Log, LogEntry, Restarted, events_of}
+use Rattle.gateway.specs.Restored.{IsSavable, state_lines}
+use Rattle.gateway.specs.Serial.{Serial}
+use Rattle.gateway.specs.Setups.{setup_of}
+use Rattle.gateway.specs.State.{State}
+use Rattle.gateway.proofs.Carrying.{IsForOne}
+use Rattle.gateway.proofs.Carrying as carrying
+use Rattle.link.specs.Carried.{awaits_command}
+use Rattle.segments.specs.Crashes.{lines_behind}
+use Rattle.segments.specs.Head.{Fits}
+use Rattle.segments.specs.Starts.{ArePlaced, IsFoundIn, IsShut, IsSound, before_zero}
+use Rattle.segments.specs.declared.head.SegmentHead.{SegmentHead}
+use Rattle.segments.proofs.Crashes.{same_first}
+use Rattle.segments.proofs.Fronts.{not_shut}
+use Rattle.settings.specs.Settings.{IsReadOfText}
+use Rattle.statetext.specs.Text.{lines_in}
+use Rattle.state.specs.Beginnings.{AreLinesRead, GoesOnBy, GoesOnFrom, IsHeadOf, IsMoved, MovedOn}
+use Rattle.state.specs.Beginnings.{WentOn, has_past, is_trusted}
+use Rattle.state.specs.Directories.{BeginsOver}
+use Rattle.state.specs.Origins.{IsMarkedBy}
+use Rattle.state.specs.Replays.{ReportedGap, events_in_front, last_gap, whole_lines}
+use Rattle.state.specs.Sights.{BeginsSo, IsDistrusted, IsSeen, IsShown, IsSight}
+use Rattle.state.specs.declared.beginning.Origin.{Origin}
+use Rattle.state.specs.declared.looking.Seen.{Seen}
+use Rattle.state.specs.declared.looking.Sight.{Sight}
+use Rattle.state.specs.declared.start.Beginning.{Beginning}
+use Rattle.state.specs.declared.start.Beginning.TheVariants as beginnings
+use Rattle.state.proofs.Returning.{AreSame, same_head}
+
+-- With which settings a run went on, and from where
+
+abbrev IsGone : (trusted : Bool) → Settings → (written text : List ℕ) → (wrote : Settings)
+    → (left s : State) → Type 0
+IsGone trusted c written text wrote left s =
+    ((trusted ≡ true) × (written ≡ text) × (wrote ≡ c) × (s ≡ left))
+    ⊎ (IsReadOfText written (Ok wrote) × (s ≡ carried trusted wrote c left))
+
+record Gone (trusted : Bool) (c : Settings) (written text : List ℕ) (log : Log)
+    (lines : List (List ℕ)) (events : List ℕ) (gap : Option ReportedGap) (whole : Log)
+    (s : State) : Type 0 where
+  wrote : Settings
+  left : State
+  went : WentOn wrote log lines events gap whole left
+  gone : IsGone trusted c written text wrote left s
+
+gone_on : (trusted is_moved : Bool) (c : Settings) (written text : List ℕ) (log : Log)
+    (lines : List (List ℕ)) (events : List ℕ) (gap : Option ReportedGap) (whole : Log) (s : State)
+    → IsMoved written text is_moved
+    → GoesOnBy (trusted && not is_moved) trusted c written log lines events gap whole s
+    → Gone trusted c written text log lines events gap whole s
+gone_on true false c written text log lines events gap whole s moved goes = record {
+  wrote = c;
+  left = s;
+  went = goes;
+  gone = inl (refl, moved, refl, refl);
+}
+gone_on true true c written text log lines events gap whole s moved goes = record {
+  wrote = goes.wrote;
+  left = goes.left;
+  went = goes.went;
+  gone = inr (goes.read, goes.moved);
+}
+gone_on false is_moved c written text log lines events gap whole s moved goes = record {
+  wrote = goes.wrote;
+  left = goes.left;
+  went = goes.went;
+  gone = inr (goes.read, goes.moved);
+}
+
+trusted_on : (b : Beginning) → is_trusted b ≡ true → b ≡ beginnings.GoesOn
+trusted_on beginnings.Anew is = absurd (cc)
+trusted_on beginnings.PutAside is = absurd (cc)
+trusted_on beginnings.LinksReset is = absurd (cc)
+trusted_on beginnings.GoesOn is = refl
+
+moved_is : (is_moved : Bool) (written text : List ℕ) → IsMoved written text is_moved
+    → (is_moved ≡ true → written ≡ text → ⊥) × (is_moved ≡ false → written ≡ text)
+moved_is true written text moved = (λ _. moved, λ is. absurd (cc))
+moved_is false written text moved = (λ is. absurd (cc), λ _. moved)
+
+-- giving up commands leaves the number of stations
+
+one_number : IsForOne → (k : ℕ) (s : Serial) (b : Bool) → awaits_command s.line k ≡ b
+    → length (command_given_up k s).line.stations ≡ length s.line.stations
+one_number law k s true e =
+    ap (λ (b : Bool). length (if b then link_given_up k s else s).line.stations) e
+    ∙ law.number s.line k
+one_number law k s false e =
+    ap (λ (b : Bool). length (if b then link_given_up k s else s).line.stations) e
+
+number : IsForOne → (n : ℕ) (s : Serial) → length (commands_given_up_upto n s).line.stations
+    ≡ length s.line.stations
+number law zero s = refl
+number law (suc n) s =
+    one_number law n (commands_given_up_upto n s) _ refl ∙ number law n s
+
+-- the head of the log is that which stands in the file
+head_is : (c : Settings) (text : List ℕ) (log : Log) (o : Origin) (trusted : Bool)
+    (file : List ℕ) (head : SegmentHead) (body written : List ℕ) (lines : List (List ℕ))
+    (goes : GoesOnFrom trusted c text log file o.is_moved o.gap o.before.entries o.gateway)
+    → Fits head → IsFoundIn file head body → lines_in body ≡ written ∷ lines
+    → AreSame goes.begins (87 + length body) goes.written written goes.lines lines
+head_is c text log o trusted file head body written lines goes fits found says =
+    same_head file goes.begins (87 + length body) goes.written written goes.lines lines goes.head
+    (record { head = head; body = body; fits = fits; found = found; says = says; behind = refl })
+
+gone_from : (c : Settings) (text : List ℕ) (log : Log) (o : Origin) (trusted : Bool)
+    (file : List ℕ)
+    (goes : GoesOnFrom trusted c text log file o.is_moved o.gap o.before.entries o.gateway)
+    → Gone trusted c goes.written text log goes.lines (before_zero (drop goes.begins file)) o.gap
+    o.before.entries o.gateway
+gone_from c text log o trusted file goes =
+    gone_on trusted o.is_moved c goes.written text log goes.lines
+    (before_zero (drop goes.begins file)) o.gap o.before.entries o.gateway goes.moved goes.goes
+
+module _ {D : Type 0} {g : Ghosts D} where
+  pub received : (c : Settings) (text : List ℕ) (log : Log) (mark : Option Bool)
+      (newest other : D) (o : Origin) (head : SegmentHead) (body written : List ℕ)
+      (first : State) (rest : List (List ℕ)) → BeginsOver g c text log mark newest other o
+      → has_past o.beginning ≡ true → Fits head → IsFoundIn (g.seen newest) head body
+      → lines_in body ≡ written ∷ (state_lines first ++ rest) → IsSavable first
+      → (wrote : Settings) × (left : State)
+      × (((o.beginning ≡ beginnings.GoesOn) × (written ≡ text) × (wrote ≡ c)
+      × (o.gateway ≡ left)) ⊎ (IsReadOfText written (Ok wrote)
+      × (o.gateway ≡ carried (is_trusted o.beginning) wrote c left)))
+      × (Follows (setup_of wrote) first (Some log) → Rests (setup_of wrote) (Some log)
+      → Follows (setup_of wrote) left (Some o.before.entries) × (news : Log)
+      × (o.before.entries ≡ Came left.moment Restarted ∷ (news ++ log))
+      × (events_of (news ++ log) ≡ events_of log
+      ++ events_in_front (whole_lines (lines_behind body (g.seen newest))))
+      × (o.gap ≡ last_gap news))
+  received c text log mark newest other o head body written first rest over past fits found says
+      savable =
+      let file : List ℕ = g.seen newest in
+      let goes = over.begun.goes_on past over.first in
+      let same = head_is c text log o (is_trusted o.beginning) file head body written
+      (state_lines first ++ rest) goes fits found says in
+      let it = gone_from c text log o (is_trusted o.beginning) file goes in (
+        it.wrote,
+        it.left,
+        elim it.gone [
+          | inl kept ↦ inl (trusted_on o.beginning kept.0, sym same.wrote ∙ kept.1, kept.2, kept.3)
+          | inr moved ↦ inr (
+            subst (λ (t : List ℕ). IsReadOfText t (Ok it.wrote)) same.wrote
+                moved.0,
+            moved.1,
+          )
+        ],
+        λ follows rests.
+            let replayed = it.went.read first rest same.state savable follows rests in (
+              (it.went.follows first rest same.state savable follows rests).0,
+              replayed.news,
+              it.went.restarted
+                  ∙ ap (λ (n : ℕ). Came n Restarted ∷ it.went.arrived)
+                  (sym (ap (λ (s : State). s.moment) it.went.given))
+                  ∙ ap (λ (l : Log). Came it.left.moment Restarted ∷ l) replayed.behind,
+              ap events_of (sym replayed.behind) ∙ replayed.arrived
+                  ∙ ap (λ (n : ℕ). events_of log
+                  ++ events_in_front (whole_lines (before_zero (drop n file)))) same.place,
+              replayed.last,
+            ),
+      )
+
+  pub is_moved : (c : Settings) (text : List ℕ) (log : Log) (mark : Option Bool)
+      (newest other : D) (o : Origin) (head : SegmentHead) (body written : List ℕ)
+      (lines : List (List ℕ)) → BeginsOver g c text log mark newest other o
+      → has_past o.beginning ≡ true → Fits head → IsFoundIn (g.seen newest) head body
+      → lines_in body ≡ written ∷ lines
+      → (o.is_moved ≡ true → written ≡ text → ⊥) × (o.is_moved ≡ false → written ≡ text)
+  is_moved c text log mark newest other o head body written lines over past fits found says =
+      let goes = over.begun.goes_on past over.first in
+      let same = head_is c text log o (is_trusted o.beginning) (g.seen newest) head body written
+      lines goes fits found says in
+      moved_is o.is_moved written text
+      (subst (λ (t : List ℕ). IsMoved t text o.is_moved) same.wrote goes.moved)
+
+  pub gives_up : IsForOne → (c : Settings) (text : List ℕ) (log : Log) (mark : Option Bool)
+      (newest other : D) (o : Origin) → BeginsOver g c text log mark newest other o
+      → has_past o.beginning ≡ true → (wrote : Settings) × (left : State)
+      × ((o.gateway ≡ left) ⊎ (o.gateway ≡ carried (is_trusted o.beginning) wrote c left))
+      × ((place : ℕ) → place < length left.serial.line.stations
+      → awaits_command left.serial.line place ≡ false)
+  gives_up law c text log mark newest other o over past =
+      let goes = over.begun.goes_on past over.first in
+      let it = gone_from c text log o (is_trusted o.beginning) (g.seen newest) goes in
+      let before : Serial = it.went.left.serial in
+      let serial : it.left.serial ≡ without_commands before =
+      ap (λ (s : State). s.serial) it.went.given in
+      let same : length it.left.serial.line.stations ≡ length before.line.stations =
+      ap (λ (s : Serial). length s.line.stations) serial
+      ∙ number law (length before.line.stations) before in (
+        it.wrote,
+        it.left,
+        elim it.gone [
+          | inl kept ↦ inl kept.3
+          | inr moved ↦ inr moved.1
+        ],
+        λ place within. subst (λ (s : Serial). awaits_command s.line place ≡ false) (sym serial)
+            (carrying.done law before place (omega (arith, within, same))),
+      )
+
+-- What is shown
+
+seen_is : (P : Seen → Type 0) (n : Type 0) (o : Option Seen) (l : Seen) → o ≡ Some l
+    → MatchOption o n P → P l
+seen_is P n None l is match = absurd (cc)
+seen_is P n (Some s) l is match = let same : s ≡ l = cc in subst P same match
+
+stale_or : (is_stale : Bool) → Some is_stale ≡ Some true → is_stale ≡ true
+stale_or is_stale is = cc
+
+fresh_or : (is_stale : Bool) → Some is_stale ≡ Some false → is_stale ≡ false
+fresh_or is_stale is = cc
+
+both_ways : {P : Type 0} (b : Bool) → b ≡ true → b ≡ false → P
+both_ways b is isnt = let none : true ≡ false = sym is ∙ isnt in absurd (cc)
+
+shown_seen : (log : Log) (is_stale : Bool) (first second : List ℕ) (s : Sight)
+    (shown : IsSight log is_stale first second s) (l : Seen) → s.seen ≡ Some l
+    → (has_past s.beginning ≡ true) × ArePlaced l.side first second shown.newest shown.other
+    × IsSeen log shown.newest l
+shown_seen log is_stale first second s shown l is =
+    seen_is (λ (x : Seen). (has_past s.beginning ≡ true)
+    × ArePlaced x.side first second shown.newest shown.other × IsSeen log shown.newest x)
+    (has_past s.beginning ≡ false) s.seen l is shown.shown
+
+pub log_shown : (log : Log) (is_stale : Bool) (first second : List ℕ) (s : Sight)
+    (shown : IsSight log is_stale first second s) (l : Seen) (head : SegmentHead)
+    (body written : List ℕ) (lines : List (List ℕ)) → s.seen ≡ Some l → Fits head
+    → IsFoundIn shown.newest head body → lines_in body ≡ written ∷ lines
+    → (has_past s.beginning ≡ true) × ArePlaced l.side first second shown.newest shown.other
+    × (l.number ≡ head.number) × (l.settings.items ≡ written)
+    × (l.lines ≡ length (whole_lines (lines_behind body shown.newest)))
+    × (l.events ≡ length (events_in_front (whole_lines (lines_behind body shown.newest))))
+log_shown log is_stale first second s shown l head body written lines is fits found says =
+    let all = shown_seen log is_stale first second s shown l is in
+    let it : IsSeen log shown.newest l = all.2 in
+    let same = same_head shown.newest it.begins (87 + length body) l.settings.items written it.lines
+    lines it.head
+    (record { head = head; body = body; fits = fits; found = found; says = says; behind = refl }) in
+    let first_line : it.number.head ≡ head =
+    same_first shown.newest it.number.head head it.number.fits fits it.number.found.first
+    found.first in (
+      all.0,
+      all.1,
+      it.number.is ∙ ap (λ (h : SegmentHead). h.number) first_line,
+      same.wrote,
+      it.counted.whole
+          ∙ ap (λ (n : ℕ). length (whole_lines (before_zero (drop n shown.newest)))) same.place,
+      it.counted.logged
+          ∙ ap (λ (n : ℕ). length (events_in_front (whole_lines (before_zero (drop n
+          shown.newest))))) same.place,
+    )
+
+pub gateway_shown : (log : Log) (is_stale : Bool) (first second : List ℕ) (s : Sight)
+    (shown : IsSight log is_stale first second s) (l : Seen) (head : SegmentHead)
+    (body written : List ℕ) (state : State) (rest : List (List ℕ)) → s.seen ≡ Some l → Fits head
+    → IsFoundIn shown.newest head body
+    → lines_in body ≡ written ∷ (state_lines state ++ rest) → IsSavable state
+    → (wrote : Settings) × IsReadOfText written (Ok wrote)
+    × (Follows (setup_of wrote) state (Some log) → Rests (setup_of wrote) (Some log)
+    → (whole : Log) × Follows (setup_of wrote) l.gateway (Some whole)
+    × (events_of whole ≡ events_of log
+    ++ events_in_front (whole_lines (lines_behind body shown.newest))))
+gateway_shown log is_stale first second s shown l head body written state rest is fits found says
+    savable =
+    let all = shown_seen log is_stale first second s shown l is in
+    let it : IsSeen log shown.newest l = all.2 in
+    let same = same_head shown.newest it.begins (87 + length body) l.settings.items written it.lines
+    (state_lines state ++ rest) it.head
+    (record { head = head; body = body; fits = fits; found = found; says = says; behind = refl }) in (
+      it.wrote,
+      subst (λ (t : List ℕ). IsReadOfText t (Ok it.wrote)) same.wrote it.readable,
+      λ follows rests.
+          let replayed = it.read state rest same.state savable follows rests in (
+            it.whole,
+            replayed.follows,
+            replayed.arrived
+                ∙ ap (λ (n : ℕ). events_of log
+                ++ events_in_front (whole_lines (before_zero (drop n shown.newest)))) same.place,
+          ),
+    )
+
+-- a log was found where one is shown
+past_shown : (log : Log) (is_stale : Bool) (first second : List ℕ) (s : Sight)
+    (shown : IsSight log is_stale first second s) (o : Option Seen) → s.seen ≡ o
+    → has_past s.beginning ≡ true → IsShut shown.newest → ⊥
+past_shown log is_stale first second s shown None is past shut =
+    let none : has_past s.beginning ≡ false =
+    subst (λ (x : Option Seen). IsShown log (has_past s.beginning) first second shown.newest
+    shown.other x) is shown.shown in
+    both_ways (has_past s.beginning) past none
+past_shown log is_stale first second s shown (Some l) is past shut =
+    let all = shown_seen log is_stale first second s shown l is in
+    not_shut shown.newest all.2.head.head all.2.head.found.first shut
+
+module _ {D : Type 0} {g : Ghosts D} where
+  -- a log was found where a run goes on
+  not_shut_of : (c : Settings) (text : List ℕ) (log : Log) (mark : Option Bool) (newest other : D)
+      (o : Origin) → BeginsOver g c text log mark newest other o → has_past o.beginning ≡ true
+      → IsShut (g.seen newest) → ⊥
+  not_shut_of c text log mark newest other o over past shut =
+      let goes = over.begun.goes_on past over.first in
+      not_shut (g.seen newest) goes.head.head goes.head.found.first shut
+
+  module _ (c : Settings) (text : List ℕ) (log : Log) (is_stale : Bool) (newest other : D)
+      (o : Origin) (first second : List ℕ) (s : Sight)
+      (shown : IsSight log is_stale first second s)
+      (over : BeginsOver g c text log (Some is_stale) newest other o)
+      (one : shown.newest ≡ g.seen newest) (two : shown.other ≡ g.seen other)
+      (sound : IsSound shown.newest) (sound' : IsSound shown.other) where
+    here : Type 0
+    here = s.beginning ≡ o.beginning
+
+    shut_here : o.beginning ≡ beginnings.Anew → IsShut shown.newest
+    shut_here is = subst IsShut (sym one) (over.begun.empty is over.first over.second).0
+
+    trusted_here : o.beginning ≡ beginnings.GoesOn → IsDistrusted is_stale shown.newest shown.other
+        → ⊥
+    trusted_here is (inl stale) =
+        both_ways is_stale stale (fresh_or is_stale (subst (λ (b : Beginning). IsMarkedBy b
+        (Some is_stale)) is over.begun.marked))
+    trusted_here is (inr torn) =
+        torn sound sound' (subst AreLinesRead (sym one)
+        (over.begun.read is over.first over.second))
+
+    reset_here : o.beginning ≡ beginnings.LinksReset → is_stale ≡ false
+        → AreLinesRead shown.newest → ⊥
+    reset_here is fresh read = elim (over.begun.reset is) [
+      | inl stale ↦ both_ways is_stale (stale_or is_stale stale) fresh
+      | inr torn ↦ torn over.first over.second (subst IsSound one sound) (subst IsSound two sound')
+          (subst AreLinesRead one read)
+    ]
+
+    by_both : (would does : Beginning) → s.beginning ≡ would → o.beginning ≡ does
+        → (would ≡ beginnings.PutAside → ⊥) → (does ≡ beginnings.PutAside → ⊥)
+        → BeginsSo would is_stale shown.newest shown.other → would ≡ does
+    by_both beginnings.PutAside does is is' aside aside' so = absurd (aside refl)
+    by_both beginnings.Anew beginnings.PutAside is is' aside aside' so = absurd (aside' refl)
+    by_both beginnings.Anew beginnings.Anew is is' aside aside' so = refl
+    by_both beginnings.Anew beginnings.LinksReset is is' aside aside' so =
+        absurd (not_shut_of c text log (Some is_stale) newest other o over (ap has_past is')
+        (subst IsShut one so.0))
+    by_both beginnings.Anew beginnings.GoesOn is is' aside aside' so =
+        absurd (not_shut_of c text log (Some is_stale) newest other o over (ap has_past is')
+        (subst IsShut one so.0))
+    by_both beginnings.LinksReset beginnings.PutAside is is' aside aside' so = absurd (aside' refl)
+    by_both beginnings.LinksReset beginnings.Anew is is' aside aside' so =
+        absurd (past_shown log is_stale first second s shown s.seen refl (ap has_past is)
+        (shut_here is'))
+    by_both beginnings.LinksReset beginnings.LinksReset is is' aside aside' so = refl
+    by_both beginnings.LinksReset beginnings.GoesOn is is' aside aside' so =
+        absurd (trusted_here is' so.1)
+    by_both beginnings.GoesOn beginnings.PutAside is is' aside aside' so = absurd (aside' refl)
+    by_both beginnings.GoesOn beginnings.Anew is is' aside aside' so =
+        absurd (past_shown log is_stale first second s shown s.seen refl (ap has_past is)
+        (shut_here is'))
+    by_both beginnings.GoesOn beginnings.LinksReset is is' aside aside' so =
+        absurd (reset_here is' so.3 so.2)
+    by_both beginnings.GoesOn beginnings.GoesOn is is' aside aside' so = refl
+
+    pub begins_as_shown : (s.beginning ≡ beginnings.PutAside → ⊥)
+        → (o.beginning ≡ beginnings.PutAside → ⊥) → s.beginning ≡ o.beginning
+    begins_as_shown aside aside' =
+        by_both s.beginning o.beginning refl refl aside aside' shown.begins

@@ -1,0 +1,12 @@
+use Rattle.gateway.proofs.Carrying.{IsForOne}
+use Rattle.state.proofs.Begins.{gives_up}
+use Rattle.state.proofs.start_laws.no_command_outlives_a_start.Goals as goal
+
+pub returns : goal.returns
+returns g c = gives_up {g = g.D.Disk} (record {
+  done = c.giving_up_is_for_one_station.ensures.done;
+  itself = c.giving_up_is_for_one_station.ensures.itself;
+  others = c.giving_up_is_for_one_station.ensures.others;
+  awaited = c.giving_up_is_for_one_station.ensures.awaited;
+  number = c.giving_up_is_for_one_station.ensures.number;
+})

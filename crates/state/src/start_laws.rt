@@ -1,0 +1,106 @@
+//! What holds of what a start makes of a log, and of what is shown of it.
+ghost use Rattle.std.specs.Prelude.{◌≡◌, ◌⊎◌, ◌∷◌, ◌++◌, ℕ, ◌<◌, List, length, Option, Ok, Some};
+ghost use Rattle.std.specs.Prelude.{Bool, true, false};
+ghost use Rattle.gateway.specs.Agrees.{Follows, Rests};
+ghost use Rattle.gateway.specs.Carried.{carried};
+ghost use Rattle.gateway.specs.Config.{Settings};
+ghost use Rattle.gateway.specs.Log.{Came, Log, Restarted, events_of};
+ghost use Rattle.gateway.specs.Restored.{IsSavable, state_lines};
+ghost use Rattle.gateway.specs.Setups.{setup_of};
+ghost use Rattle.gateway.specs.State.{State};
+ghost use Rattle.link.specs.Carried.{awaits_command};
+ghost use Rattle.segments.specs.Crashes.{lines_behind};
+ghost use Rattle.segments.specs.Head.{Fits};
+ghost use Rattle.segments.specs.Starts.{ArePlaced, IsFoundIn, IsSound};
+ghost use Rattle.segments.specs.declared.head.SegmentHead.{SegmentHead};
+ghost use Rattle.settings.specs.Settings.{IsReadOfText};
+ghost use Rattle.statetext.specs.Text.{lines_in};
+ghost use Rattle.state.specs.Beginnings.{has_past, is_trusted};
+ghost use Rattle.state.specs.Directories.{BeginsOver};
+ghost use Rattle.state.specs.Replays.{events_in_front, last_gap, whole_lines};
+ghost use Rattle.state.specs.Sights.{IsSight};
+ghost use Rattle.state.specs.declared.beginning.Origin.{Origin};
+ghost use Rattle.state.specs.declared.looking.Seen.{Seen};
+ghost use Rattle.state.specs.declared.looking.Sight.{Sight};
+
+use crate::start::Beginning;
+use link::giving_up_is_for_one_station;
+use sqlite_disk::Disk;
+
+/// What a log has is received again under the settings that wrote it, whether the settings have
+/// changed or not, and whether the links go on or not. The gateway has followed the whole log:
+/// behind the state at its head each event that a line logs, up to the first line that logs none.
+/// Then it has given up its commands, which is the restart in its log. The gap that its last step
+/// reported is reported again. Only where the settings are these does it go on so; else it is what
+/// they make of it. Whether they have changed is said.
+pub fn each_log_is_received_again_under_its_settings<D: Disk + Drop>()
+    ensures received { (c : Settings) (text : List ℕ) (log : Log) (mark : Option Bool)
+        (newest other : D) (o : Origin) (head : SegmentHead) (body written : List ℕ)
+        (first : State) (rest : List (List ℕ)) →
+        BeginsOver D.Disk c text log mark newest other o → has_past o.beginning ≡ true →
+        Fits head → IsFoundIn (D.Disk.seen newest) head body →
+        lines_in body ≡ written ∷ (state_lines first ++ rest) → IsSavable first →
+        (wrote : Settings) × (left : State) ×
+        (((o.beginning ≡ Beginning.GoesOn) × (written ≡ text) × (wrote ≡ c) × (o.gateway ≡ left))
+        ⊎ (IsReadOfText written (Ok wrote)
+        × (o.gateway ≡ carried (is_trusted o.beginning) wrote c left))) ×
+        (Follows (setup_of wrote) first (Some log) → Rests (setup_of wrote) (Some log) →
+        Follows (setup_of wrote) left (Some o.before.entries) × (news : Log) ×
+        (o.before.entries ≡ Came left.moment Restarted ∷ (news ++ log)) ×
+        (events_of (news ++ log) ≡ events_of log
+        ++ events_in_front (whole_lines (lines_behind body (D.Disk.seen newest)))) ×
+        (o.gap ≡ last_gap news)) }
+    ensures moved { (c : Settings) (text : List ℕ) (log : Log) (mark : Option Bool)
+        (newest other : D) (o : Origin) (head : SegmentHead) (body written : List ℕ)
+        (lines : List (List ℕ)) →
+        BeginsOver D.Disk c text log mark newest other o → has_past o.beginning ≡ true →
+        Fits head → IsFoundIn (D.Disk.seen newest) head body → lines_in body ≡ written ∷ lines →
+        (o.is_moved ≡ true → written ≡ text → ⊥) × (o.is_moved ≡ false → written ≡ text) }
+{}
+
+/// No command is sent again by a run that goes on: of what it goes on with, each station's command
+/// without an answer is given up, whether the settings have changed or not.
+pub fn no_command_outlives_a_start<D: Disk + Drop>()
+    ensures { (c : Settings) (text : List ℕ) (log : Log) (mark : Option Bool) (newest other : D)
+        (o : Origin) → BeginsOver D.Disk c text log mark newest other o →
+        has_past o.beginning ≡ true → (wrote : Settings) × (left : State) ×
+        ((o.gateway ≡ left) ⊎ (o.gateway ≡ carried (is_trusted o.beginning) wrote c left)) ×
+        ((place : ℕ) → place < length left.serial.line.stations →
+        awaits_command left.serial.line place ≡ false) }
+{
+    giving_up_is_for_one_station();
+}
+
+/// What is shown of a directory is what a start would make of it. Where no file has what no crash
+/// leaves, a run begins as it is shown, over the same two files and the same mark. Of the log that
+/// is shown, the number, the settings and the lines are those of the newest segment. Its gateway
+/// has followed the log under these settings, up to the first line that logs no event.
+pub fn what_is_shown_is_what_a_start_finds<D: Disk + Drop>()
+    ensures begins { (c : Settings) (text : List ℕ) (log : Log) (is_stale : Bool)
+        (newest other : D) (o : Origin) (first second : List ℕ) (s : Sight)
+        (shown : IsSight log is_stale first second s) →
+        BeginsOver D.Disk c text log (Some is_stale) newest other o →
+        shown.newest ≡ D.Disk.seen newest → shown.other ≡ D.Disk.seen other →
+        IsSound shown.newest → IsSound shown.other →
+        (s.beginning ≡ Beginning.PutAside → ⊥) → (o.beginning ≡ Beginning.PutAside → ⊥) →
+        s.beginning ≡ o.beginning }
+    ensures log { (log : Log) (is_stale : Bool) (first second : List ℕ) (s : Sight)
+        (shown : IsSight log is_stale first second s) (l : Seen) (head : SegmentHead)
+        (body written : List ℕ) (lines : List (List ℕ)) → s.seen ≡ Some l → Fits head →
+        IsFoundIn shown.newest head body → lines_in body ≡ written ∷ lines →
+        (has_past s.beginning ≡ true) ×
+        ArePlaced l.side first second shown.newest shown.other ×
+        (l.number ≡ head.number) × (l.settings.items ≡ written) ×
+        (l.lines ≡ length (whole_lines (lines_behind body shown.newest))) ×
+        (l.events ≡ length (events_in_front (whole_lines (lines_behind body shown.newest)))) }
+    ensures gateway { (log : Log) (is_stale : Bool) (first second : List ℕ) (s : Sight)
+        (shown : IsSight log is_stale first second s) (l : Seen) (head : SegmentHead)
+        (body written : List ℕ) (state : State) (rest : List (List ℕ)) → s.seen ≡ Some l →
+        Fits head → IsFoundIn shown.newest head body →
+        lines_in body ≡ written ∷ (state_lines state ++ rest) → IsSavable state →
+        (wrote : Settings) × IsReadOfText written (Ok wrote) ×
+        (Follows (setup_of wrote) state (Some log) → Rests (setup_of wrote) (Some log) →
+        (whole : Log) × Follows (setup_of wrote) l.gateway (Some whole) ×
+        (events_of whole ≡ events_of log
+        ++ events_in_front (whole_lines (lines_behind body shown.newest)))) }
+{}

@@ -1,0 +1,48 @@
+-- What the calls that were noted are.
+use Rattle.std.proofs.Common.{◌≡◌, ◌∙◌, ◌≤◌, ℕ, Bool, true, List, [], ◌∷◌, ◌++◌, Some, None, codes}
+use Rattle.std.proofs.Common.{ap, refl, sym}
+use Rattle.std.specs.Fmt.{decimal}
+use Rattle.std.proofs.lemmas.List.{append-nil}
+use Rattle.state_files.specs.Names.{IsMarkedAs, IsPutAside, NameStep, Renamed, Sought, Steps}
+use Rattle.state_files.specs.Names.{Synced, noted, unread_name}
+
+same_calls : (one two : List NameStep) → Some one ≡ Some two → one ≡ two
+same_calls one two is = cc
+
+pub marked : (from to : List ℕ) (before after : List NameStep)
+    → IsMarkedAs from to (Some before) (Some after) → (was_there : Bool) × (after
+    ≡ Synced true ∷ Sought to (Some true) ∷ Renamed from to (Some was_there) ∷ before)
+marked from to before after is = (is.0, same_calls after _ is.1)
+
+-- where calls are kept behind another one, they are kept before it
+kept_before : (steps : Steps) (step : NameStep) (after : List NameStep)
+    → Some after ≡ noted steps step
+    → (calls : List NameStep) × (steps ≡ Some calls) × (after ≡ step ∷ calls)
+kept_before None step after is = absurd (cc)
+kept_before (Some calls) step after is = (calls, refl, same_calls after (step ∷ calls) is)
+
+pub aside : (after : List NameStep) → IsPutAside (Some after) → (n : ℕ) × (1 ≤ n) × (n ≤ 9)
+    × (first : Bool) × (second : Bool) × (earlier : List NameStep)
+    × (after ≡ Synced true
+    ∷ Renamed (codes "segments-wal") ((codes "unread-" ++ decimal n) ++ codes "-wal") (Some second)
+    ∷ Renamed (codes "segments") (codes "unread-" ++ decimal n) (Some first) ∷ earlier)
+aside after put =
+    let (n, sought, one, nine, free, both) = put in
+    let (between, then, first, second, last) = both in
+    let a = kept_before then (Synced true) after last in
+    let b = kept_before between (Renamed (codes "segments-wal") (unread_name n ++ codes "-wal")
+    (Some second.0)) a.0 (sym a.1 ∙ second.1) in
+    let c = kept_before sought (Renamed (codes "segments") (unread_name n ++ []) (Some first.0)) b.0
+    (sym b.1 ∙ first.1) in (
+      n,
+      one,
+      nine,
+      first.0,
+      second.0,
+      c.0,
+      a.2 ∙ ap (λ (l : List NameStep). Synced true ∷ l) (b.2
+          ∙ ap (λ (l : List NameStep). Renamed (codes "segments-wal")
+          (unread_name n ++ codes "-wal") (Some second.0) ∷ l) (c.2
+          ∙ ap (λ (name : List ℕ). Renamed (codes "segments") name (Some first.0) ∷ c.0)
+          (append-nil (unread_name n)))),
+    )
