@@ -33,6 +33,7 @@ pub mod Runs
 pub mod Refused
 pub mod Sorted
 pub mod Told
+pub mod Connects
 pub mod Reaches
 pub mod CallSums
 pub mod Plain

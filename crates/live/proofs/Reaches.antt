@@ -1,12 +1,162 @@
--- One address of a host after another is tried.
-use Rattle.std.proofs.Common.{◌≡◌, ℕ, ◌+◌, Some, sym, ap, subst, ◌∙◌}
+-- One address of a host after another is tried, and what a connect came to.
+use Rattle.std.proofs.Common.{◌≡◌, ℕ, ◌+◌, ◌<◌, List, Bool, true, false, Option, Some, None, Result}
+use Rattle.std.proofs.Common.{Ok, Err, IsErrAnd, refl, sym, ap, subst, ◌∙◌}
+use Rattle.std.specs.IoError.{error_kind}
+use Rattle.std.specs.Result.{is_ok}
+use Rattle.std.specs.declared.io.Error.{Error}
+use Rattle.std.specs.declared.io.ErrorKind.TheVariants.{NotFound}
 use Rattle.std.specs.declared.net.socket_addr.SocketAddr.{SocketAddr}
-use Rattle.live.specs.Reaching.{Began, Came, OneMore, ReachSteps, Tries, step_noted}
+use Rattle.std.specs.declared.time.Instant.{Instant}
+use Rattle.live.specs.Reaching.{AsksOn, AtPath, Began, BrokeOff, Came, CameThrough, ConnectsAt}
+use Rattle.live.specs.Reaching.{DialsAt, DialsHost, Ends, FailsAt, GoesOn, GoesOnAsIs, InTime}
+use Rattle.live.specs.Reaching.{IsUnderWay, LookedUp, NoneLeft, OneMore, OpensAt, Opened}
+use Rattle.live.specs.Reaching.{Absent, ReachSteps, Refused, Showed, Stood, There, TooLate, Tries}
+use Rattle.live.specs.Reaching.{TriesOn, Untimed, is_in_time, step_noted}
+use Rattle.live.specs.declared.reach.Connecting.{Connecting}
+use Rattle.live.specs.declared.reach.ReachedStream.{ReachedStream}
+use Rattle.live.specs.declared.reach.Standing.{Standing}
+use Rattle.live.specs.declared.reach.Standing.TheVariants.{Through, UnderWay, Broken}
+use Rattle.live.specs.declared.redial.Dialled.{Dialled}
+use Rattle.live.specs.declared.redial.Dialled.TheVariants.{Failed, Pending}
 
+-- no connect to the address goes on
+pub refused_at : (address : SocketAddr) (before after : ReachSteps)
+    (answer : Result ReachedStream Error) (fault : Error) (result : Result Connecting Error)
+    → after ≡ step_noted (Began address answer) before → answer ≡ Err fault
+    → IsErrAnd result (λ y. y ≡ fault) → ConnectsAt address before result after
+refused_at address before after answer fault (Ok connecting) noted was is = absurd is
+refused_at address before after answer fault (Err other) noted was is =
+    Refused fault (noted ∙ ap (λ a. step_noted (Began address a) before) was)
+
+pub untimed_at : (address : SocketAddr) (before mid after : ReachSteps)
+    (answer : Result ReachedStream Error) (stream : ReachedStream)
+    (shown : Result Instant Error) (fault : Error) (result : Result Connecting Error)
+    → mid ≡ step_noted (Began address answer) before → answer ≡ Ok stream
+    → after ≡ step_noted (Showed shown) mid → shown ≡ Err fault
+    → IsErrAnd result (λ y. y ≡ fault) → ConnectsAt address before result after
+untimed_at address before mid after answer stream shown fault (Ok c) noted was then says is =
+    absurd is
+untimed_at address before mid after answer stream shown fault (Err e) noted was then says is =
+    Untimed stream fault
+    (then ∙ (ap (λ s. step_noted (Showed s) mid) says
+    ∙ ap (λ m. step_noted (Showed (Err fault)) m)
+    (noted ∙ ap (λ a. step_noted (Began address a) before) was)))
+
+-- so the next one is tried
 pub next_try : (before between mid after : ReachSteps) (count : ℕ) (address : SocketAddr)
-    → Tries before count between → mid ≡ step_noted (Came (Some address)) between
-    → after ≡ step_noted (Began address) mid → Tries before (count + 1) after
-next_try before between mid after count address tries came began =
-    subst (λ steps. Tries before (count + 1) steps)
-    (sym (began ∙ ap (λ steps. step_noted (Began address) steps) came))
-    (OneMore count between address tries)
+    (answer : Result Connecting Error) (fault : Error) → Tries before count between
+    → mid ≡ step_noted (Came (Some address)) between → answer ≡ Err fault
+    → ConnectsAt address mid answer after → Tries before (count + 1) after
+next_try before between mid after count address answer fault tries came was connects =
+    let fails : FailsAt address mid after =
+    subst (λ a. ConnectsAt address mid a after) was connects in
+    OneMore count between after address tries
+    (subst (λ m. FailsAt address m after) came fails)
+
+-- or goes on
+pub tried_on : {A : Type 0} (old : Option Connecting) (before between mid after : ReachSteps)
+    (count : ℕ) (address : SocketAddr) (answer : Result Connecting Error)
+    (connecting : Connecting) → Tries before count between → count < 32
+    → mid ≡ step_noted (Came (Some address)) between → answer ≡ Ok connecting
+    → ConnectsAt address mid answer after
+    → TriesOn {A = A} Pending old before (Some connecting) after
+tried_on old before between mid after count address answer connecting tries few came was connects =
+    let so : ConnectsAt address mid (Ok connecting) after =
+    subst (λ a. ConnectsAt address mid a after) was connects in
+    GoesOn count between address connecting tries few
+    (subst (λ m. ConnectsAt address m (Ok connecting) after) came so) refl refl
+
+-- the socket at a path
+pub absent_at : {A : Type 0} (path : List ℕ) (before after : ReachSteps)
+    (answer : Result ReachedStream Error) (fault : Error) (result : Result A Error)
+    → after ≡ step_noted (AtPath path answer) before → answer ≡ Err fault
+    → IsErrAnd result (λ y. y ≡ fault) → OpensAt path (is_ok result) before after
+absent_at path before after answer fault (Ok line) noted was is = absurd is
+absent_at path before after answer fault (Err other) noted was is =
+    Absent fault refl (noted ∙ ap (λ a. step_noted (AtPath path a) before) was)
+
+pub there_at : (path : List ℕ) (before mid after : ReachSteps)
+    (answer : Result ReachedStream Error) (stream : ReachedStream) (is_usable : Bool)
+    → mid ≡ step_noted (AtPath path answer) before → answer ≡ Ok stream
+    → after ≡ step_noted (Opened stream is_usable) mid → OpensAt path is_usable before after
+there_at path before mid after answer stream is_usable noted was opened =
+    There stream (opened ∙ ap (λ m. step_noted (Opened stream is_usable) m)
+    (noted ∙ ap (λ a. step_noted (AtPath path a) before) was))
+
+pub dialled_at : {A : Type 0} (path its : List ℕ) (answer : Dialled A) (is_reached : Bool)
+    (before after : ReachSteps) → its ≡ path → OpensAt its is_reached before after
+    → Ends answer is_reached → DialsAt path answer before after
+dialled_at path its answer is_reached before after is opens ends = record {
+  is_reached = is_reached;
+  ends = ends;
+  opens = subst (λ p. OpensAt p is_reached before after) is opens;
+}
+
+pub dialled_host : {A : Type 0} (host its : List ℕ) (answer : Dialled A)
+    (old new : Option Connecting) (before mid after : ReachSteps)
+    (found : Result (Unit {0}) Error) → its ≡ host → mid ≡ step_noted (LookedUp its found) before
+    → TriesOn answer old mid new after → DialsHost host answer old before new after
+dialled_host host its answer old new before mid after found is noted tries = record {
+  found = found;
+  tries = subst (λ m. TriesOn answer old m new after)
+      (noted ∙ ap (λ h. step_noted (LookedUp h found) before) is) tries;
+}
+
+-- a connect that is under way
+abbrev pub Shown : Connecting → (before after : ReachSteps) → (result : Bool) → Type 0
+Shown connecting before after result = (shown : Result Instant Error)
+    × (after ≡ step_noted (Showed shown) before) × (result ≡ is_in_time connecting.since shown)
+
+pub in_time : {A : Type 0} (connecting : Connecting) (before after : ReachSteps) (result : Bool)
+    → Shown connecting before after result → result ≡ true
+    → GoesOnAsIs {A = A} connecting before Pending (Some connecting) after
+in_time connecting before after result s is = InTime s.0 (sym s.2 ∙ is) s.1 refl refl
+
+pub too_late : {A : Type 0} (connecting : Connecting) (answer : Dialled A)
+    (old new : Option Connecting) (before mid after : ReachSteps) (result : Bool)
+    → Shown connecting before mid result → result ≡ false → old ≡ None
+    → TriesOn answer old mid new after → GoesOnAsIs connecting before answer new after
+too_late connecting answer old new before mid after result s is none tries =
+    TooLate s.0 (sym s.2 ∙ is)
+    (subst (λ m. TriesOn answer None m new after) s.1
+    (subst (λ o. TriesOn answer o mid new after) none tries))
+
+-- what a connect that was asked about came to
+pub came_through : {A : Type 0} (old new : Option Connecting) (connecting : Connecting)
+    (standing : Standing) (is_reached : Bool) (before mid after : ReachSteps)
+    (answer : Dialled A) → old ≡ Some connecting
+    → mid ≡ step_noted (Stood connecting.stream standing) before → standing ≡ Through
+    → after ≡ step_noted (Opened connecting.stream is_reached) mid → Ends answer is_reached
+    → new ≡ None → AsksOn old before answer new after
+came_through old new connecting standing is_reached before mid after answer was stood so opened
+    ends none =
+    CameThrough connecting is_reached was
+    (opened ∙ ap (λ m. step_noted (Opened connecting.stream is_reached) m)
+    (stood ∙ ap (λ s. step_noted (Stood connecting.stream s) before) so)) ends none
+
+pub under_way : {A : Type 0} (old new : Option Connecting) (connecting : Connecting)
+    (standing : Standing) (before mid after : ReachSteps) (answer : Dialled A)
+    → old ≡ Some connecting → mid ≡ step_noted (Stood connecting.stream standing) before
+    → standing ≡ UnderWay → GoesOnAsIs connecting mid answer new after
+    → AsksOn old before answer new after
+under_way old new connecting standing before mid after answer was stood so on =
+    IsUnderWay connecting was (subst (λ m. GoesOnAsIs connecting m answer new after)
+    (stood ∙ ap (λ s. step_noted (Stood connecting.stream s) before) so) on)
+
+pub broke_off : {A : Type 0} (old none new : Option Connecting) (connecting : Connecting)
+    (standing : Standing) (before mid after : ReachSteps) (answer : Dialled A)
+    → old ≡ Some connecting → mid ≡ step_noted (Stood connecting.stream standing) before
+    → standing ≡ Broken → none ≡ None → TriesOn answer none mid new after
+    → AsksOn old before answer new after
+broke_off old none new connecting standing before mid after answer was stood so is tries =
+    BrokeOff connecting was (subst (λ m. TriesOn answer None m new after)
+    (stood ∙ ap (λ s. step_noted (Stood connecting.stream s) before) so)
+    (subst (λ o. TriesOn answer o mid new after) is tries))
+
+-- or none is left
+pub none_on : {A : Type 0} (old new : Option Connecting) (before between after : ReachSteps)
+    (count : ℕ) (came : Option SocketAddr) → Tries before count between
+    → after ≡ step_noted (Came came) between → came ≡ None → new ≡ old
+    → TriesOn {A = A} Failed old before new after
+none_on old new before between after count came tries noted is same =
+    NoneLeft count between tries (noted ∙ ap (λ c. step_noted (Came c) between) is) refl same

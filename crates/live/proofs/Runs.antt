@@ -12,14 +12,17 @@ use Rattle.gateway.specs.declared.ports.Next.TheVariants as next
 use Rattle.live.specs.Cuts.{CutsFirst, is_wall_in}
 use Rattle.live.specs.Ends.{Fixture, LiveEnds, LogsPut, LogsTurn, Turns, as_logged, fixed_of}
 use Rattle.live.specs.Passed.{LiveRun, Begun, Turned, Put}
-use Rattle.live.specs.Runs.{BeginsSo, IsInRun, IsStart, ShowsRun, WallFirst, all_actions}
+use Rattle.live.specs.Runs.{BeginsSo, HasPassed, IsInRun, IsStart, ShowsRun, WallFirst, all_actions}
 use Rattle.live.specs.Runs.{begins_by_wall, is_action, may_be_first, wall_first}
 use Rattle.live.specs.Sights.{ShowsEnds}
 use Rattle.live.specs.Walls.{is_due_since, is_wall, never_given}
 use Rattle.live.specs.declared.walled.Walled.{Walled}
 use Rattle.live.specs.declared.watched.EndsSight.{EndsSight}
 use Rattle.live.proofs.Cuts.{may_be_next, none_by, one_by, run_cuts_first}
+use Rattle.live.proofs.Failures.{failed_where_gone}
 use Rattle.live.proofs.Fixed.{next_fixed, put_fixed}
+use Rattle.live.proofs.Late.{late}
+use Rattle.live.proofs.Passed.{passed}
 use Rattle.live.proofs.WaitsTimed.{put_walled}
 use Rattle.live.proofs.Walls.{wall_of}
 
@@ -179,6 +182,23 @@ begins_so ends r = record {
       (r.new.cut ∙ (sym (run_goes_on r.start ends r.run) ∙ on)) r.run;
 }
 
+pub passed_so : (ends : LiveEnds) → IsInRun ends → HasPassed ends
+passed_so ends r = record {
+  log = passed r.start ends (record {
+    log = r.new.log;
+    line = r.new.line;
+    listener = r.new.listener;
+    connection = r.new.connection;
+  }) r.run;
+  late = late r.start ends r.new.late r.new.line r.run;
+  failed = failed_where_gone r.start ends r.new.failed r.new.line r.run;
+}
+
 pub shown_so : (ends : LiveEnds) (sight : EndsSight) → IsInRun ends → ShowsEnds ends sight
     → ShowsRun ends sight
-shown_so ends sight r shows = record { shows = shows; run = r; begins = begins_so ends r }
+shown_so ends sight r shows = record {
+  shows = shows;
+  run = r;
+  begins = begins_so ends r;
+  passed = passed_so ends r;
+}

@@ -1,5 +1,5 @@
 -- Who comes to a listener of the system, and what becomes of him (this gateway's own profile).
-use Rattle.std.specs.Prelude.{◌≡◌, ◌≢◌, ◌⊎◌, List, [], ◌∷◌, ◌++◌, All, length, Option, Some}
+use Rattle.std.specs.Prelude.{◌≡◌, ◌≢◌, ◌⊎◌, ℕ, List, [], ◌∷◌, ◌++◌, All, length, Option, Some}
 use Rattle.std.specs.Prelude.{None, Result, Ok, Err, MatchResult, option_map, Bool}
 use Rattle.std.specs.Prelude.{if◌then◌else◌}
 use Rattle.std.specs.IoError.{error_kind}
@@ -16,6 +16,17 @@ use Rattle.live.specs.declared.allow_list.AllowList.{AllowList}
 use Rattle.live.specs.declared.arrivals.Arrived.{Arrived}
 use Rattle.live.specs.declared.arrivals.Arrived.TheVariants.{Allowed, Other, Nobody}
 use Rattle.live.specs.declared.ends.RefusedPeers.{RefusedPeers}
+
+-- where a listener was bound, and whether its calls wait
+pub record Binding : Type 0 where
+  pub place : List ℕ
+  pub is_waiting : Bool
+
+-- it was set whether its calls wait
+abbrev pub IsRebound : Option Binding → (is_waiting : Bool) → Option Binding → Type 0
+IsRebound old is_waiting None = Unit {0}
+IsRebound None is_waiting (Some new) = ⊥
+IsRebound (Some old) is_waiting (Some new) = new ≡ record old { is_waiting = is_waiting }
 
 -- what the system answered to a call for the next who waits: his stream and his address, or why
 -- there is none

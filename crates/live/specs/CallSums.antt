@@ -2,20 +2,20 @@
 use Rattle.std.specs.Prelude.{◌≡◌, ◌⊎◌, ℕ, ◌+◌, List, [], ◌∷◌, Bool, true, false, length, drop}
 use Rattle.std.specs.Prelude.{Result}
 use Rattle.std.specs.declared.io.Error.{Error}
-use Rattle.live.specs.Streams.{Received, Sent, SystemCall, Waits, taken_of}
+use Rattle.live.specs.Streams.{Received, Sent, Sets, SystemCall, Waits, taken_of}
 
 -- how many calls were reads
 abbrev pub received_in : List SystemCall → ℕ
 received_in [] = 0
 received_in (Received octets answer ∷ before) = received_in before + 1
-received_in (Waits is_waiting is_set ∷ before) = received_in before
+received_in (Sets setting is_set ∷ before) = received_in before
 received_in (Sent octets answer ∷ before) = received_in before
 
 -- how many octets they brought
 abbrev pub brought_in : List SystemCall → ℕ
 brought_in [] = 0
 brought_in (Received octets answer ∷ before) = brought_in before + taken_of answer
-brought_in (Waits is_waiting is_set ∷ before) = brought_in before
+brought_in (Sets setting is_set ∷ before) = brought_in before
 brought_in (Sent octets answer ∷ before) = brought_in before
 
 -- the latest call was a read that brought none

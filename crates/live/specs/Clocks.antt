@@ -18,6 +18,10 @@ Instants = Option (List (Result Instant Error))
 abbrev pub instant_noted : Result Instant Error → Instants → Instants
 instant_noted answer before = option_map (λ all. answer ∷ all) before
 
+-- its start is what the clock showed then
+abbrev pub StartsNow : (old : Instants) → (start : Instant) → (new : Instants) → Type 0
+StartsNow old start new = new ≡ instant_noted (Ok start) old
+
 -- The moment is as many ms past the first one as the clock has gone on since its start, as far as
 -- 64 bits count. Where it can't be read that is the last one again.
 abbrev pub moment_by : (first : ℕ) → (start : Instant) → (last : ℕ) → Result Instant Error → ℕ

@@ -1,12 +1,14 @@
 -- What has happened at ends in memory, which note it as entries of a log (profile).
 use Rattle.std.specs.Prelude.{ℕ, List, [], ◌∷◌, Bool, true, false, ◌==◌, Some, Ok, Err}
+use Rattle.std.specs.Prelude.{if◌then◌else◌}
 use Rattle.gateway.specs.Log.{Log, Came, Went, LineIn, LineOut, TcpOut, Opened, CutOff, Ticked}
 use Rattle.gateway.specs.Log.{WallIs}
 use Rattle.live.specs.AllowLists.{Refusals}
 use Rattle.live.specs.declared.ends.RefusedPeers.{RefusedPeers}
 use Rattle.live.specs.OctetStreams.{Happening, Gave, WasQuiet, WasGone, Dropped, Wrote}
 use Rattle.live.specs.Redial.{DialCall, Dialed, Asked}
-use Rattle.live.specs.Streams.{Received, Sent, SystemCall, Waits}
+use Rattle.live.specs.Streams.{ReadsWithin, Received, SendsAtOnce, Sent, Sets, Setting}
+use Rattle.live.specs.Streams.{SystemCall, Waiting, WritesWithin}
 use Rattle.std.specs.declared.io.Error.{Error}
 use Rattle.std.specs.declared.net.ip_addr.IpAddr.{IpAddr}
 
@@ -57,14 +59,23 @@ shown_in [] = []
 shown_in (Came now (WallIs shown) ∷ log) = shown ∷ shown_in log
 shown_in (entry ∷ log) = shown_in log
 
--- The calls of a stream of the system: so many octets came, or none with this fault; or so many of
--- those that were handed to it were taken; or it was set to wait at calls, with the number 1, or
--- not to.
+-- how a stream of the system is set: at the moment 0 to wait at calls, with the number 1, or not to,
+-- at 1 to read and at 2 to write within so many ms, and else to send at once
+abbrev pub setting_of : (moment number : ℕ) → Setting
+setting_of moment number =
+    if moment == 0 then Waiting (number == 1)
+    else if moment == 1 then ReadsWithin number
+    else if moment == 2 then WritesWithin number
+    else SendsAtOnce
+
+-- The calls of such a stream: so many octets came, or none with this fault; or so many of those
+-- that were handed to it were taken; or it was set.
 abbrev pub calls_in : Error → Log → List SystemCall
 calls_in fault [] = []
 calls_in fault (Went count (LineOut octets) ∷ log) =
     Received octets (Ok count) ∷ calls_in fault log
 calls_in fault (Went count (TcpOut octets) ∷ log) = Sent octets (Ok count) ∷ calls_in fault log
 calls_in fault (Came now Ticked ∷ log) = Received [] (Err fault) ∷ calls_in fault log
-calls_in fault (Came now (WallIs number) ∷ log) = Waits (number == 1) true ∷ calls_in fault log
+calls_in fault (Came now (WallIs number) ∷ log) =
+    Sets (setting_of now number) true ∷ calls_in fault log
 calls_in fault (entry ∷ log) = calls_in fault log

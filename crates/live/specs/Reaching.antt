@@ -1,17 +1,35 @@
--- Which places a dialler of the line asks for (this gateway's own profile).
-use Rattle.std.specs.Prelude.{◌≡◌, ◌⊎◌, ℕ, ◌+◌, List, ◌∷◌, Option, Some, None}
-use Rattle.std.specs.Prelude.{option_map}
+-- Which places a dialler of the line asks for, and what its tries come to (this gateway's own
+-- profile).
+use Rattle.std.specs.Prelude.{◌≡◌, ◌-◌, ◌*◌, ℕ, ◌+◌, ◌<◌, nat_le, List, ◌∷◌, Bool, true, false}
+use Rattle.std.specs.Prelude.{Option, Some, None, Result, Ok, Err, MatchResult, option_map}
+use Rattle.std.specs.IoError.{error_kind}
+use Rattle.std.specs.Time.{instant_nanos}
+use Rattle.std.specs.declared.io.Error.{Error}
+use Rattle.std.specs.declared.io.ErrorKind.TheVariants.{NotFound}
 use Rattle.std.specs.declared.net.socket_addr.SocketAddr.{SocketAddr}
+use Rattle.std.specs.declared.time.Instant.{Instant}
+use Rattle.live.specs.declared.reach.Connecting.{Connecting}
+use Rattle.live.specs.declared.reach.ReachedStream.{ReachedStream}
+use Rattle.live.specs.declared.reach.Standing.{Standing}
+use Rattle.live.specs.declared.reach.Standing.TheVariants.{Through, UnderWay, Broken}
 use Rattle.live.specs.declared.redial.Dialled.{Dialled}
 use Rattle.live.specs.declared.redial.Dialled.TheVariants.{Reached, Pending, Failed}
 
--- a call: a host was looked up, its next address came, or none any more, or a connect was begun, to
--- an address or to the socket at a path
+-- A call, and what it was answered: a host was looked up; its next address came, or none any more;
+-- a connect was begun, to an address or to the socket at a path; or it was waited for, by TCP so
+-- many ms at the most; how a stream's connect stands; what the clock shows; a line was made of a
+-- stream, and whether it can be used; or so many ms were slept.
 pub data ReachStep : Type 0 where
-  LookedUp : (host : List ℕ) → ReachStep
+  LookedUp : (host : List ℕ) → Result (Unit {0}) Error → ReachStep
   Came : Option SocketAddr → ReachStep
-  Began : SocketAddr → ReachStep
-  AtPath : (path : List ℕ) → ReachStep
+  Began : SocketAddr → Result ReachedStream Error → ReachStep
+  AtPath : (path : List ℕ) → Result ReachedStream Error → ReachStep
+  Waited : SocketAddr → (ms : ℕ) → Result ReachedStream Error → ReachStep
+  WaitedAt : (path : List ℕ) → Result ReachedStream Error → ReachStep
+  Stood : ReachedStream → Standing → ReachStep
+  Showed : Result Instant Error → ReachStep
+  Opened : ReachedStream → (is_usable : Bool) → ReachStep
+  Slept : (ms : ℕ) → ReachStep
 
 -- the calls so far, the newest first, where they are noted
 abbrev pub ReachSteps : Type 0
@@ -20,18 +38,152 @@ ReachSteps = Option (List ReachStep)
 abbrev pub step_noted : ReachStep → ReachSteps → ReachSteps
 step_noted step steps = option_map (λ before. step ∷ before) steps
 
--- So many addresses came one after another, and at each a connect to it was begun.
+-- No connect to this address goes on: it couldn't be begun, or when it began can't be told.
+pub data FailsAt (address : SocketAddr) (before after : ReachSteps) : Type 0 where
+  Refused : (fault : Error) → after ≡ step_noted (Began address (Err fault)) before
+      → FailsAt address before after
+  Untimed : (stream : ReachedStream) (fault : Error)
+      → after ≡ step_noted (Showed (Err fault)) (step_noted (Began address (Ok stream)) before)
+      → FailsAt address before after
+
+-- A connect to it goes on, since the moment that the clock showed behind its beginning; or none.
+abbrev pub ConnectsAt : SocketAddr → (before : ReachSteps) → Result Connecting Error
+    → (after : ReachSteps) → Type 0
+ConnectsAt address before answer after =
+    MatchResult answer (λ connecting. after ≡ step_noted (Showed (Ok connecting.since))
+    (step_noted (Began address (Ok connecting.stream)) before))
+    (λ fault. FailsAt address before after)
+
+-- So many addresses came one after another, and no connect to any of them went on.
 pub data Tries (before : ReachSteps) : (count : ℕ) → ReachSteps → Type 0 where
   NoneYet : Tries before 0 before
-  OneMore : (count : ℕ) (between : ReachSteps) (address : SocketAddr)
+  OneMore : (count : ℕ) (between after : ReachSteps) (address : SocketAddr)
       → Tries before count between
-      → Tries before (count + 1) (step_noted (Began address) (step_noted (Came (Some address))
-      between))
+      → FailsAt address (step_noted (Came (Some address)) between) after
+      → Tries before (count + 1) after
 
 -- A connect to an address that came goes on; or none did, of all that came, or of 32.
-abbrev pub TriesOn : {A : Type 0} → Dialled A → (before after : ReachSteps) → Type 0
-TriesOn (Reached stream) before after = ⊥
-TriesOn Pending before after = (count : ℕ) × Tries before (count + 1) after
-TriesOn Failed before after =
-    ((count : ℕ) × (between : ReachSteps) × Tries before count between
-    × (after ≡ step_noted (Came None) between)) ⊎ Tries before 32 after
+pub data TriesOn {A : Type 0} (answer : Dialled A) (old : Option Connecting) (before : ReachSteps)
+    (new : Option Connecting) (after : ReachSteps) : Type 0 where
+  GoesOn : (count : ℕ) (between : ReachSteps) (address : SocketAddr) (connecting : Connecting)
+      → Tries before count between → count < 32
+      → ConnectsAt address (step_noted (Came (Some address)) between) (Ok connecting) after
+      → answer ≡ Pending → new ≡ Some connecting → TriesOn answer old before new after
+  NoneLeft : (count : ℕ) (between : ReachSteps) → Tries before count between
+      → after ≡ step_noted (Came None) between → answer ≡ Failed → new ≡ old
+      → TriesOn answer old before new after
+  Enough : Tries before 32 after → answer ≡ Failed → new ≡ old
+      → TriesOn answer old before new after
+
+-- a try has ended, and whether it reached a stream
+abbrev pub Ends : {A : Type 0} → Dialled A → (is_reached : Bool) → Type 0
+Ends (Reached stream) is_reached = is_reached ≡ true
+Ends Pending is_reached = ⊥
+Ends Failed is_reached = is_reached ≡ false
+
+-- The socket at this path was asked for, and is a line if it answers and can be used.
+pub data OpensAt (path : List ℕ) (is_reached : Bool) (before after : ReachSteps) : Type 0 where
+  Absent : (fault : Error) → is_reached ≡ false
+      → after ≡ step_noted (AtPath path (Err fault)) before → OpensAt path is_reached before after
+  There : (stream : ReachedStream)
+      → after ≡ step_noted (Opened stream is_reached) (step_noted (AtPath path (Ok stream)) before)
+      → OpensAt path is_reached before after
+
+-- A try at the socket of this path has ended so.
+pub record DialsAt {A : Type 0} (path : List ℕ) (answer : Dialled A) (before after : ReachSteps)
+    : Type 0 where
+  pub is_reached : Bool
+  pub ends : Ends answer is_reached
+  pub opens : OpensAt path is_reached before after
+
+-- A try at this host looks it up, and begins with its first address.
+pub record DialsHost {A : Type 0} (host : List ℕ) (answer : Dialled A) (old : Option Connecting)
+    (before : ReachSteps) (new : Option Connecting) (after : ReachSteps) : Type 0 where
+  pub found : Result (Unit {0}) Error
+  pub tries : TriesOn answer old (step_noted (LookedUp host found) before) new after
+
+-- by the clock a connect has gone on for 5 s at the most
+abbrev pub is_in_time : (since : Instant) → Result Instant Error → Bool
+is_in_time since (Ok now) = nat_le (instant_nanos now - instant_nanos since) (5000 * 1_000_000)
+is_in_time since (Err fault) = false
+
+-- A connect that is under way goes on for 5 s at the most. Behind that one to the next address is
+-- begun.
+pub data GoesOnAsIs {A : Type 0} (connecting : Connecting) (before : ReachSteps)
+    (answer : Dialled A) (new : Option Connecting) (after : ReachSteps) : Type 0 where
+  InTime : (shown : Result Instant Error) → is_in_time connecting.since shown ≡ true
+      → after ≡ step_noted (Showed shown) before → answer ≡ Pending → new ≡ Some connecting
+      → GoesOnAsIs connecting before answer new after
+  TooLate : (shown : Result Instant Error) → is_in_time connecting.since shown ≡ false
+      → TriesOn answer None (step_noted (Showed shown) before) new after
+      → GoesOnAsIs connecting before answer new after
+
+-- How the connect that goes on stands is asked. Where it came through its stream is a line, if that
+-- can be used. Where it broke off one to the next address is begun.
+pub data AsksOn {A : Type 0} (old : Option Connecting) (before : ReachSteps) (answer : Dialled A)
+    (new : Option Connecting) (after : ReachSteps) : Type 0 where
+  NoConnect : old ≡ None → answer ≡ Failed → new ≡ None → after ≡ before
+      → AsksOn old before answer new after
+  CameThrough : (connecting : Connecting) (is_reached : Bool) → old ≡ Some connecting
+      → after ≡ step_noted (Opened connecting.stream is_reached)
+      (step_noted (Stood connecting.stream Through) before)
+      → Ends answer is_reached → new ≡ None → AsksOn old before answer new after
+  IsUnderWay : (connecting : Connecting) → old ≡ Some connecting
+      → GoesOnAsIs connecting (step_noted (Stood connecting.stream UnderWay) before) answer new
+      after → AsksOn old before answer new after
+  BrokeOff : (connecting : Connecting) → old ≡ Some connecting
+      → TriesOn answer None (step_noted (Stood connecting.stream Broken) before) new after
+      → AsksOn old before answer new after
+
+-- So many addresses came one after another, each was waited for 5 s at the most, and none was
+-- reached; this was the fault at the last of them, or that the host has none.
+pub data WaitsInVain (before : ReachSteps) : (count : ℕ) → (last : Error) → ReachSteps
+    → Type 0 where
+  NoAddress : (last : Error) → error_kind last ≡ NotFound → WaitsInVain before 0 last before
+  OneAddress : (count : ℕ) (between : ReachSteps) (address : SocketAddr) (last fault : Error)
+      → WaitsInVain before count last between
+      → WaitsInVain before (count + 1) fault
+      (step_noted (Waited address 5000 (Err fault))
+      (step_noted (Came (Some address)) between))
+
+-- a line was reached, or this is the fault
+abbrev pub IsFault : {A : Type 0} → Result A Error → Error → Type 0
+IsFault (Ok line) fault = ⊥
+IsFault (Err it) fault = it ≡ fault
+
+abbrev pub IsUsable : {A : Type 0} → Result A Error → (is_usable : Bool) → Type 0
+IsUsable (Ok line) is_usable = is_usable ≡ true
+IsUsable (Err it) is_usable = is_usable ≡ false
+
+-- The socket at this path is connected to, and is a line if it answers and can be used.
+pub data ReachesAt {A : Type 0} (path : List ℕ) (answer : Result A Error)
+    (before after : ReachSteps) : Type 0 where
+  NotThere : (fault : Error) → IsFault answer fault
+      → after ≡ step_noted (WaitedAt path (Err fault)) before → ReachesAt path answer before after
+  IsThere : (stream : ReachedStream) (is_usable : Bool) → IsUsable answer is_usable
+      → after ≡ step_noted (Opened stream is_usable) (step_noted (WaitedAt path (Ok stream)) before)
+      → ReachesAt path answer before after
+
+-- The addresses that came are tried in turn. The first that answers is a line if it can be used.
+-- Else the answer is the fault at the last of all, or of 32.
+pub data ReachesOne {A : Type 0} (answer : Result A Error) (before after : ReachSteps)
+    : Type 0 where
+  Answers : (count : ℕ) (between : ReachSteps) (address : SocketAddr) (last : Error)
+      (stream : ReachedStream) (is_usable : Bool) → WaitsInVain before count last between
+      → IsUsable answer is_usable
+      → after ≡ step_noted (Opened stream is_usable) (step_noted (Waited address 5000 (Ok stream))
+      (step_noted (Came (Some address)) between)) → ReachesOne answer before after
+  NoMore : (count : ℕ) (between : ReachSteps) (last : Error)
+      → WaitsInVain before count last between → IsFault answer last
+      → after ≡ step_noted (Came None) between → ReachesOne answer before after
+  AllTried : (last : Error) → WaitsInVain before 32 last after → IsFault answer last
+      → ReachesOne answer before after
+
+-- The host is looked up, and its addresses are tried; or the answer is why that failed.
+pub data ReachesHost {A : Type 0} (host : List ℕ) (answer : Result A Error)
+    (before after : ReachSteps) : Type 0 where
+  Unknown : (fault : Error) → IsFault answer fault
+      → after ≡ step_noted (LookedUp host (Err fault)) before → ReachesHost host answer before after
+  Known : (found : Unit {0})
+      → ReachesOne answer (step_noted (LookedUp host (Ok found)) before) after
+      → ReachesHost host answer before after

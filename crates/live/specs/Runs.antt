@@ -1,17 +1,22 @@
 -- A live run from its beginning on, and what its log begins with (this gateway's own profile).
 use Rattle.std.specs.Prelude.{◌≡◌, ℕ, [], ◌∷◌, ◌++◌, All, Bool, true, false, not, ◌&&◌, ◌||◌}
-use Rattle.std.specs.Prelude.{Option, None, is_some}
+use Rattle.std.specs.Prelude.{Option, None, IfSome, is_some}
 use Rattle.gateway.specs.Log.{Log, LogEntry, Came, Went, Input}
 use Rattle.live.specs.Cuts.{CutsFirst, is_wall_in}
 use Rattle.live.specs.Ends.{LiveEnds}
-use Rattle.live.specs.Passed.{LiveRun}
+use Rattle.live.specs.Late.{CountsLate, gone_of}
+use Rattle.live.specs.OctetStreams.{IsNew}
+use Rattle.live.specs.Passed.{HasNoAttempts, LiveRun, LogsEnds}
 use Rattle.live.specs.Sights.{ShowsEnds}
 use Rattle.live.specs.Walls.{never_given}
 use Rattle.live.specs.declared.watched.EndsSight.{EndsSight}
 
--- Nothing has passed yet. A cut is due where the run goes on after a restart, and else none is.
+-- Nothing has passed yet, and nothing has happened at the line and at the listener. A cut is due
+-- where the run goes on after a restart, and else none is.
 pub record IsStart (ends : LiveEnds) : Type 0 where
   pub log : ends.log ≡ []
+  pub line : IsNew ends.line
+  pub listener : HasNoAttempts ends.listener
   pub connection : ends.connection ≡ None
   pub held : ends.held ≡ []
   pub cut : ends.is_cut_due ≡ ends.goes_on
@@ -42,11 +47,20 @@ pub record BeginsSo (ends : LiveEnds) : Type 0 where
   pub wall : WallFirst ends.log
   pub cut : ends.goes_on ≡ true → CutsFirst ends.log
 
+-- The log has what passed at the line, at the open connection and at the listener, from the first
+-- octet on. So many octets were late as the line dropped, and it failed as often as it was found
+-- gone.
+pub record HasPassed (ends : LiveEnds) : Type 0 where
+  pub log : LogsEnds ends.log ends
+  pub late : CountsLate ends
+  pub failed : IfSome ends.line (λ happened. ends.failed ≡ gone_of happened)
+
 -- What is shown of a run from its beginning on.
 pub record ShowsRun (ends : LiveEnds) (sight : EndsSight) : Type 0 where
   pub shows : ShowsEnds ends sight
   pub run : IsInRun ends
   pub begins : BeginsSo ends
+  pub passed : HasPassed ends
 
 -- no entry is an event
 abbrev pub all_actions : Log → Bool

@@ -10,13 +10,24 @@ use Rattle.std.specs.IoError.{error_kind}
 use Rattle.live.specs.declared.ends.Got.{Got}
 use Rattle.live.specs.declared.ends.Got.TheVariants.{Octets, Quiet, Gone}
 
+-- how a stream can be set: to wait at calls, or not to; to wait at a read, or at a write, so many
+-- ms at the most; or to send what it takes at once, and not to join it with what follows
+pub data Setting : Type 0 where
+  Waiting : (is_waiting : Bool) → Setting
+  ReadsWithin : (ms : ℕ) → Setting
+  WritesWithin : (ms : ℕ) → Setting
+  SendsAtOnce : Setting
+
 -- a call of a stream, and what the system answered: which octets came, and how many, or how many of
--- those that were handed to it were taken, from the front; or it was set to wait at calls, or not
--- to, and whether that was done
+-- those that were handed to it were taken, from the front; or it was set, and whether that was done
 pub data SystemCall : Type 0 where
   Received : (octets : List ℕ) → (answer : Result ℕ Error) → SystemCall
   Sent : (octets : List ℕ) → (answer : Result ℕ Error) → SystemCall
-  Waits : (is_waiting : Bool) → (is_set : Bool) → SystemCall
+  Sets : Setting → (is_set : Bool) → SystemCall
+
+-- it was set to wait at calls, or not to
+abbrev pub Waits : (is_waiting : Bool) → (is_set : Bool) → SystemCall
+Waits is_waiting is_set = Sets (Waiting is_waiting) is_set
 
 -- the calls of a stream, the newest first, where it notes them
 abbrev pub Calls : Type 0
@@ -25,6 +36,21 @@ Calls = Option (List SystemCall)
 abbrev pub called : Calls → SystemCall → Calls
 called None call = None
 called (Some before) call = Some (call ∷ before)
+
+-- these settings were made, the first of them first
+abbrev pub set_so : List Setting → Calls → Calls
+set_so [] calls = calls
+set_so (setting ∷ settings) calls = set_so settings (called calls (Sets setting true))
+
+-- How a line is set: each request goes out at once, a look waits for 1 ms at the most, and a write
+-- for 20.
+abbrev pub as_line : Calls → Calls
+as_line calls = set_so (SendsAtOnce ∷ ReadsWithin 1 ∷ WritesWithin 20 ∷ []) calls
+
+-- And the connection of a control centre, whose calls don't wait but where a write is tried again.
+abbrev pub as_centre : Calls → Calls
+as_centre calls =
+    set_so (SendsAtOnce ∷ WritesWithin 20 ∷ ReadsWithin 1 ∷ Waiting false ∷ []) calls
 
 -- A wait that ended without octets and an interruption are quiet; every other failure is the
 -- stream's end.
@@ -112,7 +138,7 @@ pub record ReadsLine (old : Calls) (got : Got) (buf : List ℕ) (new : Calls) : 
 abbrev pub came : List SystemCall → List ℕ
 came [] = []
 came (Received octets answer ∷ before) = came before ++ octets
-came (Waits is_waiting is_set ∷ before) = came before
+came (Sets setting is_set ∷ before) = came before
 came (Sent octets answer ∷ before) = came before
 
 -- since then these octets came from the stream
@@ -150,7 +176,7 @@ pub record WritesAll (old : Calls) (octets : List ℕ) (is_taken : Bool) (new : 
 abbrev pub took : List SystemCall → List ℕ
 took [] = []
 took (Received octets answer ∷ before) = took before
-took (Waits is_waiting is_set ∷ before) = took before
+took (Sets setting is_set ∷ before) = took before
 took (Sent octets answer ∷ before) = took before ++ take (taken_of answer) octets
 
 -- since then the stream took these octets

@@ -3,13 +3,14 @@
 use crate::sockets::CentreSocket;
 use std::io;
 use std::io::Eprint;
-use std::net::{IpAddr, OpenListener, SocketAddr, TcpListener, TcpStream};
+use std::net::{IpAddr, Net, OpenListener, SocketAddr, TcpListener, TcpStream};
 
 /// A listener, as the system has it. One that notes its calls adds the answer of each, each fault
 /// that is told, and whether the stream of each who was let in can be used.
 pub trait SystemListener {
-    ghost use Rattle.std.specs.Prelude.{◌≡◌, [], ◌∷◌};
-    ghost use Rattle.live.specs.Arrivals.{Arrivals, arrived};
+    ghost use Rattle.std.specs.Prelude.{◌≡◌, [], ◌∷◌, IfOk, IfSome, true};
+    ghost use Rattle.live.specs.Arrivals.{Arrivals, Binding, IsRebound, arrived};
+    ghost use Rattle.std.specs.Prelude.{Option};
     ghost use Rattle.live.specs.OctetStreams.{Attempts, attempted};
     ghost use Rattle.live.specs.Telling.{ToldFaults, one_more_told};
     ghost use Rattle.std.specs.Result.{is_ok};
@@ -23,6 +24,23 @@ pub trait SystemListener {
 
     /// Whether each stream that was opened can be used, the newest first, where it notes that.
     ghost opened: { Self → Attempts };
+
+    /// Where it was bound, and whether its calls wait, where it notes that.
+    ghost binding: { Self → Option Binding };
+
+    /// One bound at `HOST:PORT`, whose calls wait.
+    fn bind<R: Net<Listener = TcpListener, Stream = TcpStream>>(
+        rt: &R,
+        place: &str,
+    ) -> io::Result<Self>
+    where
+        Self: Sized,
+        ensures { IfOk result (λ listener. IfSome (binding listener)
+            (λ noted. noted ≡ record { place = place.now; is_waiting = true })) };
+
+    /// Says whether its calls wait.
+    fn set_waiting(&mut self, is_waiting: bool) -> io::Result<()>
+        ensures { IfOk result (λ _. IsRebound (binding self.old) is_waiting (binding self.new)) };
 
     /// The next who waits.
     fn accept_next(&mut self) -> io::Result<(TcpStream, SocketAddr)>
@@ -51,6 +69,20 @@ impl SystemListener for TcpListener {
     ghost told = { λ _. None };
 
     ghost opened = { λ _. None };
+
+    ghost binding = { λ _. None };
+
+    // Where the system binds it no clause of the kit's call says.
+    fn bind<R: Net<Listener = TcpListener, Stream = TcpStream>>(
+        rt: &R,
+        place: &str,
+    ) -> io::Result<TcpListener> {
+        TcpListener::bind(rt, place)
+    }
+
+    fn set_waiting(&mut self, is_waiting: bool) -> io::Result<()> {
+        self.set_nonblocking(!is_waiting)
+    }
 
     // What the system answers to it no clause of the kit's call says.
     fn accept_next(&mut self) -> io::Result<(TcpStream, SocketAddr)> {

@@ -1,6 +1,7 @@
 //! Laws of the port over live ends, in the terms of the clock, the requests and the looks at the
 //! line.
 pub(crate) mod arriving;
+pub(crate) mod reaching;
 pub(crate) mod tries;
 
 ghost use Rattle.std.specs.Prelude.{◌⊎◌, ◌≡◌, ◌≢◌, All, IfSome, None, ◌+◌, ◌-◌, ◌<◌, ◌≤◌, ℕ, List};
@@ -17,7 +18,7 @@ ghost use Rattle.live.specs.Law.{first_of, IsTickDue, IfTick, AtWall, IsEve, IsO
 ghost use Rattle.live.specs.Law.{IsWrittenBehind, AsksNothing, IsFoundGone, is_cut, notes_of};
 ghost use Rattle.live.specs.Clocks.{moment_by, wall_by};
 ghost use Rattle.live.specs.Cuts.{CutsFirst, shuts_nothing};
-ghost use Rattle.live.specs.Runs.{IsInRun, WallFirst};
+ghost use Rattle.live.specs.Runs.{HasPassed, IsInRun, WallFirst};
 ghost use Rattle.live.specs.declared.ends.CutCause.TheVariants.{Gone, NotTaken};
 ghost use Rattle.gateway.specs.Log.{Closed, LineOut, Output};
 ghost use Rattle.live.specs.InTurn.{BeginsBehind, LooksBefore, IsLookedAt, begins_behind};
@@ -290,6 +291,13 @@ pub fn looks_at_the_line_are_timed_by_the_clock()
 /// where the listener notes what it accepted, as many connections were opened.
 pub fn the_log_has_what_passed()
     ensures { (start end : LiveEnds) → IsFreshRun start → LiveRun start end → LogsEnds end.log end }
+{}
+
+/// So it is of each run from its beginning on, at any moment of it: nothing has happened at the
+/// line and at the listener before it. So many octets were late as the line dropped in the run, and
+/// it failed as often as its stream was found gone.
+pub fn a_run_logs_what_passed()
+    ensures { (ends : LiveEnds) → IsInRun ends → HasPassed ends }
 {}
 
 /// A line, a listener, a clock and a wall clock that note what happens at them do so to the end of

@@ -92,6 +92,10 @@ pub use laws::arriving::{
     that_nobody_can_be_accepted_is_told_once, who_comes_is_refused_or_let_in,
     who_is_on_the_list_may_connect, who_was_refused_is_shown,
 };
+pub use laws::reaching::{
+    a_clock_begins_at_its_moment, a_line_is_reached_at_its_place, a_try_ends_as_its_connect_does,
+    calls_of_streams_wait_so_long,
+};
 pub use laws::tries::{
     a_stream_that_is_away_is_tried_when_due, a_try_goes_on_until_it_ends,
     tries_lie_farther_apart_while_nothing_comes, what_is_known_of_a_stream_is_what_was_seen,
@@ -102,7 +106,7 @@ pub use laws::{
     a_line_that_is_waited_out_holds_no_moment, a_look_gives_what_its_calls_brought,
     a_moment_is_held_only_before_the_end_of_an_exchange,
     a_request_is_written_and_timed_behind_what_waits, a_run_begins_with_the_wall_clock,
-    a_run_that_goes_on_begins_with_a_cut, a_tick_has_a_reason,
+    a_run_logs_what_passed, a_run_that_goes_on_begins_with_a_cut, a_tick_has_a_reason,
     an_exchange_that_is_over_gives_an_event_at_once, late_octets_are_those_that_were_dropped,
     looks_ask_nothing, looks_at_the_line_are_timed_by_the_clock,
     looks_for_an_event_begin_within_100_ms, no_exchange_ends_unread, no_source_hides_another,

@@ -93,7 +93,6 @@ impl<S: OctetStream + Reached, L: Listener + Drop, C: RunClock + Drop> Watched
 
     ghost failure = { λ ends. failure_of ends.failed };
 
-    #[tactic(auto, using(crate::proofs::Runs::shown_so))]
     fn sight(&self) -> EndsSight
         ensures shows { ShowsRun self.now result }
         ensures failure { result.failure ≡ failure_of self.now.failed }

@@ -5,17 +5,23 @@
 //! once, octets of a control centre after one look at a quiet line.
 ghost use Rattle.std.specs.Option.{is_some};
 ghost use Rattle.std.specs.Prelude.{◌≡◌, ◌≤◌, IfOk, IfSome, None, Some, true, false, option_map};
+ghost use Rattle.std.specs.Prelude.{Result};
 ghost use Rattle.std.specs.Net.Addr.{IsCanonicalOf, MatchIp};
 ghost use Rattle.std.specs.Net.Socket.{socket_ip};
 ghost use Rattle.live.specs.AllowLists.{Allows, IsPlain, RefusesStrangers, nobody};
 ghost use Rattle.live.specs.Arrivals.{AcceptsNewest, TakesOne, TakesWaiting};
-ghost use Rattle.live.specs.Clocks.{BeginsAt, GoesOn, ShowsWall};
+ghost use Rattle.live.specs.Clocks.{BeginsAt, GoesOn, ShowsWall, StartsNow};
 ghost use Rattle.live.specs.OctetStreams.{FitsBuffer, IsNew, attempted, noted, looked, Dropped};
 ghost use Rattle.live.specs.OctetStreams.{Wrote};
 ghost use Rattle.live.specs.Streams.{ReadsOnce, ReadsLine, DropsWaiting, WritesAll, WritesInTwo};
-ghost use Rattle.live.specs.Streams.{called, Waits};
+ghost use Rattle.live.specs.Streams.{Waits, as_centre, as_line, called};
 ghost use Rattle.live.specs.Telling.{Tells, told_unless};
-ghost use Rattle.live.specs.Reaching.{AtPath, Began, LookedUp, TriesOn, step_noted};
+ghost use Rattle.live.specs.Reaching.{AsksOn, ConnectsAt, DialsAt, DialsHost, Ends, GoesOnAsIs};
+ghost use Rattle.live.specs.Reaching.{OpensAt, ReachesAt, ReachesHost, ReachesOne, Showed, Slept};
+ghost use Rattle.live.specs.Reaching.{TriesOn, is_in_time, step_noted};
+ghost use Rattle.std.specs.Result.{is_ok};
+ghost use Rattle.std.specs.declared.io.Error.{Error};
+ghost use Rattle.std.specs.declared.time.Instant.{Instant};
 ghost use Rattle.live.specs.Redial.{IfReached, ended};
 ghost use Rattle.std.specs.Prelude.{◌⊎◌, ◌++◌, List, ℕ, codes};
 ghost use Rattle.live.specs.declared.ends.Presence.TheVariants.{There};
@@ -26,7 +32,7 @@ use crate::clock::{HostInstants, SystemInstants};
 use crate::ends::{
     Accepted, Got, Listener, OctetStream, Presence, Reached, RefusedPeers, RunClock,
 };
-use crate::reach::{HostReach, SystemReach};
+use crate::reach::{Connecting, HostReach, Standing, SystemReach};
 use crate::redial::{Dialled, Dialler};
 use crate::stream::{
     SocketStream, SystemStream, drop_waiting, read_line, read_once, write_in_two, write_once,
@@ -77,51 +83,39 @@ impl<S: SystemStream + Drop> Model for LineSocket<S> {
 
 impl LineSocket {
     /// Connects to `tcp:HOST:PORT` or `unix:PATH`, within some seconds for each address that HOST
-    /// has. To whom a stream is connected no clause of the kit's calls says, so none here does.
+    /// has (`LineDialler::reach`).
     ///
     /// # Errors
     ///
     /// Those of the system, and `InvalidInput` where the text is neither.
-    pub fn reach<R: Net<Stream = TcpStream>>(rt: &R, place: &str) -> io::Result<LineSocket> {
-        if let Some(address) = place.strip_prefix("tcp:") {
-            return LineSocket::over_tcp(connect(rt, address)?);
-        }
-        let Some(path) = place.strip_prefix("unix:") else {
-            return Err(io::Error::from(ErrorKind::InvalidInput));
-        };
-        LineSocket::over_unix(UnixStream::connect(rt, path)?)
-    }
-
-    fn over_tcp(stream: TcpStream) -> io::Result<LineSocket> {
-        // A request is one small frame, which the system would hold back to join it with others.
-        stream.set_nodelay(true)?;
-        stream.set_read_timeout(Some(Duration::from_millis(LOOK_MS)))?;
-        stream.set_write_timeout(Some(Duration::from_millis(WRITE_MS)))?;
-        Ok(LineSocket {
-            stream: SocketStream::Tcp(stream),
-        })
-    }
-
-    fn over_unix(stream: UnixStream) -> io::Result<LineSocket> {
-        stream.set_read_timeout(Some(Duration::from_millis(LOOK_MS)))?;
-        stream.set_write_timeout(Some(Duration::from_millis(WRITE_MS)))?;
-        Ok(LineSocket {
-            stream: SocketStream::Unix(stream),
-        })
+    pub fn reach<R: Net<Stream = TcpStream> + std::rt::Clock>(
+        rt: &R,
+        place: &str,
+    ) -> io::Result<LineSocket> {
+        LineDialler::new(rt, place).reach()
     }
 }
 
-/// Connects to the first address that answers, each in its time.
-fn connect<R: Net<Stream = TcpStream>>(rt: &R, place: &str) -> io::Result<TcpStream> {
-    // What is answered for a name that has no address.
-    let mut last = io::Error::from(ErrorKind::NotFound);
-    for address in place.to_socket_addrs(rt)? {
-        match TcpStream::connect_timeout(rt, &address, Duration::from_millis(REACH_MS)) {
-            Ok(stream) => return Ok(stream),
-            Err(fault) => last = fault,
-        }
+impl<S: SystemStream + Drop> LineSocket<S> {
+    /// Over this stream: requests go out at once, a look waits for 1 ms at the most, a write for
+    /// 20.
+    pub(crate) fn over(mut stream: S) -> io::Result<LineSocket<S>>
+        ensures { IfOk result (λ line. line ≡ as_line (S.calls stream)) }
+    {
+        // A request is one small frame, which the system would hold back to join it with others.
+        stream.send_at_once()?;
+        stream.limit_reads(LOOK_MS)?;
+        stream.limit_writes(WRITE_MS)?;
+        Ok(LineSocket { stream })
     }
-    Err(last)
+
+    /// The same over a stream whose calls don't wait yet.
+    pub(crate) fn waiting(mut stream: S) -> io::Result<LineSocket<S>>
+        ensures { IfOk result (λ line. line ≡ as_line (called (S.calls stream) (Waits true true))) }
+    {
+        stream.set_waiting(true)?;
+        LineSocket::over(stream)
+    }
 }
 
 impl<S: SystemStream + Drop> OctetStream for LineSocket<S> {
@@ -166,14 +160,6 @@ impl<S: SystemStream + Drop> Reached for LineSocket<S> {
     }
 }
 
-/// A connect that goes on.
-#[derive(Drop)]
-struct Connecting {
-    stream: mio::net::TcpStream,
-    /// When it began.
-    since: Instant,
-}
-
 /// Reaches the line at `tcp:HOST:PORT` or `unix:PATH` again and again, without a wait: a connect
 /// goes on between the looks, for some seconds at each address that HOST has. A name is looked up
 /// at each try, for which the system may wait.
@@ -201,10 +187,53 @@ impl<'a, R: Net<Stream = TcpStream> + std::rt::Clock> LineDialler<'a, R> {
 }
 
 impl<'a, R: Net<Stream = TcpStream> + std::rt::Clock, W: SystemReach + Drop> LineDialler<'a, R, W> {
+    /// Connects to the place now, and waits for that, some seconds for each address of its host.
+    ///
+    /// # Errors
+    ///
+    /// Those of the system, and `InvalidInput` where the place is neither.
+    pub fn reach(&mut self) -> io::Result<LineSocket>
+        ensures place { self.new.place.now ≡ self.old.place.now }
+        ensures path { (path : List ℕ) → self.old.place.now ≡ codes "unix:" ++ path →
+            ReachesAt path result (W.steps self.old.reach) (W.steps self.new.reach) }
+        ensures host { (host : List ℕ) → self.old.place.now ≡ codes "tcp:" ++ host →
+            ReachesHost host result (W.steps self.old.reach) (W.steps self.new.reach) }
+    {
+        if let Some(path) = self.place.strip_prefix("unix:") {
+            let stream = self.reach.connect_at(self.rt, path)?;
+            return self.reach.open(stream);
+        }
+        let Some(host) = self.place.strip_prefix("tcp:") else {
+            return Err(io::Error::from(ErrorKind::InvalidInput));
+        };
+        self.reach.look_up(self.rt, host)?;
+        self.reach_one()
+    }
+
+    /// Connects to the first address that answers, each in its time.
+    fn reach_one(&mut self) -> io::Result<LineSocket>
+        ensures place { self.new.place.now ≡ self.old.place.now }
+        ensures reaches { ReachesOne result (W.steps self.old.reach) (W.steps self.new.reach) }
+    {
+        // What is answered for a name that has no address.
+        let mut last = io::Error::from(ErrorKind::NotFound);
+        for _ in 0..MOST_ADDRESSES {
+            let Some(address) = self.reach.next_address() else {
+                return Err(last);
+            };
+            match self.reach.connect(self.rt, address, REACH_MS) {
+                Ok(stream) => return self.reach.open(stream),
+                Err(fault) => last = fault,
+            }
+        }
+        Err(last)
+    }
+
     /// Begins a connect to the next address that lets it.
     fn connect_next(&mut self) -> Dialled<LineSocket>
         ensures place { self.new.place.now ≡ self.old.place.now }
-        ensures tries { TriesOn result (W.steps self.old.reach) (W.steps self.new.reach) }
+        ensures tries { TriesOn result self.old.connecting (W.steps self.old.reach)
+            self.new.connecting (W.steps self.new.reach) }
     {
         for _ in 0..MOST_ADDRESSES {
             let Some(address) = self.reach.next_address() else {
@@ -221,44 +250,59 @@ impl<'a, R: Net<Stream = TcpStream> + std::rt::Clock, W: SystemReach + Drop> Lin
     /// Begins a connect to this address.
     fn connect_at(&mut self, address: SocketAddr) -> io::Result<Connecting>
         ensures place { self.new.place.now ≡ self.old.place.now }
-        ensures began { W.steps self.new.reach
-            ≡ step_noted (Began address) (W.steps self.old.reach) }
+        ensures connecting { self.new.connecting ≡ self.old.connecting }
+        ensures connects { ConnectsAt address (W.steps self.old.reach) result
+            (W.steps self.new.reach) }
     {
-        Ok(Connecting {
-            stream: self.reach.begin(self.rt, address)?,
-            since: Instant::now(self.rt)?,
-        })
+        let stream = self.reach.begin(self.rt, address)?;
+        let since = self.reach.now(self.rt)?;
+        Ok(Connecting { stream, since })
     }
 
     /// Connects to the socket at this path.
     fn connect_path(&mut self, path: &str) -> io::Result<LineSocket>
         ensures place { self.new.place.now ≡ self.old.place.now }
-        ensures began { W.steps self.new.reach
-            ≡ step_noted (AtPath path.now) (W.steps self.old.reach) }
+        ensures connecting { self.new.connecting ≡ self.old.connecting }
+        ensures opens { OpensAt path.now (is_ok result) (W.steps self.old.reach)
+            (W.steps self.new.reach) }
     {
-        let stream = UnixStream::from(self.reach.begin_at(self.rt, path)?);
-        stream.set_nonblocking(false)?;
-        LineSocket::over_unix(stream)
+        let stream = self.reach.begin_at(self.rt, path)?;
+        self.reach.open(stream)
     }
 
-    /// Its time is over.
-    fn is_over(&self, connecting: &Connecting) -> bool {
-        match connecting.since.elapsed(self.rt) {
-            Ok(passed) => passed > Duration::from_millis(REACH_MS),
-            Err(_) => true,
+    /// What has become of this connect, which is under way.
+    fn go_on(&mut self, connecting: Connecting) -> Dialled<LineSocket>
+        requires { self.old.connecting ≡ None }
+        ensures place { self.new.place.now ≡ self.old.place.now }
+        ensures goes_on { GoesOnAsIs connecting (W.steps self.old.reach) result self.new.connecting
+            (W.steps self.new.reach) }
+    {
+        if self.is_in_time(&connecting) {
+            self.connecting = Some(connecting);
+            return Dialled::Pending;
+        }
+        self.connect_next()
+    }
+
+    /// Its time isn't over.
+    fn is_in_time(&mut self, connecting: &Connecting) -> bool
+        ensures place { self.new.place.now ≡ self.old.place.now }
+        ensures connecting { self.new.connecting ≡ self.old.connecting }
+        ensures shown { (shown : Result Instant Error)
+            × (W.steps self.new.reach ≡ step_noted (Showed shown) (W.steps self.old.reach))
+            × (result ≡ is_in_time connecting.now.since shown) }
+    {
+        match self.reach.now(self.rt) {
+            Ok(now) => now.duration_since(connecting.since) <= Duration::from_millis(REACH_MS),
+            Err(_) => false,
         }
     }
 }
 
-/// A connect that came through, as a line.
-fn line_of(stream: mio::net::TcpStream) -> io::Result<LineSocket> {
-    let stream = TcpStream::from(stream);
-    stream.set_nonblocking(false)?;
-    LineSocket::over_tcp(stream)
-}
-
 /// What became of a try that has ended.
-fn dialled(line: io::Result<LineSocket>) -> Dialled<LineSocket> {
+fn dialled(line: io::Result<LineSocket>) -> Dialled<LineSocket>
+    ensures { Ends result (is_ok line) }
+{
     match line {
         Ok(line) => Dialled::Reached(line),
         Err(_) => Dialled::Failed,
@@ -276,9 +320,10 @@ impl<R: Net<Stream = TcpStream> + std::rt::Clock, W: SystemReach + Drop> Dialler
         ensures noted { None ≡ ended None result }
         ensures place { self.new.place.now ≡ self.old.place.now }
         ensures path { (path : List ℕ) → self.old.place.now ≡ codes "unix:" ++ path →
-            W.steps self.new.reach ≡ step_noted (AtPath path) (W.steps self.old.reach) }
+            DialsAt path result (W.steps self.old.reach) (W.steps self.new.reach)
+            × (self.new.connecting ≡ self.old.connecting) }
         ensures host { (host : List ℕ) → self.old.place.now ≡ codes "tcp:" ++ host →
-            TriesOn result (step_noted (LookedUp host) (W.steps self.old.reach))
+            DialsHost host result self.old.connecting (W.steps self.old.reach) self.new.connecting
             (W.steps self.new.reach) }
     {
         if let Some(path) = self.place.strip_prefix("unix:") {
@@ -287,7 +332,7 @@ impl<R: Net<Stream = TcpStream> + std::rt::Clock, W: SystemReach + Drop> Dialler
         let Some(host) = self.place.strip_prefix("tcp:") else {
             return Dialled::Failed;
         };
-        self.reach.look_up(self.rt, host);
+        let _ = self.reach.look_up(self.rt, host);
         self.connect_next()
     }
 
@@ -295,29 +340,25 @@ impl<R: Net<Stream = TcpStream> + std::rt::Clock, W: SystemReach + Drop> Dialler
         ensures fresh { IfReached result (λ _. IsNew None) }
         ensures noted { None ≡ ended None result }
         ensures place { self.new.place.now ≡ self.old.place.now }
-        ensures asks { (W.steps self.new.reach ≡ W.steps self.old.reach)
-            ⊎ TriesOn result (W.steps self.old.reach) (W.steps self.new.reach) }
+        ensures asks { AsksOn self.old.connecting (W.steps self.old.reach) result
+            self.new.connecting (W.steps self.new.reach) }
     {
         let Some(connecting) = self.connecting.take() else {
             return Dialled::Failed;
         };
-        // The system reports a failure once.
-        if matches!(connecting.stream.take_error(), Ok(None)) {
-            if connecting.stream.peer_addr().is_ok() {
-                return dialled(line_of(connecting.stream));
-            }
-            if !self.is_over(&connecting) {
-                self.connecting = Some(connecting);
-                return Dialled::Pending;
-            }
+        match self.reach.standing(&connecting.stream) {
+            Standing::Through => dialled(self.reach.open(connecting.stream)),
+            Standing::UnderWay => self.go_on(connecting),
+            Standing::Broken => self.connect_next(),
         }
-        self.connect_next()
     }
 
     fn pause(&mut self)
-        ensures { self.new ≡ self.old }
+        ensures place { self.new.place.now ≡ self.old.place.now }
+        ensures connecting { self.new.connecting ≡ self.old.connecting }
+        ensures slept { W.steps self.new.reach ≡ step_noted (Slept 1) (W.steps self.old.reach) }
     {
-        thread::sleep(self.rt, Duration::from_millis(LOOK_MS));
+        self.reach.pause(self.rt, LOOK_MS);
     }
 }
 
@@ -336,21 +377,16 @@ impl<S: SystemStream + Drop> Model for CentreSocket<S> {
     ghost view = { λ s. S.calls s.stream };
 }
 
-impl CentreSocket<TcpStream> {
-    pub(crate) fn new(stream: TcpStream) -> io::Result<CentreSocket<TcpStream>> {
-        stream.set_nodelay(true)?;
-        stream.set_write_timeout(Some(Duration::from_millis(WRITE_MS)))?;
-        // Of use only where a write had waited and the stream then refused to wait no more.
-        stream.set_read_timeout(Some(Duration::from_millis(LOOK_MS)))?;
-        CentreSocket::unwaited(stream)
-    }
-}
-
 impl<S: SystemStream + Drop> CentreSocket<S> {
-    /// Over this stream, whose calls wait no more then.
-    fn unwaited(mut stream: S) -> io::Result<CentreSocket<S>>
-        ensures { IfOk result (λ socket. socket ≡ called (S.calls stream) (Waits false true)) }
+    /// Over this stream: what is written goes out at once, and only a write that is tried again
+    /// waits, for 20 ms at the most.
+    pub(crate) fn new(mut stream: S) -> io::Result<CentreSocket<S>>
+        ensures { IfOk result (λ socket. socket ≡ as_centre (S.calls stream)) }
     {
+        stream.send_at_once()?;
+        stream.limit_writes(WRITE_MS)?;
+        // Of use only where a write had waited and the stream then refused to wait no more.
+        stream.limit_reads(LOOK_MS)?;
         stream.set_waiting(false)?;
         Ok(CentreSocket { stream })
     }
@@ -462,18 +498,24 @@ pub struct CentreListener<'a, R, T: SystemListener + Drop = TcpListener> {
     refused: RefusedPeers,
 }
 
-impl<'a, R: Net<Listener = TcpListener, Stream = TcpStream> + Eprint> CentreListener<'a, R> {
-    /// Listens at `HOST:PORT`. Where the system binds it no clause of the kit's calls says.
+impl<
+    'a,
+    R: Net<Listener = TcpListener, Stream = TcpStream> + Eprint,
+    T: SystemListener + Drop,
+> CentreListener<'a, R, T> {
+    /// Listens at `HOST:PORT`, and waits at no call.
     ///
     /// # Errors
     ///
     /// Those of the system.
-    pub fn listen(rt: &'a R, address: &str) -> io::Result<CentreListener<'a, R>>
+    pub fn listen(rt: &'a R, address: &str) -> io::Result<CentreListener<'a, R, T>>
         ensures open { IfOk result (λ listener. listener.is_shut ≡ false) }
         ensures nobody { IfOk result (λ listener. listener.refused ≡ nobody) }
+        ensures bound { IfOk result (λ listener. IfSome (T.binding listener.listener)
+            (λ noted. noted ≡ record { place = address.now; is_waiting = false })) }
     {
-        let listener = TcpListener::bind(rt, address)?;
-        listener.set_nonblocking(true)?;
+        let mut listener = T::bind(rt, address)?;
+        listener.set_waiting(false)?;
         Ok(CentreListener {
             rt,
             listener,
@@ -481,7 +523,9 @@ impl<'a, R: Net<Listener = TcpListener, Stream = TcpStream> + Eprint> CentreList
             refused: RefusedPeers::nobody(),
         })
     }
+}
 
+impl<R> CentreListener<'_, R> {
     /// Where it listens, as the system says. No clause of the kit's call says where that is.
     ///
     /// # Errors
@@ -637,10 +681,23 @@ impl<'a, R: std::rt::Clock> SystemClock<'a, R> {
     pub fn start_at(rt: &'a R, first: u64) -> io::Result<SystemClock<'a, R>>
         ensures { IfOk result (λ clock. BeginsAt first clock.first clock.now) }
     {
+        SystemClock::begun(rt, HostInstants {}, first)
+    }
+}
+
+impl<'a, R: std::rt::Clock, I: SystemInstants + Drop> SystemClock<'a, R, I> {
+    /// Starts it at a moment, in ms, by what these show now.
+    fn begun(rt: &'a R, mut instants: I, first: u64) -> io::Result<SystemClock<'a, R, I>>
+        ensures moment { IfOk result (λ clock. BeginsAt first clock.first clock.now) }
+        ensures start { IfOk result (λ clock. StartsNow (I.instants instants) clock.start
+            (I.instants clock.instants)) }
+        ensures wall { IfOk result (λ clock. I.wall_times clock.instants ≡ I.wall_times instants) }
+    {
+        let start = instants.now(rt)?;
         Ok(SystemClock {
             rt,
-            instants: HostInstants {},
-            start: Instant::now(rt)?,
+            instants,
+            start,
             first,
             now: first,
         })

@@ -10,6 +10,7 @@ use std::io;
 use std::io::{ErrorKind, Read, Write};
 use std::net::TcpStream;
 use std::os::unix::net::UnixStream;
+use std::time::Duration;
 
 /// How often octets are read and dropped at the most before a request is written.
 // An end where octets never cease to come.
@@ -28,7 +29,8 @@ const SINGLE: u8 = 0xE5;
 /// Octets both ways, as the system has them. A stream that notes its calls adds the answer of each.
 pub trait SystemStream {
     ghost use Rattle.std.specs.Prelude.{◌≡◌, ◌≤◌, length, IfOk};
-    ghost use Rattle.live.specs.Streams.{Calls, received, Sent, Waits, called};
+    ghost use Rattle.live.specs.Streams.{Calls, ReadsWithin, SendsAtOnce, Sent, Sets, Waits};
+    ghost use Rattle.live.specs.Streams.{WritesWithin, called, received};
     ghost use Rattle.std.specs.Result.{is_ok};
 
     /// Its calls, with what the system answered, the newest first, where it notes them.
@@ -47,6 +49,19 @@ pub trait SystemStream {
     /// Says whether its calls wait, each as long as its timeout says.
     fn set_waiting(&mut self, is_waiting: bool) -> io::Result<()>
         ensures { calls self.new ≡ called (calls self.old) (Waits is_waiting (is_ok result)) };
+
+    /// Says that a read waits for so many ms at the most.
+    fn limit_reads(&mut self, ms: u64) -> io::Result<()>
+        ensures { calls self.new ≡ called (calls self.old) (Sets (ReadsWithin ms) (is_ok result)) };
+
+    /// Says that a write waits for so many ms at the most.
+    fn limit_writes(&mut self, ms: u64) -> io::Result<()>
+        ensures { calls self.new
+            ≡ called (calls self.old) (Sets (WritesWithin ms) (is_ok result)) };
+
+    /// Says that octets go out at once, and aren't held back to be joined with what follows.
+    fn send_at_once(&mut self) -> io::Result<()>
+        ensures { calls self.new ≡ called (calls self.old) (Sets SendsAtOnce (is_ok result)) };
 }
 
 impl SystemStream for TcpStream {
@@ -65,6 +80,18 @@ impl SystemStream for TcpStream {
     fn set_waiting(&mut self, is_waiting: bool) -> io::Result<()> {
         self.set_nonblocking(!is_waiting)
     }
+
+    fn limit_reads(&mut self, ms: u64) -> io::Result<()> {
+        self.set_read_timeout(Some(Duration::from_millis(ms)))
+    }
+
+    fn limit_writes(&mut self, ms: u64) -> io::Result<()> {
+        self.set_write_timeout(Some(Duration::from_millis(ms)))
+    }
+
+    fn send_at_once(&mut self) -> io::Result<()> {
+        self.set_nodelay(true)
+    }
 }
 
 impl SystemStream for UnixStream {
@@ -82,6 +109,19 @@ impl SystemStream for UnixStream {
 
     fn set_waiting(&mut self, is_waiting: bool) -> io::Result<()> {
         self.set_nonblocking(!is_waiting)
+    }
+
+    fn limit_reads(&mut self, ms: u64) -> io::Result<()> {
+        self.set_read_timeout(Some(Duration::from_millis(ms)))
+    }
+
+    fn limit_writes(&mut self, ms: u64) -> io::Result<()> {
+        self.set_write_timeout(Some(Duration::from_millis(ms)))
+    }
+
+    /// It holds nothing back.
+    fn send_at_once(&mut self) -> io::Result<()> {
+        Ok(())
     }
 }
 
@@ -117,6 +157,27 @@ impl<T: SystemStream + Drop, U: SystemStream + Drop> SystemStream for SocketStre
         match self {
             SocketStream::Tcp(stream) => stream.set_waiting(is_waiting),
             SocketStream::Unix(stream) => stream.set_waiting(is_waiting),
+        }
+    }
+
+    fn limit_reads(&mut self, ms: u64) -> io::Result<()> {
+        match self {
+            SocketStream::Tcp(stream) => stream.limit_reads(ms),
+            SocketStream::Unix(stream) => stream.limit_reads(ms),
+        }
+    }
+
+    fn limit_writes(&mut self, ms: u64) -> io::Result<()> {
+        match self {
+            SocketStream::Tcp(stream) => stream.limit_writes(ms),
+            SocketStream::Unix(stream) => stream.limit_writes(ms),
+        }
+    }
+
+    fn send_at_once(&mut self) -> io::Result<()> {
+        match self {
+            SocketStream::Tcp(stream) => stream.send_at_once(),
+            SocketStream::Unix(stream) => stream.send_at_once(),
         }
     }
 }

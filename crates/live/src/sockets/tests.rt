@@ -32,7 +32,7 @@ fn started<R: Net<Stream = TcpStream>>(rt: &R, address: SocketAddr) -> Result<Tc
 #[test]
 fn a_quiet_line_does_not_hold_who_looks(rt: HostRuntime) -> Result<(), Fail> {
     let (stream, mut station) = UnixStream::pair(&rt)?;
-    let mut line = LineSocket::over_unix(stream)?;
+    let mut line = LineSocket::over(stream)?;
     let mut buf = [0; 1024];
     assert_eq!(rt; line.read(&mut buf), Got::Quiet);
     station.write_all(&[0xE5])?;

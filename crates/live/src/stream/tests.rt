@@ -3,8 +3,9 @@
 ghost use Rattle.std.specs.Prelude.{◌≡◌, ℕ, List, [], ◌∷◌, ◌==◌, length, take, Ok, Err, Some};
 ghost use Rattle.std.specs.Prelude.{false, true};
 ghost use Rattle.std.specs.declared.io.Error.{Error};
-ghost use Rattle.live.specs.Memory.{calls_in};
-ghost use Rattle.live.specs.Streams.{Received, Sent, SystemCall, Waits, came, octets_of, took};
+ghost use Rattle.live.specs.Memory.{calls_in, setting_of};
+ghost use Rattle.live.specs.Streams.{Received, Sent, Sets, SystemCall, Waits, came, octets_of};
+ghost use Rattle.live.specs.Streams.{took};
 
 use super::{SystemStream, read_line, write_in_two};
 use crate::ends::Got;
@@ -49,6 +50,14 @@ fn with_waiting(log: &History, is_waiting: bool) -> History
     } else {
         log.came(&Next::Wall(0, 0), &NO_OCTETS)
     }
+}
+
+/// The calls of a stream, with one that set it otherwise.
+fn with_setting(log: &History, kind: u64, number: u64) -> History
+    ensures { (fault : Error) → calls_in fault result.entries
+        ≡ Sets (setting_of kind number) true ∷ calls_in fault log.now.entries }
+{
+    log.came(&Next::Wall(kind, number), &NO_OCTETS)
 }
 
 /// A stream that gives these octets, so many a call, and is quiet where they have all come. It
@@ -99,6 +108,21 @@ impl SystemStream for PiecewiseStream<'_> {
 
     fn set_waiting(&mut self, is_waiting: bool) -> io::Result<()> {
         self.log = with_waiting(&self.log, is_waiting);
+        Ok(())
+    }
+
+    fn limit_reads(&mut self, ms: u64) -> io::Result<()> {
+        self.log = with_setting(&self.log, 1, ms);
+        Ok(())
+    }
+
+    fn limit_writes(&mut self, ms: u64) -> io::Result<()> {
+        self.log = with_setting(&self.log, 2, ms);
+        Ok(())
+    }
+
+    fn send_at_once(&mut self) -> io::Result<()> {
+        self.log = with_setting(&self.log, 3, 0);
         Ok(())
     }
 }

@@ -1,0 +1,5 @@
+use Rattle.live.proofs.Connects.{host_noted}
+use Rattle.live.proofs.laws.reaching.a_line_is_reached_at_its_place.Goals as goal
+
+pub returns-clause-host : goal.returns-clause-host
+returns-clause-host g host steps after answer r ok = host_noted host steps after answer r ok
