@@ -46,3 +46,4 @@ pub mod Places
 pub mod Counts
 pub mod Unpassed
 pub mod NewSettings
+pub mod NoMore

@@ -14,7 +14,7 @@ ghost use Rattle.delivery.specs.Arrivals.{arrivals};
 ghost use Rattle.delivery.specs.Commands.{first_sendings, AreCommandsOf};
 ghost use Rattle.delivery.specs.Delivery.{IsHonest};
 ghost use Rattle.delivery.specs.Joined.{IsSetUp, IsJoined};
-ghost use Rattle.delivery.specs.OwnAnswers.{GivesAnswers};
+ghost use Rattle.delivery.specs.OwnAnswers.{GivesAnswers, GivesNoMore};
 ghost use Rattle.delivery.specs.Selections.{KeepsSelections};
 
 use apci::one_front;
@@ -103,10 +103,13 @@ pub fn each_command_is_given_once()
 /// ASDU that came, with the cause of the first rule that applies: 44 to 47, or a negative
 /// confirmation. It is handed over right behind, once, before anything else becomes of commands.
 /// Behind what is forwarded nothing is handed over. Nothing else ever is but stations' answers
-/// (`each_answer_is_given_once`).
+/// (`each_answer_is_given_once`). Behind one of these no more is handed over than carries it, even
+/// where nothing else becomes of commands for a long time.
 pub fn what_is_refused_is_answered()
     ensures given { (p : Setup) (log : Log) (c : Course) → Runs p log c →
         GivesAnswers [] c.works.history }
+    ensures no_more { (p : Setup) (log : Log) (c : Course) → Runs p log c →
+        GivesNoMore p.sizes 0 c.works.history }
     ensures answers { (p : Setup) (log : Log) (c : Course) → Runs p log c →
         AnswersWholly p.sizes p.stations p.select_ms p.max_age_ms c.works.history }
 {
