@@ -80,6 +80,7 @@ pub fn a_clock_begins_at_its_moment()
     ensures { (moment first now ms : ℕ) (before : List (Result Instant Error))
         (start shown later : Instant) → BeginsAt moment first now →
         StartsNow (Some before) start (Some (Ok shown ∷ before)) →
-        instant_nanos later ≡ instant_nanos shown + ms * 1000000 → moment + ms < 2 ^ 64 →
+        instant_nanos shown + ms * 1000000 ≤ instant_nanos later →
+        instant_nanos later < instant_nanos shown + (ms + 1) * 1000000 → moment + ms < 2 ^ 64 →
         moment_by first start now (Ok later) ≡ moment + ms }
 {}
