@@ -33,6 +33,7 @@ pub mod Runs
 pub mod Refused
 pub mod Sorted
 pub mod Told
+pub mod Clocks
 pub mod Connects
 pub mod Reaches
 pub mod CallSums

@@ -340,12 +340,13 @@ pub fn a_look_gives_what_its_calls_brought()
 /// system's own does since 1970, and 0 where that can't be read.
 pub fn a_clock_goes_on_with_the_systems()
     ensures goes_on { (first ms last : ℕ) (start now : Instant) →
-        instant_nanos now ≡ instant_nanos start + ms * 1000000 → first + ms < 2 ^ 64 →
+        instant_nanos start + ms * 1000000 ≤ instant_nanos now →
+        instant_nanos now < instant_nanos start + (ms + 1) * 1000000 → first + ms < 2 ^ 64 →
         moment_by first start last (Ok now) ≡ first + ms }
     ensures unread { (first last : ℕ) (start : Instant) (fault : Error) →
         moment_by first start last (Err fault) ≡ last }
-    ensures wall { (ms : ℕ) (shown : SystemTime) → system_time_nanos shown ≡ ms * 1000000 →
-        ms < 2 ^ 64 → wall_by (Ok shown) ≡ ms }
+    ensures wall { (ms : ℕ) (shown : SystemTime) → ms * 1000000 ≤ system_time_nanos shown →
+        system_time_nanos shown < (ms + 1) * 1000000 → ms < 2 ^ 64 → wall_by (Ok shown) ≡ ms }
     ensures no_wall { (fault : Error) → wall_by (Err fault) ≡ 0 }
 {}
 

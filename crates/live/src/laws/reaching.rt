@@ -10,6 +10,7 @@ ghost use Rattle.live.specs.Clocks.{BeginsAt, StartsNow, moment_by};
 ghost use Rattle.live.specs.OctetStreams.{StreamHistory};
 ghost use Rattle.live.specs.Reaching.{AsksOn, AtPath, Came, DialsAt, LookedUp, Opened, ReachStep};
 ghost use Rattle.live.specs.Reaching.{ReachesAt, ReachesHost, Showed, Stood, Waited, WaitedAt};
+ghost use Rattle.live.specs.Reaching.{is_in_time};
 ghost use Rattle.live.specs.Redial.{is_reached};
 ghost use Rattle.live.specs.Streams.{ReadsWithin, SendsAtOnce, Sets, SystemCall, Waits};
 ghost use Rattle.live.specs.Streams.{WritesWithin, as_centre, as_line};
@@ -20,7 +21,8 @@ ghost use Rattle.live.specs.declared.redial.Dialled.{Dialled};
 ghost use Rattle.live.specs.declared.redial.Dialled.TheVariants.{Pending};
 
 /// A try reaches a line exactly where its connect came through and the stream can be used. A
-/// connect that is under way goes on for 5 s, and is kept. So it is at the socket of a path.
+/// connect that is under way goes on for 5 s and no longer, and is kept. So it is at the socket of a
+/// path.
 pub fn a_try_ends_as_its_connect_does()
     ensures reached { (connecting : Connecting) (steps after : List ReachStep)
         (answer : Dialled StreamHistory) (new : Option Connecting) →
@@ -33,6 +35,8 @@ pub fn a_try_ends_as_its_connect_does()
         (Some (Showed (Ok now) ∷ Stood connecting.stream UnderWay ∷ steps)) →
         instant_nanos now - instant_nanos connecting.since ≤ 5000 * 1000000 →
         (answer ≡ Pending) × (new ≡ Some connecting) }
+    ensures within { (since now : Instant) → (is_in_time since (Ok now) ≡ true)
+        ↔ (instant_nanos now - instant_nanos since ≤ 5000 * 1000000) }
     ensures kept { (old new : Option Connecting) (steps after : List ReachStep)
         (answer : Dialled StreamHistory) → AsksOn old (Some steps) answer new (Some after) →
         answer ≡ Pending → (connecting : Connecting) × (new ≡ Some connecting) }
@@ -76,6 +80,7 @@ pub fn a_clock_begins_at_its_moment()
     ensures { (moment first now ms : ℕ) (before : List (Result Instant Error))
         (start shown later : Instant) → BeginsAt moment first now →
         StartsNow (Some before) start (Some (Ok shown ∷ before)) →
-        instant_nanos later ≡ instant_nanos shown + ms * 1000000 → moment + ms < 2 ^ 64 →
+        instant_nanos shown + ms * 1000000 ≤ instant_nanos later →
+        instant_nanos later < instant_nanos shown + (ms + 1) * 1000000 → moment + ms < 2 ^ 64 →
         moment_by first start now (Ok later) ≡ moment + ms }
 {}
