@@ -1,5 +1,6 @@
 -- What the calls that were noted are.
-use Rattle.std.proofs.Common.{◌≡◌, ◌∙◌, ◌≤◌, ℕ, Bool, true, List, [], ◌∷◌, ◌++◌, Some, None, codes}
+use Rattle.std.proofs.Common.{◌≡◌, ◌∙◌, ◌<◌, ◌≤◌, ℕ, Bool, true, false, List, [], ◌∷◌, ◌++◌, Some}
+use Rattle.std.proofs.Common.{None, codes}
 use Rattle.std.proofs.Common.{ap, refl, sym}
 use Rattle.std.specs.Fmt.{decimal}
 use Rattle.std.proofs.lemmas.List.{append-nil}
@@ -26,6 +27,9 @@ pub aside : (after : List NameStep) → IsPutAside (Some after) → (n : ℕ) ×
     × (after ≡ Synced true
     ∷ Renamed (codes "segments-wal") ((codes "unread-" ++ decimal n) ++ codes "-wal") (Some second)
     ∷ Renamed (codes "segments") (codes "unread-" ++ decimal n) (Some first) ∷ earlier)
+    × (n < 9 → (front : List NameStep)
+    × (earlier ≡ Sought ((codes "unread-" ++ decimal n) ++ codes "-wal") (Some false)
+    ∷ Sought (codes "unread-" ++ decimal n) (Some false) ∷ front))
 aside after put =
     let (n, sought, one, nine, free, both) = put in
     let (between, then, first, second, last) = both in
@@ -45,4 +49,13 @@ aside after put =
           (unread_name n ++ codes "-wal") (Some second.0) ∷ l) (c.2
           ∙ ap (λ (name : List ℕ). Renamed (codes "segments") name (Some first.0) ∷ c.0)
           (append-nil (unread_name n)))),
+      λ (below : n < 9).
+      let (earlier, both_free) = free below in
+      let e = kept_before (noted earlier (Sought (unread_name n) (Some false)))
+      (Sought (unread_name n ++ codes "-wal") (Some false)) c.0 (sym c.1 ∙ both_free) in
+      let d = kept_before earlier (Sought (unread_name n) (Some false)) e.0 (sym e.1) in (
+        d.0,
+        e.2 ∙ ap (λ (l : List NameStep).
+        Sought (unread_name n ++ codes "-wal") (Some false) ∷ l) d.2,
+      ),
     )

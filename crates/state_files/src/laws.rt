@@ -1,5 +1,6 @@
 //! What the calls on the names of a directory say.
-ghost use Rattle.std.specs.Prelude.{◌≡◌, ◌∷◌, ◌++◌, ◌≤◌, ℕ, List, Bool, true, Some, codes};
+ghost use Rattle.std.specs.Prelude.{◌≡◌, ◌∷◌, ◌++◌, ◌<◌, ◌≤◌, ℕ, List, Bool, true, false, Some};
+ghost use Rattle.std.specs.Prelude.{codes};
 ghost use Rattle.std.specs.Fmt.{decimal};
 ghost use Rattle.state_files.specs.Names.{IsMarkedAs, IsPutAside, NameStep};
 ghost use Rattle.state_files.specs.Names.{Renamed, Sought, Synced};
@@ -22,5 +23,7 @@ pub fn files_are_put_aside_in_pairs()
         ∷ Renamed (codes "segments-wal") ((codes "unread-" ++ decimal n) ++ codes "-wal")
         (Some second)
         ∷ Renamed (codes "segments") (codes "unread-" ++ decimal n) (Some first)
-        ∷ earlier) }
+        ∷ earlier) × (n < 9 → (front : List NameStep)
+        × (earlier ≡ Sought ((codes "unread-" ++ decimal n) ++ codes "-wal") (Some false)
+        ∷ Sought (codes "unread-" ++ decimal n) (Some false) ∷ front)) }
 {}
