@@ -9,3 +9,12 @@ returns-in-Ok-clause-runs g c =
           (inl (record { wishes = c.in-Ok.wishes; wished = c.in-Ok.ensures.wishes; live = live }))
       | inr unread ↦ inr unread
     ]
+
+pub returns-in-Ok-clause-alone : goal.returns-in-Ok-clause-alone
+returns-in-Ok-clause-alone g c =
+    elim c.run_file.ensures.alone [
+      | inl same ↦ inl same
+      | inr live ↦
+          inr
+          (record { wishes = c.in-Ok.wishes; wished = c.in-Ok.ensures.wishes; live = live })
+    ]
