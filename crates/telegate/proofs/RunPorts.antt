@@ -3,7 +3,8 @@ use Rattle.std.proofs.Common.{◌≡◌, ℕ, Bool, true, Option, refl, sym, sub
 use Rattle.gateway.specs.Config.{Settings}
 use Rattle.live.specs.AllowLists.{Refusals}
 use Rattle.live.specs.Ends.{LiveEnds, begun_with}
-use Rattle.live.specs.OctetStreams.{Attempts, StreamHistory}
+use Rattle.live.specs.OctetStreams.{Attempts, IsNew, StreamHistory}
+use Rattle.live.specs.Passed.{HasNoAttempts}
 use Rattle.live.specs.Runs.{IsStart, ShowsRun}
 use Rattle.live.specs.Timing.{Moments}
 use Rattle.live.specs.declared.allow_list.AllowList.{AllowList}
@@ -16,10 +17,12 @@ pub start_anew : (port : LiveEnds) (allow_list : AllowList) (line : StreamHistor
     (presence : Option Presence) (listener : Attempts) (refusals : Refusals)
     (clock walls : Moments) (answer_ms : ℕ)
     → port ≡ begun_with allow_list line presence listener refusals clock walls answer_ms
-    → IsStart port
-start_anew port allow_list line presence listener refusals clock walls answer_ms is =
+    → IsNew line → HasNoAttempts listener → IsStart port
+start_anew port allow_list line presence listener refusals clock walls answer_ms is new unasked =
     subst (λ (e : LiveEnds). IsStart e) (sym is) (record {
       log = refl;
+      line = new;
+      listener = unasked;
       connection = refl;
       held = refl;
       cut = refl;
@@ -33,6 +36,8 @@ pub start_on : (old new : LiveEnds) → IsStart old
 start_on old new s is =
     subst (λ (e : LiveEnds). IsStart e) (sym is) (record {
       log = s.log;
+      line = s.line;
+      listener = s.listener;
       connection = s.connection;
       held = s.held;
       cut = refl;
@@ -45,4 +50,4 @@ pub port_of_run : (settings : Settings) (allow_list : AllowList) (goes_on : Bool
     (port : LiveEnds) (sight : EndsSight) → IsPortOf settings allow_list goes_on port
     → ShowsRun port sight → IsPortOfRun settings allow_list goes_on port
 port_of_run settings allow_list goes_on port sight fixed shows =
-    record { fixed = fixed; run = shows.run; begins = shows.begins }
+    record { fixed = fixed; run = shows.run; begins = shows.begins; passed = shows.passed }

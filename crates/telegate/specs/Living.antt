@@ -4,7 +4,7 @@ use Rattle.gateway.specs.Config.{Settings}
 use Rattle.gateway.specs.Log.{Log}
 use Rattle.gateway.specs.Setups.{setup_of}
 use Rattle.live.specs.Ends.{LiveEnds, fixed_of}
-use Rattle.live.specs.Runs.{BeginsSo, IsInRun}
+use Rattle.live.specs.Runs.{BeginsSo, HasPassed, IsInRun}
 use Rattle.live.specs.declared.allow_list.AllowList.{AllowList}
 use Rattle.record.specs.Recording.{Recording}
 use Rattle.telegate.specs.Lives.{all_passed}
@@ -20,12 +20,14 @@ IsPortOf settings allow_list goes_on port = fixed_of port ≡ record {
 }
 
 -- Nothing has happened at it but by its events and actions since the run began. Its log begins with
--- the wall clock, and where the run goes on then with the cut of the connection of then.
+-- the wall clock, and where the run goes on then with the cut of the connection of then. It has what
+-- passed at the ends, from the first octet on.
 pub record IsPortOfRun (settings : Settings) (allow_list : AllowList) (goes_on : Bool)
     (port : LiveEnds) : Type 0 where
   pub fixed : IsPortOf settings allow_list goes_on port
   pub run : IsInRun port
   pub begins : BeginsSo port
+  pub passed : HasPassed port
 
 -- A live run is over. What passed at its port, behind the lives before, keeps every promise of a
 -- gateway with these settings, and so does what is written of it. A port between real ends has

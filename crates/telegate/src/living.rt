@@ -4,6 +4,8 @@ ghost use Rattle.std.specs.Prelude.{false, not, true, ◌∷◌};
 ghost use Rattle.std.specs.declared.net.socket_addr.SocketAddr.{SocketAddr};
 ghost use Rattle.gateway.specs.Agrees.{Follows};
 ghost use Rattle.gateway.specs.Setups.{setup_of};
+ghost use Rattle.live.specs.OctetStreams.{IsNew};
+ghost use Rattle.live.specs.Passed.{HasNoAttempts};
 ghost use Rattle.record.specs.Recording.{log_of, logged_first};
 ghost use Rattle.runlog.specs.Logging.{book_fixture};
 ghost use Rattle.state.specs.Directories.{BeginsIn};
@@ -140,6 +142,8 @@ fn opened<T: RunSite>(
     logger: &mut Logger<T::Sink>,
 ) -> Result<RunEnds<T::Line, T::Listener, T::Clock>, Fault>
     ensures clock { IfOk result (λ ends. T.begins_at ends.clock moment) }
+    ensures new { IfOk result (λ ends. IsNew (T.Line.history ends.line)) }
+    ensures unasked { IfOk result (λ ends. HasNoAttempts (T.Listener.attempts ends.listener)) }
     ensures asked { IfOk result (λ _. T.asked site.new
         ≡ ends_asked wishes.now.redial moment (T.asked site.old)) }
     ensures none { UnclockedIfErr result (T.asked site.old) (T.asked site.new) }
@@ -167,6 +171,7 @@ fn opened<T: RunSite>(
 fn listener_of<T: RunSite>(site: &mut T, logger: &mut Logger<T::Sink>) -> Result<T::Listener, Fault>
     ensures logged { IfOk result (λ _. (address : Option SocketAddr)
         × LogsNoteIf (note_of_address address) logger.old logger.new) }
+    ensures unasked { IfOk result (λ listener. HasNoAttempts (T.Listener.attempts listener)) }
     ensures refused { IfErr result (λ fault. IsRefused fault logger.old logger.new) }
     ensures asked { IfOk result (λ _. T.asked site.new ≡ listen_asked true (T.asked site.old)) }
     ensures none { UnclockedIfErr result (T.asked site.old) (T.asked site.new) }
@@ -222,6 +227,8 @@ fn port_between<S: OctetStream, L: Listener + Drop, C: live::RunClock + Drop>(
     allow_list: AllowList,
     goes_on: bool,
 ) -> RunPort<S, L, C>
+    requires new { IsNew (S.history ends.line) }
+    requires unasked { HasNoAttempts (L.attempts ends.listener) }
     ensures port { IsPortOf config.now allow_list goes_on result }
     ensures cut { result.is_cut_due ≡ goes_on }
     ensures log { result.log ≡ [] }
@@ -327,6 +334,8 @@ fn run_new<T: RunSite>(
     requires new { logged_first (log_of scribes.pen) (Some []) ≡ Some [] }
     requires begins { Follows (setup_of config.now) gateway (Some []) }
     requires clock { T.begins_at ends.clock 0 }
+    requires line { IsNew (T.Line.history ends.line) }
+    requires listener { HasNoAttempts (T.Listener.attempts ends.listener) }
     ensures lived { HasLived config.now allow_list false [] result.run_log.port.port.port
         result.run_log.port.port.pen result.ended }
     ensures before { result.run_log.port.before.entries ≡ [] }
@@ -357,6 +366,8 @@ fn keeper_between<T: RunSite>(
     gateway: &Gateway,
     wishes: Wishes<'_>,
 ) -> Kept<T>
+    requires new { IsNew (T.Line.history ends.line) }
+    requires unasked { HasNoAttempts (T.Listener.attempts ends.listener) }
     ensures bears { result.bears_loss ≡ wishes.entry.bears_loss }
     ensures port { IsPortOf config.now wishes.entry.allow_list goes_on result.ends.port }
     ensures log { result.ends.port.log ≡ [] }
@@ -422,6 +433,8 @@ fn run_from<T: RunSite>(
 ) -> Lived<Kept<T>, T::Sheet, T::Sink, T::Glass>
     requires new { logged_first (log_of scribes.pen) (Some []) ≡ Some [] }
     requires clock { T.begins_at ends.clock (first_moment begun.origin.moment) }
+    requires line { IsNew (T.Line.history ends.line) }
+    requires listener { HasNoAttempts (T.Listener.attempts ends.listener) }
     ensures lived { HasLivedOn config.now wishes.entry.allow_list begun.origin
         result.run_log.port.before.entries result.run_log.port.port.port.ends.port
         result.run_log.port.port.pen result.ended }

@@ -1,6 +1,8 @@
 //! Where a live run finds its ends.
 ghost use Rattle.std.specs.Prelude.{◌≡◌, ℕ, Bool, IfOk};
-ghost use Rattle.telegate.specs.Lines.{is_again};
+ghost use Rattle.std.specs.Prelude.{None};
+ghost use Rattle.live.specs.OctetStreams.{IsNew};
+ghost use Rattle.telegate.specs.Lines.{is_again, of_line};
 ghost use Rattle.telegate.specs.Logged.{fault_of};
 
 use crate::fault::Fault;
@@ -47,7 +49,8 @@ pub(crate) trait RunSite {
     ghost use Rattle.std.specs.Prelude.{◌∷◌, []};
     ghost use Rattle.telegate.specs.Asked.{Asked, LogAt, RecordAt, StateIn, StatusAt, asked_for};
     ghost use Rattle.telegate.specs.Asked.{clock_asked, line_asked, listen_asked};
-    ghost use Rattle.telegate.specs.Sites.{IsNew};
+    ghost use Rattle.telegate.specs.Sites as sites;
+    ghost use Rattle.live.specs.Passed.{HasNoAttempts};
 
     type Line: OctetStream + Reached;
 
@@ -91,11 +94,12 @@ pub(crate) trait RunSite {
 
     /// What the record is written on: nothing stands there yet.
     fn sheet(&mut self) -> Self::Sheet
-        ensures new { IsNew (Self.Sheet.taken result) (Self.Sheet.missed result) }
+        ensures new { sites.IsNew (Self.Sheet.taken result) (Self.Sheet.missed result) }
         ensures asked { asked self.new ≡ asked_for (RecordAt ∷ []) (asked self.old) };
 
-    /// The listener, open, and its address, if that is known.
+    /// The listener, open, and its address, if that is known. Nobody was accepted at it yet.
     fn listener(&mut self) -> Result<(Self::Listener, Option<SocketAddr>), EndRefusal>
+        ensures unasked { IfOk result (λ both. HasNoAttempts (Self.Listener.attempts both.0)) }
         ensures asked { asked self.new ≡ listen_asked (is_ok result) (asked self.old) };
 
     /// The listener for visitors at this place, open.
@@ -103,9 +107,11 @@ pub(crate) trait RunSite {
         ensures asked { asked self.new
             ≡ asked_for (StatusAt place.now (is_ok result) ∷ []) (asked self.old) };
 
-    /// The line: one that is there, or one that is reached again where it ends.
+    /// The line: one that is there, or one that is reached again where it ends. Nothing has
+    /// happened at it yet.
     fn line(&mut self, redial: bool) -> Result<Self::Line, EndRefusal>
         ensures again { IfOk result (λ line. comes_back line ≡ redial) }
+        ensures new { IfOk result (λ line. IsNew (Self.Line.history line)) }
         ensures asked { asked self.new ≡ line_asked redial (is_ok result) (asked self.old) };
 
     /// A clock that begins at this moment, in ms.
@@ -284,7 +290,8 @@ fn reached<'r, R: Net<Stream = TcpStream> + Clock>(
     place: &'r str,
     redial: bool,
 ) -> io::Result<SystemLine<'r, R>>
-    ensures { IfOk result (λ line. is_again line ≡ redial) }
+    ensures again { IfOk result (λ line. is_again line ≡ redial) }
+    ensures new { IfOk result (λ line. IsNew (of_line (λ _. None) (λ _. None) line)) }
 {
     if !redial {
         return Ok(ProcessLine::Once(LineSocket::reach(rt, place)?));
