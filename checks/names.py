@@ -96,7 +96,9 @@ class Names:
 
     def add_rust(self, text, crate):
         owner = None
-        for line in code_of(text, "//").splitlines():
+        # The parameters of an `impl` may stand in lines of their own.
+        text = re.sub(r"^impl<\n(?: .*\n)*?> ", "impl<> ", code_of(text, "//"), flags=re.M)
+        for line in text.splitlines():
             if line[:1] not in (" ", "}", "", "#"):
                 owner = owner_of(line)
             item = ITEM.match(line)

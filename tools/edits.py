@@ -182,7 +182,7 @@ def judged(edit, twin, attempt, laws):
     """The word of an edit, that of its twin, whether they are as they should be, and the line that says most."""
     said, is_proved = attempt(edit)
     word, line = ("PROVED", "") if is_proved else reason(said)
-    if any(file.startswith("specs/") for file, _, _ in pairs_of(edit)):
+    if any("specs/" in file for file, _, _ in pairs_of(edit)):
         refused = laws_refused(said, laws)
         return ("law", "", True, ", ".join(refused)) if refused else (word, "", False, line)
     if not os.path.isfile(twin):

@@ -59,8 +59,8 @@ shown_in [] = []
 shown_in (Came now (WallIs shown) ∷ log) = shown ∷ shown_in log
 shown_in (entry ∷ log) = shown_in log
 
--- how a stream of the system is set: at the moment 0 to wait at calls, with the number 1, or not to,
--- at 1 to read and at 2 to write within so many ms, and else to send at once
+-- How a stream of the system is set. At the moment 0 it is to wait at calls, with the number 1, or
+-- not to. At 1 it is to read and at 2 to write within so many ms, and else to send at once.
 abbrev pub setting_of : (moment number : ℕ) → Setting
 setting_of moment number =
     if moment == 0 then Waiting (number == 1)

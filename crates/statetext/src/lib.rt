@@ -2,8 +2,8 @@
 //!
 //! A line of numbers is these in decimal with one space between two; a line of octets is `x` and
 //! these in hexadecimal. Each line ends in a line feed. Proved: the lines that are read of a text
-//! are those that were put, whatever stands behind it ([`TextSheet::is_read_back`]). A text in which
-//! one octet has rotted has another sum ([`no_sum_hides_a_rotten_octet`]).
+//! are those that were put, whatever stands behind it ([`TextSheet::is_read_back`]). A text in
+//! which one octet has rotted has another sum ([`no_sum_hides_a_rotten_octet`]).
 #![tactic(auto)]
 
 mod laws;
