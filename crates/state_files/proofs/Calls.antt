@@ -50,12 +50,12 @@ aside after put =
           ∙ ap (λ (name : List ℕ). Renamed (codes "segments") name (Some first.0) ∷ c.0)
           (append-nil (unread_name n)))),
       λ (below : n < 9).
-      let (earlier, both_free) = free below in
-      let e = kept_before (noted earlier (Sought (unread_name n) (Some false)))
-      (Sought (unread_name n ++ codes "-wal") (Some false)) c.0 (sym c.1 ∙ both_free) in
-      let d = kept_before earlier (Sought (unread_name n) (Some false)) e.0 (sym e.1) in (
-        d.0,
-        e.2 ∙ ap (λ (l : List NameStep).
-        Sought (unread_name n ++ codes "-wal") (Some false) ∷ l) d.2,
-      ),
+          let (earlier, both_free) = free below in
+          let e = kept_before (noted earlier (Sought (unread_name n) (Some false)))
+          (Sought (unread_name n ++ codes "-wal") (Some false)) c.0 (sym c.1 ∙ both_free) in
+          let d = kept_before earlier (Sought (unread_name n) (Some false)) e.0 (sym e.1) in (
+            d.0,
+            e.2 ∙ ap (λ (l : List NameStep).
+                Sought (unread_name n ++ codes "-wal") (Some false) ∷ l) d.2,
+          ),
     )
