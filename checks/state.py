@@ -19,6 +19,7 @@ centre goes and comes.
   a disk that is full (a limit of file size), and settings that change between two runs, row by row.
 - States as another version may leave them are made of a good one: each goes on, or is put aside, as
   docs/RUNNING.md says.
+- In a long run a log that has grown is begun anew.
 - `telegate state` shows each of these, beside a run and without one, and changes nothing.
 
 All of it is on the loopback. No case depends on how fast the machine is: an outstation that is late
@@ -31,6 +32,7 @@ import re
 import resource
 import shutil
 import signal
+import socket
 import subprocess
 import sys
 import tempfile
@@ -504,6 +506,36 @@ def a_rotten_line(count, program):
         gateway.field.server.close()
 
 
+# An S frame that acknowledges nothing.
+S_FRAME = bytes([0x68, 4, 1, 0, 0, 0])
+
+
+def a_long_run(count, program):
+    """A log that has grown is begun anew in mid-run, and has what is queued."""
+    with tempfile.TemporaryDirectory() as folder:
+        gateway = quiet(program, folder)
+        gateway.start()
+        gateway.waits("listening")
+        queue_up(gateway, 3)
+        first = head_of(newest_of(gateway.state))[0]
+        with socket.create_connection(gateway.listener) as centre:
+            # Each octet has two digits in the log, which is begun anew behind 3,900,000 octets of events.
+            centre.sendall(S_FRAME * 360_000)
+            until(lambda: head_of(newest_of(gateway.state))[0] > first)
+        number = head_of(newest_of(gateway.state))[0]
+        count.judge("a log that has grown is begun anew once", number == first + 1, (first, number))
+        count.judge("and the state is kept", "isn't kept" not in gateway.logged(), gateway.logged())
+        queue_up(gateway, 1)
+        gateway.kill()
+        gateway.start()
+        queued = sum(station.given for station in gateway.field.stations.values())
+        count.judge("the next start goes on", gateway.waits(f"goes on, {queued} queued"), gateway.logged())
+        got = drained(gateway)
+        count.judge("with all that was queued", got == all_came(gateway), got)
+        gateway.kill()
+        gateway.field.server.close()
+
+
 def newest_of(folder):
     """The file of the newest log."""
     return max((os.path.join(folder, name) for name in ("segments", "segments-wal")), key=head_of)
@@ -937,6 +969,7 @@ PARTS = [
     alone("unread", a_state_that_is_no_state),
     alone("rotten line", a_rotten_line),
     *(alone(f"version {name}", of_another_version, name, *row) for name, row in VERSIONS.items()),
+    alone("long run", a_long_run),
     alone("look", a_look),
     alone("full disk", a_full_disk),
     alone("command", a_command_at_a_restart),
