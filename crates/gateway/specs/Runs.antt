@@ -1,5 +1,6 @@
 -- How a run ends.
-use Rattle.std.specs.Prelude.{◌≡◌, ℕ, ◌+◌, Bool, if◌then◌else◌, List, length, Option, option_map}
+use Rattle.std.specs.Prelude.{◌≡◌, ℕ, ◌+◌, ◌≤◌, Bool, if◌then◌else◌, List, length, Option}
+use Rattle.std.specs.Prelude.{option_map}
 use Rattle.gateway.specs.Log.{Log, LogEntry, events_of}
 use Rattle.gateway.specs.declared.runs.End.{End}
 use Rattle.gateway.specs.declared.runs.End.TheVariants.{Finished, Turns, Device}
@@ -24,6 +25,10 @@ events_logged logged = option_map events_of logged
 abbrev pub MoreEvents : ℕ → Option Log → Option Log → Type 0
 MoreEvents n old new = option_map length (events_logged new)
     ≡ option_map (λ events. length events + n) (events_logged old)
+
+-- or at most so many
+abbrev pub AtMostEvents : (most : ℕ) → Option Log → Option Log → Type 0
+AtMostEvents most old new = (n : ℕ) × (n ≤ most) × MoreEvents n old new
 
 -- how many failures of the device a part of a step reports
 abbrev pub faults_unless : (went : Bool) → ℕ

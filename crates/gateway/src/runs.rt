@@ -9,7 +9,7 @@ ghost use Rattle.gateway.specs.Traffic.{IsFaithful, HasRested};
 ghost use Rattle.gateway.specs.Accounts.{IsAccounted};
 ghost use Rattle.gateway.specs.Order.{KeepsOrder};
 ghost use Rattle.gateway.specs.Agrees.{Follows, Rests};
-ghost use Rattle.gateway.specs.Runs.{UnlessDevice, MoreEvents, faults_at};
+ghost use Rattle.gateway.specs.Runs.{AtMostEvents, MoreEvents, UnlessDevice, faults_at};
 ghost use Rattle.gateway.specs.Setups.{setup_of};
 
 use crate::config::Config;
@@ -47,6 +47,8 @@ pub fn drive_on<P: Port>(gateway: &mut Gateway, port: &mut P, turns: u64) -> End
     ensures order { (c : Settings) → Follows (setup_of c) gateway.old (P.log port.old) →
         Rests (setup_of c) (P.log port.old) → IfSome (P.log port.new) KeepsOrder }
     ensures turns { result ≡ End.Turns → MoreEvents turns (P.log port.old) (P.log port.new) }
+    // However it ends, no more events than that have been taken.
+    ensures most { AtMostEvents turns (P.log port.old) (P.log port.new) }
     ensures finished { result ≡ End.Finished → P.ended port.new ≡ true }
     ensures script { P.script port.new ≡ P.script port.old }
     ensures device { P.failed port.new ≡ P.failed port.old + faults_at result }
@@ -90,6 +92,7 @@ pub fn drive<P: Port>(
     ensures order { P.log port.old ≡ Some [] → OnOk result (IfSome (P.log port.new) KeepsOrder) }
     ensures turns { IfOk result (λ end. end ≡ End.Turns →
         MoreEvents turns (P.log port.old) (P.log port.new)) }
+    ensures most { OnOk result (AtMostEvents turns (P.log port.old) (P.log port.new)) }
     ensures finished { IfOk result (λ end. end ≡ End.Finished → P.ended port.new ≡ true) }
     ensures device { IfOk result (λ end. P.failed port.new ≡ P.failed port.old + faults_at end) }
     ensures script { P.script port.new ≡ P.script port.old }

@@ -31,3 +31,4 @@ pub mod Ran
 pub mod Wishes
 pub mod Captures
 pub mod Playing
+pub mod Turns

@@ -3,9 +3,11 @@ ghost use Rattle.std.specs.Prelude.{◌≡◌, ◌<◌, OnOk};
 ghost use Rattle.std.specs.Option.{is_some};
 ghost use Rattle.gateway.specs.Agrees.{Follows, Rests};
 ghost use Rattle.gateway.specs.Reports.{Setup};
+ghost use Rattle.gateway.specs.State.{State};
 ghost use Rattle.runlog.specs.Logging.{book_fixture, logged_fixture};
 ghost use Rattle.telegate.specs.Lives.{all_passed};
 ghost use Rattle.telegate.specs.Running.{HasEnded, HasRun, HasRunFaithfully, IsRecorded};
+ghost use Rattle.telegate.specs.Turns.{HasServed, shown_to, stands};
 
 use crate::life::Life;
 use gateway::{End, Gateway, History, drive_on};
@@ -66,6 +68,10 @@ fn serve<P: Watched + Drop, S: LogSink + Drop, D: StreamSource + Drop>(
     ensures faithful { (p : Setup) → Follows p gateway (P.log run_log.old.port) →
         Rests p (P.log run_log.old.port) →
         HasRunFaithfully p (P.log run_log.new.port) result }
+    // Behind each event all look at the gateway before the next one comes.
+    ensures served { (last : State) × HasServed P.log P.tends P.failure
+        (stands gateway run_log.old.port run_log.old.logger (shown_to lookout.old))
+        (stands last run_log.new.port run_log.new.logger (shown_to lookout.new)) result }
 {
     'turning: for _ in 0..u64::MAX {
         match drive_on(&mut gateway, run_log, 1) {

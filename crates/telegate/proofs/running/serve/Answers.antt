@@ -18,4 +18,5 @@ turning-preserved g c =
       looked = search (rules, c.turning.invariant.looked);
       shown = λ p begins rests some. let h = c.turning.invariant.faithful p begins rests in
           rw logs (ran.faithful p h.0 h.1);
+      on = ?on;
     }

@@ -4,6 +4,7 @@ use Rattle.gateway.specs.Reports.{Setup}
 use Rattle.gateway.specs.Runs.{MoreEvents}
 use Rattle.runlog.specs.Logging.{logged_fixture}
 use Rattle.telegate.specs.Running.{IsRunFaithful}
+use Rattle.telegate.specs.Turns.{HasGoneOn, shown_to, stands}
 use Rattle.telegate.proofs.running.serve.Given as goal
 
 abbrev pub invariant-turning : goal.invariant-turning
@@ -19,4 +20,8 @@ invariant-turning g l = record {
   shown : (p : Setup) → Follows p l.initial.gateway (g.P.Port.log l.initial.run_log.port)
       → Rests p (g.P.Port.log l.initial.run_log.port) → 0 < l.counter
       → IsRunFaithful p (g.P.Port.log l.run_log.port);
+  on : HasGoneOn g.P.Port.log g.P.tends
+      (stands l.initial.gateway l.initial.run_log.port l.initial.run_log.logger
+      (shown_to l.initial.lookout))
+      l.counter (stands l.gateway l.run_log.port l.run_log.logger (shown_to l.lookout));
 }
