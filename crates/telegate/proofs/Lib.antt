@@ -4,6 +4,7 @@ pub mod Kept
 pub mod Files
 pub mod Addresses
 pub mod Turning
+pub mod Looks
 pub mod Lives
 pub mod RunPorts
 pub mod Begins

@@ -32,3 +32,4 @@ pub mod Wishes
 pub mod Captures
 pub mod Playing
 pub mod Turns
+pub mod Served

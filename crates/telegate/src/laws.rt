@@ -1,5 +1,6 @@
 //! What of a run's ends is seen by its log and by its page, and what is said of a run.
-ghost use Rattle.std.specs.Prelude.{◌≡◌, ◌||◌, ◌∷◌, ◌++◌, ℕ, List, not, Some, Result, true};
+ghost use Rattle.std.specs.Prelude.{◌≡◌, ◌<◌, ◌+◌, ◌||◌, ◌∷◌, ◌++◌, ℕ, List, not, Some};
+ghost use Rattle.std.specs.Prelude.{Result, true};
 ghost use Rattle.std.specs.Borrow.{Bor};
 ghost use Rattle.std.specs.Option.{is_some, option_or};
 ghost use Rattle.clap.specs.Words.{Text};
@@ -16,6 +17,7 @@ ghost use Rattle.telegate.specs.Asked.{Asked, LineAt, ListenAt, LogAt, RecordAt}
 ghost use Rattle.telegate.specs.Asked.{SiteCall, StateIn, StatusAt, call_if};
 ghost use Rattle.telegate.specs.CommandLine.{text_of, texts_of};
 ghost use Rattle.telegate.specs.Ran.{HasLivedAs, RunLeft};
+ghost use Rattle.telegate.specs.Turns.{AllLooked, HasGoneOn, RunStanding};
 ghost use Rattle.telegate.specs.Wishes.{AreWishes, Said, said_by, said_in, said_of};
 ghost use Rattle.telegate.specs.declared.host.Wishes.{Wishes};
 ghost use Rattle.telegate.specs.declared.run_words.RunWords.{RunWords};
@@ -123,4 +125,13 @@ pub fn runs_ask_for_the_places_of_their_settings<T: RunSite>()
         ∷ ListenAt places.listen true
         ∷ call_if StateIn w.state ++ RecordAt ∷ call_if StatusAt w.status ++ LogAt ∷ before))
         × (new.clocks ≡ Some (moment ∷ moments)) }
+{}
+
+/// Behind each event of a run, before the next one comes, all look at its gateway once: the port
+/// tends the state on the disk, the log is written, and visitors are shown the run. A gateway that
+/// followed the log at first follows it at each look, with all events so far.
+#[tactic(auto, using(crate::proofs::Looks::looked_behind_each))]
+pub fn behind_each_event_all_look<P: Watched>()
+    ensures { (first last : RunStanding P) (n k : ℕ) → HasGoneOn P.log P.tends first n last →
+        k < n → AllLooked P.log P.tends first (k + 1) }
 {}

@@ -10,6 +10,8 @@ ghost use Rattle.record.specs.Recording.{log_of, logged_first};
 ghost use Rattle.runlog.specs.Logging.{book_fixture};
 ghost use Rattle.state.specs.Directories.{BeginsIn};
 ghost use Rattle.state.specs.Origins.{IsBegun};
+ghost use Rattle.state.specs.Standings.{Renews};
+ghost use Rattle.state.specs.declared.beginning.Origin.{Origin};
 ghost use Rattle.telegate.specs.AsWished.{IsAsWished};
 ghost use Rattle.telegate.specs.Asked.{RecordAt, StateIn, StatusAt, UnclockedIfErr, asked_for};
 ghost use Rattle.telegate.specs.Asked.{call_if, ends_asked, listen_asked, scribes_asked};
@@ -18,6 +20,8 @@ ghost use Rattle.telegate.specs.Kept.{first_moment};
 ghost use Rattle.telegate.specs.Living.{HasLived, IsPortOf};
 ghost use Rattle.telegate.specs.Ran.{HasLivedAs, IfOver};
 ghost use Rattle.telegate.specs.Running.{IsReadLiveConfig};
+ghost use Rattle.telegate.specs.Served.{HasServedAnew, HasServedOn};
+ghost use Rattle.telegate.specs.Turns.{in_life, shown_to};
 ghost use Rattle.telegate.specs.Logged.{IsRefused, IsUnkept, LogsNoteIf, LogsBeginning, LogsGap};
 ghost use Rattle.telegate.specs.Logged.{note_if_on, note_of_address};
 
@@ -288,6 +292,15 @@ pub(crate) fn run_at<T: RunSite>(
           is_shown = is_some kept.lookout;
           bears_loss = Some kept.run_log.port.port.port.bears_loss;
         }) kept.ended)) }
+    // Behind each event its port, its log and visitors looked before the next one came.
+    ensures served { IfOk result (λ over. IfOver over
+        (λ anew. HasServedAnew config.now (in_life anew.run_log.port.before.entries
+        anew.run_log.port.port.pen anew.run_log.port.port.port) anew.run_log.logger
+        (shown_to anew.lookout) anew.ended)
+        (λ kept. (origin : Origin)
+        × BeginsIn T.Folder.File.Disk config.now text.now T.Folder.lineage origin
+        × HasServedOn origin (in_life kept.run_log.port.before.entries kept.run_log.port.port.pen
+        kept.run_log.port.port.port) kept.run_log.logger (shown_to kept.lookout) kept.ended)) }
     // Without a clock nothing has run.
     ensures none { UnclockedIfErr result (T.asked site.old) (T.asked site.new) }
     ensures fault { IfErr result IsKeptFault }
@@ -308,6 +321,9 @@ fn run_anew<T: RunSite>(
     ensures lived { IfOk result (λ lived. HasLived config.now wishes.entry.allow_list false []
         lived.run_log.port.port.port lived.run_log.port.port.pen lived.ended) }
     ensures before { IfOk result (λ lived. lived.run_log.port.before.entries ≡ []) }
+    ensures served { IfOk result (λ lived. HasServedAnew config.now
+        (in_life lived.run_log.port.before.entries lived.run_log.port.port.pen
+        lived.run_log.port.port.port) lived.run_log.logger (shown_to lived.lookout) lived.ended) }
     ensures wished { IfOk result (λ lived. IsAsWished wishes.entry lived.run_log.logger
         lived.run_log.port.port.pen (is_some lived.lookout)) }
     ensures asked { IfOk result (λ _. T.asked site.new
@@ -339,6 +355,9 @@ fn run_new<T: RunSite>(
     ensures lived { HasLived config.now allow_list false [] result.run_log.port.port.port
         result.run_log.port.port.pen result.ended }
     ensures before { result.run_log.port.before.entries ≡ [] }
+    ensures served { HasServedAnew config.now (in_life result.run_log.port.before.entries
+        result.run_log.port.port.pen result.run_log.port.port.port) result.run_log.logger
+        (shown_to result.lookout) result.ended }
     ensures logged { book_fixture result.run_log.logger ≡ book_fixture scribes.logger }
     ensures recorded { result.run_log.port.port.pen.is_wished ≡ scribes.pen.is_wished }
     ensures looked { is_some result.lookout ≡ is_some scribes.lookout }
@@ -372,6 +391,7 @@ fn keeper_between<T: RunSite>(
     ensures port { IsPortOf config.now wishes.entry.allow_list goes_on result.ends.port }
     ensures log { result.ends.port.log ≡ [] }
     ensures failed { result.ends.port.failed + result.stops ≡ 0 }
+    ensures begun { Renews [] gateway.now result.ends.deeds }
 {
     let port = port_between(config, ends, wishes.allow_list, goes_on);
     Keeper::new(
@@ -400,6 +420,11 @@ fn run_kept<T: RunSite>(
         lived.run_log.port.port.pen lived.ended) }
     ensures wished { IfOk result (λ lived. IsAsWished wishes.entry lived.run_log.logger
         lived.run_log.port.port.pen (is_some lived.lookout)) }
+    ensures served { IfOk result (λ lived. (origin : Origin)
+        × BeginsIn T.Folder.File.Disk config.now text.now T.Folder.lineage origin
+        × HasServedOn origin (in_life lived.run_log.port.before.entries
+        lived.run_log.port.port.pen lived.run_log.port.port.port) lived.run_log.logger
+        (shown_to lived.lookout) lived.ended) }
     // It bore the loss of its state where that was wished.
     ensures bears { IfOk result (λ lived.
         lived.run_log.port.port.port.bears_loss ≡ wishes.entry.bears_loss) }
@@ -442,6 +467,9 @@ fn run_from<T: RunSite>(
     ensures recorded { result.run_log.port.port.pen.is_wished ≡ scribes.pen.is_wished }
     ensures looked { is_some result.lookout ≡ is_some scribes.lookout }
     ensures bears { result.run_log.port.port.port.bears_loss ≡ wishes.entry.bears_loss }
+    ensures served { HasServedOn begun.origin (in_life result.run_log.port.before.entries
+        result.run_log.port.port.pen result.run_log.port.port.port) result.run_log.logger
+        (shown_to result.lookout) result.ended }
 {
     let Begun { origin, store } = begun;
     let Origin {

@@ -7,7 +7,8 @@ ghost use Rattle.gateway.specs.State.{State};
 ghost use Rattle.runlog.specs.Logging.{book_fixture, logged_fixture};
 ghost use Rattle.telegate.specs.Lives.{all_passed};
 ghost use Rattle.telegate.specs.Running.{HasEnded, HasRun, HasRunFaithfully, IsRecorded};
-ghost use Rattle.telegate.specs.Turns.{HasServed, shown_to, stands};
+ghost use Rattle.telegate.specs.Turns.{HasServed, failure_in_life, in_life, log_in_life, shown_to};
+ghost use Rattle.telegate.specs.Turns.{stands, tends_in_life};
 
 use crate::life::Life;
 use gateway::{End, Gateway, History, drive_on};
@@ -114,6 +115,14 @@ pub(crate) fn live<
     ensures looked { is_some result.lookout ≡ is_some scribes.lookout }
     ensures before { result.run_log.port.before.entries ≡ before.entries }
     ensures shown { P.shows result.run_log.port.port.port result.sight }
+    // Behind each event all look at the gateway before the next one comes: its port, the log, and
+    // visitors.
+    ensures served { (last : State) × HasServed (log_in_life P.log) (tends_in_life P.tends)
+        (failure_in_life P.failure) (stands gateway (in_life before.entries scribes.pen port)
+        scribes.logger (shown_to scribes.lookout)) (stands last
+        (in_life result.run_log.port.before.entries result.run_log.port.port.pen
+        result.run_log.port.port.port) result.run_log.logger (shown_to result.lookout))
+        result.ended }
     // Where the gateway begins with the state that all that passed before leads to, what has passed
     // then keeps every promise of a gateway with these settings.
     ensures faithful { (p : Setup) →

@@ -24,3 +24,6 @@ returns-clause-lived g c =
         recorded = search rules;
       };
     }
+
+pub returns-clause-served : goal.returns-clause-served
+returns-clause-served g c = ?served

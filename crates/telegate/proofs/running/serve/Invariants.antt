@@ -20,7 +20,7 @@ invariant-turning g l = record {
   shown : (p : Setup) → Follows p l.initial.gateway (g.P.Port.log l.initial.run_log.port)
       → Rests p (g.P.Port.log l.initial.run_log.port) → 0 < l.counter
       → IsRunFaithful p (g.P.Port.log l.run_log.port);
-  on : HasGoneOn g.P.Port.log g.P.tends
+  on : HasGoneOn g.P.Port.log g.P.Watched.tends
       (stands l.initial.gateway l.initial.run_log.port l.initial.run_log.logger
       (shown_to l.initial.lookout))
       l.counter (stands l.gateway l.run_log.port l.run_log.logger (shown_to l.lookout));
