@@ -8,7 +8,8 @@ ghost use Rattle.std.specs.Prelude.{IfSome};
 ghost use Rattle.std.specs.Prelude.{if◌then◌else◌};
 ghost use Rattle.sqlite_disk.specs.Disk.{Holds};
 ghost use Rattle.segments.specs.Head.{Fits};
-ghost use Rattle.segments.specs.Starts.{ArePlaced, FitsIn, HasNoNewer, HasNone, IsAbove};
+ghost use Rattle.segments.specs.Starts.{ArePlaced, BeginsNewer, FitsIn, HasNoNewer, HasNone};
+ghost use Rattle.segments.specs.Starts.{IsAbove};
 ghost use Rattle.segments.specs.Starts.{IsBacked, IsBackedBy, IsBelow, IsFoundIn, IsWholeIn};
 ghost use Rattle.segments.specs.Starts.{IsHeadIn, IsNewest, IsNext, IsShut, IsSound, before_zero};
 ghost use Rattle.segments.specs.Starts.{is_shut, may_have_newer, number_in, other_side};
@@ -408,11 +409,14 @@ pub fn newest_side<D: Disk>(alloc: Global, log: &mut D, db: &mut D) -> Result<Si
     }
 }
 
-/// Whether each segment that a file has is older than the one with this number. One line is read.
+/// Whether each segment that a file has is older than the one with this number. Where it isn't so,
+/// the file begins with the first line of one that is as new. One line is read.
 pub fn is_below<D: Disk>(alloc: Global, file: &mut D, number: u64) -> Result<bool, SegmentFault>
     requires { IsTrue (D.Disk.is_usable file.old) }
     ensures below { IfOk result (λ is. is ≡ true → IsTrue (D.Disk.is_clean file.new) →
         IsBelow number (D.Disk.seen file.new)) }
+    ensures others { IfOk result (λ is. is ≡ false → IsTrue (D.Disk.is_clean file.new) →
+        0 < number → BeginsNewer (number - 1) (D.Disk.seen file.new)) }
     ensures usable { IsTrue (D.Disk.is_usable file.new) }
     ensures clean { IsTrue (D.Disk.is_clean file.new) → IsTrue (D.Disk.is_clean file.old) }
     ensures seen { D.Disk.seen file.new ≡ D.Disk.seen file.old }
