@@ -113,7 +113,7 @@ impl<F: Folder + Drop> DiskStore<F> {
             IsTrue (F.File.is_clean files.0) → AreUndoubted (F.File.may_leave files.0)) }
         ensures others { IfSome result (λ files. files.2 ≡ false →
             IsTrue (F.File.is_clean files.0) → IsSound (F.File.seen files.0) → ⊥) }
-        ensures was { IfSome result (λ files. WasOpened
+        ensures was { IfSome result (λ files. WasOpened F.File.Disk
             (λ one two. (folder : F) × F.answered folder (Some (one, two))) files.0) }
         ensures asks { (folder : F) × (answer : Option (F.File × F.File))
             × F.answered folder answer }
@@ -129,6 +129,7 @@ impl<F: Folder + Drop> DiskStore<F> {
 
     /// Begins a segment where both files are opened anew first. If that fails they are closed: of
     /// what a crash leaves of them the store then says nothing.
+    #[tactic(auto, using(crate::proofs::Beside::left_opened))]
     fn begin_anew(&mut self, gateway: &Gateway) -> bool
         requires { self.old.opened ≡ Opened.Neither }
         ensures begun { result ≡ true → stored_in self.new.opened ≡ record {
@@ -143,9 +144,9 @@ impl<F: Folder + Drop> DiskStore<F> {
             ⊎ (self.new.number ≡ u64_saturate (self.old.number + 1)) }
         ensures settings { self.new.settings ≡ self.old.settings }
         ensures closed { result ≡ false → self.new.opened ≡ Opened.Neither }
-        ensures beside { result ≡ true → IsLeftBeside
+        ensures beside { (before : Opened F.File F.File.Disk) → result ≡ true → IsLeftBeside
             (λ one two. (folder : F) × F.answered folder (Some (one, two)))
-            self.old.opened self.new.opened }
+            before self.new.opened }
         ensures asks { (folder : F) × (answer : Option (F.File × F.File))
             × F.answered folder answer }
     {
@@ -362,7 +363,8 @@ fn in_order<D: Disk + Drop>(alloc: Global, log: D, db: D, number: u64) -> Option
         AreUndoubted (D.Disk.may_leave files.0)) }
     ensures others { IfSome result (λ files. files.2 ≡ false → IsTrue (D.Disk.is_clean files.0) →
         IsSound (D.Disk.seen files.0) → ⊥) }
-    ensures was { IfSome result (λ files. IsOneOf log db files.0) }
+    ensures was { IfSome result (λ files.
+        IsOneOf (D.Disk.seen log) (D.Disk.seen db) (D.Disk.seen files.0)) }
 {
     let (mut log, mut db) = (log, db);
     match newest_side(alloc, &mut log, &mut db) {
@@ -526,6 +528,8 @@ impl<F: Folder + Drop> Store for DiskStore<F> {
     ghost settings = { λ s. s.settings.items };
 
     ghost mark = { λ s. F.mark s.folder };
+
+    ghost refused = { λ s. F.refused s.folder };
 
     ghost next = { λ s. s.number };
 
