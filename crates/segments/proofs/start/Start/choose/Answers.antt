@@ -127,7 +127,8 @@ returns-in-Some-clause-only g c =
 
 pub returns-in-Some-2-clause-placed : goal.returns-in-Some-2-clause-placed
 returns-in-Some-2-clause-placed g c = λ log db placed.
-    of_three c.made-in-Some-2.result c.made-in-Some-2.ensures.newest c.made-in-Some-2.ensures.other c.made-in-Some-2.ensures.side
+    of_three c.made-in-Some-2.result c.made-in-Some-2.ensures.newest c.made-in-Some-2.ensures.other
+    c.made-in-Some-2.ensures.side
     (λ s is other side.
     placed_as (other_side c.args.side) s.side log db (g.D.Disk.seen c.args.older)
     (g.D.Disk.seen c.args.newer)
@@ -139,7 +140,8 @@ returns-in-Some-2-clause-placed g c = λ log db placed.
 
 pub returns-in-Some-2-clause-above : goal.returns-in-Some-2-clause-above
 returns-in-Some-2-clause-above g c =
-    of_three c.made-in-Some-2.result c.made-in-Some-2.ensures.newest c.made-in-Some-2.ensures.other c.made-in-Some-2.ensures.number
+    of_three c.made-in-Some-2.result c.made-in-Some-2.ensures.newest c.made-in-Some-2.ensures.other
+    c.made-in-Some-2.ensures.number
     (λ s is other number clean.
     let older : IsTrue (g.D.Disk.is_clean c.found_in-2.new.file) =
     subst (λ d. IsTrue (g.D.Disk.is_clean d)) is clean.0 in
@@ -160,7 +162,8 @@ returns-in-Some-2-clause-above g c =
 
 pub returns-in-Some-2-clause-next : goal.returns-in-Some-2-clause-next
 returns-in-Some-2-clause-next g c =
-    of_three c.made-in-Some-2.result c.made-in-Some-2.ensures.newest c.made-in-Some-2.ensures.other c.made-in-Some-2.ensures.number
+    of_three c.made-in-Some-2.result c.made-in-Some-2.ensures.newest c.made-in-Some-2.ensures.other
+    c.made-in-Some-2.ensures.number
     (λ s is other number clean.
     let newer : IsTrue (g.D.Disk.is_clean c.found_in.new.file) =
     subst (λ d. IsTrue (g.D.Disk.is_clean d)) other clean.1 in
