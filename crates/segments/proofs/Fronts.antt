@@ -3,19 +3,18 @@ use Rattle.std.proofs.Common.{◌≡◌, ◌∙◌, Bool, inl, inr, ℕ, ◌+◌
 use Rattle.std.proofs.Common.{drop, take, min, slice_index, IfOk, IfNone, IfSome, Option, Some}
 use Rattle.std.proofs.Common.{None, Result}
 use Rattle.std.proofs.Common.{Ok, Err, OnOk, is_err, true, false, refl, ap, sym, subst, arith}
-use Rattle.std.proofs.lemmas.Bool.{cases_lt}
+use Rattle.std.proofs.lemmas.Bool.{cases_lt, leb-false, lt-leb}
 use Rattle.std.proofs.lemmas.List.{ext_get_or, get_or-drop, get_or-take, length-drop}
 use Rattle.std.proofs.lemmas.List.{length-take-le}
 use Rattle.sqlite_disk.specs.Disk.{Holds}
 use Rattle.statetext.specs.Sum.{sum_of}
 use Rattle.segments.specs.Head.{Fits, head_of}
 use Rattle.std.specs.Option.{is_some}
-use Rattle.std.specs.Prelude.{not, ◌||◌, if◌then◌else◌}
+use Rattle.std.specs.Prelude.{not, ◌&&◌, if◌then◌else◌}
 use Rattle.segments.specs.Starts.{ArePlaced, BeginsSo, FitsIn, HasNoNewer, HasNone, IsAbove}
 use Rattle.segments.specs.Starts.{IsBacked, IsBackedBy, IsFoundIn, IsWholeIn}
-use Rattle.segments.specs.Starts.{IsHeadIn, IsNewest, IsNext, IsShut, IsSound, is_doubtful}
-use Rattle.segments.specs.Starts.{is_other}
-use Rattle.segments.specs.Starts.{is_shut, number_in, other_side}
+use Rattle.segments.specs.Starts.{IsHeadIn, IsNewest, IsNext, IsShut, IsSound, is_shut}
+use Rattle.segments.specs.Starts.{may_have_newer, number_in, other_side}
 use Rattle.segments.specs.declared.head.SegmentHead.{SegmentHead}
 use Rattle.segments.specs.declared.start.FileFront.{FileFront}
 use Rattle.segments.specs.declared.start.FileFront.TheVariants as fronts
@@ -171,16 +170,7 @@ pub second_newest : (newest other : List ℕ) → HasNone other → IsNewest new
 second_newest newest other none own head text others fits fits' found found' =
     absurd (none head others fits' found')
 
--- a file that no crash leaves otherwise begins with a segment or is shut
-pub not_other : (file : List ℕ) (front : FileFront) → IsHeadIn file front → IsSound file
-    → is_other front ≡ false
-not_other file fronts.Shut begins sound = refl
-not_other file (fronts.Head head) begins sound = refl
-not_other file fronts.Other begins (inl shut) = absurd (begins.begins shut)
-not_other file fronts.Other begins (inr found) =
-    let no = begins.heads found.0 found.2 found.3.first in absurd (cc)
-
-shut_front : (file : List ℕ) (front : FileFront) → IsHeadIn file front → IsShut file → is_shut front
+pub shut_front : (file : List ℕ) (front : FileFront) → IsHeadIn file front → IsShut file → is_shut front
     ≡ true
 shut_front file fronts.Shut begins shut = refl
 shut_front file (fronts.Head head) begins shut = absurd (not_shut file head begins.begins shut)
@@ -209,12 +199,12 @@ by_shut file fronts.Shut begins is = begins.begins
 by_shut file (fronts.Head head) begins is = absurd (cc)
 by_shut file fronts.Other begins is = absurd (cc)
 
-pub not_doubtful : (front behind : FileFront) (is_found : Bool) → is_shut front ≡ true
-    → (is_found ≡ false → is_shut behind ≡ true)
-    → is_doubtful front is_found behind ≡ false
-not_doubtful front behind true shut unless = ap not shut
-not_doubtful front behind false shut unless =
-    ap (λ (a : Bool). not a || not (is_shut behind)) shut ∙ ap not (unless refl)
+pub are_doubtful : (newest other : List ℕ) (front behind : FileFront) → IsHeadIn other front
+    → IsHeadIn newest behind → IsShut newest → IsShut other
+    → not (is_shut front && is_shut behind) ≡ false
+are_doubtful newest other front behind begins begins' shut shut' =
+    ap (λ (a : Bool). not (a && is_shut behind)) (shut_front other front begins shut')
+    ∙ ap not (shut_front newest behind begins' shut)
 
 pub of_none : {A P : Type 0} (o : Option A) → o ≡ None → IfNone o P → P
 of_none None is p = p
@@ -257,34 +247,37 @@ pub placed_other : (side : Side) (log db a b : List ℕ) → ArePlaced side log 
 placed_other sides.Log log db a b h = (h.1, h.0)
 placed_other sides.Db log db a b h = (h.1, h.0)
 
--- No newer segment stood in the other file
+-- No segment as new stood in the other file
 
-pub sure_first : (newer older : List ℕ) (front other : FileFront) (own : SegmentHead)
-    → IsHeadIn newer front
-    → IsHeadIn older other → number_in other ≤ number_in front → front ≡ fronts.Head own
-    → is_other other ≡ false → FitsIn front → FitsIn other
-    → HasNoNewer newer older
-sure_first newer older front fronts.Shut own begins behind order is sure fits fits' =
+pub sure_beside : (newest other : List ℕ) (front behind : FileFront) (own : SegmentHead)
+    → IsHeadIn newest front → IsHeadIn other behind → front ≡ fronts.Head own → FitsIn front
+    → FitsIn behind → may_have_newer own.number behind ≡ false → HasNoNewer newest other
+sure_beside newest other front fronts.Shut own begins behind is fits fits' sure =
     inl behind.begins
-sure_first newer older front (fronts.Head head) own begins behind order is sure fits fits' =
-    let mine : Holds newer 0 (head_of own) =
-    subst (λ (f : FileFront). BeginsSo newer f) is begins.begins in
-    let number : number_in front ≡ own.number = ap number_in is in
+sure_beside newest other front (fronts.Head head) own begins behind is fits fits' sure =
+    let mine : Holds newest 0 (head_of own) =
+    subst (λ (f : FileFront). BeginsSo newest f) is begins.begins in
     let own_fits : Fits own = subst FitsIn is fits in
-    inr (own, head, own_fits, fits', mine, behind.begins, omega (arith, order, number))
-sure_first newer older front fronts.Other own begins behind order is sure fits fits' = absurd (cc)
+    inr (own, head, own_fits, fits', mine, behind.begins, leb-false own.number head.number sure)
+sure_beside newest other front fronts.Other own begins behind is fits fits' sure = absurd (cc)
 
-pub sure_second : (newer older : List ℕ) (front behind : FileFront) (is_found : Bool)
-    → IsHeadIn newer front
-    → is_found ≡ true → is_doubtful front is_found behind ≡ false → HasNoNewer older newer
-sure_second newer older front behind true begins some sure =
-    inl (by_shut newer front begins (shut_of front sure))
-  where
-    shut_of : (f : FileFront) → not (is_shut f) ≡ false → is_shut f ≡ true
-    shut_of fronts.Shut e = refl
-    shut_of (fronts.Head head) e = absurd (cc)
-    shut_of fronts.Other e = absurd (cc)
-sure_second newer older front behind false begins some sure = absurd (cc)
+pub only_beside : (newest other : List ℕ) (front behind : FileFront) (own : SegmentHead)
+    → IsHeadIn newest front → IsHeadIn other behind → front ≡ fronts.Head own
+    → HasNoNewer newest other → may_have_newer own.number behind ≡ false
+only_beside newest other front fronts.Shut own begins behind is older = refl
+only_beside newest other front (fronts.Head head) own begins behind is (inl shut) =
+    absurd (not_shut other head behind.begins shut)
+only_beside newest other front (fronts.Head head) own begins behind is (inr older) =
+    let a : number_in front ≡ older.0.number =
+    ap number_in (begins.heads older.0 older.2 older.4) in
+    let b : head.number ≡ older.1.number =
+    ap number_in (behind.heads older.1 older.3 older.5) in
+    let c : number_in front ≡ own.number = ap number_in is in
+    lt-leb own.number head.number (omega (arith, older.6, a, b, c))
+only_beside newest other front fronts.Other own begins behind is (inl shut) =
+    absurd (behind.begins shut)
+only_beside newest other front fronts.Other own begins behind is (inr older) =
+    let no = behind.heads older.1 older.3 older.5 in absurd (cc)
 
 pub of_some : {A : Type 0} (P : A → Type 0) (o : Option A) (x : A) → o ≡ Some x → IfSome o P → P x
 of_some P None x is h = absurd (cc)

@@ -1,6 +1,6 @@
 -- What a start finds in a file (profile).
 use Rattle.std.specs.Io.Iter.{u64_saturate}
-use Rattle.std.specs.Prelude.{◌≡◌, ◌⊎◌, Bool, true, false, not, ◌||◌, ℕ, ◌+◌, ◌==◌, ◌<◌, ◌≤◌}
+use Rattle.std.specs.Prelude.{◌≡◌, ◌⊎◌, Bool, true, false, nat_le, ℕ, ◌+◌, ◌==◌, ◌<◌, ◌≤◌}
 use Rattle.std.specs.Prelude.{List, length, slice_index, take, position, Option, Some, None}
 use Rattle.sqlite_disk.specs.Disk.{Holds}
 use Rattle.statetext.specs.Sum.{sum_of}
@@ -41,15 +41,12 @@ is_shut fronts.Shut = true
 is_shut (fronts.Head head) = false
 is_shut fronts.Other = false
 
-abbrev pub is_other : FileFront → Bool
-is_other fronts.Shut = false
-is_other (fronts.Head head) = false
-is_other fronts.Other = true
-
--- a file without a segment isn't shut, or, where none was found in the other one, either isn't
-abbrev pub is_doubtful : (front : FileFront) → (is_found : Bool) → (behind : FileFront) → Bool
-is_doubtful front true behind = not (is_shut front)
-is_doubtful front false behind = not (is_shut front) || not (is_shut behind)
+-- a file that begins so may have had a segment as new as the one with this number: it isn't shut,
+-- and doesn't begin with the first line of an older one
+abbrev pub may_have_newer : (number : ℕ) → FileFront → Bool
+may_have_newer number fronts.Shut = false
+may_have_newer number (fronts.Head head) = nat_le number head.number
+may_have_newer number fronts.Other = true
 
 -- the file has a segment with this first line, and this checkpoint, whose length and whose sum the
 -- line says
@@ -102,12 +99,12 @@ IsBehind number file =
 abbrev pub IsNext : ℕ → (newest other : List ℕ) → Type 0
 IsNext number newest other = (number ≡ 1) ⊎ (IsBehind number newest ⊎ IsBehind number other)
 
--- The other file is shut, or begins with the first line of a segment that isn't newer: so no newer
--- one than the newest ever stood there.
+-- The other file is shut, or begins with the first line of a segment that is older: so none as new
+-- as the newest ever stood there.
 abbrev pub HasNoNewer : (newest other : List ℕ) → Type 0
 HasNoNewer newest other = IsShut other
     ⊎ ((own : SegmentHead) × (head : SegmentHead) × Fits own × Fits head
-    × Holds newest 0 (head_of own) × Holds other 0 (head_of head) × (head.number ≤ own.number))
+    × Holds newest 0 (head_of own) × Holds other 0 (head_of head) × (head.number < own.number))
 
 -- the file has a segment whose number is at least this one
 pub record HasAsNew (number : ℕ) (file : List ℕ) : Type 0 where

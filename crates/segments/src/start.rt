@@ -2,15 +2,17 @@
 ghost use Rattle.std.specs.Option.{ForSome, is_some};
 ghost use Rattle.std.specs.Io.Iter.{u64_saturate};
 ghost use Rattle.std.specs.Prelude.{◌≡◌, ◌==◌, ℕ, ◌+◌, ◌-◌, ◌<◌, ◌≤◌, ◌^◌, false, true, List, None};
+ghost use Rattle.std.specs.Prelude.{◌&&◌};
 ghost use Rattle.std.specs.Prelude.{drop, length, take, position, IsTrue, IfOk, IfNone};
 ghost use Rattle.std.specs.Prelude.{IfSome};
 ghost use Rattle.std.specs.Prelude.{if◌then◌else◌};
 ghost use Rattle.sqlite_disk.specs.Disk.{Holds};
 ghost use Rattle.segments.specs.Head.{Fits};
-ghost use Rattle.segments.specs.Starts.{ArePlaced, FitsIn, HasNoNewer, HasNone, IsAbove};
+ghost use Rattle.segments.specs.Starts.{ArePlaced, BeginsNewer, FitsIn, HasNoNewer, HasNone};
+ghost use Rattle.segments.specs.Starts.{IsAbove};
 ghost use Rattle.segments.specs.Starts.{IsBacked, IsBackedBy, IsBelow, IsFoundIn, IsWholeIn};
 ghost use Rattle.segments.specs.Starts.{IsHeadIn, IsNewest, IsNext, IsShut, IsSound, before_zero};
-ghost use Rattle.segments.specs.Starts.{is_doubtful, is_other, is_shut, number_in, other_side};
+ghost use Rattle.segments.specs.Starts.{is_shut, may_have_newer, number_in, other_side};
 ghost use Rattle.statetext.specs.Sum.{sum_of};
 
 use crate::SegmentFault;
@@ -278,13 +280,6 @@ pub struct Start<D: Disk> {
         IsFoundIn (D.Disk.seen newest) c.head c.text.items)) },
 }
 
-/// Whether a file begins with something else than a segment.
-fn is_other(front: FileFront) -> bool
-    ensures { result ≡ is_other front }
-{
-    matches!(front, FileFront::Other)
-}
-
 /// Whether a file is shut.
 fn is_shut(front: FileFront) -> bool
     ensures { result ≡ is_shut front }
@@ -292,15 +287,23 @@ fn is_shut(front: FileFront) -> bool
     matches!(front, FileFront::Shut)
 }
 
-/// Whether files are doubtful of which the one with the higher number has no segment: it isn't
-/// shut; or, where none was found in the other one either, that one isn't.
-fn is_doubtful(front: FileFront, is_found: bool, other_front: FileFront) -> bool
-    ensures { result ≡ is_doubtful front is_found other_front }
+/// Whether both files are shut.
+fn are_shut(front: FileFront, other_front: FileFront) -> bool
+    ensures { result ≡ (is_shut front && is_shut other_front) }
 {
-    if is_found {
-        !is_shut(front)
-    } else {
-        !is_shut(front) || !is_shut(other_front)
+    is_shut(front) && is_shut(other_front)
+}
+
+/// Whether a file that begins so may have had a segment as new as the one with this number.
+fn may_have_newer(number: u64, front: FileFront) -> bool
+    ensures { result ≡ may_have_newer number front }
+{
+    match front {
+        FileFront::Shut => false,
+        // As new too: which of two with one number came later, nobody knows (docs/DECISIONS.md,
+        // "Two logs of one number").
+        FileFront::Head(head) => number <= head.number,
+        FileFront::Other => true,
     }
 }
 
@@ -406,11 +409,14 @@ pub fn newest_side<D: Disk>(alloc: Global, log: &mut D, db: &mut D) -> Result<Si
     }
 }
 
-/// Whether each segment that a file has is older than the one with this number. One line is read.
+/// Whether each segment that a file has is older than the one with this number. Where it isn't so,
+/// the file begins with the first line of one that is as new. One line is read.
 pub fn is_below<D: Disk>(alloc: Global, file: &mut D, number: u64) -> Result<bool, SegmentFault>
     requires { IsTrue (D.Disk.is_usable file.old) }
     ensures below { IfOk result (λ is. is ≡ true → IsTrue (D.Disk.is_clean file.new) →
         IsBelow number (D.Disk.seen file.new)) }
+    ensures others { IfOk result (λ is. is ≡ false → IsTrue (D.Disk.is_clean file.new) →
+        0 < number → BeginsNewer (number - 1) (D.Disk.seen file.new)) }
     ensures usable { IsTrue (D.Disk.is_usable file.new) }
     ensures clean { IsTrue (D.Disk.is_clean file.new) → IsTrue (D.Disk.is_clean file.old) }
     ensures seen { D.Disk.seen file.new ≡ D.Disk.seen file.old }
@@ -444,13 +450,14 @@ impl<D: Disk + Drop> Start<D> {
         // It is the next one behind such a line, or the first: no number is left out.
         ensures next { IfOk result (λ s. AreClean s →
             IsNext s.number (newest_in s) (other_in s)) }
-        // Where nothing is doubtful, no newer segment than that one ever stood in the other file.
+        // Where nothing is doubtful, no segment as new as that one ever stood in the other file.
         ensures sure { IfOk result (λ s. AreClean s → is_some s.checkpoint ≡ true →
             s.is_doubtful ≡ false → HasNoNewer (newest_in s) (other_in s)) }
-        // What a crash may leave isn't doubtful; and what isn't is a segment, or two files that are
-        // shut.
-        ensures sound { IfOk result (λ s. AreClean s → IsSound (newest_in s) →
-            IsSound (other_in s) → s.is_doubtful ≡ false) }
+        // And nothing else is doubtful. So where none was found both files are shut, or that is.
+        ensures only { IfOk result (λ s. AreClean s → is_some s.checkpoint ≡ true →
+            HasNoNewer (newest_in s) (other_in s) → s.is_doubtful ≡ false) }
+        ensures blank { IfOk result (λ s. AreClean s → is_some s.checkpoint ≡ false →
+            IsShut (newest_in s) → IsShut (other_in s) → s.is_doubtful ≡ false) }
         ensures shut { IfOk result (λ s. AreClean s → is_some s.checkpoint ≡ false →
             s.is_doubtful ≡ false → IsShut (newest_in s) × IsShut (other_in s)) }
     {
@@ -496,19 +503,25 @@ impl<D: Disk + Drop> Start<D> {
         ensures backed { IfOk result (λ s. AreClean s → IsBacked (newest_in s) (other_in s)) }
         ensures none { IfOk result (λ s. AreClean s → is_some s.checkpoint ≡ false →
             HasNone (newest_in s) × HasNone (other_in s)) }
-        ensures sound { IfOk result (λ s. AreClean s → IsSound (newest_in s) →
-            IsSound (other_in s) → s.is_doubtful ≡ false) }
+        ensures only { IfOk result (λ s. AreClean s → is_some s.checkpoint ≡ true →
+            HasNoNewer (newest_in s) (other_in s) → s.is_doubtful ≡ false) }
+        ensures blank { IfOk result (λ s. AreClean s → is_some s.checkpoint ≡ false →
+            IsShut (newest_in s) → IsShut (other_in s) → s.is_doubtful ≡ false) }
         ensures shut { IfOk result (λ s. AreClean s → is_some s.checkpoint ≡ false →
             s.is_doubtful ≡ false → IsShut (newest_in s) × IsShut (other_in s)) }
     {
         let (mut newer, mut older) = (newer, older);
         if let Some(found) = found_in(alloc, &mut newer, front)? {
-            let is_doubtful = is_other(other_front);
+            let is_doubtful = may_have_newer(found.head.number, other_front);
             return Start::made(newer, older, side, Some(found), number, is_doubtful);
         }
-        let found = found_in(alloc, &mut older, other_front)?;
-        let is_doubtful = is_doubtful(front, found.is_some(), other_front);
-        Start::made(older, newer, side.other(), found, number, is_doubtful)
+        let side = side.other();
+        if let Some(found) = found_in(alloc, &mut older, other_front)? {
+            let is_doubtful = may_have_newer(found.head.number, front);
+            return Start::made(older, newer, side, Some(found), number, is_doubtful);
+        }
+        let is_doubtful = !are_shut(front, other_front);
+        Start::made(older, newer, side, None, number, is_doubtful)
     }
 
     fn made(

@@ -18,7 +18,7 @@ use Rattle.gateway.proofs.Carrying as carrying
 use Rattle.link.specs.Carried.{awaits_command}
 use Rattle.segments.specs.Crashes.{lines_behind}
 use Rattle.segments.specs.Head.{Fits}
-use Rattle.segments.specs.Starts.{ArePlaced, IsFoundIn, IsShut, IsSound, before_zero}
+use Rattle.segments.specs.Starts.{ArePlaced, HasNoNewer, IsFoundIn, IsShut, before_zero}
 use Rattle.segments.specs.declared.head.SegmentHead.{SegmentHead}
 use Rattle.segments.proofs.Crashes.{same_first}
 use Rattle.segments.proofs.Fronts.{not_shut}
@@ -317,8 +317,7 @@ module _ {D : Type 0} {g : Ghosts D} where
       (o : Origin) (first second : List ℕ) (s : Sight)
       (shown : IsSight log is_stale first second s)
       (over : BeginsOver g c text log (Some is_stale) newest other o)
-      (one : shown.newest ≡ g.seen newest) (two : shown.other ≡ g.seen other)
-      (sound : IsSound shown.newest) (sound' : IsSound shown.other) where
+      (one : shown.newest ≡ g.seen newest) (two : shown.other ≡ g.seen other) where
     here : Type 0
     here = s.beginning ≡ o.beginning
 
@@ -331,14 +330,18 @@ module _ {D : Type 0} {g : Ghosts D} where
         both_ways is_stale stale (fresh_or is_stale (subst (λ (b : Beginning). IsMarkedBy b
         (Some is_stale)) is over.begun.marked))
     trusted_here is (inr torn) =
-        torn sound sound' (subst AreLinesRead (sym one)
-        (over.begun.read is over.first over.second))
+        torn (subst (λ (file : List ℕ). HasNoNewer file shown.other) (sym one)
+        (subst (HasNoNewer (g.seen newest)) (sym two)
+        (over.begun.sure is over.first over.second)))
+        (subst AreLinesRead (sym one) (over.begun.read is over.first over.second))
 
     reset_here : o.beginning ≡ beginnings.LinksReset → is_stale ≡ false
-        → AreLinesRead shown.newest → ⊥
-    reset_here is fresh read = elim (over.begun.reset is) [
+        → HasNoNewer shown.newest shown.other → AreLinesRead shown.newest → ⊥
+    reset_here is fresh older read = elim (over.begun.reset is) [
       | inl stale ↦ both_ways is_stale (stale_or is_stale stale) fresh
-      | inr torn ↦ torn over.first over.second (subst IsSound one sound) (subst IsSound two sound')
+      | inr torn ↦ torn over.first over.second
+          (subst (λ (file : List ℕ). HasNoNewer file (g.seen other)) one
+          (subst (HasNoNewer shown.newest) two older))
           (subst AreLinesRead one read)
     ]
 
@@ -366,7 +369,7 @@ module _ {D : Type 0} {g : Ghosts D} where
         absurd (past_shown log is_stale first second s shown s.seen refl (ap has_past is)
         (shut_here is'))
     by_both beginnings.GoesOn beginnings.LinksReset is is' aside aside' so =
-        absurd (reset_here is' so.3 so.2)
+        absurd (reset_here is' so.3 so.1 so.2)
     by_both beginnings.GoesOn beginnings.GoesOn is is' aside aside' so = refl
 
     pub begins_as_shown : (s.beginning ≡ beginnings.PutAside → ⊥)

@@ -4,7 +4,7 @@ use Rattle.std.proofs.Common.{None, Result, Ok, Err, IfOk, sym, ap, subst}
 use Rattle.std.specs.Prelude.{◌⊎◌, if◌then◌else◌}
 use Rattle.gateway.specs.Config.{Settings}
 use Rattle.gateway.specs.Log.{Log}
-use Rattle.segments.specs.Starts.{HasNoNewer, IsAbove, IsNext, IsNewest, IsShut, IsSound}
+use Rattle.segments.specs.Starts.{HasNoNewer, IsAbove, IsNext, IsNewest, IsShut}
 use Rattle.sqlite_disk.specs.declared.Disk.{Ghosts}
 use Rattle.state.specs.Beginnings.{AreLinesRead, GoesOnFrom, has_past, is_trusted, moment_at}
 use Rattle.state.specs.Origins.{IsBegun, IsMarkedBy, IsNew, IsNumbered}
@@ -51,7 +51,7 @@ module _ {D : Type 0} {g : Ghosts D} where
       → (goes_on ≡ true → IsTrue (g.is_clean newest) → AreLinesRead (g.seen newest))
       → (goes_on ≡ false → (mark ≡ Some true) ⊎ (IsTrue (g.is_clean newest)
       → IsTrue (g.is_clean spare)
-      → IsSound (g.seen newest) → IsSound (g.seen spare) → AreLinesRead (g.seen newest) → ⊥))
+      → HasNoNewer (g.seen newest) (g.seen spare) → AreLinesRead (g.seen newest) → ⊥))
       → (IsTrue (g.is_clean newest) → GoesOnFrom goes_on c text log (g.seen newest) o.is_moved o.gap
       o.before.entries o.gateway)
       → IsBegun {D = D} {g = g} c text log mark (opens.Both newest spare) o
@@ -106,7 +106,7 @@ module _ {D : Type 0} {g : Ghosts D} where
       → (goes_on ≡ true → IsTrue (g.is_clean new) → AreLinesRead (g.seen new))
       → (goes_on ≡ false → (mark ≡ Some true) ⊎ (IsTrue (g.is_clean new)
       → IsTrue (g.is_clean other)
-      → IsSound (g.seen old) → IsSound (g.seen other) → AreLinesRead (g.seen new) → ⊥))
+      → HasNoNewer (g.seen old) (g.seen other) → AreLinesRead (g.seen new) → ⊥))
       → (IsTrue (g.is_clean new) → GoesOnFrom goes_on c text log (g.seen new) o.is_moved o.gap
       o.before.entries o.gateway)
       → IsBegun {D = D} {g = g} c text log mark opened o
@@ -126,7 +126,8 @@ module _ {D : Type 0} {g : Ghosts D} where
       read
       (λ none. elim (reset none) [
         | inl stale ↦ inl stale
-        | inr torn ↦ inr (λ one two sound. torn one two (subst IsSound seen sound))
+        | inr torn ↦ inr (λ one two older. torn one two
+            (subst (λ (file : List ℕ). HasNoNewer file (g.seen other)) seen older))
       ])
       goes)))
 

@@ -13,7 +13,8 @@ use Rattle.gateway.specs.Restored.{IsSavable, state_lines}
 use Rattle.gateway.specs.Setups.{setup_of}
 use Rattle.gateway.specs.State.{State}
 use Rattle.segments.specs.Crashes.{AreBoth}
-use Rattle.segments.specs.Starts.{IsFoundIn, IsNewest, IsShut, IsSound, before_zero}
+use Rattle.segments.specs.Starts.{HasNoNewer, IsFoundIn, IsNewest, IsShut, IsSound}
+use Rattle.segments.specs.Starts.{before_zero}
 use Rattle.segments.proofs.Crashes.{one_segment}
 use Rattle.segments.proofs.Fronts.{not_shut}
 use Rattle.statetext.specs.Text.{lines_in}
@@ -94,9 +95,19 @@ module _ {D : Type 0} (g : Ghosts D) (settings : List ℕ) (deeds : Deeds) (file
   not_both_shut (inr both) shut =
       not_shut file kept.opening.head kept.opening.found.first (subst IsShut both.1 shut.1)
 
-  is_sound : IsSound file
-  is_sound =
-      inr (kept.opening.head, kept.opening.body, kept.opening.fits, kept.opening.found)
+  -- a file that isn't doubted has no segment as new
+  no_newer : IsSound other → HasNoNewer file other
+  no_newer (inl shut) = inl shut
+  no_newer (inr found) = inr (
+    kept.opening.head,
+    found.0,
+    kept.opening.fits,
+    found.2,
+    kept.opening.found.first,
+    found.3.first,
+    beside.older kept.opening.head found.0 kept.opening.body found.1 kept.opening.fits found.2
+        kept.opening.found found.3,
+  )
 
   begins_so : (beginning : Beginning) → o.beginning ≡ beginning → o.beginning ≡ beginnings.GoesOn
   begins_so beginnings.Anew is =
@@ -108,7 +119,8 @@ module _ {D : Type 0} (g : Ghosts D) (settings : List ℕ) (deeds : Deeds) (file
     | inr rotten ↦
         let there = is_there (ap has_past is) in
         absurd (beside.sound (λ sound. rotten b.clean.0 b.clean.1
-        (subst IsSound (sym there.0) is_sound) (subst IsSound (sym there.1) sound)
+        (subst (λ (f : List ℕ). HasNoNewer f (g.seen b.spare)) (sym there.0)
+        (subst (HasNoNewer file) (sym there.1) (no_newer sound)))
         (subst AreLinesRead (sym there.0) kept.read)))
   ]
   begins_so beginnings.GoesOn is = is

@@ -19,7 +19,7 @@ use Rattle.link.specs.Procedure.{is_up}
 use Rattle.link.specs.Turns.{station_at}
 use Rattle.segments.specs.Crashes.{lines_behind}
 use Rattle.segments.specs.Head.{Fits, head_of}
-use Rattle.segments.specs.Starts.{HasNoNewer, IsFoundIn, IsShut, IsSound, before_zero}
+use Rattle.segments.specs.Starts.{HasNoNewer, IsFoundIn, IsShut, before_zero}
 use Rattle.std.specs.Prelude.{drop, slice_get}
 use Rattle.segments.specs.declared.head.SegmentHead.{SegmentHead}
 use Rattle.segments.proofs.Crashes.{same_first}
@@ -92,7 +92,7 @@ module _ {D : Type 0} {g : Ghosts D} where
       (newest other : D) (o : Origin) → BeginsOver g c text log mark newest other o
       → o.beginning ≡ beginnings.GoesOn → (own head : SegmentHead) → Fits own → Fits head
       → Holds (g.seen newest) 0 (head_of own) → Holds (g.seen other) 0 (head_of head)
-      → head.number ≤ own.number
+      → head.number < own.number
   takes_newest c text log mark newest other o over on own head fits fits' holds holds' =
       elim (over.begun.sure on over.first over.second) [
         | inl shut ↦ absurd (not_shut (g.seen other) head holds' shut)
@@ -100,8 +100,8 @@ module _ {D : Type 0} {g : Ghosts D} where
             let (mine, its, fits-mine, fits-its, stands, stands', order) = found in
             let same : mine ≡ own = same_first _ mine own fits-mine fits stands holds in
             let same' : its ≡ head = same_first _ its head fits-its fits' stands' holds' in
-            subst (λ (h : SegmentHead). head.number ≤ h.number) same
-            (subst (λ (h : SegmentHead). h.number ≤ mine.number) same' order)
+            subst (λ (h : SegmentHead). head.number < h.number) same
+            (subst (λ (h : SegmentHead). h.number < mine.number) same' order)
       ]
 
   pub never_stale : (c : Settings) (text : List ℕ) (log : Log) (newest other : D) (o : Origin)
@@ -122,13 +122,13 @@ module _ {D : Type 0} {g : Ghosts D} where
       ]
 
   pub links_stay : (c : Settings) (text : List ℕ) (log : Log) (newest other : D) (o : Origin)
-      → BeginsOver g c text log (Some false) newest other o → IsSound (g.seen newest)
-      → IsSound (g.seen other) → AreLinesRead (g.seen newest)
+      → BeginsOver g c text log (Some false) newest other o
+      → HasNoNewer (g.seen newest) (g.seen other) → AreLinesRead (g.seen newest)
       → o.beginning ≡ beginnings.LinksReset → ⊥
-  links_stay c text log newest other o over sound sound' read reset =
+  links_stay c text log newest other o over older read reset =
       elim (over.begun.reset reset) [
         | inl stale ↦ absurd (cc)
-        | inr torn ↦ torn over.first over.second sound sound' read
+        | inr torn ↦ torn over.first over.second older read
       ]
 
   pub newer_wins : (c : Settings) (text : List ℕ) (log : Log) (mark : Option Bool)

@@ -13,7 +13,7 @@ use Rattle.settings.specs.Settings.{IsReadOfText, IsFaultOfText, known_settings,
 use Rattle.settings.specs.declared.fault.ConfigFault.{ConfigFault}
 use Rattle.settings.specs.declared.fault.ConfigFault.TheVariants.{NotToml, Key, Unknown, NoMemory}
 use Rattle.settings.specs.Unknown.{unknown_paths}
-use Rattle.segments.specs.Starts.{HasNone, IsBacked, IsFoundIn, IsSound}
+use Rattle.segments.specs.Starts.{HasNone, IsBacked, IsFoundIn, IsShut}
 use Rattle.segments.specs.Starts.{before_zero}
 use Rattle.segments.specs.Head.{Fits}
 use Rattle.segments.specs.declared.head.SegmentHead.{SegmentHead}
@@ -48,11 +48,11 @@ faultless text c NoMemory read wrong = refl
 -- no segment was found, and a file has what no crash leaves
 pub unread_none : (c : Settings) (text newest other : List ℕ) → IsBacked newest other
     → HasNone newest
-    → (IsSound newest → IsSound other → ⊥) → IsUnread c text newest other
+    → (IsShut newest → IsShut other → ⊥) → IsUnread c text newest other
 unread_none c text newest other wins none doubt = record {
   wins = wins;
   none = λ state. none state.head state.body state.fits state.found;
-  some = λ one two. doubt (inl one) (inl two);
+  some = doubt;
 }
 
 -- a segment was found
@@ -163,8 +163,8 @@ module _ {D : Type 0} (g : Ghosts D) where
       → IsBacked (g.seen newest) (g.seen other))
       → (IsTrue (g.is_clean newest) × IsTrue (g.is_clean other)
       → HasNone (g.seen newest) × HasNone (g.seen other))
-      → (IsTrue (g.is_clean newest) × IsTrue (g.is_clean other) → IsSound (g.seen newest)
-      → IsSound (g.seen other) → ⊥)
+      → (IsTrue (g.is_clean newest) × IsTrue (g.is_clean other) → IsShut (g.seen newest)
+      → IsShut (g.seen other) → ⊥)
       → IsTrue (g.is_clean one) → IsTrue (g.is_clean two)
       → IsUnread c text (g.seen one) (g.seen two)
   unread_at_start c text one two newest other is same wins none doubt first second =

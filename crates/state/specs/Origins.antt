@@ -5,7 +5,7 @@ use Rattle.gateway.specs.Config.{Settings}
 use Rattle.gateway.specs.Log.{Log}
 use Rattle.gateway.specs.Setups.{setup_of}
 use Rattle.gateway.specs.State.{first_state}
-use Rattle.segments.specs.Starts.{HasNoNewer, IsAbove, IsNewest, IsNext, IsShut, IsSound}
+use Rattle.segments.specs.Starts.{HasNoNewer, IsAbove, IsNewest, IsNext, IsShut}
 use Rattle.sqlite_disk.specs.declared.Disk.{Ghosts}
 use Rattle.state.specs.Beginnings.{AreLinesRead, GoesOnFrom, has_past, is_trusted, moment_at}
 use Rattle.state.specs.Logs.{NewestIs}
@@ -53,9 +53,9 @@ module _ {D : Type 0} {g : Ghosts D} where
 
   -- With these settings, which this text says, a run begins so, where the directory has this mark
   -- and these files, whose log so far was this one: anew where both files are shut; with the newer
-  -- of two segments; and each link is reset only where the state is marked as stale, or a file has
-  -- what no crash leaves, or a line of the log can't be read. Where links are trusted no newer
-  -- segment ever stood in a file, and each line of the log can be read.
+  -- of two segments; and each link is reset only where the state is marked as stale, or the other
+  -- file may have had a segment as new, or a line of the log can't be read. Where links are trusted
+  -- no segment as new ever stood in that file, and each line of the log can be read.
   pub record IsBegun (c : Settings) (text : List ℕ) (log : Log) (mark : Option Bool)
       (opened : Opened D g) (o : Origin) : Type 0 where
     pub moment : o.moment ≡ moment_at o.beginning o.gateway.moment
@@ -68,7 +68,7 @@ module _ {D : Type 0} {g : Ghosts D} where
     pub read : o.beginning ≡ beginnings.GoesOn →
         OnBoth (λ newest spare. AreLinesRead newest) opened
     pub reset : o.beginning ≡ beginnings.LinksReset → (mark ≡ Some true)
-        ⊎ OnBoth (λ newest spare. IsSound newest → IsSound spare → AreLinesRead newest → ⊥) opened
+        ⊎ OnBoth (λ newest spare. HasNoNewer newest spare → AreLinesRead newest → ⊥) opened
     pub goes_on : has_past o.beginning ≡ true → NewestIs (λ newest. IsTrue (g.is_clean newest) →
         GoesOnFrom (is_trusted o.beginning) c text log (g.seen newest) o.is_moved o.gap
         o.before.entries o.gateway) opened

@@ -3,7 +3,7 @@ use Rattle.std.specs.Prelude.{◌≡◌, ◌⊎◌, Bool, true, false, ℕ, List
 use Rattle.std.specs.Prelude.{Option, Ok}
 use Rattle.gateway.specs.Config.{Settings}
 use Rattle.gateway.specs.Log.{Log}
-use Rattle.segments.specs.Starts.{ArePlaced, HasNoNewer, IsNewest, IsShut, IsSound, before_zero}
+use Rattle.segments.specs.Starts.{ArePlaced, HasNoNewer, IsNewest, IsShut, before_zero}
 use Rattle.segments.specs.declared.start.Side.{Side}
 use Rattle.settings.specs.Settings.{IsReadOfText}
 use Rattle.state.specs.Beginnings.{AreLinesRead, BearsNumber, IsHeadOf, IsRead, has_past}
@@ -37,7 +37,7 @@ pub record IsSeen (log : Log) (file : List ℕ) (s : Seen) : Type 0 where
 -- where links aren't trusted, each of them would be reset
 abbrev pub IsDistrusted : (is_stale : Bool) → (newest other : List ℕ) → Type 0
 IsDistrusted is_stale newest other = (is_stale ≡ true)
-    ⊎ (IsSound newest → IsSound other → AreLinesRead newest → ⊥)
+    ⊎ (HasNoNewer newest other → AreLinesRead newest → ⊥)
 
 -- A run would begin so with two files, as `IsBegun` says it of one that does: anew where both are
 -- shut; what can't be read would be put aside; and else it would go on with the newer segment.

@@ -10,7 +10,7 @@ ghost use Rattle.gateway.specs.Config.{Settings};
 ghost use Rattle.gateway.specs.Log.{Came, Restarted};
 ghost use Rattle.gateway.specs.Reports.{Setup};
 ghost use Rattle.segments.specs.Head.{Fits};
-ghost use Rattle.segments.specs.Starts.{HasNoNewer, IsAbove, IsBacked, IsNewest, IsNext, IsSound};
+ghost use Rattle.segments.specs.Starts.{HasNoNewer, IsAbove, IsBacked, IsNewest, IsNext};
 ghost use Rattle.settings.specs.Settings.{IsReadOfText};
 ghost use Rattle.state.specs.Beginnings.{AreLinesRead, BearsNumber, GoesOnFrom, HasRead};
 ghost use Rattle.state.specs.Beginnings.{IsHeadOf, IsRead, MovedOn, WentOn, given_up, has_past};
@@ -513,7 +513,7 @@ fn carry_on<F: Folder + Drop>(
     requires next { AreClean start →
         IsNext start.number (newest_in start) (other_in start) }
     requires reset { is_trusted ≡ false → (F.mark folder ≡ Some true) ⊎ (AreClean start →
-        IsSound (newest_in start) → IsSound (other_in start) → ⊥) }
+        HasNoNewer (newest_in start) (other_in start) → ⊥) }
     ensures begun { IfOk result (λ b. IsBegun config.now settings.items F.lineage
         (F.mark b.store.folder) b.store.opened b.origin) }
     ensures aside { IfOk result (λ b. b.origin.beginning ≡ Beginning.PutAside →

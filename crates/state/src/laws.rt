@@ -17,7 +17,7 @@ ghost use Rattle.link.specs.Procedure.{is_up};
 ghost use Rattle.link.specs.Turns.{station_at};
 ghost use Rattle.segments.specs.Crashes.{lines_behind};
 ghost use Rattle.segments.specs.Head.{Fits, head_of};
-ghost use Rattle.segments.specs.Starts.{IsFoundIn, IsShut, IsSound};
+ghost use Rattle.segments.specs.Starts.{IsFoundIn, IsShut};
 ghost use Rattle.segments.specs.declared.head.SegmentHead.{SegmentHead};
 ghost use Rattle.settings.specs.Settings.{IsReadOfText};
 ghost use Rattle.sqlite_disk.specs.Disk.{Holds};
@@ -268,8 +268,8 @@ pub fn a_start_goes_on_behind_a_crash<D: Disk + Drop>()
 
 /// A state that is damaged is never gone on with as if it was whole. What is gone on with has a
 /// checkpoint of the length and the sum that its first line says. Where the links go on, each whole
-/// line behind that logs an event, no newer segment's first line stands in the other file, and no
-/// mark says that the state is stale.
+/// line behind that logs an event, no first line of a segment as new stands in the other file, and
+/// no mark says that the state is stale.
 pub fn a_damaged_state_never_goes_on_as_whole<D: Disk + Drop>()
     ensures whole { (c : Settings) (text : List ℕ) (log : Log) (mark : Option Bool)
         (newest other : D) (o : Origin) → BeginsOver D.Disk c text log mark newest other o →
@@ -287,16 +287,16 @@ pub fn a_damaged_state_never_goes_on_as_whole<D: Disk + Drop>()
         (newest other : D) (o : Origin) → BeginsOver D.Disk c text log mark newest other o →
         o.beginning ≡ Beginning.GoesOn → (own head : SegmentHead) → Fits own → Fits head →
         Holds (D.Disk.seen newest) 0 (head_of own) → Holds (D.Disk.seen other) 0 (head_of head) →
-        head.number ≤ own.number }
+        head.number < own.number }
     ensures stale { (c : Settings) (text : List ℕ) (log : Log) (newest other : D) (o : Origin) →
         BeginsOver D.Disk c text log (Some true) newest other o →
         o.beginning ≡ Beginning.GoesOn → ⊥ }
 {}
 
 /// What stands in a directory isn't passed over. A run begins anew beside two files only if both
-/// are shut. No link is reset without a reason. Where no mark stands, neither file has what no
-/// crash leaves, and each line of the log is read, a run goes on with its links. It goes on
-/// with the newer of two segments.
+/// are shut. No link is reset without a reason. Where no mark stands, the other file is shut or
+/// begins with an older segment's first line, and each line of the log is read, a run goes on with
+/// its links. It goes on with the newer of two segments.
 pub fn what_stands_is_not_passed_over<D: Disk + Drop>()
     ensures anew { (c : Settings) (text : List ℕ) (log : Log) (mark : Option Bool)
         (newest other : D) (o : Origin) → BeginsOver D.Disk c text log mark newest other o →
@@ -304,7 +304,9 @@ pub fn what_stands_is_not_passed_over<D: Disk + Drop>()
         (length (D.Disk.seen file) < 2) ⊎ (slice_index (D.Disk.seen file) 0 ≡ 0) }
     ensures links { (c : Settings) (text : List ℕ) (log : Log) (newest other : D) (o : Origin) →
         BeginsOver D.Disk c text log (Some false) newest other o →
-        IsSound (D.Disk.seen newest) → IsSound (D.Disk.seen other) →
+        IsShut (D.Disk.seen other) ⊎ ((own head : SegmentHead) × Fits own × Fits head ×
+        Holds (D.Disk.seen newest) 0 (head_of own) × Holds (D.Disk.seen other) 0 (head_of head) ×
+        (head.number < own.number)) →
         AreLinesRead (D.Disk.seen newest) → o.beginning ≡ Beginning.LinksReset → ⊥ }
     ensures newest { (c : Settings) (text : List ℕ) (log : Log) (mark : Option Bool)
         (newest other : D) (o : Origin) → BeginsOver D.Disk c text log mark newest other o →

@@ -5,7 +5,7 @@ ghost use Rattle.std.specs.Option.{is_some};
 ghost use Rattle.gateway.specs.Config.{Settings};
 ghost use Rattle.segments.specs.Found.{begins_at, events_in, newest_in, newest_of, other_in};
 ghost use Rattle.segments.specs.Head.{Fits};
-ghost use Rattle.segments.specs.Starts.{ArePlaced, HasNoNewer, IsBacked, IsNewest, IsSound};
+ghost use Rattle.segments.specs.Starts.{ArePlaced, HasNoNewer, IsBacked, IsNewest};
 ghost use Rattle.settings.specs.Settings.{IsReadOfText};
 ghost use Rattle.state.specs.Beginnings.{BearsNumber, IsHeadOf};
 ghost use Rattle.state.specs.Replays.{whole_lines};
@@ -144,7 +144,7 @@ fn look_behind<K: Lineage, D: Disk + Drop>(
     ensures sight { (is_stale : Bool) (first second : List ℕ) →
         ArePlaced start.side first second (newest_in start) (other_in start) →
         (is_trusted ≡ true → is_stale ≡ false) → (is_trusted ≡ false → (is_stale ≡ true)
-        ⊎ (IsSound (newest_in start) → IsSound (other_in start) → ⊥)) →
+        ⊎ (HasNoNewer (newest_in start) (other_in start) → ⊥)) →
         IfOk result (IsSight K.log is_stale first second) }
     ensures fault { IfErr result (λ fault. fault ≡ StateFault.Wrong → ⊥) }
 {

@@ -11,7 +11,7 @@ ghost use Rattle.gateway.specs.State.{State};
 ghost use Rattle.link.specs.Carried.{awaits_command};
 ghost use Rattle.segments.specs.Crashes.{lines_behind};
 ghost use Rattle.segments.specs.Head.{Fits};
-ghost use Rattle.segments.specs.Starts.{ArePlaced, IsFoundIn, IsSound};
+ghost use Rattle.segments.specs.Starts.{ArePlaced, IsFoundIn};
 ghost use Rattle.segments.specs.declared.head.SegmentHead.{SegmentHead};
 ghost use Rattle.settings.specs.Settings.{IsReadOfText};
 ghost use Rattle.statetext.specs.Text.{lines_in};
@@ -71,17 +71,16 @@ pub fn no_command_outlives_a_start<D: Disk + Drop>()
     giving_up_is_for_one_station();
 }
 
-/// What is shown of a directory is what a start would make of it. Where no file has what no crash
-/// leaves, a run begins as it is shown, over the same two files and the same mark. Of the log that
-/// is shown, the number, the settings and the lines are those of the newest segment. Its gateway
-/// has followed the log under these settings, up to the first line that logs no event.
+/// What is shown of a directory is what a start would make of it: a run begins as it is shown, over
+/// the same two files and the same mark. Of the log that is shown, the number, the settings and the
+/// lines are those of the newest segment. Its gateway has followed the log under these settings, up
+/// to the first line that logs no event.
 pub fn what_is_shown_is_what_a_start_finds<D: Disk + Drop>()
     ensures begins { (c : Settings) (text : List ℕ) (log : Log) (is_stale : Bool)
         (newest other : D) (o : Origin) (first second : List ℕ) (s : Sight)
         (shown : IsSight log is_stale first second s) →
         BeginsOver D.Disk c text log (Some is_stale) newest other o →
         shown.newest ≡ D.Disk.seen newest → shown.other ≡ D.Disk.seen other →
-        IsSound shown.newest → IsSound shown.other →
         (s.beginning ≡ Beginning.PutAside → ⊥) → (o.beginning ≡ Beginning.PutAside → ⊥) →
         s.beginning ≡ o.beginning }
     ensures log { (log : Log) (is_stale : Bool) (first second : List ℕ) (s : Sight)

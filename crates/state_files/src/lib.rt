@@ -40,8 +40,6 @@ use std::{fs, io};
 #[derive(Drop)]
 pub struct Directory {
     marks: Marks<SystemNames>,
-    /// Files that couldn't be read were put aside.
-    has_put_aside: bool,
 }
 
 /// Why the system refused.
@@ -75,21 +73,16 @@ impl Directory {
             names = record { rt = rt; path = path; lock = None };
             is_locked = false;
             mark = None;
+            has_put_aside = false;
           };
-          has_put_aside = false;
         } }
     {
         Directory {
-            marks: Marks {
-                names: SystemNames {
-                    rt,
-                    path,
-                    lock: None,
-                },
-                is_locked: false,
-                mark: None,
-            },
-            has_put_aside: false,
+            marks: Marks::new(SystemNames {
+                rt,
+                path,
+                lock: None,
+            }),
         }
     }
 
@@ -118,7 +111,7 @@ impl Folder for Directory {
 
     ghost is_locked = { λ d. d.marks.is_locked };
 
-    ghost aside = { λ d _ _. d.has_put_aside ≡ true };
+    ghost aside = { λ d _ _. d.marks.has_put_aside ≡ true };
 
     fn open(&mut self) -> Result<Files<File>, FolderFault> {
         match self.marks.lock() {
@@ -151,7 +144,6 @@ impl Folder for Directory {
         drop(newest);
         drop(other);
         let alloc = self.marks.names.rt.alloc();
-        self.has_put_aside = self.marks.set_aside(alloc).is_ok();
-        self.has_put_aside
+        self.marks.set_aside(alloc)
     }
 }

@@ -21,13 +21,34 @@ const TRIES: u32 = 10_000;
 #[derive(Drop)]
 pub(crate) struct Marks<N: Names> {
     pub(crate) names: N,
+    // Private, so that nothing is told as done but by the calls below: what they say holds of each
+    // directory, and of the system's no clause can say more.
     /// This process has the directory locked. Without that no name is looked for or changed.
-    pub(crate) is_locked: bool,
+    is_locked: bool,
     /// Whether the mark stands on the disk, where that is known.
-    pub(crate) mark: Option<bool>,
+    mark: Option<bool>,
+    /// Files that couldn't be read were put aside.
+    has_put_aside: bool,
 }
 
 impl<N: Names> Marks<N> {
+    /// Those of a directory of which nothing is known yet.
+    pub(crate) fn new(names: N) -> Marks<N>
+        ensures { result ≡ record {
+          names = names;
+          is_locked = false;
+          mark = None;
+          has_put_aside = false;
+        } }
+    {
+        Marks {
+            names,
+            is_locked: false,
+            mark: None,
+            has_put_aside: false,
+        }
+    }
+
     /// Locks the directory, and keeps it locked. `false`: another process has it.
     pub(crate) fn lock(&mut self) -> io::Result<bool>
         ensures locked { IfOk result (λ is_locked. is_locked ≡ self.new.is_locked) }
@@ -191,8 +212,23 @@ impl<N: Names> Marks<N> {
         self.names.sync()
     }
 
-    /// Renames both files, so that a run begins anew.
-    pub(crate) fn set_aside(&mut self, alloc: Global) -> io::Result<()>
+    /// Renames both files, so that a run begins anew. `false`: it couldn't be done.
+    pub(crate) fn set_aside(&mut self, alloc: Global) -> bool
+        requires { IsTrue self.old.is_locked }
+        ensures aside { result ≡ true → IsPutAside (N.steps self.new.names) }
+        ensures told { result ≡ true → self.new.has_put_aside ≡ true }
+        ensures mark { self.new.mark ≡ self.old.mark }
+        ensures lock { self.new.is_locked ≡ self.old.is_locked }
+    {
+        let is_done = self.rename_files(alloc).is_ok();
+        if is_done {
+            self.has_put_aside = true;
+        }
+        is_done
+    }
+
+    /// Gives both files the names with the first number that is free.
+    fn rename_files(&mut self, alloc: Global) -> io::Result<()>
         requires { IsTrue self.old.is_locked }
         ensures aside { IfOk result (λ _. IsPutAside (N.steps self.new.names)) }
         ensures mark { self.new.mark ≡ self.old.mark }

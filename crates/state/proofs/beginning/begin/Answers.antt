@@ -8,8 +8,9 @@ pub carry_on-requires-clause-reset : goal.carry_on-requires-clause-reset
 carry_on-requires-clause-reset g c _ =
     elim (c.found_in.ensures.reset (sym c.in-LinksReset.ensures)) [
       | inl stale ↦ inl (c.in_ok-is_stale.ensures.mark ∙ ap Some stale)
-      | inr doubt ↦ inr (λ clean first second. let no : true ≡ false = sym doubt
-          ∙ c.in_ok-start.ensures.sound clean first second in cc)
+      | inr doubt ↦ inr (λ clean older. let no : true ≡ false = sym doubt
+          ∙ c.in_ok-start.ensures.only clean
+          (c.found_in.ensures.past (sym c.in-LinksReset.ensures)) older in cc)
     ]
 
 pub returns-in-Anew-clause-begun : goal.returns-in-Anew-clause-begun

@@ -30,10 +30,10 @@ returns-in-Ok-clause-begun g c =
     (λ none. elim (c.in_ok-goes_on.ensures.reset none) [
       | inl untrusted ↦ elim (c.requires.reset untrusted) [
         | inl stale ↦ inl (ap (λ f. g.F.Folder.mark f) folder ∙ stale)
-        | inr torn ↦ inr (λ one two sound sound' read. torn
-            (c.may_go_on.ensures.clean (c.resume.ensures.clean one), two) sound sound')
+        | inr torn ↦ inr (λ one two older read. torn
+            (c.may_go_on.ensures.clean (c.resume.ensures.clean one), two) older)
       ]
-      | inr rotten ↦ inr (λ one two sound sound' read. rotten (c.resume.ensures.clean one)
+      | inr rotten ↦ inr (λ one two older read. rotten (c.resume.ensures.clean one)
           (subst AreLinesRead c.resume.ensures.seen read))
     ])
     (λ clean. subst (λ (o : Origin). GoesOnFrom c.in_ok-goes_on.goes_on c.args.config.now

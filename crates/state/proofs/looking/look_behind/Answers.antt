@@ -23,9 +23,9 @@ returns-in-Ok-see-clause-sight g c is_stale first second placed trusted untruste
     (λ off. elim (c.in-Ok.ensures.reset off) [
       | inl distrusted ↦ elim (untrusted distrusted) [
         | inl stale ↦ inl stale
-        | inr torn ↦ inr (λ one two read. torn one two)
+        | inr torn ↦ inr (λ older read. torn older)
       ]
-      | inr rotten ↦ inr (λ one two read. rotten (c.requires.honest _)
+      | inr rotten ↦ inr (λ older read. rotten (c.requires.honest _)
           (subst AreLinesRead (sym seen) read))
     ]))
 

@@ -8,7 +8,8 @@ returns-in-LinksReset-clause-sight g c =
     (λ no. absurd (cc))
     (λ _. elim (c.found_in.ensures.reset (sym c.in-LinksReset.ensures)) [
       | inl stale ↦ inl stale
-      | inr doubt ↦ inr (λ one two. let no : true ≡ false = sym doubt
-          ∙ c.in-Ok.ensures.sound (c.requires.honest _, c.requires.honest _) one two in
+      | inr doubt ↦ inr (λ older. let no : true ≡ false = sym doubt
+          ∙ c.in-Ok.ensures.only (c.requires.honest _, c.requires.honest _)
+          (c.found_in.ensures.past (sym c.in-LinksReset.ensures)) older in
           absurd (cc))
     ])

@@ -3,8 +3,8 @@ use Rattle.state.proofs.start_laws.what_is_shown_is_what_a_start_finds.Goals as 
 
 pub returns-clause-begins : goal.returns-clause-begins
 returns-clause-begins g c = λ wanted text log is_stale newest other o first second s shown over one
-    two sound sound'. begins_as_shown {g = g.D.Disk} wanted text log is_stale newest other o first
-    second s shown over one two sound sound'
+    two. begins_as_shown {g = g.D.Disk} wanted text log is_stale newest other o first second s shown
+    over one two
 
 pub returns-clause-log : goal.returns-clause-log
 returns-clause-log g c = log_shown
