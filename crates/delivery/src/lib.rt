@@ -43,18 +43,24 @@
 mod commands;
 mod counting;
 mod laws;
+mod logged;
+mod new_settings;
 mod passed_on;
 mod received;
 
 pub use commands::{
     each_command_is_given_once, selections_end_in_time, settings_are_set_up,
-    the_course_is_the_logs, what_is_refused_is_answered,
+    stations_are_told_apart, the_course_is_the_logs, what_is_refused_is_answered,
 };
 pub use counting::{commands_lost_at_new_settings_are_counted, counts_of_commands_are_the_logs};
 pub use laws::{
     each_session_is_known, gaps_are_reported_by_their_station, losses_are_reported,
     losses_have_gaps, nothing_is_lost, silence_is_no_reset,
 };
+pub use logged::{
+    events_and_actions_stand_under_their_names, requests_have_their_time_by_the_log,
+};
+pub use new_settings::what_stands_on_a_line_goes_on_with_its_station;
 pub use passed_on::{
     answers_are_passed_on_as_they_came, answers_bear_the_tag_of_their_command,
     answers_of_stations_are_heeded, each_answer_is_given_once, pieces_bear_as_many_objects_as_fit,
