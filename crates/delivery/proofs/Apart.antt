@@ -1,6 +1,6 @@
 -- The stations of settings are told apart.
-use Rattle.std.proofs.Common.{◌≡◌, ◌≢◌, ◌<◌, ◌≤◌, ℕ, zero, suc, List, [], ◌∷◌, length, Some, None}
-use Rattle.std.proofs.Common.{inl, inr, refl, sym, ap, ◌∙◌, arith, subst}
+use Rattle.std.proofs.Common.{◌≡◌, ◌≤◌, ℕ, zero, suc, List, [], ◌∷◌, Some, None}
+use Rattle.std.proofs.Common.{inl, inr, refl, sym, ap, arith, subst}
 use Rattle.std.specs.Prelude.{◌⊎◌, slice_get}
 use Rattle.std.specs.List.{AllByRecursion}
 use Rattle.ft12.specs.declared.frame.LinkSize.{LinkSize}
@@ -9,7 +9,7 @@ use Rattle.asdu.specs.declared.sizes.CaSize.{CaSize}
 use Rattle.asdu.specs.declared.sizes.CaSize.TheVariants as ca_size
 use Rattle.gateway.specs.Settings.{IsLinkAddress, IsCommonAddress}
 use Rattle.gateway.specs.declared.settings.StationSettings.{StationSettings}
-use Rattle.gateway.specs.Config.{IsStation, AreApart, AreDistinct}
+use Rattle.gateway.specs.Config.{AreApart, AreDistinct}
 
 same_some : (a b : StationSettings) → Some a ≡ Some b → a ≡ b
 same_some a b e = cc

@@ -1,9 +1,9 @@
 -- How long the log gives a request for its answer.
 use Rattle.std.proofs.Common.{◌≡◌, ◌<◌, ◌≤◌, ◌+◌, ◌||◌, ◌&&◌, not, ℕ, Bool, true, false, Option}
-use Rattle.std.proofs.Common.{List, [], ◌∷◌, Some, None, refl, sym, ap, ◌∙◌, subst}
+use Rattle.std.proofs.Common.{List, [], ◌∷◌, Some, refl, sym, ap, ◌∙◌, subst}
 use Rattle.std.specs.Prelude.{nat_le}
 use Rattle.std.proofs.lemmas.Bool.{le-leb, lt-leb}
-use Rattle.link.specs.Exchanges.{OpenExchange, Exchanges, Sending, timed, timed_current, begun_by}
+use Rattle.link.specs.Exchanges.{OpenExchange, Sending, timed, timed_current, begun_by}
 use Rattle.link.specs.Exchanges.{received_octets, received_current}
 use Rattle.gateway.specs.Log.{Log, Input, LineIn, Opened, TcpIn, CutOff, Ticked, WallIs, Restarted}
 use Rattle.gateway.specs.Log.{Came, Went, LineOut, latest}
@@ -30,7 +30,8 @@ runs : (ms at : ℕ) (x : OpenExchange) → x.closed ≡ false → at < x.since 
     → (timed ms at x).closed ≡ false
 runs ms at x still early =
     ap (λ (b : Bool). b || (not x.given_up && nat_le (x.since + ms) at)) still
-    ∙ ap (λ (b : Bool). not x.given_up && b) (lt-leb (x.since + ms) at early) ∙ never (not x.given_up)
+    ∙ ap (λ (b : Bool). not x.given_up && b) (lt-leb (x.since + ms) at early)
+    ∙ never (not x.given_up)
   where
     never : (b : Bool) → (b && false) ≡ false
     never true = refl

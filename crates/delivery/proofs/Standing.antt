@@ -1,6 +1,6 @@
 -- What stands on the lines of stations where a gateway goes on with other settings.
-use Rattle.std.proofs.Common.{◌≡◌, ◌≢◌, ◌<◌, ◌≤◌, ℕ, zero, suc, Bool, true, false, List, [], ◌∷◌}
-use Rattle.std.proofs.Common.{length, map, Option, Some, None, inl, inr, refl, sym, ap, ◌∙◌, arith}
+use Rattle.std.proofs.Common.{◌≡◌, ◌<◌, ◌≤◌, ℕ, zero, suc, Bool, false, List, [], ◌∷◌}
+use Rattle.std.proofs.Common.{length, Option, Some, inl, inr, refl, ap, ◌∙◌, arith}
 use Rattle.std.proofs.Common.{if◌then◌else◌}
 use Rattle.std.specs.Prelude.{◌⊎◌, slice_get, get_or, option_map, set}
 use Rattle.std.proofs.lemmas.Bool.{cases_lt}

@@ -1,4 +1,4 @@
-use Rattle.std.proofs.Common.{◌≡◌, refl}
+use Rattle.std.proofs.Common.{refl}
 use Rattle.gateway.specs.Ports.{input_of, output_of}
 use Rattle.gateway.specs.declared.ports.Event.{Event}
 use Rattle.gateway.specs.declared.ports.Event.TheVariants as events

@@ -1,4 +1,4 @@
-use Rattle.std.proofs.Common.{◌≡◌, ◌<◌, ℕ, Bool, false, List, map, length, Option, Some, None, ap}
+use Rattle.std.proofs.Common.{false, map, length, Some, None, ap}
 use Rattle.std.proofs.Common.{◌∙◌, arith}
 use Rattle.command.specs.State.{is_used}
 use Rattle.gateway.specs.Carried.{seats, places}
