@@ -63,7 +63,10 @@ pub use laws::{
     each_session_is_known, gaps_are_reported_by_their_station, losses_are_reported,
     losses_have_gaps, nothing_is_lost, silence_is_no_reset,
 };
-pub use logged::{events_and_actions_stand_under_their_names, requests_have_their_time_by_the_log};
+pub use logged::{
+    events_and_actions_stand_under_their_names, only_a_failed_device_ends_a_promise,
+    requests_have_their_time_by_the_log,
+};
 pub use new_settings::what_stands_on_a_line_goes_on_with_its_station;
 pub use passed_on::{
     answers_are_passed_on_as_they_came, answers_bear_the_tag_of_their_command,

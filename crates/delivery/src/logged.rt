@@ -1,11 +1,16 @@
 //! What stands in a log: events and actions as they were given, and the time that a request has.
-ghost use Rattle.std.specs.Prelude.{◌≡◌, ◌<◌, ◌≤◌, ◌+◌, ℕ, [], ◌∷◌, List, Some, true, false};
+ghost use Rattle.std.specs.Prelude.{◌≡◌, ◌<◌, ◌≤◌, ◌+◌, ℕ, [], ◌∷◌, List, Option, Some, true};
+ghost use Rattle.std.specs.Prelude.{false, IfSome};
 ghost use Rattle.link.specs.Exchanges.{Sending, OpenExchange};
 ghost use Rattle.gateway.specs.Log.{Log, Input, Came, Went, Restarted, LineOut, latest};
 ghost use Rattle.gateway.specs.Ports.{input_of, output_of};
 ghost use Rattle.gateway.specs.Reports.{Setup, exchanges_of, sending_in};
+ghost use Rattle.gateway.specs.Runs.{UnlessDevice, faults_at, faults_unless};
+ghost use Rattle.gateway.specs.Traffic.{HasRested};
 ghost use Rattle.gateway.specs.declared.ports.Action.{Action};
 ghost use Rattle.gateway.specs.declared.ports.Event.{Event};
+ghost use Rattle.gateway.specs.declared.runs.End.{End};
+ghost use Rattle.gateway.specs.declared.runs.End.TheVariants.{Finished, Turns, Device};
 ghost use Rattle.delivery.specs.Meanings.{ComesAs, GoesAs};
 
 /// What the gateway is given stands in the log under its own name, and what it puts out goes out
@@ -41,4 +46,14 @@ pub fn requests_have_their_time_by_the_log()
         latest (Came at event ∷ log) < x.since + p.link.answer_ms →
         (y : OpenExchange) × ((exchanges_of p (Came at event ∷ log)).current ≡ Some y)
         × (y.closed ≡ false) }
+{}
+
+/// What a run promises of its log holds to the end, whether nothing comes any more or its turns are
+/// used up. Only a device that failed ends it before, and that is told as one failure. What holds
+/// of a step that rests is said as an example of what is promised.
+pub fn only_a_failed_device_ends_a_promise()
+    ensures promised { (end : End) (p : Setup) (log : Option Log) → (end ≡ Device → ⊥) →
+        UnlessDevice end (IfSome log (HasRested p)) → IfSome log (HasRested p) }
+    ensures told { (faults_at Finished ≡ 0) × (faults_at Turns ≡ 0) × (faults_at Device ≡ 1)
+        × (faults_unless true ≡ 0) × (faults_unless false ≡ 1) }
 {}
