@@ -22,7 +22,8 @@
 //!
 //! A log has what comes and goes under its own name
 //! ([`events_and_actions_stand_under_their_names`]), and gives each request its time
-//! ([`requests_have_their_time_by_the_log`]). Stations are told apart
+//! ([`requests_have_their_time_by_the_log`]). What a run promises of it only a failed device ends
+//! ([`only_a_failed_device_ends_a_promise`]). Stations are told apart
 //! ([`stations_are_told_apart`]), and what stands on their lines outlives other settings
 //! ([`what_stands_on_a_line_goes_on_with_its_station`]).
 //!
