@@ -25,7 +25,8 @@
 //! ([`requests_have_their_time_by_the_log`]). What a run promises of it only a failed device ends
 //! ([`only_a_failed_device_ends_a_promise`]). Stations are told apart
 //! ([`stations_are_told_apart`]), and what stands on their lines outlives other settings
-//! ([`what_stands_on_a_line_goes_on_with_its_station`]).
+//! ([`what_stands_on_a_line_goes_on_with_its_station`]), which each part takes up
+//! ([`new_settings_are_taken_up`]).
 //!
 //! What the gateway's definitions take for granted of a connection is said here too: which octets
 //! are its own ([`octets_are_those_of_their_connection`]), what closes it
@@ -68,7 +69,7 @@ pub use logged::{
     events_and_actions_stand_under_their_names, only_a_failed_device_ends_a_promise,
     requests_have_their_time_by_the_log,
 };
-pub use new_settings::what_stands_on_a_line_goes_on_with_its_station;
+pub use new_settings::{new_settings_are_taken_up, what_stands_on_a_line_goes_on_with_its_station};
 pub use passed_on::{
     answers_are_passed_on_as_they_came, answers_bear_the_tag_of_their_command,
     answers_of_stations_are_heeded, each_answer_is_given_once, pieces_bear_as_many_objects_as_fit,
