@@ -21,6 +21,7 @@ use Rattle.gateway.specs.Stepping.{unplaced}
 use Rattle.gateway.specs.Streams.{spelled}
 use Rattle.gateway.specs.Traffic.{ActsRightly, HasCause, IsAtRest, HasRested, RestsBetweenSteps}
 use Rattle.gateway.specs.Works.{has_lacked_place}
+use Rattle.gateway.proofs.Placing.{all_placed}
 use Rattle.gateway.proofs.OneCause.{came_transfers, came_acknowledged, counted}
 use Rattle.delivery.specs.Closing.{IsClosedFor, IsAtFault, MaySendData, HasDoneAll, IsOfStep}
 use Rattle.delivery.specs.Closing.{AreTaken, WaitsForNone}
@@ -108,6 +109,32 @@ pub closed_so : (p : Setup) (newer log : Log) (now : ℕ) (cause : Close)
     → Shows p log cause
 closed_so p newer log now cause acts other =
     closed_for p log cause (acts_before p newer (Went now (Closed cause) ∷ log) acts).0.may other
+
+-- ---- Each own answer found a place
+
+placed_for : (p : Setup) (log : Log) (cause : Close) → HasCause p cause log
+    → (cause ≡ Replaced → ⊥) → (cause ≡ OwnAnswers → ⊥)
+    → (c : Course) × Runs p log c × (unplaced c.works.history ≡ 0)
+placed_for p log Grammar has other own =
+    let h = has refl in (h.1.0, h.1.1, all_placed h.1.0.works.history h.1.2.placed)
+placed_for p log SendNumber has other own =
+    let h = has refl in (h.1.0, h.1.1, all_placed h.1.0.works.history h.1.2.placed)
+placed_for p log ReceiveNumber has other own =
+    let h = has refl in (h.1.0, h.1.1, all_placed h.1.0.works.history h.1.2.placed)
+placed_for p log Stopped has other own =
+    let h = has refl in (h.1.0, h.1.1, all_placed h.1.0.works.history h.1.2.placed)
+placed_for p log Timeout has other own =
+    let h = has refl in (h.1.0, h.1.1, all_placed h.1.0.works.history h.1.2.placed)
+placed_for p log OwnAnswers has other own = absurd (own refl)
+placed_for p log Replaced has other own = absurd (other refl)
+
+pub placed_so : (p : Setup) (newer log : Log) (now : ℕ) (cause : Close)
+    → ActsRightly p (newer ++ Went now (Closed cause) ∷ log) → (cause ≡ Replaced → ⊥)
+    → (cause ≡ OwnAnswers → ⊥)
+    → (c : Course) × Runs p log c × (unplaced c.works.history ≡ 0)
+placed_so p newer log now cause acts other own =
+    placed_for p log cause (acts_before p newer (Went now (Closed cause) ∷ log) acts).0.may other
+    own
 
 -- ---- A step that rests
 

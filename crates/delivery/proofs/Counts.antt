@@ -111,7 +111,8 @@ one_before : (a b c : ℕ) → a ≡ b + c → suc a ≡ suc b + c
 one_before a b c e = omega (arith, e)
 
 lost_added : (stands : Bool) (steps : List LineStep) (x : LineStep)
-    → lost_in stands (steps ++ x ∷ []) ≡ lost_in stands steps + lost_by (stands_after stands steps) x
+    → lost_in stands (steps ++ x ∷ [])
+    ≡ lost_in stands steps + lost_by (stands_after stands steps) x
 lost_added stands [] x = first_step stands x ∙ none_before (lost_by stands x)
 lost_added stands (Begun asdu ∷ steps) x = lost_added true steps x
 lost_added stands (Confirmed asdu ∷ steps) x = lost_added false steps x
@@ -144,7 +145,8 @@ module _ (sizes : Sizes) (stations : List StationInfo) (ms age : ℕ) where
   stands_on k (Sent j octets ∷ h) = go (k == j) (stands_on k h)
     where
       go : (b : Bool) → stands_after false (steps_logged k h) ≡ on k h
-          → stands_after false (if b then steps_logged k h ++ Begun octets ∷ [] else steps_logged k h)
+          → stands_after false (if b then steps_logged k h ++ Begun octets ∷ []
+          else steps_logged k h)
           ≡ (b || on k h)
       go true ih = stands_then false (steps_logged k h) (Begun octets)
       go false ih = ih

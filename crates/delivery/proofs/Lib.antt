@@ -47,3 +47,6 @@ pub mod Counts
 pub mod Unpassed
 pub mod NewSettings
 pub mod NoMore
+pub mod Standing
+pub mod Having
+pub mod Apart

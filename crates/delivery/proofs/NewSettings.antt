@@ -1,6 +1,7 @@
 -- Which commands are lost where a gateway goes on with other settings.
 use Rattle.std.proofs.Common.{◌≡◌, ◌≢◌, ◌<◌, ◌≤◌, ◌+◌, ◌^◌, ◌==◌, ℕ, zero, suc, Bool, true, false}
-use Rattle.std.proofs.Common.{cond, List, [], ◌∷◌, length, Option, Some, None, inl, inr, refl, sym, ap}
+use Rattle.std.proofs.Common.{cond, List, [], ◌∷◌, length, Option, Some, None, inl, inr, refl, sym}
+use Rattle.std.proofs.Common.{ap}
 use Rattle.std.proofs.Common.{◌∙◌, arith, if◌then◌else◌}
 use Rattle.std.specs.Prelude.{slice_get, option_and_then, ◌&&◌}
 use Rattle.std.specs.Io.Iter.{u64_saturate}
@@ -112,7 +113,7 @@ sizes_same a b h =
     )
 
 -- the place of a station that stood there
-unchanged : (goes_on : Bool) (before now : Settings) (k : ℕ) → start_of goes_on before now k
+pub unchanged : (goes_on : Bool) (before now : Settings) (k : ℕ) → start_of goes_on before now k
     ≡ links.GoesOn
     → GoesOn goes_on before now k
 unchanged goes_on before now k h =
@@ -162,7 +163,7 @@ goes_by_row holds same before now was is trusted sizes stood found alike =
     ∙ ap (λ (x : Option StationSettings). link_start true true (Some was) x) found
     ∙ ap (λ (x : Bool). cond x links.GoesOn links.Reset) alike
 
-starts_on : (goes_on : Bool) (before now : Settings) (k : ℕ) → goes_on ≡ true
+pub starts_on : (goes_on : Bool) (before now : Settings) (k : ℕ) → goes_on ≡ true
     → IsUnchanged before now k → start_of goes_on before now k ≡ links.GoesOn
 starts_on goes_on before now k trusted u =
     goes_by_row goes_on (have_same_sizes before.line now.line) (slice_get before.stations k)
@@ -186,6 +187,23 @@ there {X} [] k lt none = absurd (omega (arith, lt))
 there {X} (x ∷ xs) zero lt none = cc
 there {X} (x ∷ xs) (suc k) lt none = there xs k (omega (arith, lt)) none
 
+-- a station that stood there has a row that says more than that its link is down
+pub never_starts_down : (goes_on : Bool) (before now : Settings) (k : ℕ)
+    → k < length before.stations → start_of goes_on before now k ≡ links.Down → ⊥
+never_starts_down goes_on before now k lt is = stood (slice_get before.stations k) refl
+  where
+    stood : (o : Option StationSettings) → slice_get before.stations k ≡ o → ⊥
+    stood None none = there before.stations k lt none
+    stood (Some was) there =
+        never_down goes_on (have_same_sizes before.line now.line) was
+        (option_and_then (λ (x : StationSettings). station_with x.address now.stations)
+        (slice_get before.stations k))
+        (ap (λ (o : Option StationSettings). link_start goes_on
+        (have_same_sizes before.line now.line) o
+        (option_and_then (λ (x : StationSettings). station_with x.address now.stations)
+        (slice_get before.stations k))) (sym there)
+        ∙ is)
+
 -- ---- One link
 
 -- what is counted where a command stands there, or none does
@@ -201,7 +219,7 @@ abbrev stands_at : ℕ → Serial → Bool
 stands_at k s = is_used (line_of k s.commands)
 
 -- another station's line stays as it is
-other_stays : (x : LinkStart) (k j : ℕ) (s : Serial) → j ≢ k
+pub other_stays : (x : LinkStart) (k j : ℕ) (s : Serial) → j ≢ k
     → line_of j (link_started x k s).commands ≡ line_of j s.commands
 other_stays links.Down k j s apart = refl
 other_stays links.GoesOn k j s apart = refl
@@ -227,14 +245,14 @@ module _ (goes_on : Bool) (before now : Settings) (s : State) where
   abbrev first_side : Serial
   first_side = record s.serial { line = released s.serial.line }
 
-  abbrev side : ℕ → Serial
+  abbrev pub side : ℕ → Serial
   side k = links_started_upto goes_on before now k first_side
 
   abbrev start : ℕ → LinkStart
   start k = start_of goes_on before now k
 
   -- the stations that come later have what they had
-  later_stay : (k j : ℕ) → k ≤ j → line_of j (side k).commands ≡ line_of j s.serial.commands
+  pub later_stay : (k j : ℕ) → k ≤ j → line_of j (side k).commands ≡ line_of j s.serial.commands
   later_stay zero j le = refl
   later_stay (suc k) j le =
       other_stays (start k) k j (side k) (λ (e : j ≡ k). omega (arith, e, le))
@@ -274,19 +292,8 @@ module _ (goes_on : Bool) (before now : Settings) (s : State) where
   -- by what the table says of the station
   one_more_link : (k lost : ℕ) → k < length before.stations → Counts k lost → (x : LinkStart)
       → start k ≡ x → (more : ℕ) × Counts (suc k) more
-  one_more_link k lost lt c links.Down is = absurd (stood (slice_get before.stations k) refl)
-    where
-      stood : (o : Option StationSettings) → slice_get before.stations k ≡ o → ⊥
-      stood None none = there before.stations k lt none
-      stood (Some was) there =
-          never_down goes_on (have_same_sizes before.line now.line) was
-          (option_and_then (λ (x : StationSettings). station_with x.address now.stations)
-          (slice_get before.stations k))
-          (ap (λ (o : Option StationSettings). link_start goes_on
-          (have_same_sizes before.line now.line) o
-          (option_and_then (λ (x : StationSettings). station_with x.address now.stations)
-          (slice_get before.stations k))) (sym there)
-          ∙ is)
+  one_more_link k lost lt c links.Down is =
+      absurd (never_starts_down goes_on before now k lt is)
   one_more_link k lost lt c links.GoesOn is =
       stays k lost (unchanged goes_on before now k is) c
       (ap (λ (x : LinkStart). (next_side x k).counts.lost) is)

@@ -168,7 +168,8 @@ module _ (p : Setup) (at : ℕ) (w : Works) (rs : List (ℕ × List ℕ)) (n : �
       ap mirrors_of learns.5 ∙ saturated_more (mirrors_of w) n is
       ∙ ap u64_saturate (sym (more_on p.sizes n rs (rs ++ (station, asdu.items) ∷ [])
       (ap length (reports_more p.sizes rs (station, asdu.items)
-      ∙ ap (λ (c : Bool). command_reports p.sizes rs ++ (if c then asdu.items ∷ [] else [])) command)
+      ∙ ap (λ (c : Bool).
+      command_reports p.sizes rs ++ (if c then asdu.items ∷ [] else [])) command)
       ∙ one_longer (command_reports p.sizes rs) asdu.items)))
 
   learnt : (running : Bool) (o : Outcome) (z : Works) → LearnsOf p at running o w z

@@ -11,3 +11,4 @@ pub mod Answers
 pub mod OwnAnswers
 pub mod Octets
 pub mod Counts
+pub mod Meanings

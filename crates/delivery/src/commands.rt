@@ -1,6 +1,9 @@
 //! The way of a command: the course of a log is that of its exchanges, and each command is one of
 //! the control centre's, given once.
-ghost use Rattle.std.specs.Prelude.{◌<◌, ℕ, List, [], ◌∷◌, length, None};
+ghost use Rattle.std.specs.Prelude.{◌≡◌, ◌⊎◌, ◌<◌, ◌≤◌, ℕ, List, [], ◌∷◌, length, None, Some};
+ghost use Rattle.std.specs.Prelude.{slice_get};
+ghost use Rattle.ft12.specs.declared.frame.LinkSize.TheVariants as link_size;
+ghost use Rattle.asdu.specs.declared.sizes.CaSize.TheVariants as ca_size;
 ghost use Rattle.link.specs.Outstation.{Turn, all_done};
 ghost use Rattle.link.specs.Delivery.{commands};
 ghost use Rattle.command.specs.History.{AnswersWholly};
@@ -9,6 +12,7 @@ ghost use Rattle.gateway.specs.Config.{Settings, AreStations};
 ghost use Rattle.gateway.specs.Log.{Log};
 ghost use Rattle.gateway.specs.Reports.{Setup, address_at, exchanges_with};
 ghost use Rattle.gateway.specs.Setups.{setup_of};
+ghost use Rattle.gateway.specs.declared.settings.StationSettings.{StationSettings};
 ghost use Rattle.gateway.specs.Traffic.{IsFaithful};
 ghost use Rattle.delivery.specs.Arrivals.{arrivals};
 ghost use Rattle.delivery.specs.Commands.{first_sendings, AreCommandsOf};
@@ -34,6 +38,24 @@ use link::{
 pub fn settings_are_set_up()
     ensures { (c : Settings) → AreStations c.line.link c.line.sizes.ca c.stations →
         IsSetUp (setup_of c) }
+{}
+
+/// A gateway has 1 to 32 stations. No two of them have the same link address, nor the same common
+/// address. So the control centre's commands reach the one station that it means. None has address
+/// 0, nor the one that means all stations: 255, or 65535 in two octets (IEC 60870-5-2, 3.3; IEC
+/// 60870-5-101, 7.2.4).
+pub fn stations_are_told_apart()
+    ensures number { (c : Settings) → AreStations c.line.link c.line.sizes.ca c.stations →
+        (1 ≤ length c.stations) × (length c.stations ≤ 32) }
+    ensures link { (c : Settings) (i : ℕ) (s : StationSettings) →
+        AreStations c.line.link c.line.sizes.ca c.stations → slice_get c.stations i ≡ Some s →
+        (1 ≤ s.address) × (s.address ≤ 65534) × (c.line.link ≡ link_size.One → s.address ≤ 254) }
+    ensures common { (c : Settings) (i : ℕ) (s : StationSettings) →
+        AreStations c.line.link c.line.sizes.ca c.stations → slice_get c.stations i ≡ Some s →
+        (1 ≤ s.ca) × (s.ca ≤ 65534) × (c.line.sizes.ca ≡ ca_size.One → s.ca ≤ 254) }
+    ensures apart { (c : Settings) (i j : ℕ) (a b : StationSettings) →
+        AreStations c.line.link c.line.sizes.ca c.stations → slice_get c.stations i ≡ Some a →
+        slice_get c.stations j ≡ Some b → (a.address ≡ b.address) ⊎ (a.ca ≡ b.ca) → i ≡ j }
 {}
 
 /// The course of a log says of the line what its exchanges say: its primary station is what they

@@ -20,6 +20,14 @@
 //! ([`pieces_bear_as_many_objects_as_fit`]). What stations report goes on by its type
 //! ([`reports_of_monitor_types_are_passed_on`]).
 //!
+//! A log has what comes and goes under its own name
+//! ([`events_and_actions_stand_under_their_names`]), and gives each request its time
+//! ([`requests_have_their_time_by_the_log`]). What a run promises of it only a failed device ends
+//! ([`only_a_failed_device_ends_a_promise`]). Stations are told apart
+//! ([`stations_are_told_apart`]), and what stands on their lines outlives other settings
+//! ([`what_stands_on_a_line_goes_on_with_its_station`]), which each part takes up
+//! ([`new_settings_are_taken_up`]).
+//!
 //! What the gateway's definitions take for granted of a connection is said here too: which octets
 //! are its own ([`octets_are_those_of_their_connection`]), what closes it
 //! ([`frames_have_the_faults_of_their_history`], [`a_replaced_connection_is_reported`],
@@ -43,18 +51,25 @@
 mod commands;
 mod counting;
 mod laws;
+mod logged;
+mod new_settings;
 mod passed_on;
 mod received;
 
 pub use commands::{
     each_command_is_given_once, selections_end_in_time, settings_are_set_up,
-    the_course_is_the_logs, what_is_refused_is_answered,
+    stations_are_told_apart, the_course_is_the_logs, what_is_refused_is_answered,
 };
 pub use counting::{commands_lost_at_new_settings_are_counted, counts_of_commands_are_the_logs};
 pub use laws::{
     each_session_is_known, gaps_are_reported_by_their_station, losses_are_reported,
     losses_have_gaps, nothing_is_lost, silence_is_no_reset,
 };
+pub use logged::{
+    events_and_actions_stand_under_their_names, only_a_failed_device_ends_a_promise,
+    requests_have_their_time_by_the_log,
+};
+pub use new_settings::{new_settings_are_taken_up, what_stands_on_a_line_goes_on_with_its_station};
 pub use passed_on::{
     answers_are_passed_on_as_they_came, answers_bear_the_tag_of_their_command,
     answers_of_stations_are_heeded, each_answer_is_given_once, pieces_bear_as_many_objects_as_fit,

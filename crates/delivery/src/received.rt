@@ -21,6 +21,7 @@ ghost use Rattle.gateway.specs.Entries.{number_of};
 ghost use Rattle.gateway.specs.Objects.{pieces_of_report};
 ghost use Rattle.gateway.specs.Reports.{Setup, taken_objects, taken_pieces, reports_in};
 ghost use Rattle.gateway.specs.Reports.{parts_of_all};
+ghost use Rattle.gateway.specs.Stepping.{unplaced};
 ghost use Rattle.gateway.specs.Traffic.{IsFaithful, IsAtRest, HasRested};
 ghost use Rattle.delivery.specs.Closing.{IsClosedFor, HasDoneAll, IsOfStep, WaitsForNone};
 ghost use Rattle.delivery.specs.Delivery.{Delivers};
@@ -166,12 +167,17 @@ pub fn connections_keep_the_rules_of_the_session()
 /// fault, by what came and went before it on the connection: its N(S) isn't the next, its N(R)
 /// isn't valid, or it is an I frame while data transfer is stopped. With cause 5 an answer is late,
 /// and with cause 6 an own answer found no place. Cause 7 is `a_replaced_connection_is_reported`.
-/// The numbers are those that are told.
+/// With causes 1 to 5 each own answer found a place: where that lacks, too, cause 6 is told. The
+/// numbers are those that are told.
 pub fn connections_are_closed_for_the_cause_that_is_told()
     ensures cause { (p : Setup) (newer log : Log) (now : ℕ) (cause : Close) →
         IsFaithful p (newer ++ Went now (Closed cause) ∷ log) → (cause ≡ Replaced → ⊥) →
         ((present log).is_open ≡ true)
         × (c : Course) × Runs p log c × IsClosedFor p log c cause }
+    ensures placed { (p : Setup) (newer log : Log) (now : ℕ) (cause : Close) →
+        IsFaithful p (newer ++ Went now (Closed cause) ∷ log) → (cause ≡ Replaced → ⊥) →
+        (cause ≡ OwnAnswers → ⊥) →
+        (c : Course) × Runs p log c × (unplaced c.works.history ≡ 0) }
     ensures told { (number_of Grammar ≡ 1) × (number_of SendNumber ≡ 2)
         × (number_of ReceiveNumber ≡ 3) × (number_of Stopped ≡ 4) × (number_of Timeout ≡ 5)
         × (number_of OwnAnswers ≡ 6) × (number_of Replaced ≡ 7) }
