@@ -20,9 +20,9 @@ ghost use Rattle.live.specs.declared.reach.Standing.TheVariants.{Through, UnderW
 ghost use Rattle.live.specs.declared.redial.Dialled.{Dialled};
 ghost use Rattle.live.specs.declared.redial.Dialled.TheVariants.{Pending};
 
-/// A try reaches a line exactly where its connect came through and the stream can be used. A
-/// connect that is under way goes on for 5 s and no longer, and is kept. So it is at the socket of
-/// a path.
+/// A try reaches a line exactly where its connect came through and the stream can be used. So it is
+/// at the socket of a path. A connect that is under way to an address goes on for 5 s and no
+/// longer, and is kept.
 pub fn a_try_ends_as_its_connect_does()
     ensures reached { (connecting : Connecting) (steps after : List ReachStep)
         (answer : Dialled StreamHistory) (new : Option Connecting) →
