@@ -36,5 +36,6 @@ pub mod Told
 pub mod Clocks
 pub mod Connects
 pub mod Reaches
+pub mod Turnwise
 pub mod CallSums
 pub mod Plain
