@@ -30,6 +30,7 @@ pub mod Failures
 pub mod Reasons
 pub mod Cuts
 pub mod Runs
+pub mod Shown
 pub mod Refused
 pub mod Sorted
 pub mod Told

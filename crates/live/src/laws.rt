@@ -2,6 +2,7 @@
 //! line.
 pub(crate) mod arriving;
 pub(crate) mod reaching;
+pub(crate) mod showing;
 pub(crate) mod tries;
 
 ghost use Rattle.std.specs.Prelude.{◌⊎◌, ◌≡◌, ◌≢◌, All, IfSome, None, ◌+◌, ◌-◌, ◌<◌, ◌≤◌, ℕ, List};
