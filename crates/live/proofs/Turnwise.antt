@@ -1,17 +1,15 @@
 -- The addresses of a host are tried one after another.
-use Rattle.std.proofs.Common.{◌≡◌, ◌⊎◌, inl, inr, ℕ, ◌+◌, List, [], ◌∷◌, ◌++◌, length, Bool, true}
+use Rattle.std.proofs.Common.{◌≡◌, ◌⊎◌, inl, inr, ℕ, ◌+◌, List, [], ◌∷◌, ◌++◌, length, Bool}
 use Rattle.std.proofs.Common.{arith, false, Option, Some, None, Result, Ok, Err, refl, sym, ap, subst, ◌∙◌}
 use Rattle.std.specs.declared.io.Error.{Error}
 use Rattle.std.specs.declared.net.socket_addr.SocketAddr.{SocketAddr}
 use Rattle.std.specs.declared.time.Instant.{Instant}
-use Rattle.live.specs.Reaching.{AsksOn, Began, BrokeOff, Came, CameThrough, ConnectsAt, DialsHost}
-use Rattle.live.specs.Reaching.{Ends, Enough, FailsAt, GoesOn, GoesOnAsIs, InTime, IsExhausted}
+use Rattle.live.specs.Reaching.{AsksOn, Began, BrokeOff, Came, CameThrough, DialsHost}
+use Rattle.live.specs.Reaching.{Ends, Enough, FailsAt, GoesOn, GoesOnAsIs, InTime}
 use Rattle.live.specs.Reaching.{IsUnderWay, LookedUp, NoConnect, NoneLeft, NoneYet, OneMore, Opened}
 use Rattle.live.specs.Reaching.{ReachStep, ReachSteps, Refused, Showed, Stood, TooLate, Tries}
 use Rattle.live.specs.Reaching.{TriesEach, TriesOn, Untimed, began_in, came_in, step_noted}
 use Rattle.live.specs.declared.reach.Connecting.{Connecting}
-use Rattle.live.specs.declared.reach.ReachedStream.{ReachedStream}
-use Rattle.live.specs.declared.reach.Standing.{Standing}
 use Rattle.live.specs.declared.reach.Standing.TheVariants.{Through, UnderWay, Broken}
 use Rattle.live.specs.declared.redial.Dialled.{Dialled}
 use Rattle.live.specs.declared.redial.Dialled.TheVariants.{Reached, Pending, Failed}
