@@ -30,11 +30,13 @@ pub mod Failures
 pub mod Reasons
 pub mod Cuts
 pub mod Runs
+pub mod Shown
 pub mod Refused
 pub mod Sorted
 pub mod Told
 pub mod Clocks
 pub mod Connects
 pub mod Reaches
+pub mod Turnwise
 pub mod CallSums
 pub mod Plain

@@ -5,7 +5,7 @@ use Rattle.std.specs.Prelude.{is_some, nat_le, option_map}
 use Rattle.live.specs.OctetStreams.{StreamHistory, IsNew, noted, Wrote, Dropped}
 use Rattle.live.specs.Redial.{Redial, is_due, clock_read_at, begun_by, tried_by, is_due_by}
 use Rattle.live.specs.Redial.{IsRedialled, IsPut, HasDropped, answered, put_by, dropped_by}
-use Rattle.live.specs.Redial.{IfReached, looked_by, Asked, DialCall, DialCalls, Dialed, BeginsTry}
+use Rattle.live.specs.Redial.{waited, IfReached, looked_by, Asked, DialCall, DialCalls, Dialed, BeginsTry}
 use Rattle.live.specs.Law.{AtClock, IsFoundGone}
 use Rattle.live.proofs.Reasons.{gone_so}
 use Rattle.live.proofs.Tries.{away_by, away_clock}
@@ -20,22 +20,25 @@ use Rattle.live.specs.declared.ends.Presence.TheVariants.{Away, There, Receiving
 away_to : (old new : Redial) (got : Got) (buf : List ℕ) → (l : IsRedialled old got buf new)
     → old.stream ≡ None
     → new
-    ≡ tried_by old.is_trying l.now l.answer (clock_read_at l.now (record old { stream = None }))
+    ≡ waited (tried_by old.is_trying l.now l.answer
+    (clock_read_at l.now (record old { stream = None })))
 away_to old new got buf l away =
     ap (λ (p : Got × Redial). p.1) (away_by old new got buf l away)
     ∙ ap
-    (λ s. tried_by old.is_trying l.now l.answer (clock_read_at l.now (record old { stream = s })))
+    (λ s. waited (tried_by old.is_trying l.now l.answer
+    (clock_read_at l.now (record old { stream = s }))))
     away
 
 -- one that begins
 begun_to : (old new : Redial) (got : Got) (buf : List ℕ) → (l : IsRedialled old got buf new)
     → old.stream ≡ None → old.is_trying ≡ false
     → is_due_by false old.tried old.wait l.now ≡ true
-    → new ≡ begun_by true l.now l.answer (clock_read_at l.now (record old { stream = None }))
+    → new
+    ≡ waited (begun_by true l.now l.answer (clock_read_at l.now (record old { stream = None })))
 begun_to old new got buf l away idle due =
     let r = clock_read_at l.now (record old { stream = None }) in
-    away_to old new got buf l away ∙ (ap (λ b. tried_by b l.now l.answer r) idle
-    ∙ ap (λ b. begun_by b l.now l.answer r)
+    away_to old new got buf l away ∙ (ap (λ b. waited (tried_by b l.now l.answer r)) idle
+    ∙ ap (λ b. waited (begun_by b l.now l.answer r))
     (ap (λ b. is_due_by b old.tried old.wait l.now) idle ∙ due))
 
 tried_kept : (call : Bool → DialCall) (answer : Dialled StreamHistory) (r : Redial)
@@ -87,13 +90,15 @@ begins_later old new got buf last l away idle tried =
 pub waits_undue : (old new : Redial) (got : Got) (buf : List ℕ) (last : ℕ)
     → IsRedialled old got buf new
     → old.stream ≡ None → old.is_trying ≡ false → old.tried ≡ Some last
-    → AtClock new.clock (λ now. now - last < old.wait → new ≡ clock_read_at now old)
+    → AtClock new.clock (λ now. now - last < old.wait → new ≡ waited (clock_read_at now old))
 waits_undue old new got buf last l away idle tried =
-    away_clock old new got buf l (λ now. now - last < old.wait → new ≡ clock_read_at now old) away
+    away_clock old new got buf l
+    (λ now. now - last < old.wait → new ≡ waited (clock_read_at now old)) away
     (λ short. let undue : nat_le old.wait (l.now - last) ≡ false = grind (arith, short) in
     let r = clock_read_at l.now old in
     ap (λ (p : Got × Redial). p.1) (away_by old new got buf l away)
-    ∙ (ap (λ b. tried_by b l.now l.answer r) idle ∙ ap (λ b. begun_by b l.now l.answer r)
+    ∙ (ap (λ b. waited (tried_by b l.now l.answer r)) idle
+    ∙ ap (λ b. waited (begun_by b l.now l.answer r))
     (ap (λ b. is_due_by b old.tried old.wait l.now) idle
     ∙ (ap (λ t. is_due_by false t old.wait l.now) tried ∙ undue))))
 
@@ -108,9 +113,9 @@ pub asks_on : (old new : Redial) (got : Got) (buf : List ℕ) → IsRedialled ol
 unfolding AsksOn
 asks_on old new got buf l away trying =
     let r = clock_read_at l.now old in
-    let asked : new ≡ answered Asked l.answer (record r { stream = None }) =
+    let asked : new ≡ waited (answered Asked l.answer (record r { stream = None })) =
     away_to old new got buf l away
-    ∙ ap (λ b. tried_by b l.now l.answer (record r { stream = None })) trying in
+    ∙ ap (λ b. waited (tried_by b l.now l.answer (record r { stream = None }))) trying in
     subst (AsksOn old) (sym asked)
     (tried_kept Asked l.answer (record r { stream = None }), called_so Asked l.answer old.calls r)
 
@@ -202,6 +207,7 @@ tried_waits false now answer r =
 
 away_waits : (old new : Redial) (got : Got) (buf : List ℕ) → IsRedialled old got buf new
     → old.stream ≡ None → Waits old.wait new
+unfolding Waits
 away_waits old new got buf l away =
     subst (Waits old.wait) (sym (away_to old new got buf l away))
     (tried_waits old.is_trying l.now l.answer old)
@@ -381,10 +387,11 @@ tried_ended false now answer tries r =
 away_ended : (old new : Redial) (got : Got) (buf : List ℕ) (tries : List Bool)
     → IsRedialled old got buf new → old.stream ≡ None → old.tries ≡ Some tries
     → Ended tries old.calls old.presence new
+unfolding Ended
 away_ended old new got buf tries l away noted =
     subst (Ended tries old.calls old.presence) (sym (away_to old new got buf l away
-    ∙ ap (λ t. tried_by old.is_trying l.now l.answer
-    (clock_read_at l.now (record old { stream = None; tries = t }))) noted))
+    ∙ ap (λ t. waited (tried_by old.is_trying l.now l.answer
+    (clock_read_at l.now (record old { stream = None; tries = t })))) noted))
     (tried_ended old.is_trying l.now l.answer tries old)
 
 pub ends_once : (old new : Redial) (got : Got) (buf : List ℕ) (tries : List Bool) (reached : Bool)

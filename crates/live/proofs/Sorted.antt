@@ -1,26 +1,33 @@
 -- Those who come to a listener, one after another: who is let in, who is refused, and who stays.
-use Rattle.std.proofs.Common.{◌≡◌, ℕ, ◌+◌, arith, List, [], ◌∷◌, length, Option, Some, None, Ok}
-use Rattle.std.proofs.Common.{Err, Result}
+use Rattle.std.proofs.Common.{◌≡◌, ◌≢◌, ◌⊎◌, inl, inr, ℕ, ◌+◌, arith, List, [], ◌∷◌, ◌++◌}
+use Rattle.std.proofs.Common.{length, Option, Some, None, Ok, Err, Result}
 use Rattle.std.proofs.Common.{Bool, true, false}
 use Rattle.std.proofs.Common.{refl, sym, ap, subst, ◌∙◌, IfSome, if◌then◌else◌}
 use Rattle.std.specs.Prelude.{All, MatchResult, option_map}
+use Rattle.std.specs.IoError.{error_kind}
+use Rattle.std.specs.Net.Addr.{IsIpv4Mapped, ipv4_octets, ipv6_segments, low_octets}
 use Rattle.std.specs.Net.Socket.{socket_ip}
 use Rattle.std.specs.Result.{is_ok}
 use Rattle.std.proofs.lemmas.List.Elements.{All-cons, All-nil}
 use Rattle.std.specs.declared.io.Error.{Error}
+use Rattle.std.specs.declared.io.ErrorKind.TheVariants.{ConnectionAborted, Interrupted}
 use Rattle.std.specs.declared.net.ip_addr.IpAddr.{IpAddr}
+use Rattle.std.specs.declared.net.ip_addr.IpAddr.TheVariants.{V4, V6}
+use Rattle.std.specs.declared.net.ipv4_addr.Ipv4Addr.{Ipv4Addr}
+use Rattle.std.specs.declared.net.ipv6_addr.Ipv6Addr.{Ipv6Addr}
 use Rattle.std.specs.declared.net.socket_addr.SocketAddr.{SocketAddr}
 use Rattle.std.specs.declared.net.tcp.TcpStream.{TcpStream}
 use Rattle.live.specs.AllowLists.{Allows, AreStrangers, IsPlain, RefusesStrangers, counted}
 use Rattle.live.specs.AllowLists.{one_more_refused}
-use Rattle.live.specs.Arrivals.{AcceptsNewest, Arrival, Arrivals, Comer, Enough, GoesOn, IsAccepted}
+use Rattle.live.specs.Arrivals.{AcceptsNewest, Arrival, Arrivals, Comer, Ends, Enough, GoesOn}
+use Rattle.live.specs.Arrivals.{IsAccepted, IsWholeLook}
 use Rattle.live.specs.OctetStreams.{Attempts, attempted}
 use Rattle.live.specs.Arrivals.{IsPeerOf, LetIn, MeansComer, MeansFault, NobodyCame, NotTaken, Out}
 use Rattle.live.specs.Arrivals.{Sorts, TakesOne, TakesWaiting, TurnedAway, arrived}
 use Rattle.live.specs.declared.allow_list.AllowList.{AllowList}
 use Rattle.live.specs.declared.arrivals.Arrived.TheVariants.{Allowed, Other, Nobody}
 use Rattle.live.specs.declared.ends.RefusedPeers.{RefusedPeers}
-use Rattle.live.proofs.Plain.{no_strangers, plain_of}
+use Rattle.live.proofs.Plain.{mapped_of, no_strangers, own_of, plain_of}
 
 -- So many calls so far, behind each of which the next was asked for.
 pub record TakesSo (g : AllowList) (old : Arrivals) (said : RefusedPeers)
@@ -431,3 +438,41 @@ fault_came g answers refused newest fault s =
 
 pub peer_plain : (socket : SocketAddr) (peer : IpAddr) → IsPeerOf socket peer → IsPlain peer
 peer_plain socket peer is = plain_of (socket_ip socket) peer is
+
+pub peer_own : (socket : SocketAddr) (peer : IpAddr) → IsPeerOf socket peer
+    → IsPlain (socket_ip socket) → peer ≡ socket_ip socket
+peer_own socket peer is plain = own_of (socket_ip socket) peer is plain
+
+pub peer_mapped : (socket : SocketAddr) (peer : IpAddr) (address : Ipv6Addr)
+    → IsPeerOf socket peer → socket_ip socket ≡ V6 address → IsIpv4Mapped (ipv6_segments address)
+    → (inner : Ipv4Addr) × (peer ≡ V4 inner) × (ipv4_octets inner ≡ low_octets address)
+peer_mapped socket peer address is same mapped =
+    mapped_of (socket_ip socket) peer address is same mapped
+
+-- All who wait were asked for: nobody waits any more or can be accepted, or they were 256.
+WasWhole : List Arrival → Type 0
+WasWhole answers =
+    (length answers ≡ 256) ⊎ (fault : Error) × (before : List Arrival)
+    × (answers ≡ Err fault ∷ before)
+    × (error_kind fault ≢ Interrupted) × (error_kind fault ≢ ConnectionAborted)
+
+last_by : (last : Arrival) (before : List Arrival) → Ends last → WasWhole (last ∷ before)
+unfolding WasWhole
+last_by (Ok comer) before ends = absurd ends
+last_by (Err fault) before ends = inr (fault, before, refl, ends.0, ends.1)
+
+whole_by : (answers : List Arrival) → IsWholeLook answers → WasWhole answers
+unfolding WasWhole
+whole_by _ (Out last before all ends) = last_by last before ends
+whole_by _ (Enough answers all many) = inl many
+
+pub all_asked : (g : AllowList) (old new : List Arrival) (said says : RefusedPeers)
+    (newest : Option Comer) → TakesWaiting g (Some old) said newest (Some new) says
+    → (answers : List Arrival) × (new ≡ answers ++ old) × ((length answers ≡ 256)
+    ⊎ (fault : Error) × (before : List Arrival) × (answers ≡ Err fault ∷ before)
+    × (error_kind fault ≢ Interrupted) × (error_kind fault ≢ ConnectionAborted))
+unfolding WasWhole
+all_asked g old new said says newest t =
+    let asked : Some new ≡ Some (t.answers ++ old) = t.asked in
+    let same : new ≡ t.answers ++ old = cc in
+    (t.answers, same, whole_by t.answers t.whole)

@@ -1,12 +1,13 @@
 -- A stream that is reached again.
-use Rattle.std.proofs.Common.{◌≡◌, ℕ, ◌≤◌, Bool, true, false, Some, None, List, [], ◌∷◌, length}
+use Rattle.std.proofs.Common.{◌≡◌, ℕ, ◌+◌, ◌≤◌, Bool, true, false, Some, None, List, [], ◌∷◌, length}
 use Rattle.std.proofs.Common.{IfSome, refl, sym, ap, subst, arith, ◌∙◌}
 use Rattle.live.specs.Timing.{Moments, read_at}
 use Rattle.live.specs.OctetStreams.{StreamHistory, IsNew, Attempts, looked, noted}
 use Rattle.live.specs.Redial.{Redial, ended, IfReached, dialled_map, is_due, clock_read_at, settled}
 use Rattle.live.specs.Redial.{begun_by, tried_by, looked_by, is_due_by, IsTryAnswered, IsTriedOn}
 use Rattle.live.specs.Redial.{IsRedialled, answered, gone_by, known_by, quieted}
-use Rattle.live.specs.Redial.{Asked, DialCall, DialCalls, Dialed, dial_noted, is_reached}
+use Rattle.live.specs.Redial.{Asked, DialCall, DialCalls, Dialed, Pauses, dial_noted, is_reached}
+use Rattle.live.specs.Redial.{paused, waited}
 use Rattle.live.specs.Ends.{read_open}
 use Rattle.live.specs.Law.{AtClock}
 use Rattle.live.specs.declared.ends.Got.{Got}
@@ -36,15 +37,18 @@ reached_map f Failed = refl
 
 -- what has become of a try
 answered_so : {A : Type 0} (f : A → StreamHistory) (call : Bool → DialCall) (d : Dialled A)
-    (tries : Attempts) (calls : DialCalls) (old new : Redial)
+    (tries : Attempts) (calls : DialCalls) (pauses : Pauses) (old new : Redial)
     → IfReached d (λ stream. IsNew (f stream)) → tries ≡ ended old.tries d
-    → calls ≡ dial_noted old.calls (call (is_reached d))
-    → new ≡ settled (dialled_map f d) (record old { tries = tries; calls = calls })
+    → calls ≡ dial_noted old.calls (call (is_reached d)) → pauses ≡ old.pauses
+    → new
+    ≡ settled (dialled_map f d) (record old { tries = tries; calls = calls; pauses = pauses })
     → IsTryAnswered call old new
-answered_so f call d tries calls old new fresh given told done = record {
+answered_so f call d tries calls pauses old new fresh given told unpaused done = record {
   answer = dialled_map f d;
   is_new = new_map f d fresh;
   done = done
+      ∙ (ap (λ p. settled (dialled_map f d)
+      (record old { tries = tries; calls = calls; pauses = p })) unpaused)
       ∙ (ap (λ t. settled (dialled_map f d) (record old { tries = t; calls = calls })) (given
       ∙ sym (ended_map f old.tries d))
       ∙ ap (λ c. settled (dialled_map f d)
@@ -53,14 +57,15 @@ answered_so f call d tries calls old new fresh given told done = record {
 }
 
 pub answered_from : {A : Type 0} (f : A → StreamHistory) (call : Bool → DialCall) (d : Dialled A)
-    (tries : Attempts) (calls : DialCalls) (seen old new : Redial)
+    (tries : Attempts) (calls : DialCalls) (pauses : Pauses) (seen old new : Redial)
     → seen ≡ old → IfReached d (λ stream. IsNew (f stream)) → tries ≡ ended seen.tries d
-    → calls ≡ dial_noted seen.calls (call (is_reached d))
-    → new ≡ settled (dialled_map f d) (record seen { tries = tries; calls = calls })
+    → calls ≡ dial_noted seen.calls (call (is_reached d)) → pauses ≡ seen.pauses
+    → new
+    ≡ settled (dialled_map f d) (record seen { tries = tries; calls = calls; pauses = pauses })
     → IsTryAnswered call old new
-answered_from f call d tries calls seen old new same fresh given told done =
+answered_from f call d tries calls pauses seen old new same fresh given told unpaused done =
     let P : Redial → Type 0 = λ r. IsTryAnswered call r new in
-    subst P same (answered_so f call d tries calls seen new fresh given told done)
+    subst P same (answered_so f call d tries calls pauses seen new fresh given told unpaused done)
 
 -- the try that goes on, of which it was asked
 pub tried_asked : (now : ℕ) (old new : Redial) → old.is_trying ≡ true → IsTryAnswered Asked old new
@@ -93,17 +98,17 @@ tried_not now old new trying due same = record {
       ∙ ap (λ b. begun_by b now Pending old) due);
 }
 
-pub looked_away : (now : ℕ) (buf : List ℕ) (old mid new : Redial) → old.stream ≡ None
+pub looked_away : (now : ℕ) (buf : List ℕ) (old mid last new : Redial) → old.stream ≡ None
     → mid ≡ clock_read_at now old
-    → IsTriedOn now mid new → IsRedialled old Quiet buf new
-looked_away now buf old mid new away given t =
-    let P : Redial → Type 0 = λ r. IsTriedOn now r new in
+    → IsTriedOn now mid last → new ≡ waited last → IsRedialled old Quiet buf new
+looked_away now buf old mid last new away given t once =
+    let P : Redial → Type 0 = λ r. IsTriedOn now r last in
     let u = subst P given t in record {
       now = now;
       answer = u.answer;
       is_new = u.is_new;
       found = Quiet;
-      looked = ap (λ r. (Quiet, r)) u.done
+      looked = ap (λ r. (Quiet, r)) (once ∙ ap waited u.done)
           ∙ sym (ap (λ w. looked_by w now u.answer Quiet buf old) away);
     }
 
@@ -152,10 +157,10 @@ first_try old new got buf none uncalled dark away idle untried l =
       tries = ended begun.tries l.answer;
       calls = dial_noted begun.calls (Dialed (is_reached l.answer));
     } in
-    let tried : finds got new ≡ finds Quiet (settled l.answer asked) =
+    let tried : finds got new ≡ finds Quiet (waited (settled l.answer asked)) =
     l.looked ∙ (ap (λ s. looked_by s now l.answer l.found buf old) away
-    ∙ (ap (λ b. finds Quiet (tried_by b now l.answer seen)) idle
-    ∙ ap (λ b. finds Quiet (begun_by b now l.answer seen))
+    ∙ (ap (λ b. finds Quiet (waited (tried_by b now l.answer seen))) idle
+    ∙ ap (λ b. finds Quiet (waited (begun_by b now l.answer seen)))
     (ap (λ b. is_due_by b old.tried old.wait now) idle
     ∙ ap (λ t. is_due_by false t old.wait now) untried))) in
     let done = ap (λ (p : Got × Redial). p.1) tried in
@@ -177,7 +182,8 @@ first_try old new got buf none uncalled dark away idle untried l =
 -- a look at a stream that is away, by the try that it makes
 pub away_by : (old new : Redial) (got : Got) (buf : List ℕ) → (l : IsRedialled old got buf new)
     → old.stream ≡ None
-    → finds got new ≡ finds Quiet (tried_by old.is_trying l.now l.answer (clock_read_at l.now old))
+    → finds got new
+    ≡ finds Quiet (waited (tried_by old.is_trying l.now l.answer (clock_read_at l.now old)))
 away_by old new got buf l away =
     l.looked ∙ ap (λ s. looked_by s l.now l.answer l.found buf old) away
 
@@ -217,6 +223,35 @@ away_clock old new got buf l Holds away h =
     ∙ tried_clock old.is_trying l.now l.answer read in
     let P : Moments → Type 0 = λ c. AtClock c Holds in
     subst P (sym is) (at_clock_read old.clock l.now Holds h)
+
+-- and the dialler has waited once
+answered_pauses : (call : Bool → DialCall) (answer : Dialled StreamHistory) (r : Redial)
+    → (answered call answer r).pauses ≡ r.pauses
+answered_pauses call (Reached stream) r = refl
+answered_pauses call Pending r = refl
+answered_pauses call Failed r = refl
+
+begun_pauses : (b : Bool) (now : ℕ) (answer : Dialled StreamHistory) (r : Redial)
+    → (begun_by b now answer r).pauses ≡ r.pauses
+begun_pauses false now answer r = refl
+begun_pauses true now answer r = answered_pauses Dialed answer (record r { tried = Some now })
+
+tried_pauses : (b : Bool) (now : ℕ) (answer : Dialled StreamHistory) (r : Redial)
+    → (tried_by b now answer r).pauses ≡ r.pauses
+tried_pauses true now answer r = answered_pauses Asked answer r
+tried_pauses false now answer r = begun_pauses (is_due r now) now answer r
+
+one_more : (before now : Pauses) → now ≡ paused before
+    → IfSome before (λ count. now ≡ Some (count + 1))
+one_more None now is = tt
+one_more (Some count) now is = is
+
+pub away_pauses : (old new : Redial) (got : Got) (buf : List ℕ) → IsRedialled old got buf new
+    → old.stream ≡ None → IfSome old.pauses (λ count. new.pauses ≡ Some (count + 1))
+away_pauses old new got buf l away =
+    one_more old.pauses new.pauses
+    (ap (λ (p : Got × Redial). p.1.pauses) (away_by old new got buf l away)
+    ∙ ap paused (tried_pauses old.is_trying l.now l.answer (clock_read_at l.now old)))
 
 -- a look at one that is there
 there_at : (found : Got) (buf : List ℕ) (h : StreamHistory) (old : Redial)

@@ -1,5 +1,5 @@
 -- A stream that is reached again where it has gone (this gateway's own profile).
-use Rattle.std.specs.Prelude.{◌≡◌, ℕ, ◌-◌, ◌*◌, min, nat_le, List, ◌∷◌, Bool, true, false, Option}
+use Rattle.std.specs.Prelude.{◌≡◌, ℕ, ◌+◌, ◌-◌, ◌*◌, min, nat_le, List, ◌∷◌, Bool, true, false, Option}
 use Rattle.std.specs.Prelude.{IfSome, None, Some, is_some}
 use Rattle.live.specs.OctetStreams.{StreamHistory, Dropped, WasGone, Wrote, noted, IsNew, Attempts}
 use Rattle.live.specs.OctetStreams.{attempted}
@@ -27,19 +27,27 @@ abbrev pub dial_noted : DialCalls → DialCall → DialCalls
 dial_noted None call = None
 dial_noted (Some before) call = Some (call ∷ before)
 
+-- how often a dialler has waited, where it notes that
+abbrev pub Pauses : Type 0
+Pauses = Option ℕ
+
+abbrev pub paused : Pauses → Pauses
+paused None = None
+paused (Some count) = Some (count + 1)
+
 abbrev pub is_reached : {A : Type 0} → Dialled A → Bool
 is_reached (Reached stream) = true
 is_reached Pending = false
 is_reached Failed = false
 
--- Whether each try that ended reached a stream, the dialler's calls, what the clock gave, what
--- happened at the stream, if there is one, and at one that was found gone, until the next look,
--- when
--- the last try began, whether it goes on, how long after it the next one begins, in ms, and what is
+-- Whether each try that ended reached a stream, the dialler's calls, how often it has waited, what
+-- the clock gave, what happened at the stream, if there is one, and at one that was found gone,
+-- until the next look, when the last try began, whether it goes on, how long after it the next one begins, in ms, and what is
 -- known of the stream.
 pub record Redial : Type 0 where
   pub tries : Attempts
   pub calls : DialCalls
+  pub pauses : Pauses
   pub clock : Moments
   pub stream : Option StreamHistory
   pub gone : Option StreamHistory
@@ -138,12 +146,17 @@ abbrev pub gone_by : StreamHistory → Got → (before : Option StreamHistory) �
 gone_by stream Gone before = Some (noted stream WasGone)
 gone_by stream got before = before
 
+-- it has waited once more
+abbrev pub waited : Redial → Redial
+waited r = record r { pauses = paused r.pauses }
+
 -- A look: at the stream, if there is one, which is none any more where it has gone; else it is
--- tried to reach one.
+-- tried to reach one, and waited once.
 abbrev pub looked_by : Option StreamHistory → ℕ → Dialled StreamHistory → Got → (buf : List ℕ)
     → Redial
     → Got × Redial
-looked_by None now answer got buf r = (Quiet, tried_by r.is_trying now answer (clock_read_at now r))
+looked_by None now answer got buf r =
+    (Quiet, waited (tried_by r.is_trying now answer (clock_read_at now r)))
 looked_by (Some stream) now answer got buf r = (
   quieted got,
   known_by got (record r {

@@ -2,11 +2,12 @@
 //! line.
 pub(crate) mod arriving;
 pub(crate) mod reaching;
+pub(crate) mod showing;
 pub(crate) mod tries;
 
 ghost use Rattle.std.specs.Prelude.{◌⊎◌, ◌≡◌, ◌≢◌, All, IfSome, None, ◌+◌, ◌-◌, ◌<◌, ◌≤◌, ℕ, List};
 ghost use Rattle.std.specs.Prelude.{[], ◌∷◌, length, take, Some, true, false};
-ghost use Rattle.std.specs.Prelude.{◌*◌, ◌^◌, Ok, Err};
+ghost use Rattle.std.specs.Prelude.{◌*◌, ◌^◌, min, Ok, Err};
 ghost use Rattle.std.specs.Time.{instant_nanos, system_time_nanos};
 ghost use Rattle.std.specs.declared.io.Error.{Error};
 ghost use Rattle.std.specs.declared.time.Instant.{Instant};
@@ -35,7 +36,7 @@ ghost use Rattle.live.specs.Streams.{Calls, Came, ReadsLine, ReadsOnce, octets_o
 ghost use Rattle.live.specs.Timing.{is_behind};
 ghost use Rattle.live.specs.Walls.{is_wall};
 ghost use Rattle.live.specs.declared.ends.Got.{Got};
-ghost use Rattle.live.specs.OctetStreams.{IsNew, WasGone, WasQuiet, looked};
+ghost use Rattle.live.specs.OctetStreams.{Dropped, Happening, IsNew, WasGone, WasQuiet, looked};
 ghost use Rattle.live.specs.declared.timing.Timing.{Timing};
 ghost use Rattle.live.specs.declared.timing.WrittenRequest.{WrittenRequest};
 
@@ -307,8 +308,9 @@ pub fn what_is_noted_is_noted_to_the_end()
 {}
 
 /// The octets that are late are those that the line dropped before requests, in any run in which
-/// none were counted and nothing had happened at the line before, where the line notes that. None
-/// are dropped at any look, and nothing happens at the line at any other action.
+/// none were counted and nothing had happened at the line before, where the line notes that. Each
+/// is counted, as far as 64 bits do. None are dropped at any look, and nothing happens at the line
+/// at any other action.
 pub fn late_octets_are_those_that_were_dropped()
     ensures run { (start end : LiveEnds) → start.late ≡ 0 → IsNew start.line →
         LiveRun start end → CountsLate end }
@@ -317,6 +319,8 @@ pub fn late_octets_are_those_that_were_dropped()
     ensures others { (old new : LiveEnds) (moment : ℕ) (action : Output) →
         LogsPut old moment action new → AsksNothing action →
         (new.late ≡ old.late) × (new.line ≡ old.line) }
+    ensures counted { (count : ℕ) (before : List Happening) →
+        dropped_of (Dropped count ∷ before) ≡ min (dropped_of before + count) (2 ^ 64 - 1) }
 {}
 
 /// The line fails where its stream is gone, and nowhere else. A run that begins without failures

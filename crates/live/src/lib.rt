@@ -94,8 +94,9 @@ pub use laws::arriving::{
 };
 pub use laws::reaching::{
     a_clock_begins_at_its_moment, a_line_is_reached_at_its_place, a_try_ends_as_its_connect_does,
-    calls_of_streams_wait_so_long,
+    calls_of_streams_wait_so_long, the_addresses_of_a_host_are_tried_in_turn,
 };
+pub use laws::showing::the_ends_are_shown_as_they_are;
 pub use laws::tries::{
     a_stream_that_is_away_is_tried_when_due, a_try_goes_on_until_it_ends,
     tries_lie_farther_apart_while_nothing_comes, what_is_known_of_a_stream_is_what_was_seen,

@@ -3,7 +3,7 @@ ghost use Rattle.std.specs.Prelude.{◌≡◌, ◌≢◌, ℕ, List, Some, None,
 ghost use Rattle.live.specs.OctetStreams.{FitsBuffer};
 ghost use Rattle.live.specs.Redial.{IsRedialled, HasDropped, IsPut, IsTriedOn, IsTryAnswered};
 ghost use Rattle.live.specs.Redial.{dialled_map, is_due, grown, settled, clock_read_at};
-ghost use Rattle.live.specs.Redial.{Asked, Dialed};
+ghost use Rattle.live.specs.Redial.{Asked, Dialed, waited};
 ghost use Rattle.live.specs.declared.ends.Got.TheVariants.{Quiet, Gone};
 ghost use Rattle.live.specs.declared.ends.Presence.TheVariants.{Untried};
 
@@ -31,7 +31,7 @@ pub enum Dialled<W> {
 pub trait Dialler {
     ghost use Rattle.live.specs.OctetStreams.{Attempts, IsNew};
     ghost use Rattle.live.specs.Redial.{ended, IfReached, DialCalls, Dialed, Asked, dial_noted};
-    ghost use Rattle.live.specs.Redial.{is_reached};
+    ghost use Rattle.live.specs.Redial.{Pauses, is_reached, paused};
     ghost use Rattle.std.specs.Prelude.{None};
 
     type Stream: OctetStream;
@@ -42,25 +42,31 @@ pub trait Dialler {
     /// Its calls, and whether each reached a stream, the newest first, where it notes them.
     ghost calls: { Self → DialCalls } = { λ _. None };
 
+    /// How often it has waited, where it notes that.
+    ghost pauses: { Self → Pauses } = { λ _. None };
+
     /// Begins a try to reach a stream, and doesn't wait for it.
     fn dial(&mut self) -> Dialled<Self::Stream>
         ensures fresh { IfReached result (λ stream. IsNew (Self.Stream.history stream)) }
         ensures noted { tries self.new ≡ ended (tries self.old) result }
         ensures called { calls self.new
-            ≡ dial_noted (calls self.old) (Dialed (is_reached result)) };
+            ≡ dial_noted (calls self.old) (Dialed (is_reached result)) }
+        ensures unpaused { pauses self.new ≡ pauses self.old };
 
     /// What has become of the try that goes on, without a wait.
     fn ask(&mut self) -> Dialled<Self::Stream>
         ensures fresh { IfReached result (λ stream. IsNew (Self.Stream.history stream)) }
         ensures noted { tries self.new ≡ ended (tries self.old) result }
         ensures called { calls self.new
-            ≡ dial_noted (calls self.old) (Asked (is_reached result)) };
+            ≡ dial_noted (calls self.old) (Asked (is_reached result)) }
+        ensures unpaused { pauses self.new ≡ pauses self.old };
 
     /// Waits for as long as a look at a quiet stream does, so that who looks at a stream that is
     /// away doesn't spin.
     fn pause(&mut self)
         ensures noted { tries self.new ≡ tries self.old }
-        ensures called { calls self.new ≡ calls self.old };
+        ensures called { calls self.new ≡ calls self.old }
+        ensures paused { pauses self.new ≡ paused (pauses self.old) };
 }
 
 /// A stream that is reached again where it has gone: a try begins at once, then every second; after
@@ -91,6 +97,7 @@ impl<D: Dialler + Drop, C: RunClock + Drop> Model for Redialled<D, C> {
     ghost view = { λ a. record {
       tries = D.tries a.dialler;
       calls = D.calls a.dialler;
+      pauses = D.pauses a.dialler;
       clock = C.moments a.clock;
       stream = option_map (λ stream. D.Stream.history stream) a.stream;
       gone = option_map (λ stream. D.Stream.history stream) a.gone;
@@ -107,6 +114,7 @@ impl<D: Dialler + Drop, C: RunClock + Drop> Redialled<D, C> {
         ensures { result ≡ record {
           tries = D.tries dialler;
           calls = D.calls dialler;
+          pauses = D.pauses dialler;
           clock = C.moments clock;
           stream = None;
           gone = None;
@@ -184,7 +192,7 @@ impl<D: Dialler + Drop, C: RunClock + Drop> Redialled<D, C> {
 
     /// Waits as long as a look at a quiet stream does.
     fn pause(&mut self)
-        ensures { self.new ≡ self.old }
+        ensures { self.new ≡ waited self.old }
     {
         self.dialler.pause();
     }

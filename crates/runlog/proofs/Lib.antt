@@ -1,3 +1,4 @@
+pub mod Handed
 pub mod Seconds
 pub mod Gatherings
 pub mod Inboxes

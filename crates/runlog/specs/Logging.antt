@@ -25,12 +25,13 @@ kept false line lines = lines
 kept true line None = None
 kept true line (Some before) = Some (line ∷ before)
 
--- What was logged, and where to; whether a log was wished at all, which never changes; whether the
--- log is over, since none was wished, or no line was taken any more; and whether the run is watched
--- all the same.
+-- What was logged, and where to; which lines were handed over there, taken or not; whether a log was
+-- wished at all, which never changes; whether the log is over, since none was wished, or no line was
+-- taken any more; and whether the run is watched all the same.
 pub record Book : Type 0 where
   pub watching : Watching
   pub lines : Lines
+  pub handed : Lines
   pub is_wished : Bool
   pub is_over : Bool
   pub is_watching : Bool
@@ -55,12 +56,16 @@ pub record LoggedFixture (F : Type 0) : Type 0 where
 abbrev pub logged_fixture : {F : Type 0} → F → Book → LoggedFixture F
 logged_fixture port b = record { port = port; book = book_fixture b }
 
--- a line is logged, taken or not, where the log isn't over
+-- a line is handed over, and is taken or not, where the log isn't over
 abbrev pub logged : Option LogLine → (taken : Bool) → Book → Book
 logged None taken b = b
 logged (Some line) taken b =
     if b.is_over then b
-    else record b { lines = kept taken line b.lines; is_over = not taken }
+    else record b {
+      lines = kept taken line b.lines;
+      handed = kept true line b.handed;
+      is_over = not taken;
+    }
 
 abbrev pub after : Watching × Option LogLine → (taken : Bool) → Book → Book
 after w taken b = logged w.1 taken (record b { watching = w.0 })

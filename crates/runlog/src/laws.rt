@@ -1,5 +1,5 @@
 //! Laws of what is logged, over any calls.
-ghost use Rattle.std.specs.Prelude.{◌≡◌, ℕ, ◌+◌, ◌^◌, ◌<◌, List, length};
+ghost use Rattle.std.specs.Prelude.{◌≡◌, ℕ, ◌+◌, ◌^◌, ◌<◌, List, ◌∷◌, length, Bool};
 ghost use Rattle.runlog.specs.Limits.{AreSecondsApart, left_in, logged_in, logged_of};
 ghost use Rattle.std.specs.Prelude.{true, false, Option, Some, option_map, map, ◌++◌, codes};
 ghost use Rattle.std.specs.declared.net.ip_addr.IpAddr.{IpAddr};
@@ -17,11 +17,13 @@ ghost use Rattle.runlog.specs.declared.order.Order.{Order};
 ghost use Rattle.runlog.specs.Gathering.{GatheringCall, added, line_of, lines_in};
 ghost use Rattle.runlog.specs.Gathering.{left_in as gathered_after, added_in, count_of};
 ghost use Rattle.runlog.specs.Limits.{is_free};
+ghost use Rattle.runlog.specs.Logging.{Book, logged};
 ghost use Rattle.runlog.specs.Severities.{number_of, severity_of};
 ghost use Rattle.runlog.specs.SeverityRows.{HasRow};
 ghost use Rattle.runlog.specs.declared.severity.Severity.TheVariants as severity;
 ghost use Rattle.runlog.specs.declared.gathered.Gathered.{Gathered};
 ghost use Rattle.runlog.specs.declared.limit.Limit.{Limit};
+ghost use Rattle.runlog.specs.declared.note.LogLine.{LogLine};
 ghost use Rattle.runlog.specs.declared.note.Note.{Note};
 
 /// Of any requests for lines of one kind, those that are logged are a second apart, and each that
@@ -83,4 +85,21 @@ pub fn each_line_has_the_severity_of_its_row()
     ensures row { (n : Note) → HasRow n (number_of (severity_of n)) }
     ensures one { (n : Note) (number : ℕ) → HasRow n number →
         number ≡ number_of (severity_of n) }
+{}
+
+/// Each line is handed to where the lines go, once, as long as the log goes on. It goes on where
+/// the line was taken, and is over where it wasn't. Then no other is handed over.
+pub fn lines_are_handed_over_until_one_is_not_taken()
+    ensures handed { (line : LogLine) (taken : Bool) (book : Book) (before : List LogLine) →
+        book.is_over ≡ false → book.handed ≡ Some before →
+        (logged (Some line) taken book).handed ≡ Some (line ∷ before) }
+    ensures taken { (line : LogLine) (book : Book) (before : List LogLine) →
+        book.is_over ≡ false → book.lines ≡ Some before →
+        ((logged (Some line) true book).lines ≡ Some (line ∷ before))
+        × ((logged (Some line) true book).is_over ≡ false) }
+    ensures refused { (line : LogLine) (book : Book) → book.is_over ≡ false →
+        ((logged (Some line) false book).lines ≡ book.lines)
+        × ((logged (Some line) false book).is_over ≡ true) }
+    ensures over { (line : LogLine) (taken : Bool) (book : Book) → book.is_over ≡ true →
+        logged (Some line) taken book ≡ book }
 {}

@@ -92,8 +92,9 @@ pub use fate_laws::{
     what_becomes_of_commands_is_logged,
 };
 pub use laws::{
-    each_line_has_the_severity_of_its_row, lines_of_a_kind_are_a_second_apart,
-    refusals_are_logged_by_their_rules, what_is_gathered_is_logged_or_counted,
+    each_line_has_the_severity_of_its_row, lines_are_handed_over_until_one_is_not_taken,
+    lines_of_a_kind_are_a_second_apart, refusals_are_logged_by_their_rules,
+    what_is_gathered_is_logged_or_counted,
 };
 pub use logger::{Logger, taken_places};
 pub use names::{LogNames, NamedLine, NamedStation, name_of};

@@ -33,6 +33,7 @@ impl<S: LogSink + Drop> Model for Logger<S> {
     ghost view = { λ t. record {
       watching = t.watch;
       lines = S.lines t.sink;
+      handed = S.handed t.sink;
       is_wished = t.is_wished;
       is_over = t.is_over;
       is_watching = t.is_watching;
@@ -61,6 +62,7 @@ impl<S: LogSink + Drop> Logger<S> {
         ensures { result ≡ record {
           watching = watch;
           lines = S.lines sink;
+          handed = S.handed sink;
           is_wished = is_logging;
           is_over = not is_logging;
           is_watching = false;

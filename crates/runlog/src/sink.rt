@@ -6,17 +6,22 @@ use crate::note::LogLine;
 use jiff::Timestamp;
 use std::io::Eprint;
 
-/// Where lines go. One that notes its lines adds each that it takes.
+/// Where lines go. One that notes its lines adds each that it takes, and, beside these, each that
+/// it is handed.
 pub trait LogSink {
     ghost use Rattle.runlog.specs.Logging.{Lines, kept};
-    ghost use Rattle.std.specs.Prelude.{◌≡◌};
+    ghost use Rattle.std.specs.Prelude.{◌≡◌, None, true};
 
     /// The lines so far, the newest first, where it notes them.
     ghost lines: { Self → Lines };
 
+    /// Those that it was handed so far, taken or not, the newest first, where it notes them.
+    ghost handed: { Self → Lines } = { λ _. None };
+
     /// Takes a line. `false` says that it takes none any more.
     fn write(&mut self, line: &LogLine) -> bool
-        ensures { lines self.new ≡ kept result line.now (lines self.old) };
+        ensures taken { lines self.new ≡ kept result line.now (lines self.old) }
+        ensures handed { handed self.new ≡ kept true line.now (handed self.old) };
 }
 
 /// Standard error: each line has its UTC time (RFC 3339) before it.

@@ -1,5 +1,5 @@
 //! Laws of those who come to the listener.
-ghost use Rattle.std.specs.Prelude.{◌⊎◌, ◌≡◌, None, ◌-◌, ℕ, List, [], ◌∷◌, length, min, Option};
+ghost use Rattle.std.specs.Prelude.{◌⊎◌, ◌≡◌, ◌≢◌, None, ◌-◌, ℕ, List, [], ◌∷◌, length, min, Option};
 ghost use Rattle.std.specs.Prelude.{Some, Ok, Err, true, false, ◌↔◌, ◌^◌, ◌++◌, Vec, All, Bool};
 ghost use Rattle.std.specs.declared.net.ip_addr.IpAddr.{IpAddr};
 ghost use Rattle.std.specs.declared.alloc.Global.{Global};
@@ -13,7 +13,13 @@ ghost use Rattle.live.specs.Arrivals.{Sorts, TakesWaiting};
 ghost use Rattle.live.specs.declared.ends.RefusedPeers.{RefusedPeers};
 ghost use Rattle.live.specs.Telling.{IsNoComer, ShutsOut, Telling, one_more_told, told_by};
 ghost use Rattle.std.specs.IoError.{error_kind};
+ghost use Rattle.std.specs.Net.Addr.{IsIpv4Mapped, ipv4_octets, ipv6_segments, low_octets};
+ghost use Rattle.std.specs.Net.Socket.{socket_ip};
+ghost use Rattle.std.specs.declared.io.ErrorKind.TheVariants.{ConnectionAborted, Interrupted};
 ghost use Rattle.std.specs.declared.io.ErrorKind.TheVariants.{WouldBlock};
+ghost use Rattle.std.specs.declared.net.ip_addr.IpAddr.TheVariants.{V4, V6};
+ghost use Rattle.std.specs.declared.net.ipv4_addr.Ipv4Addr.{Ipv4Addr};
+ghost use Rattle.std.specs.declared.net.ipv6_addr.Ipv6Addr.{Ipv6Addr};
 ghost use Rattle.live.specs.declared.allow_list.AllowList.{AllowList};
 ghost use Rattle.std.specs.declared.io.Error.{Error};
 ghost use Rattle.std.specs.declared.net.socket_addr.SocketAddr.{SocketAddr};
@@ -65,8 +71,9 @@ pub fn who_was_refused_is_shown()
 
 /// Whoever comes and may not connect is refused, and whoever may is let in, by the answers of the
 /// system alone. Of those who may the newest stays. He is accepted, unless his stream can't be
-/// used. Where nobody's is opened there is no such one. An IPv4 address that is written as an IPv6
-/// one counts as that IPv4 address.
+/// used. Where nobody's is opened there is no such one. Who comes has his own address, but an IPv4
+/// address that is written as an IPv6 one counts as that IPv4 address. At each look all are asked
+/// for who wait, up to 256 of them.
 pub fn who_comes_is_refused_or_let_in()
     ensures nobody { (allow_list : AllowList) (refused : List IpAddr) (newest : Option Comer) →
         Sorts allow_list [] refused newest → (refused ≡ []) × (newest ≡ None) }
@@ -96,6 +103,17 @@ pub fn who_comes_is_refused_or_let_in()
         AcceptsNewest allow_list old said (Some opened) accepted new says (Some opened) →
         (accepted ≡ None) × TakesWaiting allow_list old said None new says }
     ensures plain { (socket : SocketAddr) (peer : IpAddr) → IsPeerOf socket peer → IsPlain peer }
+    ensures own { (socket : SocketAddr) (peer : IpAddr) → IsPeerOf socket peer →
+        IsPlain (socket_ip socket) → peer ≡ socket_ip socket }
+    ensures mapped { (socket : SocketAddr) (peer : IpAddr) (address : Ipv6Addr) →
+        IsPeerOf socket peer → socket_ip socket ≡ V6 address →
+        IsIpv4Mapped (ipv6_segments address) → (inner : Ipv4Addr) × (peer ≡ V4 inner)
+        × (ipv4_octets inner ≡ low_octets address) }
+    ensures all { (allow_list : AllowList) (old new : List Arrival) (said says : RefusedPeers)
+        (newest : Option Comer) → TakesWaiting allow_list (Some old) said newest (Some new) says →
+        (answers : List Arrival) × (new ≡ answers ++ old) × ((length answers ≡ 256)
+        ⊎ (fault : Error) × (before : List Arrival) × (answers ≡ Err fault ∷ before)
+        × (error_kind fault ≢ Interrupted) × (error_kind fault ≢ ConnectionAborted)) }
 {}
 
 /// Who may connect: anyone where that is said. Else who has an address of the list, whichever of

@@ -1,5 +1,5 @@
 //! Laws of how a line is reached, how streams are set, and how a clock begins.
-ghost use Rattle.std.specs.Prelude.{◌≡◌, ◌↔◌, ℕ, ◌+◌, ◌*◌, ◌-◌, ◌^◌, ◌<◌, ◌≤◌, List, [], ◌∷◌, ◌++◌};
+ghost use Rattle.std.specs.Prelude.{◌≡◌, ◌⊎◌, ◌↔◌, ℕ, ◌+◌, ◌*◌, ◌-◌, ◌^◌, ◌<◌, ◌≤◌, List, [], ◌∷◌, ◌++◌};
 ghost use Rattle.std.specs.Prelude.{Option, Some, None, Result, Ok, Err, true, false};
 ghost use Rattle.std.specs.Result.{is_ok};
 ghost use Rattle.std.specs.Time.{instant_nanos};
@@ -8,7 +8,8 @@ ghost use Rattle.std.specs.declared.net.socket_addr.SocketAddr.{SocketAddr};
 ghost use Rattle.std.specs.declared.time.Instant.{Instant};
 ghost use Rattle.live.specs.Clocks.{BeginsAt, StartsNow, moment_by};
 ghost use Rattle.live.specs.OctetStreams.{StreamHistory};
-ghost use Rattle.live.specs.Reaching.{AsksOn, AtPath, Came, DialsAt, LookedUp, Opened, ReachStep};
+ghost use Rattle.live.specs.Reaching.{AsksOn, AtPath, Began, Came, DialsAt, DialsHost, LookedUp};
+ghost use Rattle.live.specs.Reaching.{Opened, ReachStep, TriesEach};
 ghost use Rattle.live.specs.Reaching.{ReachesAt, ReachesHost, Showed, Stood, Waited, WaitedAt};
 ghost use Rattle.live.specs.Reaching.{is_in_time};
 ghost use Rattle.live.specs.Redial.{is_reached};
@@ -16,13 +17,13 @@ ghost use Rattle.live.specs.Streams.{ReadsWithin, SendsAtOnce, Sets, SystemCall,
 ghost use Rattle.live.specs.Streams.{WritesWithin, as_centre, as_line};
 ghost use Rattle.live.specs.declared.reach.Connecting.{Connecting};
 ghost use Rattle.live.specs.declared.reach.ReachedStream.{ReachedStream};
-ghost use Rattle.live.specs.declared.reach.Standing.TheVariants.{Through, UnderWay};
+ghost use Rattle.live.specs.declared.reach.Standing.TheVariants.{Broken, Through, UnderWay};
 ghost use Rattle.live.specs.declared.redial.Dialled.{Dialled};
-ghost use Rattle.live.specs.declared.redial.Dialled.TheVariants.{Pending};
+ghost use Rattle.live.specs.declared.redial.Dialled.TheVariants.{Failed, Pending};
 
-/// A try reaches a line exactly where its connect came through and the stream can be used. A
-/// connect that is under way goes on for 5 s and no longer, and is kept. So it is at the socket of
-/// a path.
+/// A try reaches a line exactly where its connect came through and the stream can be used. So it is
+/// at the socket of a path. A connect that is under way to an address goes on for 5 s and no
+/// longer, and is kept.
 pub fn a_try_ends_as_its_connect_does()
     ensures reached { (connecting : Connecting) (steps after : List ReachStep)
         (answer : Dialled StreamHistory) (new : Option Connecting) →
@@ -44,6 +45,32 @@ pub fn a_try_ends_as_its_connect_does()
         (answer : Dialled StreamHistory) → DialsAt path answer (Some steps) (Some after) →
         (is_reached answer ≡ true) ↔ (stream : ReachedStream)
         × (after ≡ Opened stream true ∷ AtPath path (Ok stream) ∷ steps) }
+{}
+
+/// The addresses of a host are tried in turn: a connect is begun to each that comes, until one goes
+/// on. A try ends without a line only where none comes any more, where 32 have come, or where the
+/// stream of a connect that came through can't be used. The connect that goes on is to the address
+/// that came last, since the clock was read behind its beginning.
+pub fn the_addresses_of_a_host_are_tried_in_turn()
+    ensures dialled { (host : List ℕ) (steps after : List ReachStep)
+        (answer : Dialled StreamHistory) (old new : Option Connecting) →
+        DialsHost host answer old (Some steps) new (Some after) →
+        (found : Result (Unit {0}) Error)
+        × TriesEach answer (LookedUp host found ∷ steps) after }
+    ensures failed { (connecting : Connecting) (steps after : List ReachStep)
+        (answer : Dialled StreamHistory) (new : Option Connecting) →
+        AsksOn (Some connecting) (Some steps) answer new (Some after) → answer ≡ Failed →
+        (after ≡ Opened connecting.stream false ∷ (Stood connecting.stream Through ∷ steps))
+        ⊎ (before : List ReachStep) × TriesEach answer before after
+        × ((before ≡ Stood connecting.stream Broken ∷ steps) ⊎ (shown : Result Instant Error)
+        × (before ≡ Showed shown ∷ (Stood connecting.stream UnderWay ∷ steps))) }
+    ensures pending { (host : List ℕ) (steps after : List ReachStep)
+        (answer : Dialled StreamHistory) (old new : Option Connecting) →
+        DialsHost host answer old (Some steps) new (Some after) → answer ≡ Pending →
+        (address : SocketAddr) × (connecting : Connecting) × (before : List ReachStep)
+        × (new ≡ Some connecting)
+        × (after ≡ Showed (Ok connecting.since) ∷ (Began address (Ok connecting.stream)
+        ∷ (Came (Some address) ∷ before))) }
 {}
 
 /// A line that is reached before a run is one at its place. It stands at the socket of the path, or

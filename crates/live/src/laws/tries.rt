@@ -3,7 +3,7 @@ ghost use Rattle.std.specs.Prelude.{◌≡◌, ◌≢◌, IfSome, None, ◌+◌,
 ghost use Rattle.std.specs.Prelude.{Bool, true, false, is_some};
 ghost use Rattle.live.specs.Law.{AtClock, IsFoundGone};
 ghost use Rattle.live.specs.Redial.{Redial, clock_read_at, IsPut, HasDropped, BeginsTry, Asked};
-ghost use Rattle.live.specs.Redial.{DialCall, IsRedialled};
+ghost use Rattle.live.specs.Redial.{DialCall, IsRedialled, waited};
 ghost use Rattle.live.specs.declared.ends.Got.{Got};
 ghost use Rattle.live.specs.declared.ends.Got.TheVariants.{Octets, Quiet};
 ghost use Rattle.live.specs.declared.ends.Presence.TheVariants.{There, Away, Receiving};
@@ -12,7 +12,7 @@ ghost use Rattle.live.specs.OctetStreams.{IsNew, StreamHistory, looked, noted, D
 /// A stream that is away is tried at once, and then as soon as its wait has passed since the last
 /// try began, but never before. For each try the dialler is called once. At each look it is asked
 /// about a try that goes on, and no other begins. Meanwhile the stream is quiet, and takes and
-/// drops nothing. One that is there gives, takes and drops what its stream does. One that has gone
+/// drops nothing. Each look waits once, so that who looks doesn't spin. One that is there gives, takes and drops what its stream does. One that has gone
 /// is kept no longer, and one that is reached begins with nothing in it.
 pub fn a_stream_that_is_away_is_tried_when_due()
     ensures first { (old new : Redial) (got : Got) (buf : List ℕ) → IsRedialled old got buf new →
@@ -25,12 +25,14 @@ pub fn a_stream_that_is_away_is_tried_when_due()
     ensures undue { (old new : Redial) (got : Got) (buf : List ℕ) (last : ℕ) →
         IsRedialled old got buf new → old.stream ≡ None → old.is_trying ≡ false →
         old.tried ≡ Some last → AtClock new.clock (λ now. now - last < old.wait →
-        new ≡ clock_read_at now old) }
+        new ≡ waited (clock_read_at now old)) }
     ensures asked { (old new : Redial) (got : Got) (buf : List ℕ) → IsRedialled old got buf new →
         old.stream ≡ None → old.is_trying ≡ true → (new.tried ≡ old.tried)
         × IfSome old.calls (λ before. new.calls ≡ Some (Asked (is_some new.stream) ∷ before)) }
     ensures quiet { (old new : Redial) (got : Got) (buf : List ℕ) → IsRedialled old got buf new →
         old.stream ≡ None → got ≡ Quiet }
+    ensures paused { (old new : Redial) (got : Got) (buf : List ℕ) → IsRedialled old got buf new →
+        old.stream ≡ None → IfSome old.pauses (λ count. new.pauses ≡ Some (count + 1)) }
     ensures put { (old new : Redial) (octets : List ℕ) (is_taken : Bool) →
         IsPut old octets is_taken new → old.stream ≡ None → (is_taken ≡ false) × (new ≡ old) }
     ensures dropped { (old new : Redial) (count : ℕ) → HasDropped old count new →

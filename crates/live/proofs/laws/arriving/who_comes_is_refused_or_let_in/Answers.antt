@@ -1,5 +1,5 @@
 use Rattle.live.proofs.Sorted.{fault_came, guest_came, nobody_came, nobody_opened, peer_plain}
-use Rattle.live.proofs.Sorted.{stranger_came, usable_accepted}
+use Rattle.live.proofs.Sorted.{all_asked, peer_mapped, peer_own, stranger_came, usable_accepted}
 use Rattle.live.proofs.laws.arriving.who_comes_is_refused_or_let_in.Goals as goal
 
 pub returns-clause-nobody : goal.returns-clause-nobody
@@ -22,3 +22,12 @@ returns-clause-accepted c = usable_accepted
 
 pub returns-clause-unopened : goal.returns-clause-unopened
 returns-clause-unopened c = nobody_opened
+
+pub returns-clause-own : goal.returns-clause-own
+returns-clause-own c = peer_own
+
+pub returns-clause-mapped : goal.returns-clause-mapped
+returns-clause-mapped c = peer_mapped
+
+pub returns-clause-all : goal.returns-clause-all
+returns-clause-all c = all_asked

@@ -1,6 +1,6 @@
 use Rattle.live.proofs.Redials.{asks_on, begins_at_once, begins_later, drops_away, puts_away}
 use Rattle.live.proofs.Redials.{drops_there, puts_there, reached_new, waits_undue}
-use Rattle.live.proofs.Tries.{away_quiet, looks_there}
+use Rattle.live.proofs.Tries.{away_pauses, away_quiet, looks_there}
 use Rattle.live.proofs.laws.tries.a_stream_that_is_away_is_tried_when_due.Goals as goal
 
 pub returns-clause-first : goal.returns-clause-first
@@ -17,6 +17,9 @@ returns-clause-asked c = asks_on
 
 pub returns-clause-quiet : goal.returns-clause-quiet
 returns-clause-quiet c = away_quiet
+
+pub returns-clause-paused : goal.returns-clause-paused
+returns-clause-paused c = away_pauses
 
 pub returns-clause-put : goal.returns-clause-put
 returns-clause-put c = puts_away
