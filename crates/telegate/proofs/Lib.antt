@@ -5,6 +5,7 @@ pub mod Files
 pub mod Addresses
 pub mod Turning
 pub mod Looks
+pub mod WholeRuns
 pub mod Lives
 pub mod RunPorts
 pub mod Begins
