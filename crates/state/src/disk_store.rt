@@ -505,6 +505,8 @@ impl<F: Folder + Drop> Store for DiskStore<F> {
 
     ghost mark = { λ s. F.mark s.folder };
 
+    ghost refused = { λ s. F.refused s.folder };
+
     ghost next = { λ s. s.number };
 
     ghost bears = { λ s number. Bears number s.opened };

@@ -49,6 +49,9 @@ pub trait Folder {
     /// These two files were put aside.
     ghost aside: { Self → Self.File → Self.File → Type 0 };
 
+    /// The mark was asked for, and couldn't be made.
+    ghost refused: { Self → Type 0 } = { λ _. Unit {0} };
+
     /// How many blocks of 4,096 zeros stand behind a checkpoint, for the lines to come: where no
     /// new log is due yet, there is room for the longest line. Two logs have 8,000,000 octets of
     /// them at most.
@@ -78,6 +81,7 @@ pub trait Folder {
     fn mark_stale(&mut self) -> bool
         requires { is_locked self.old ≡ true }
         ensures mark { result ≡ true → mark self.new ≡ Some true }
+        ensures refused { result ≡ false → refused self.new }
         ensures stays { is_locked self.new ≡ true };
 
     /// Takes the mark away, on the disk, where a log stands whole that isn't stale. `false`: it

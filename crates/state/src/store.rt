@@ -21,6 +21,9 @@ pub trait Store {
     /// Whether the state on the disk is marked as stale, where that is known.
     ghost mark: { Self → Option Bool };
 
+    /// The mark that says so was asked for, and couldn't be made.
+    ghost refused: { Self → Type 0 };
+
     /// The number of the next log. A start takes the log with the highest one.
     ghost next: { Self → ℕ };
 
@@ -69,6 +72,7 @@ pub trait Store {
     /// new log is begun.
     fn give_up(&mut self) -> Loss
         ensures mark { result ≡ Loss.Marked → mark self.new ≡ Some true }
+        ensures refused { result ≡ Loss.Unmarked → refused self.new }
         ensures next { next self.new ≡ next self.old }
         ensures settings { settings self.new ≡ settings self.old };
 }
