@@ -5,7 +5,8 @@ use Rattle.std.specs.Prelude.{is_some, nat_le, option_map}
 use Rattle.live.specs.OctetStreams.{StreamHistory, IsNew, noted, Wrote, Dropped}
 use Rattle.live.specs.Redial.{Redial, is_due, clock_read_at, begun_by, tried_by, is_due_by}
 use Rattle.live.specs.Redial.{IsRedialled, IsPut, HasDropped, answered, put_by, dropped_by}
-use Rattle.live.specs.Redial.{waited, IfReached, looked_by, Asked, DialCall, DialCalls, Dialed, BeginsTry}
+use Rattle.live.specs.Redial.{waited, IfReached, looked_by, Asked, DialCall, DialCalls, Dialed}
+use Rattle.live.specs.Redial.{BeginsTry}
 use Rattle.live.specs.Law.{AtClock, IsFoundGone}
 use Rattle.live.proofs.Reasons.{gone_so}
 use Rattle.live.proofs.Tries.{away_by, away_clock}

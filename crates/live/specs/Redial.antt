@@ -1,5 +1,6 @@
 -- A stream that is reached again where it has gone (this gateway's own profile).
-use Rattle.std.specs.Prelude.{◌≡◌, ℕ, ◌+◌, ◌-◌, ◌*◌, min, nat_le, List, ◌∷◌, Bool, true, false, Option}
+use Rattle.std.specs.Prelude.{◌≡◌, ℕ, ◌+◌, ◌-◌, ◌*◌, min, nat_le, List, ◌∷◌, Bool, true, false}
+use Rattle.std.specs.Prelude.{Option}
 use Rattle.std.specs.Prelude.{IfSome, None, Some, is_some}
 use Rattle.live.specs.OctetStreams.{StreamHistory, Dropped, WasGone, Wrote, noted, IsNew, Attempts}
 use Rattle.live.specs.OctetStreams.{attempted}
@@ -42,8 +43,8 @@ is_reached Failed = false
 
 -- Whether each try that ended reached a stream, the dialler's calls, how often it has waited, what
 -- the clock gave, what happened at the stream, if there is one, and at one that was found gone,
--- until the next look, when the last try began, whether it goes on, how long after it the next one begins, in ms, and what is
--- known of the stream.
+-- until the next look, when the last try began, whether it goes on, how long after it the next one
+-- begins, in ms, and what is known of the stream.
 pub record Redial : Type 0 where
   pub tries : Attempts
   pub calls : DialCalls

@@ -25,9 +25,9 @@ kept false line lines = lines
 kept true line None = None
 kept true line (Some before) = Some (line ∷ before)
 
--- What was logged, and where to; which lines were handed over there, taken or not; whether a log was
--- wished at all, which never changes; whether the log is over, since none was wished, or no line was
--- taken any more; and whether the run is watched all the same.
+-- What was logged, and where to; which lines were handed over there, taken or not; whether a log
+-- was wished at all, which never changes; whether the log is over, since none was wished, or no
+-- line was taken any more; and whether the run is watched all the same.
 pub record Book : Type 0 where
   pub watching : Watching
   pub lines : Lines

@@ -1,5 +1,6 @@
 //! Laws of those who come to the listener.
-ghost use Rattle.std.specs.Prelude.{◌⊎◌, ◌≡◌, ◌≢◌, None, ◌-◌, ℕ, List, [], ◌∷◌, length, min, Option};
+ghost use Rattle.std.specs.Prelude.{◌⊎◌, ◌≡◌, ◌≢◌, None, ◌-◌, ℕ, List, [], ◌∷◌, length, min};
+ghost use Rattle.std.specs.Prelude.{Option};
 ghost use Rattle.std.specs.Prelude.{Some, Ok, Err, true, false, ◌↔◌, ◌^◌, ◌++◌, Vec, All, Bool};
 ghost use Rattle.std.specs.declared.net.ip_addr.IpAddr.{IpAddr};
 ghost use Rattle.std.specs.declared.alloc.Global.{Global};

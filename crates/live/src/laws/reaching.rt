@@ -1,5 +1,6 @@
 //! Laws of how a line is reached, how streams are set, and how a clock begins.
-ghost use Rattle.std.specs.Prelude.{◌≡◌, ◌⊎◌, ◌↔◌, ℕ, ◌+◌, ◌*◌, ◌-◌, ◌^◌, ◌<◌, ◌≤◌, List, [], ◌∷◌, ◌++◌};
+ghost use Rattle.std.specs.Prelude.{◌≡◌, ◌⊎◌, ◌↔◌, ℕ, ◌+◌, ◌*◌, ◌-◌, ◌^◌, ◌<◌, ◌≤◌, List, [], ◌∷◌};
+ghost use Rattle.std.specs.Prelude.{◌++◌};
 ghost use Rattle.std.specs.Prelude.{Option, Some, None, Result, Ok, Err, true, false};
 ghost use Rattle.std.specs.Result.{is_ok};
 ghost use Rattle.std.specs.Time.{instant_nanos};

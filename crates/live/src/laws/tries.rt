@@ -12,8 +12,9 @@ ghost use Rattle.live.specs.OctetStreams.{IsNew, StreamHistory, looked, noted, D
 /// A stream that is away is tried at once, and then as soon as its wait has passed since the last
 /// try began, but never before. For each try the dialler is called once. At each look it is asked
 /// about a try that goes on, and no other begins. Meanwhile the stream is quiet, and takes and
-/// drops nothing. Each look waits once, so that who looks doesn't spin. One that is there gives, takes and drops what its stream does. One that has gone
-/// is kept no longer, and one that is reached begins with nothing in it.
+/// drops nothing. Each look waits once, so that who looks doesn't spin. One that is there gives,
+/// takes and drops what its stream does. One that has gone is kept no longer, and one that is
+/// reached begins with nothing in it.
 pub fn a_stream_that_is_away_is_tried_when_due()
     ensures first { (old new : Redial) (got : Got) (buf : List ℕ) → IsRedialled old got buf new →
         old.stream ≡ None → old.is_trying ≡ false → old.tried ≡ None →
