@@ -1,9 +1,10 @@
-use Rattle.std.proofs.Common.{rules, ◌≡◌, Some, is_some}
+use Rattle.std.proofs.Common.{rules, ◌≡◌, Some, is_some, ap, refl}
 use Rattle.gateway.specs.Agrees.{Follows, Rests}
 use Rattle.gateway.specs.Setups.{setup_of}
 use Rattle.telegate.specs.Kept.{HasLivedOn}
 use Rattle.telegate.specs.Living.{HasLived, IsPortOf, IsPortOfRun}
 use Rattle.telegate.proofs.RunPorts.{port_of_run}
+use Rattle.telegate.proofs.WholeRuns.{served_whole}
 use Rattle.telegate.proofs.living.run_from.Goals as goal
 
 pub returns-clause-lived : goal.returns-clause-lived
@@ -26,4 +27,10 @@ returns-clause-lived g c =
     }
 
 pub returns-clause-served : goal.returns-clause-served
-returns-clause-served g c = ?served
+returns-clause-served g c =
+    let served = c.live.ensures.served in
+    let entries = c.args.begun.origin.before.entries in
+    served_whole _ _ _ _ entries entries c.args.scribes.pen c.keeper_between-keeper.result
+    c.args.begun.origin.gateway _ _ served.0 _ _ _ _
+    (refl, c.keeper_between-keeper.ensures.begun) refl (ap Some c.keeper_between-keeper.ensures.log)
+    c.requires.new served.1
