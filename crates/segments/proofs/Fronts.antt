@@ -170,7 +170,8 @@ pub second_newest : (newest other : List ℕ) → HasNone other → IsNewest new
 second_newest newest other none own head text others fits fits' found found' =
     absurd (none head others fits' found')
 
-pub shut_front : (file : List ℕ) (front : FileFront) → IsHeadIn file front → IsShut file → is_shut front
+pub shut_front : (file : List ℕ) (front : FileFront) → IsHeadIn file front → IsShut file
+    → is_shut front
     ≡ true
 shut_front file fronts.Shut begins shut = refl
 shut_front file (fronts.Head head) begins shut = absurd (not_shut file head begins.begins shut)

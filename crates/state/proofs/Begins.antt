@@ -1,5 +1,6 @@
 -- What a start makes of a log, and what is shown of it.
-use Rattle.std.proofs.Common.{◌≡◌, ◌∙◌, ◌⊎◌, inl, inr, ℕ, ◌+◌, ◌<◌, Bool, true, false, List, [], ◌∷◌}
+use Rattle.std.proofs.Common.{◌≡◌, ◌∙◌, ◌⊎◌, inl, inr, ℕ, ◌+◌, ◌<◌, Bool, true, false, List, []}
+use Rattle.std.proofs.Common.{◌∷◌}
 use Rattle.std.proofs.Common.{◌++◌, drop, length, Option, Some, None, Ok, refl, sym, ap, subst}
 use Rattle.std.proofs.Common.{arith, zero, suc}
 use Rattle.std.specs.Prelude.{not, ◌&&◌, if◌then◌else◌, MatchOption}

@@ -35,7 +35,8 @@ unmarked : {P : Type 0} → Some false ≡ Some true → P
 unmarked is = absurd (cc)
 
 -- two readings of one head
-pub record AreSame (begins begins' : ℕ) (settings settings' : List ℕ) (lines lines' : List (List ℕ)) :
+pub record AreSame (begins begins' : ℕ) (settings settings' : List ℕ)
+    (lines lines' : List (List ℕ)) :
     Type 0 where
   pub place : begins ≡ begins'
   pub wrote : settings ≡ settings'

@@ -27,15 +27,17 @@ gone_on : {P : Type 0} (log : P → Option Log) (tends : P → State → P → O
     → Follows p last.gateway (log last.port) × Rests p (log last.port))
 gone_on log tends first _ _ Begun = (no_events_yet (log first.port), λ p f r. (f, r))
 gone_on log tends first _ _ (Turned n before taken after h t l) =
-    let b = gone_on log tends first n before h in
-    (subst (MoreEvents (n + 1) (log first.port)) (sym l.quiet)
-    (one_more_event n (log first.port) (log before.port) (log taken.port) b.0 t.one),
-    λ p f r.
-    let was = b.1 p f r in
-    let is = t.follows p was.0 was.1 in
-    (subst (λ s. Follows p s (log after.port)) (sym l.same)
-    (subst (Follows p taken.gateway) (sym l.quiet) is.0),
-    subst (Rests p) (sym l.quiet) is.1))
+    let b = gone_on log tends first n before h in (
+      subst (MoreEvents (n + 1) (log first.port)) (sym l.quiet)
+          (one_more_event n (log first.port) (log before.port) (log taken.port) b.0 t.one),
+      λ p f r.
+          let was = b.1 p f r in
+          let is = t.follows p was.0 was.1 in (
+            subst (λ s. Follows p s (log after.port)) (sym l.same)
+                (subst (Follows p taken.gateway) (sym l.quiet) is.0),
+            subst (Rests p) (sym l.quiet) is.1,
+          ),
+    )
 
 -- behind the event that came last
 looked_last : {P : Type 0} (log : P → Option Log)
@@ -107,7 +109,8 @@ gone_on_seen : {X Y : Type 0} (f : X → Y) (log : Y → Option Log)
 unfolding seen
 gone_on_seen f log tends first _ _ Begun = Begun
 gone_on_seen f log tends first _ _ (Turned n before taken after h t l) =
-    Turned n (seen f before) (seen f taken) (seen f after) (gone_on_seen f log tends first n before h)
+    Turned n (seen f before) (seen f taken) (seen f after)
+    (gone_on_seen f log tends first n before h)
     (record { one = t.one; follows = t.follows; shown = t.shown })
     (record {
       notice = l.notice;
@@ -122,9 +125,9 @@ pub served_seen : {X Y E : Type 0} (f : X → Y) (log : Y → Option Log)
     (tends : Y → State → Y → Option Notice → Type 0) (failure : Y → Option Failure)
     (first last : RunStanding X) (ended : Result (Unit {0}) E)
     → HasServed (λ x. log (f x)) (λ a s b w. tends (f a) s (f b) w) (λ x. failure (f x)) first last
-      ended
+    ended
     → HasServed log tends failure (stands first.gateway (f first.port) first.book first.shown)
-      (stands last.gateway (f last.port) last.book last.shown) ended
+    (stands last.gateway (f last.port) last.book last.shown) ended
 unfolding seen
 served_seen f log tends failure first last _ (InATurn n before ended h e) =
     InATurn n (seen f before) ended (gone_on_seen f log tends first n before h)

@@ -21,7 +21,7 @@ pub served_whole : {P E : Type 0} (log : P → Option Log)
     → begins gateway port → entries ≡ before → log port ≡ Some []
     → logged_first (log_of pen) (Some []) ≡ Some []
     → HasServed (log_in_life log) (tends_in_life tends) (failure_in_life failure)
-      (stands gateway (in_life entries pen port) book shown) (stands end last logged seen) ended
+    (stands gateway (in_life entries pen port) book shown) (stands end last logged seen) ended
     → WasServed log tends failure begins before last logged seen ended
 served_whole log tends failure begins before entries pen port gateway book shown end last logged
     seen ended begun same empty new served =

@@ -100,17 +100,21 @@ returns-clause-order g c = λ s t r.
     ordered p _ _ (c.steps_keep_their_order.ensures.settings s) (c.loop.invariant.kept p t r)
 
 pub returns-in-Err-clause-most : goal.returns-in-Err-clause-most
-returns-in-Err-clause-most g c =
-    (c.loop.counter, c.loop.auto.counter-end,
-    subst (MoreEvents c.loop.counter (g.P.Port.log c.args.port.now))
-    (sym (logged_same _ _ _ c.next-next.ensures.logged c.in-Err.ensures.none))
-    c.loop.invariant.events)
+returns-in-Err-clause-most g c = (
+  c.loop.counter,
+  c.loop.auto.counter-end,
+  subst (MoreEvents c.loop.counter (g.P.Port.log c.args.port.now))
+      (sym (logged_same _ _ _ c.next-next.ensures.logged c.in-Err.ensures.none))
+      c.loop.invariant.events,
+)
 
 pub returns-clause-most : goal.returns-clause-most
 returns-clause-most g c = (c.loop.counter, c.loop.auto.counter-end, c.loop.invariant.events)
 
 pub returns-then-not-step-clause-most : goal.returns-then-not-step-clause-most
-returns-then-not-step-clause-most g c =
-    (c.loop.counter + 1, omega (arith, c.loop-test.true),
-    more_events c.loop.counter _ _ _ _ _ _ _ c.loop.invariant.events c.next-next.ensures.logged
-    c.in-Ok.ensures.came c.if-not-step.ensures.puts.events)
+returns-then-not-step-clause-most g c = (
+  c.loop.counter + 1,
+  omega (arith, c.loop-test.true),
+  more_events c.loop.counter _ _ _ _ _ _ _ c.loop.invariant.events c.next-next.ensures.logged
+      c.in-Ok.ensures.came c.if-not-step.ensures.puts.events,
+)

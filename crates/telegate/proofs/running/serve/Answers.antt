@@ -27,10 +27,10 @@ turning-preserved g c =
     let logs = c.look-notice.ensures.log in
     let ran = c.in-Turns.ensures in
     let look : Look = record {
-          gateway = c.drive_on.new.gateway;
-          watch = c.look-notice.new.self.logger.watching;
-          notice = c.look-notice.result;
-        } in
+      gateway = c.drive_on.new.gateway;
+      watch = c.look-notice.new.self.logger.watching;
+      notice = c.look-notice.result;
+    } in
     record {
       healthy =
           search (rules, c.look-notice.ensures.failed, ran.device, c.turning.invariant.healthy);
@@ -44,60 +44,67 @@ turning-preserved g c =
       shown = λ p begins rests some. let h = c.turning.invariant.faithful p begins rests in
           rw logs (ran.faithful p h.0 h.1);
       on = Turned c.turning.counter _ _ _ c.turning.invariant.on (record {
-            one = ran.turns refl;
-            follows = λ p follows rests. (ran.kept p follows rests, ran.rests p follows rests);
-            shown = refl;
-          }) (record {
-            notice = c.look-notice.result;
-            same = refl;
-            quiet = logs;
-            tended = c.look-notice.ensures.tends;
-            logged = c.look-notice.ensures.logs;
-            shown = elim c.match-lookout.branch [
-              | in-Some w ↦
-                  let watch = w.watch.ensures ∙ ap (λ (b : Book). b.watching) w.logger.ensures in
-                  let shown = w.in-Some.lookout in
-                  shown_there look _ _ shown w.look.new.self w.in-Some.is w.lookout-is
-                  (w.look.ensures.turned
-                  ∙ ap (λ (v : Watching). turned_after shown.turned v.moment) watch)
-                  (subst (λ (v : Watching). w.look.new.self.shown
-                  ≡ record (looked shown.turned c.drive_on.new.gateway v c.look-notice.result
-                  shown.shown) { peer = w.look.new.self.shown.peer }) watch w.look.ensures.shown)
-              | in_default w ↦ none_shown look _ _ w.in_default.is w.lookout-is
-            ];
-          });
+        one = ran.turns refl;
+        follows = λ p follows rests. (ran.kept p follows rests, ran.rests p follows rests);
+        shown = refl;
+      }) (record {
+        notice = c.look-notice.result;
+        same = refl;
+        quiet = logs;
+        tended = c.look-notice.ensures.tends;
+        logged = c.look-notice.ensures.logs;
+        shown = elim c.match-lookout.branch [
+          | in-Some w ↦
+              let watch = w.watch.ensures ∙ ap (λ (b : Book). b.watching) w.logger.ensures in
+              let shown = w.in-Some.lookout in
+              shown_there look _ _ shown w.look.new.self w.in-Some.is w.lookout-is
+              (w.look.ensures.turned
+              ∙ ap (λ (v : Watching). turned_after shown.turned v.moment) watch)
+              (subst (λ (v : Watching). w.look.new.self.shown
+              ≡ record (looked shown.turned c.drive_on.new.gateway v c.look-notice.result
+              shown.shown) { peer = w.look.new.self.shown.peer }) watch w.look.ensures.shown)
+          | in_default w ↦ none_shown look _ _ w.in_default.is w.lookout-is
+        ];
+      });
     }
 
 pub returns-in-Finished-clause-served : goal.returns-in-Finished-clause-served
-returns-in-Finished-clause-served g c = (c.drive_on.new.gateway, InATurn c.turning.counter _ _ c.turning.invariant.on (record {
-      few = subst (AtMostEvents 1 (g.P.Port.log c.turning.run_log.port))
-          (ap g.P.Port.log (sym c.close.ensures.passes)) c.drive_on.ensures.most;
-      between = c.drive_on.new.port.logger;
-      closes = subst (λ q. Closes c.drive_on.new.port.logger (g.P.Watched.failure q)
-          c.drive_on.new.gateway c.close.new.self.logger) (sym c.close.ensures.passes)
-          c.close.ensures.closes;
-      shown = refl;
-    }))
+returns-in-Finished-clause-served g c = (
+  c.drive_on.new.gateway,
+  InATurn c.turning.counter _ _ c.turning.invariant.on (record {
+    few = subst (AtMostEvents 1 (g.P.Port.log c.turning.run_log.port))
+        (ap g.P.Port.log (sym c.close.ensures.passes)) c.drive_on.ensures.most;
+    between = c.drive_on.new.port.logger;
+    closes = subst (λ q. Closes c.drive_on.new.port.logger (g.P.Watched.failure q)
+        c.drive_on.new.gateway c.close.new.self.logger) (sym c.close.ensures.passes)
+        c.close.ensures.closes;
+    shown = refl;
+  }),
+)
 
 pub returns-in-Device-clause-served : goal.returns-in-Device-clause-served
-returns-in-Device-clause-served g c = (c.drive_on.new.gateway, InATurn c.turning.counter _ _ c.turning.invariant.on (record {
-      few = subst (AtMostEvents 1 (g.P.Port.log c.turning.run_log.port))
-          (ap g.P.Port.log (sym c.close-in-Device.ensures.passes)) c.drive_on.ensures.most;
-      between = c.drive_on.new.port.logger;
-      closes = subst (λ q. Closes c.drive_on.new.port.logger (g.P.Watched.failure q)
-          c.drive_on.new.gateway c.close-in-Device.new.self.logger)
-          (sym c.close-in-Device.ensures.passes) c.close-in-Device.ensures.closes;
-      shown = refl;
-    }))
+returns-in-Device-clause-served g c = (
+  c.drive_on.new.gateway,
+  InATurn c.turning.counter _ _ c.turning.invariant.on (record {
+    few = subst (AtMostEvents 1 (g.P.Port.log c.turning.run_log.port))
+        (ap g.P.Port.log (sym c.close-in-Device.ensures.passes)) c.drive_on.ensures.most;
+    between = c.drive_on.new.port.logger;
+    closes = subst (λ q. Closes c.drive_on.new.port.logger (g.P.Watched.failure q)
+        c.drive_on.new.gateway c.close-in-Device.new.self.logger)
+        (sym c.close-in-Device.ensures.passes) c.close-in-Device.ensures.closes;
+    shown = refl;
+  }),
+)
 
 pub returns-clause-served : goal.returns-clause-served
 returns-clause-served g c =
     let all_used : c.turning.counter ≡ 18446744073709551615 =
-        omega (arith, c.turning-test.false, c.turning.auto.counter-end) in
+    omega (arith, c.turning-test.false, c.turning.auto.counter-end) in
     let first = stands c.args.gateway c.args.run_log.now.port c.args.run_log.now.logger
-        (shown_to c.args.lookout.now) in
+    (shown_to c.args.lookout.now) in
     let last = stands c.turning.gateway c.turning.run_log.port c.turning.run_log.logger
-        (shown_to c.turning.lookout) in
-    (c.turning.gateway,
-    WithoutEnd (subst (λ n. HasGoneOn g.P.Port.log g.P.Watched.tends first n last) all_used
-    c.turning.invariant.on))
+    (shown_to c.turning.lookout) in (
+      c.turning.gateway,
+      WithoutEnd (subst (λ n. HasGoneOn g.P.Port.log g.P.Watched.tends first n last) all_used
+          c.turning.invariant.on),
+    )
