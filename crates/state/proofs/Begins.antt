@@ -279,7 +279,14 @@ gateway_shown log is_stale first second s shown l head body written state rest i
     let it : IsSeen log shown.newest l = all.2 in
     let same = same_head shown.newest it.begins (87 + length body) l.settings.items written it.lines
     (state_lines state ++ rest) it.head
-    (record { head = head; body = body; fits = fits; found = found; says = says; behind = refl }) in (
+    (record {
+      head = head;
+      body = body;
+      fits = fits;
+      found = found;
+      says = says;
+      behind = refl;
+    }) in (
       it.wrote,
       subst (λ (t : List ℕ). IsReadOfText t (Ok it.wrote)) same.wrote it.readable,
       λ follows rests.
