@@ -28,6 +28,8 @@
 //! ([`what_stands_on_a_line_goes_on_with_its_station`]), which each part takes up
 //! ([`new_settings_are_taken_up`]).
 //!
+//! Commands wait for the line by their stations ([`commands_wait_for_each_station`]).
+//!
 //! What the gateway's definitions take for granted of a connection is said here too: which octets
 //! are its own ([`octets_are_those_of_their_connection`]), what closes it
 //! ([`frames_have_the_faults_of_their_history`], [`a_replaced_connection_is_reported`],
@@ -55,6 +57,7 @@ mod logged;
 mod new_settings;
 mod passed_on;
 mod received;
+mod waiting;
 
 pub use commands::{
     each_command_is_given_once, selections_end_in_time, settings_are_set_up,
@@ -81,3 +84,4 @@ pub use received::{
     octets_are_those_of_their_connection, pieces_are_acknowledged_with_their_frames,
     what_has_come_is_one_run,
 };
+pub use waiting::commands_wait_for_each_station;
