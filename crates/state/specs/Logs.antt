@@ -6,7 +6,7 @@ use Rattle.segments.specs.Crash.{AreMixing, HasNoOther, HasText}
 use Rattle.segments.specs.Crashes.{Survives}
 use Rattle.segments.specs.Head.{Fits, head_for, whole_text}
 use Rattle.segments.specs.Segment.{durable_of, file_of, outcomes_of, text_of}
-use Rattle.segments.specs.Starts.{IsFoundIn, IsShut}
+use Rattle.segments.specs.Starts.{IsFoundIn, IsShut, IsSound}
 use Rattle.segments.specs.declared.head.SegmentHead.{SegmentHead}
 use Rattle.statetext.specs.Text.{lines_in}
 use Rattle.state.specs.Doubts.{IsUndoubted}
@@ -61,6 +61,17 @@ logged_by head durable text = record {
   safe = drop head (take durable text);
 }
 
+-- a file has what one of two files has
+abbrev pub IsOneOf : (one two file : List ℕ) → Type 0
+IsOneOf one two file = (file ≡ one) ⊎ (file ≡ two)
+
+-- it has what one of two files had that were opened
+pub record WasOpened {D : Type 0} (g : Ghosts D) (opened : D → D → Type 0) (file : D) : Type 0 where
+  pub one : D
+  pub two : D
+  pub were : opened one two
+  pub is : IsOneOf (g.seen one) (g.seen two) (g.seen file)
+
 module _ {D : Type 0} {g : Ghosts D} where
   abbrev pub stored_in : Opened D g → Stored
   stored_in opens.Neither = record { head = []; text = []; safe = [] }
@@ -110,6 +121,19 @@ module _ {D : Type 0} {g : Ghosts D} where
   leaves_amid (opens.Current c) number settings lines = λ file other.
       IsTrue (g.is_clean c.spare) × (c.number < number) × outcomes_of c.segment file
       × IsAmid (g.may_leave c.spare) number settings lines other
+
+  -- it is the file of the log that took lines, or has what one of two open files had
+  abbrev pub WasOpen : Opened D g → (file : D) → Type 0
+  WasOpen opens.Neither file = ⊥
+  WasOpen (opens.Both one two) file = IsOneOf (g.seen one) (g.seen two) (g.seen file)
+  WasOpen (opens.Current c) file = file ≡ file_of c.segment
+
+  -- The file beside a log that was begun is that of the newest one before, as it was: one that was
+  -- open, or one that was opened then. Only one that no crash leaves is another: that is shut.
+  pub record IsLeftBeside (opened : D → D → Type 0) (before after : Opened D g) : Type 0 where
+    pub file : D
+    pub was : WasOpen before file ⊎ WasOpened g opened file
+    pub is : SpareIs file after ⊎ (IsTrue (g.is_clean file) → IsSound (g.seen file) → ⊥)
 
   -- each read of the file beside the log has gone well
   abbrev pub IsReadWell : Opened D g → Type 0

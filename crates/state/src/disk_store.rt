@@ -2,16 +2,16 @@
 ghost use Rattle.std.specs.Io.Iter.{u64_saturate};
 ghost use Rattle.std.specs.Prelude.{◌≡◌, ◌⊎◌, ◌+◌, ◌*◌, ◌++◌, ◌∷◌, [], List, ℕ, IfOk, IfSome};
 ghost use Rattle.std.specs.Prelude.{IsTrue, IfErr, OnOk};
-ghost use Rattle.std.specs.Prelude.{◌<◌, Some, length, true, false};
+ghost use Rattle.std.specs.Prelude.{◌<◌, Option, Some, length, true, false};
 ghost use Rattle.gateway.specs.Restored.{state_lines};
 ghost use Rattle.segments.specs.Crash.{AreMixing, IsShut};
 ghost use Rattle.segments.specs.Head.{IsWholeText, whole_text};
 ghost use Rattle.segments.specs.Segment.{durable_of, file_of, outcomes_of, size_of, text_of};
 ghost use Rattle.segments.specs.Crashes.{AreOlder, StaysBacked};
-ghost use Rattle.segments.specs.Starts.{IsBacked};
+ghost use Rattle.segments.specs.Starts.{IsBacked, IsSound};
 ghost use Rattle.segments.specs.Writer.{appended_to};
 ghost use Rattle.state.specs.Doubts.{AreUndoubted};
-ghost use Rattle.state.specs.Logs.{AreAmid, AreFilesOf, HasFreshLog, IsHeaded};
+ghost use Rattle.state.specs.Logs.{AreAmid, AreFilesOf, HasFreshLog, IsHeaded, IsOneOf, WasOpen};
 ghost use Rattle.statetext.specs.Text.{lines_in};
 
 use crate::folder::Folder;
@@ -52,6 +52,7 @@ impl<F: Folder + Drop> DiskStore<F> {
     ghost use Rattle.segments.specs.Crashes.{AreOlder, HasNoZero, StaysBacked};
     ghost use Rattle.state.specs.Doubts.{AreUndoubted};
     ghost use Rattle.state.specs.Logs.{AreOpen, Bears, HasFreshLog, IsAmid, IsOlderBeside, SpareIs};
+    ghost use Rattle.state.specs.Logs.{IsLeftBeside, WasOpened};
     ghost use Rattle.state.specs.Logs.{SurvivesAsLogged, leaves_amid, leaves_behind, leaves_both};
     ghost use Rattle.state.specs.Logs.{stored_in};
 
@@ -110,6 +111,12 @@ impl<F: Folder + Drop> DiskStore<F> {
             AreOlder (F.File.may_leave files.0) self.old.number) }
         ensures sound { IfSome result (λ files. files.2 ≡ true →
             IsTrue (F.File.is_clean files.0) → AreUndoubted (F.File.may_leave files.0)) }
+        ensures others { IfSome result (λ files. files.2 ≡ false →
+            IsTrue (F.File.is_clean files.0) → IsSound (F.File.seen files.0) → ⊥) }
+        ensures was { IfSome result (λ files. WasOpened F.File.Disk
+            (λ one two. (folder : F) × F.answered folder (Some (one, two))) files.0) }
+        ensures asks { (folder : F) × (answer : Option (F.File × F.File))
+            × F.answered folder answer }
         ensures settings { self.new.settings ≡ self.old.settings }
         ensures number { self.new.number ≡ self.old.number }
         ensures opened { self.new.opened ≡ self.old.opened }
@@ -136,15 +143,20 @@ impl<F: Folder + Drop> DiskStore<F> {
             ⊎ (self.new.number ≡ u64_saturate (self.old.number + 1)) }
         ensures settings { self.new.settings ≡ self.old.settings }
         ensures closed { result ≡ false → self.new.opened ≡ Opened.Neither }
+        ensures beside { (before : Opened F.File F.File.Disk) → result ≡ true → IsLeftBeside
+            (λ one two. (folder : F) × F.answered folder (Some (one, two)))
+            before self.new.opened }
+        ensures asks { (folder : F) × (answer : Option (F.File × F.File))
+            × F.answered folder answer }
     {
         let Some((newest, spare, is_sound)) = self.open_files() else {
             return false;
         };
-        let is_begun = self.begin_in(newest, spare, is_sound, gateway);
-        if !is_begun {
-            self.opened = Opened::Neither;
+        if self.begin_in(newest, spare, is_sound, gateway) {
+            return true;
         }
-        is_begun
+        self.opened = Opened::Neither;
+        false
     }
 
     /// Begins a segment in the one file, while the newest one stands in the other as it is. What
@@ -272,6 +284,9 @@ fn files_of<D: Disk + Drop>(alloc: Global, opened: Opened<D>, number: u64) -> Op
         AreOlder (D.Disk.may_leave files.0) number) }
     ensures sound { IfSome result (λ files. files.2 ≡ true → IsTrue (D.Disk.is_clean files.0) →
         AreUndoubted (D.Disk.may_leave files.0)) }
+    ensures others { IfSome result (λ files. files.2 ≡ false → IsTrue (D.Disk.is_clean files.0) →
+        IsSound (D.Disk.seen files.0) → ⊥) }
+    ensures was { IfSome result (λ files. WasOpen opened files.0) }
 {
     match opened {
         Opened::Neither => None,
@@ -345,6 +360,10 @@ fn in_order<D: Disk + Drop>(alloc: Global, log: D, db: D, number: u64) -> Option
         AreOlder (D.Disk.may_leave files.0) number) }
     ensures sound { IfSome result (λ files. files.2 ≡ true → IsTrue (D.Disk.is_clean files.0) →
         AreUndoubted (D.Disk.may_leave files.0)) }
+    ensures others { IfSome result (λ files. files.2 ≡ false → IsTrue (D.Disk.is_clean files.0) →
+        IsSound (D.Disk.seen files.0) → ⊥) }
+    ensures was { IfSome result (λ files.
+        IsOneOf (D.Disk.seen log) (D.Disk.seen db) (D.Disk.seen files.0)) }
 {
     let (mut log, mut db) = (log, db);
     match newest_side(alloc, &mut log, &mut db) {
@@ -371,6 +390,9 @@ fn settled<D: Disk + Drop>(alloc: Global, newest: D, spare: D, number: u64) -> O
         AreOlder (D.Disk.may_leave files.0) number) }
     ensures sound { IfSome result (λ files. files.2 ≡ true → IsTrue (D.Disk.is_clean files.0) →
         AreUndoubted (D.Disk.may_leave files.0)) }
+    ensures others { IfSome result (λ files. files.2 ≡ false → IsTrue (D.Disk.is_clean files.0) →
+        IsSound (D.Disk.seen files.0) → ⊥) }
+    ensures was { IfSome result (λ files. D.Disk.seen files.0 ≡ D.Disk.seen newest) }
 {
     let mut newest = newest;
     match is_below(alloc, &mut newest, number) {
@@ -498,6 +520,7 @@ fn refusal(fault: SegmentFault) -> StoreFault
 
 impl<F: Folder + Drop> Store for DiskStore<F> {
     ghost use Rattle.state.specs.Logs.{Bears, IsReadWell, leaves_amid, leaves_behind, stored_in};
+    ghost use Rattle.state.specs.Logs.{IsLeftBeside};
 
     ghost stored = { λ s. stored_in s.opened };
 
@@ -547,6 +570,13 @@ impl<F: Folder + Drop> Store for DiskStore<F> {
             (file other : List ℕ) → leaves_behind self.new.opened file other →
             leaves_amid self.old.opened self.old.number self.old.settings.items
             (state_lines gateway.now) file other }
+        // The newest file of before stands beside the new log as it was, also where both had to be
+        // opened anew. Where neither is open they are asked for.
+        ensures beside { result ≡ true → IsLeftBeside
+            (λ one two. (folder : F) × F.answered folder (Some (one, two)))
+            self.old.opened self.new.opened }
+        ensures asks { self.old.opened ≡ Opened.Neither → (folder : F)
+            × (answer : Option (F.File × F.File)) × F.answered folder answer }
     {
         let number = self.number;
         let opened = mem::replace(&mut self.opened, Opened::Neither);

@@ -31,7 +31,7 @@ pub trait Folder {
     ghost use Rattle.gateway.specs.Config.{Settings};
     ghost use Rattle.state.specs.Unread.{IsUnread};
     ghost use Rattle.std.specs.Prelude.{◌≡◌, ℕ, List, [], Option, Some, Bool, true, false, IfOk};
-    ghost use Rattle.std.specs.Prelude.{OnOk};
+    ghost use Rattle.std.specs.Prelude.{MatchResult, None, OnOk};
     ghost use Rattle.std.specs.Prelude.{IsTrue, ◌+◌, ◌*◌, ◌≤◌};
     ghost use Rattle.state.specs.Lines.{longest_line, most_octets};
 
@@ -48,6 +48,9 @@ pub trait Folder {
 
     /// These two files were put aside.
     ghost aside: { Self → Self.File → Self.File → Type 0 };
+
+    /// Its files were asked for, and these two were opened, or none.
+    ghost answered: { Self → Option (Self.File × Self.File) → Type 0 } = { λ _ _. Unit {0} };
 
     /// The mark was asked for, and couldn't be made.
     ghost refused: { Self → Type 0 } = { λ _. Unit {0} };
@@ -66,6 +69,9 @@ pub trait Folder {
     fn open(&mut self) -> Result<Files<Self::File>, FolderFault>
         ensures log { IfOk result (λ files. IsTrue (Self.File.is_usable files.log)) }
         ensures db { IfOk result (λ files. IsTrue (Self.File.is_usable files.db)) }
+        ensures answered { MatchResult result
+            (λ files. answered self.new (Some (files.log, files.db)))
+            (λ _. answered self.new None) }
         ensures locked { OnOk result (is_locked self.new ≡ true) }
         ensures stays { is_locked self.old ≡ true → is_locked self.new ≡ true }
         ensures mark { mark self.new ≡ mark self.old };
