@@ -612,9 +612,18 @@ def form_of_both(folder):
         rename_form(os.path.join(folder, name))
 
 
+def copy_newest(folder):
+    """Both files have the newest log, so that no start knows which of the two is the newer."""
+    newest = newest_of(folder)
+    for name in ("segments", "segments-wal"):
+        if os.path.join(folder, name) != newest:
+            shutil.copy(newest, os.path.join(folder, name))
+
+
 # By name: what is changed, what the start says, and the numbers of the reports that come then.
 VERSIONS = {
     "newer file": (form_of_newer, "state is stale: each link is reset", [5, 6]),
+    "two of one number": (copy_newest, "state is stale: each link is reset", [3, 4, 5, 6]),
     "both files": (form_of_both, "state can't be read: put aside", [5, 6]),
     "unknown key": (lambda folder: write_checkpoint(newest_of(folder), with_unknown_key), "state can't be read: put aside", [5, 6]),
     "offered command": (lambda folder: write_checkpoint(newest_of(folder), with_offered_commands), "state: goes on, ", [3, 4, 5, 6]),

@@ -214,3 +214,16 @@ pub record TriesEach {A : Type 0} (answer : Dialled A) (before after : List Reac
   pub behind : after ≡ tried ++ before
   pub each : began_in tried ≡ came_in tried
   pub ends : (answer ≡ Pending) ⊎ ((answer ≡ Failed) × IsExhausted tried)
+
+-- the addresses that were waited for, the newest first
+abbrev pub waited_in : List ReachStep → List SocketAddr
+waited_in [] = []
+waited_in (Waited address ms answer ∷ before) = address ∷ waited_in before
+waited_in (step ∷ before) = waited_in before
+
+-- Since then each address that came was waited for, one after another, until they were exhausted.
+pub record WaitsForEach (before after : List ReachStep) : Type 0 where
+  pub tried : List ReachStep
+  pub behind : after ≡ tried ++ before
+  pub each : waited_in tried ≡ came_in tried
+  pub ends : IsExhausted tried

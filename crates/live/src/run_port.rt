@@ -89,6 +89,14 @@ impl<S: OctetStream + Reached, L: Listener + Drop, C: RunClock + Drop> Watched
 
     ghost tends = { λ old _ new notice. (new ≡ old) × (notice ≡ None) };
 
+    ghost use Rattle.live.specs.Ends.{Fixture, fixed_of};
+
+    ghost Lasting = { Fixture };
+
+    ghost lasting = { λ ends. fixed_of ends };
+
+    ghost lasts = { λ one other same. same };
+
     ghost shows = { λ ends sight. ShowsRun ends sight };
 
     ghost failure = { λ ends. failure_of ends.failed };

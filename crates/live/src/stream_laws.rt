@@ -49,8 +49,8 @@ pub fn a_look_goes_on_until_a_frame_ends()
     ensures whole { (calls new : Calls) (first came : List ℕ) →
         ReadsFrame calls first came new → ends_frame first ≡ true →
         (came ≡ first) × (new ≡ calls) }
-    ensures ends { (ends_frame (0x10 ∷ 0x09 ∷ 0x01 ∷ 0x0A ∷ 0x16 ∷ []) ≡ true)
-        × (ends_frame (0xE5 ∷ []) ≡ true) × (ends_frame (0x10 ∷ 0x09 ∷ []) ≡ false) }
+    ensures ends { (octets : List ℕ) (last : ℕ) →
+        (ends_frame (octets ++ last ∷ []) ≡ true) ↔ ((last ≡ 0x16) ⊎ (last ≡ 0xE5)) }
 {}
 
 /// What waits is dropped, however many buffers it fills: it is read until a read brings none, or 64

@@ -61,6 +61,11 @@ pub trait Watched: Port {
     /// Such a sight shows its ends.
     ghost shows: { Self → EndsSight → Type 0 } = { λ _ _. Unit {0} };
 
+    ghost Lasting: { Type 0 };
+
+    /// What is fixed at looks too.
+    ghost lasting: { Self → Lasting };
+
     /// What has failed, where its device has.
     ghost failure: { Self → Option Failure };
 
@@ -77,13 +82,24 @@ pub trait Watched: Port {
         ensures log { Self.log self.new ≡ Self.log self.old }
         ensures failed { Self.failed self.new ≡ Self.failed self.old }
         ensures ended { Self.ended self.new ≡ Self.ended self.old }
-        ensures script { Self.script self.new ≡ Self.script self.old };
+        ensures lasting { lasting self.new ≡ lasting self.old };
+
+    /// What is fixed at looks too is fixed at events and actions.
+    ghost lasts: { (one other : Self) → Self.Port.script one ≡ Self.Port.script other →
+        lasting one ≡ lasting other };
 }
 
 impl<S: OctetStream + Reached, L: Listener + Drop, C: RunClock + Drop> Watched for Live<S, L, C> {
+    ghost use Rattle.live.specs.Ends.{Fixture, fixed_of};
     ghost use Rattle.live.specs.Sights.{ShowsEnds};
 
     ghost tends = { λ old _ new notice. (new ≡ old) × (notice ≡ None) };
+
+    ghost Lasting = { Fixture };
+
+    ghost lasting = { λ ends. fixed_of ends };
+
+    ghost lasts = { λ one other same. same };
 
     ghost shows = { λ ends sight. ShowsEnds ends sight };
 

@@ -57,6 +57,10 @@ abbrev pub logged_first : Option Log → Option Log → Option Log
 logged_first None other = other
 logged_first (Some log) other = Some log
 
+-- where both say what passed, they say the same
+abbrev pub AreAgreed : Recording → (port : Option Log) → Type 0
+AreAgreed r port = IfSome port (λ log. logged_first (log_of r) (Some log) ≡ Some log)
+
 -- nothing is written any more once the record is over
 abbrev pub unless_over : Recording → Recording → Recording
 unless_over old new = if old.is_over then old else new

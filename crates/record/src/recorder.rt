@@ -1,10 +1,11 @@
 //! A port that records what passes it.
+ghost use Rattle.std.proofs.Props.{props};
 ghost use Rattle.std.specs.Option.{is_some};
 ghost use Rattle.std.specs.Prelude.{◌≡◌, ◌+◌, ◌<◌, ◌∷◌, [], true, if◌then◌else◌, nat_lt};
 ghost use Rattle.gateway.specs.Log.{Went, with_news};
 ghost use Rattle.gateway.specs.Ports.{FitsBuffer, faults_of, output_of, logged_by};
 ghost use Rattle.gateway.specs.declared.ports.Next.TheVariants.{Done};
-ghost use Rattle.record.specs.Recording.{Receives, IsKept, Puts, log_of, logged_first};
+ghost use Rattle.record.specs.Recording.{AreAgreed, Receives, IsKept, Puts, log_of, logged_first};
 ghost use Rattle.record.specs.Recording.{recorded_fixture};
 
 use crate::pen::Pen;
@@ -19,12 +20,16 @@ use live::{EndsSight, Notice, Watched};
 pub struct Recorder<P: Port + Drop, W: RecordSheet + Drop> {
     port: P,
     pen: Pen<W>,
+    // What is written down is what passed.
+    ghost agreed: { AreAgreed pen (P.log port) } by { Prim.hlevel props },
 }
 
 impl<P: Port + Drop, W: RecordSheet + Drop> Recorder<P, W> {
-    /// One over this port.
+    /// One over this port. What the pen has written so far is what has passed there.
     pub fn new(port: P, pen: Pen<W>) -> Recorder<P, W>
-        ensures { result ≡ record { port = port; pen = pen } }
+        requires { AreAgreed pen (P.log port) }
+        ensures port { result.port ≡ port }
+        ensures pen { result.pen ≡ pen }
     {
         Recorder { port, pen }
     }
@@ -104,8 +109,19 @@ impl<P: Port + Drop, W: RecordSheet + Drop> Port for Recorder<P, W> {
 }
 
 impl<P: Watched + Drop, W: RecordSheet + Drop> Watched for Recorder<P, W> {
-    ghost tends = { λ old state new notice.
-        P.tends old.port state new.port notice × (new.pen ≡ old.pen) };
+    ghost use Rattle.record.specs.Recording.{AreAgreed, RecordedFixture, recorded_fixture};
+    ghost use Rattle.std.proofs.Common.{ap, ap₂};
+
+    ghost tends = { λ old state new notice. P.tends old.port state new.port notice
+        × (new.pen ≡ old.pen) × AreAgreed old.pen (P.log old.port) };
+
+    ghost Lasting = { RecordedFixture P.Lasting };
+
+    ghost lasting = { λ r. recorded_fixture (P.lasting r.port) r.pen };
+
+    ghost lasts = { λ one other same.
+        ap₂ (λ port is_wished. record { port = port; is_wished = is_wished })
+        (P.lasts one.port other.port (ap (λ f. f.port) same)) (ap (λ f. f.is_wished) same) };
 
     ghost failure = { λ r. P.failure r.port };
 

@@ -46,8 +46,8 @@ impl<P: Watched + Drop, S: LogSink + Drop> RunLog<P, S> {
         ensures log { P.log self.new.port ≡ P.log self.old.port }
         ensures failed { P.failed self.new.port ≡ P.failed self.old.port }
         ensures ended { P.ended self.new.port ≡ P.ended self.old.port }
-        ensures script { logged_fixture (P.script self.new.port) self.new.logger
-            ≡ logged_fixture (P.script self.old.port) self.old.logger }
+        ensures lasting { logged_fixture (P.lasting self.new.port) self.new.logger
+            ≡ logged_fixture (P.lasting self.old.port) self.old.logger }
         ensures tends { P.tends self.old.port gateway.now self.new.port result }
         ensures logs { Tends result self.old.logger gateway.now self.new.logger }
     {

@@ -1,15 +1,16 @@
 -- What keeping an event does to the history.
 use Rattle.std.proofs.Common.{◌≡◌, ◌∙◌, ℕ, ◌+◌, ◌<◌, ◌≤◌, ◌^◌, Bool, true, false, [], ◌∷◌, ◌++◌}
-use Rattle.std.proofs.Common.{map, length, List, Some, None, ap, sym, subst, refl, inl, inr, arith}
+use Rattle.std.proofs.Common.{map, length, List, Option, Some, None, ap, sym, subst, refl, inl, inr}
+use Rattle.std.proofs.Common.{arith}
 use Rattle.std.proofs.Common.{if◌then◌else◌}
 use Rattle.gateway.specs.Log.{Log}
-use Rattle.gateway.specs.Log.{LogEntry}
+use Rattle.gateway.specs.Log.{LogEntry, with_news}
 use Rattle.gateway.specs.Ports.{faults_of, logged_by}
 use Rattle.gateway.specs.State.{State}
 use Rattle.gateway.specs.declared.ports.Next.{Next}
 use Rattle.gateway.specs.declared.ports.Next.TheVariants as answers
 use Rattle.state.specs.Deeds.{Begun, Deeds, GivenUp, AreRight, IsInTime, MayBe, Received, PutOut}
-use Rattle.state.specs.Deeds.{arrived}
+use Rattle.state.specs.Deeds.{HasPassed, arrived}
 use Rattle.state.specs.Deeds.{grown, is_kept, latest, passed, waiting}
 use Rattle.state.specs.Keeping.{IsOrderly}
 use Rattle.state.specs.Lines.{IsRefusedBy, is_renewal_due}
@@ -44,6 +45,44 @@ received_right bears news old new is time right = subst (AreRight bears) (sym is
     all : (news : Log) → AreRight bears (map Received news ++ old)
     all [] = right
     all (event ∷ news) = (in_time news old time, all news)
+
+-- what has passed at the port is what the deeds say, with what comes and what goes out
+
+received_passed : (news : Log) (deeds : Deeds)
+    → passed (map Received news ++ deeds) ≡ news ++ passed deeds
+received_passed [] deeds = refl
+received_passed (event ∷ news) deeds = ap (λ (log : Log). event ∷ log) (received_passed news deeds)
+
+has_passed : (port next : Option Log) (news : Log) (old new : Deeds) → HasPassed port old
+    → next ≡ with_news port news → passed new ≡ news ++ passed old → HasPassed next new
+has_passed None next news old new was more all =
+    subst (λ (p : Option Log). HasPassed p new) (sym more) tt
+has_passed (Some log) next news old new was more all =
+    subst (λ (p : Option Log). HasPassed p new) (sym more)
+    (ap (λ (log : Log). news ++ log) was ∙ sym all)
+
+pub came_passed : (port mid next : Option Log) (news : Log) (old come new : Deeds)
+    → HasPassed port old → mid ≡ with_news port news → next ≡ mid
+    → come ≡ map Received news ++ old → passed new ≡ passed come → HasPassed next new
+came_passed port mid next news old come new was more same is kept =
+    has_passed port next news old new was (same ∙ more)
+    (kept ∙ (ap passed is ∙ received_passed news old))
+
+pub kept_passed : (port next : Option Log) (old new : Deeds) → HasPassed port old → next ≡ port
+    → passed new ≡ passed old → HasPassed next new
+kept_passed None next old new was same kept =
+    subst (λ (p : Option Log). HasPassed p new) (sym same) tt
+kept_passed (Some log) next old new was same kept =
+    subst (λ (p : Option Log). HasPassed p new) (sym same) (was ∙ sym kept)
+
+pub put_passed : (gone : Bool) (port next : Option Log) (action : LogEntry) (old new : Deeds)
+    → HasPassed port old
+    → next ≡ (if gone then with_news port (action ∷ []) else port)
+    → new ≡ (if gone then PutOut action ∷ [] else []) ++ old → HasPassed next new
+put_passed true port next action old new was more is =
+    has_passed port next (action ∷ []) old new was more (ap passed is)
+put_passed false port next action old new was same is =
+    kept_passed port next old new was same (ap passed is)
 
 -- it stood so before they were received
 pub received_stands : (s : Standing) (news : Log) (old new : Deeds) → IsStanding s old

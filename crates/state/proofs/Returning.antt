@@ -171,6 +171,7 @@ module _ {D : Type 0} (g : Ghosts D) (settings : List ℕ) (deeds : Deeds) (file
         behind = restarted ∙ ap (λ (l : Log). Came o.gateway.moment Restarted ∷ l) replayed.behind;
         gap = replayed.last;
         follows = (on.follows kept.state [] lines savable follows rests).0;
+        rests = (on.follows kept.state [] lines savable follows rests).1;
         clock =
             b.begun.moment ∙ ap (λ (x : Beginning). moment_at x o.gateway.moment) goes_on;
       }

@@ -2,11 +2,12 @@
 -- an event, its line goes to the log on the disk, the log is synced, an action is handed out
 -- (profile).
 use Rattle.std.specs.Prelude.{◌≡◌, ℕ, ◌-◌, ◌<◌, ◌⊎◌, Bool, true, false, List, [], ◌∷◌, map, Option}
-use Rattle.std.specs.Prelude.{Some, None, length}
+use Rattle.std.specs.Prelude.{Some, None, IfSome, length}
 use Rattle.std.specs.Option.{is_some}
 use Rattle.gateway.specs.Log.{Log, LogEntry, Came, Went}
 use Rattle.gateway.specs.Ports.{logged_by, output_of}
-use Rattle.gateway.specs.State.{State}
+use Rattle.gateway.specs.Restored.{IsSavable}
+use Rattle.gateway.specs.State.{State, IsBetweenSteps}
 use Rattle.traces.specs.Printed.{lines_of_log}
 use Rattle.state.specs.Lines.{IsRefusedBy}
 use Rattle.state.specs.declared.loss.Loss.{Loss}
@@ -52,6 +53,21 @@ passed (Synced ∷ deeds) = passed deeds
 passed (Begun state ∷ deeds) = passed deeds
 passed (GivenUp fault loss ∷ deeds) = passed deeds
 passed (PutOut action ∷ deeds) = action ∷ passed deeds
+
+-- what passed at a port that gives its log is what the deeds say
+abbrev pub HasPassed : (port : Option Log) → Deeds → Type 0
+HasPassed port deeds = IfSome port (λ log. log ≡ passed deeds)
+
+-- Each log that was begun, the newest first: the state at its head, and what had passed at the port
+-- when it was begun.
+abbrev pub heads : Deeds → List (State × Log)
+heads [] = []
+heads (Received event ∷ deeds) = heads deeds
+heads (Appended event ∷ deeds) = heads deeds
+heads (Synced ∷ deeds) = heads deeds
+heads (Begun state ∷ deeds) = (state, passed deeds) ∷ heads deeds
+heads (GivenUp fault loss ∷ deeds) = heads deeds
+heads (PutOut action ∷ deeds) = heads deeds
 
 -- the events that the log has, and before them those that led to the state at its head
 abbrev pub appended : Deeds → Log
@@ -151,7 +167,8 @@ latest (event ∷ log) = event ∷ []
 -- When a deed may be done, behind these. An action is handed out where all received events are on
 -- the disk, or where the store has failed, the state on the disk is marked as stale and that is
 -- borne. No event is received while one has waited for the disk for a second. A log whose store has
--- failed is neither appended to nor synced again, and none is synced for nothing. A store fails for
+-- failed is neither appended to nor synced again, and none is synced for nothing. A log begins with
+-- the state of a gateway that can be read again, if it is between two steps. A store fails for
 -- want of room only where a new log is due, and for an event only if no line can hold the latest.
 abbrev pub MayBe : (bears : Bool) → Deed → Deeds → Type 0
 MayBe bears (PutOut action) deeds =
@@ -159,7 +176,7 @@ MayBe bears (PutOut action) deeds =
 MayBe bears (Received event) deeds = IsInTime deeds
 MayBe bears (Appended event) deeds = is_kept deeds ≡ true
 MayBe bears Synced deeds = (is_kept deeds ≡ true) × (waiting deeds ≡ [] → ⊥)
-MayBe bears (Begun state) deeds = Unit {0}
+MayBe bears (Begun state) deeds = IsBetweenSteps state → IsSavable state
 MayBe bears (GivenUp fault loss) deeds = IsRefusedBy fault (latest (arrived deeds)) (grown deeds)
 
 -- each deed might be done when it was

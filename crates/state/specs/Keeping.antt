@@ -1,11 +1,12 @@
 -- What a keeper is to its callers (profile).
-use Rattle.std.specs.Prelude.{◌≡◌, ◌⊎◌, ℕ, ◌<◌, ◌^◌, Bool, true, false, Option, Some, nat_lt}
+use Rattle.std.specs.Prelude.{◌≡◌, ◌⊎◌, ℕ, ◌<◌, ◌^◌, Bool, true, false, List, Option, Some, nat_lt}
 use Rattle.std.specs.Prelude.{if◌then◌else◌}
+use Rattle.gateway.specs.Log.{Log}
 use Rattle.gateway.specs.State.{State}
 use Rattle.live.specs.declared.watched.Failure.{Failure}
 use Rattle.live.specs.declared.watched.Failure.TheVariants as failures
 use Rattle.live.specs.declared.watched.Notice.{Notice}
-use Rattle.state.specs.Deeds.{Deeds, AreRight, IsInTime, grown}
+use Rattle.state.specs.Deeds.{Deeds, AreRight, HasPassed, IsInTime, grown, heads}
 use Rattle.state.specs.Lines.{is_renewal_due}
 use Rattle.state.specs.Renewals.{after_notice, after_try, is_try_due, notice_of}
 use Rattle.state.specs.Standings.{IsStanding, Renews, is_lost}
@@ -30,6 +31,15 @@ pub record KeptFixture (F : Type 0) : Type 0 where
 abbrev pub kept_fixture : {F : Type 0} → F → (bears_loss : Bool) → KeptFixture F
 kept_fixture ends bears_loss = record { ends = ends; bears_loss = bears_loss }
 
+-- what is fixed between two looks: the logs that were begun too
+pub record UnlookedFixture (F : Type 0) : Type 0 where
+  pub kept : KeptFixture F
+  pub heads : List (State × Log)
+
+abbrev pub unlooked_fixture : {F : Type 0} → F → (bears_loss : Bool) → Deeds → UnlookedFixture F
+unlooked_fixture ends bears_loss deeds =
+    record { kept = kept_fixture ends bears_loss; heads = heads deeds }
+
 -- what always holds of a history: how far the events are on the disk, that none waited too long,
 -- and that each deed might be done when it was
 pub record IsOrderly (bears_loss : Bool) (standing : Standing) (deeds : Deeds) : Type 0 where
@@ -37,9 +47,10 @@ pub record IsOrderly (bears_loss : Bool) (standing : Standing) (deeds : Deeds) :
   pub time : IsInTime deeds
   pub right : AreRight bears_loss deeds
 
--- what always holds of a keeper
-pub record IsKeeping (deeds : Deeds) (standing : Standing) (bears_loss : Bool) (failed : ℕ) :
-    Type 0 where
+-- what always holds of a keeper, whose port may give its log
+pub record IsKeeping (port : Option Log) (deeds : Deeds) (standing : Standing) (bears_loss : Bool)
+    (failed : ℕ) : Type 0 where
+  pub passed : HasPassed port deeds
   pub orderly : IsOrderly bears_loss standing deeds
   pub few : failed < 2 ^ 64
 
@@ -59,9 +70,11 @@ pub record HasLooked {E : Type 0} (deeds : E → Deeds) (old : Keeping E) (state
   pub looks : (new ≡ old) ⊎ Renews (deeds old.ends) state (deeds new.ends)
   pub tried : (new ≡ old) ⊎ (new.patience ≡ after_try (is_lost new.standing) old.patience)
 
--- it looks, and then gives what is to be reported
-pub record HasTended {E : Type 0} (deeds : E → Deeds) (old : Keeping E) (state : State)
-    (new : Keeping E) (notice : Option Notice) : Type 0 where
+-- It looks, and then gives what is to be reported. What has passed at its port, where that gives
+-- its log, is what the deeds say.
+pub record HasTended {E : Type 0} (log : E → Option Log) (deeds : E → Deeds) (old : Keeping E)
+    (state : State) (new : Keeping E) (notice : Option Notice) : Type 0 where
+  pub passed : HasPassed (log old.ends) (deeds old.ends)
   pub looked : Keeping E
   pub looks : HasLooked deeds old state looked
   pub logs : notice ≡ notice_of (is_lost looked.standing) looked.patience

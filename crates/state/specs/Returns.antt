@@ -39,6 +39,7 @@ pub record HasReturned (c : Settings) (log : Log) (deeds : Deeds) (o : Origin) :
   pub behind : o.before.entries ≡ Came o.gateway.moment Restarted ∷ (news ++ log)
   pub gap : o.gap ≡ last_gap news
   pub follows : Follows (setup_of c) o.gateway (Some o.before.entries)
+  pub rests : Rests (setup_of c) (Some o.before.entries)
   pub clock : o.moment ≡ Some o.gateway.moment
 
 -- It goes on with the log of these deeds: if the state with which that was begun has followed this

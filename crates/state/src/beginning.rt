@@ -347,14 +347,17 @@ fn move_on<K: Lineage, D: Disk + Drop>(
     }
 }
 
-/// The gateway goes on with the state that was found. `text` says its settings.
-fn resume<K: Lineage, D: Disk + Drop>(
+/// The gateway goes on with the state that was found, to which the folder's lineage has led. `text`
+/// says its settings.
+fn resume<K: Lineage, D: Disk + Drop, F: Folder>(
     alloc: Global,
     config: &Config,
     text: &[u8],
     start: &mut Start<D>,
     goes_on: bool,
+    _folder: &F,
 ) -> Result<Resumed, StateFault>
+    requires { F.lineage _folder.now ≡ K.log }
     ensures wrong { IfErr result (λ fault. fault ≡ StateFault.Wrong →
         is_some start.old.checkpoint ≡ true → IsTrue (D.Disk.is_clean (newest_of start.new)) →
         HasState config.now text.now (D.Disk.seen (newest_of start.new)) → ⊥) }
@@ -384,7 +387,7 @@ pub fn begin<F: Folder + Drop>(
     text: &[u8],
     folder: F,
 ) -> Result<Begun<F>, FolderFault>
-    ensures begun { IfOk result (λ b. IsBegun config.now text.now F.lineage
+    ensures begun { IfOk result (λ b. IsBegun config.now text.now (F.lineage folder)
         (F.mark b.store.folder) b.store.opened b.origin) }
     ensures settings { IfOk result (λ b. b.store.settings.items ≡ text.now) }
     // What is put aside is no state to go on with.
@@ -514,7 +517,7 @@ fn carry_on<F: Folder + Drop>(
         IsNext start.number (newest_in start) (other_in start) }
     requires reset { is_trusted ≡ false → (F.mark folder ≡ Some true) ⊎ (AreClean start →
         HasNoNewer (newest_in start) (other_in start) → ⊥) }
-    ensures begun { IfOk result (λ b. IsBegun config.now settings.items F.lineage
+    ensures begun { IfOk result (λ b. IsBegun config.now settings.items (F.lineage folder)
         (F.mark b.store.folder) b.store.opened b.origin) }
     ensures aside { IfOk result (λ b. b.origin.beginning ≡ Beginning.PutAside →
         WasAside F.File.Disk (F.aside b.store.folder) config.now settings.items) }
@@ -523,7 +526,7 @@ fn carry_on<F: Folder + Drop>(
 {
     let mut start = start;
     let goes_on = may_go_on(alloc, &mut start, is_trusted)?;
-    match resume::<Brand, F::File>(alloc, config, &settings, &mut start, goes_on) {
+    match resume::<Brand, F::File, F>(alloc, config, &settings, &mut start, goes_on, &folder) {
         Ok(resumed) => {
             let store = DiskStore::new(alloc, folder, settings, start.next_number());
             let (newest, spare) = start.into_files();

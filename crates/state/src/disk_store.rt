@@ -3,7 +3,8 @@ ghost use Rattle.std.specs.Io.Iter.{u64_saturate};
 ghost use Rattle.std.specs.Prelude.{◌≡◌, ◌⊎◌, ◌+◌, ◌*◌, ◌++◌, ◌∷◌, [], List, ℕ, IfOk, IfSome};
 ghost use Rattle.std.specs.Prelude.{IsTrue, IfErr, OnOk};
 ghost use Rattle.std.specs.Prelude.{◌<◌, Option, Some, length, true, false};
-ghost use Rattle.gateway.specs.Restored.{state_lines};
+ghost use Rattle.gateway.specs.Restored.{IsSavable, state_lines};
+ghost use Rattle.gateway.specs.State.{IsBetweenSteps};
 ghost use Rattle.segments.specs.Crash.{AreMixing, IsShut};
 ghost use Rattle.segments.specs.Head.{IsWholeText, whole_text};
 ghost use Rattle.segments.specs.Segment.{durable_of, file_of, outcomes_of, size_of, text_of};
@@ -136,6 +137,7 @@ impl<F: Folder + Drop> DiskStore<F> {
           text = [];
           safe = [];
         } }
+        ensures savable { result ≡ true → IsBetweenSteps gateway.now → IsSavable gateway.now }
         ensures mark { result ≡ true → F.mark self.new.folder ≡ Some false }
         ensures bears { result ≡ true → Bears self.old.number self.new.opened }
         ensures above { result ≡ true → self.new.number ≡ u64_saturate (self.old.number + 1) }
@@ -183,6 +185,7 @@ impl<F: Folder + Drop> DiskStore<F> {
           text = [];
           safe = [];
         } }
+        ensures savable { result ≡ true → IsBetweenSteps gateway.now → IsSavable gateway.now }
         ensures newest { is_sound ≡ true → result ≡ true → SpareIs newest self.new.opened }
         ensures mark { result ≡ true → F.mark self.new.folder ≡ Some false }
         ensures bears { result ≡ true → Bears self.old.number self.new.opened }
@@ -439,8 +442,9 @@ fn put_head<S: Sheet>(
     settings: &[u8],
     gateway: &Gateway,
 ) -> Result<(), StateFault>
-    ensures { OnOk result (S.written sheet.new
+    ensures lines { OnOk result (S.written sheet.new
         ≡ S.written sheet.old ++ settings.now ∷ state_lines gateway.now) }
+    ensures savable { IsBetweenSteps gateway.now → OnOk result (IsSavable gateway.now) }
 {
     sheet.put_octets(settings)?;
     let mut line = Vec::new(alloc);
@@ -458,6 +462,7 @@ fn with_head<D: Disk + Drop>(
     requires { appended_to writer ≡ [] }
     ensures head { IfOk result (λ w. lines_in (appended_to w)
         ≡ settings.now ∷ state_lines gateway.now) }
+    ensures savable { IsBetweenSteps gateway.now → OnOk result (IsSavable gateway.now) }
     ensures shut { IfErr result (λ file. IsShut (D.Disk.may_leave file)) }
 {
     let mut sheet = TextSheet::new(alloc, writer);
@@ -483,6 +488,7 @@ fn write_segment<D: Disk + Drop>(
         StaysBacked (D.Disk.may_leave newest.now) (D.Disk.seen spare) }
     ensures head { IfOk result
         (λ s. IsHeaded settings.now (state_lines gateway.now) (text_of s)) }
+    ensures savable { IsBetweenSteps gateway.now → OnOk result (IsSavable gateway.now) }
     ensures synced { IfOk result (λ s. durable_of s ≡ length (text_of s)) }
     ensures number { IfOk result
         (λ s. (body : List ℕ) × (text_of s ≡ whole_text number body)) }
@@ -560,6 +566,7 @@ impl<F: Folder + Drop> Store for DiskStore<F> {
           text = [];
           safe = [];
         } }
+        ensures savable { result ≡ true → IsBetweenSteps gateway.now → IsSavable gateway.now }
         ensures mark { result ≡ true → F.mark self.new.folder ≡ Some false }
         ensures bears { result ≡ true → Bears self.old.number self.new.opened }
         ensures above { result ≡ true → self.new.number ≡ u64_saturate (self.old.number + 1) }

@@ -8,6 +8,8 @@ use live::EndsSight;
 pub trait Ends {
     ghost use Rattle.gateway.specs.Log.{LogEntry, Went, with_news};
     ghost use Rattle.gateway.specs.Ports.{FitsBuffer, faults_of, output_of, logged_by};
+    ghost use Rattle.gateway.specs.Restored.{IsSavable};
+    ghost use Rattle.gateway.specs.State.{IsBetweenSteps};
     ghost use Rattle.gateway.specs.declared.ports.Next.TheVariants.{Done};
     ghost use Rattle.live.specs.declared.watched.EndsSight.{EndsSight};
     ghost use Rattle.live.specs.declared.watched.Failure.{Failure};
@@ -16,7 +18,7 @@ pub trait Ends {
     ghost use Rattle.state.specs.Lines.{is_renewal_due};
     ghost use Rattle.state.specs.Standings.{HasFailed, IsPortLeft};
     ghost use Rattle.std.specs.Prelude.{◌≡◌, ℕ, ◌+◌, ◌<◌, Bool, true, List, [], ◌∷◌, ◌++◌, map};
-    ghost use Rattle.std.specs.Prelude.{Option, nat_lt, if◌then◌else◌, MatchResult};
+    ghost use Rattle.std.specs.Prelude.{Option, nat_lt, if◌then◌else◌, MatchResult, OnOk};
     ghost use Rattle.std.specs.Option.{is_some};
 
     /// The log of the port, as the port gives it.
@@ -104,5 +106,6 @@ pub trait Ends {
         ensures begun { MatchResult result
             (λ _. deeds self.new ≡ Begun gateway.now ∷ deeds self.old)
             (λ loss. deeds self.new ≡ GivenUp StoreFault.Failed loss ∷ deeds self.old) }
+        ensures savable { IsBetweenSteps gateway.now → OnOk result (IsSavable gateway.now) }
         ensures port { IsPortLeft log failed ended script self.old self.new };
 }

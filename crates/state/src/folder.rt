@@ -43,8 +43,8 @@ pub trait Folder {
     /// This process has the directory locked. Nothing in it is read or changed before.
     ghost is_locked: { Self → Bool };
 
-    /// What led to the state at the head of the newest segment, which no code holds.
-    ghost lineage: { List LogEntry } = { [] };
+    /// What led to the state at the head of the newest segment. Only proofs know it.
+    ghost lineage: { Self → List LogEntry } = { λ _. [] };
 
     /// These two files were put aside.
     ghost aside: { Self → Self.File → Self.File → Type 0 };
@@ -74,12 +74,14 @@ pub trait Folder {
             (λ _. answered self.new None) }
         ensures locked { OnOk result (is_locked self.new ≡ true) }
         ensures stays { is_locked self.old ≡ true → is_locked self.new ≡ true }
+        ensures lineage { lineage self.new ≡ lineage self.old }
         ensures mark { mark self.new ≡ mark self.old };
 
     /// Whether the state there is marked as stale.
     fn is_stale(&mut self) -> Result<bool, FolderFault>
         requires { is_locked self.old ≡ true }
         ensures mark { IfOk result (λ is_stale. mark self.new ≡ Some is_stale) }
+        ensures lineage { lineage self.new ≡ lineage self.old }
         ensures stays { is_locked self.new ≡ true };
 
     /// Marks the state as stale, on the disk. It takes no space on it. `false`: it couldn't be

@@ -1,12 +1,12 @@
 //! A port whose events are kept on a disk before anything goes out on them.
 ghost use Rattle.std.specs.Prelude.{◌≡◌, ◌+◌, ◌<◌, ◌≤◌, ◌∷◌, [], ◌++◌, ◌⊎◌, true, false};
-ghost use Rattle.std.specs.Prelude.{None, if◌then◌else◌, nat_lt};
+ghost use Rattle.std.specs.Prelude.{IfSome, None, if◌then◌else◌, nat_lt};
 ghost use Rattle.std.specs.Option.{is_some};
 ghost use Rattle.gateway.specs.Log.{Went, with_news};
 ghost use Rattle.gateway.specs.Ports.{FitsBuffer, faults_of, output_of, logged_by};
 ghost use Rattle.gateway.specs.declared.ports.Next.TheVariants.{Done, Fault};
-ghost use Rattle.state.specs.Deeds.{grown, passed};
-ghost use Rattle.state.specs.Keeping.{IsOrderly, failure_of, kept_fixture};
+ghost use Rattle.state.specs.Deeds.{HasPassed, grown, passed};
+ghost use Rattle.state.specs.Keeping.{IsOrderly, failure_of, unlooked_fixture};
 ghost use Rattle.state.specs.Lines.{is_renewal_due};
 ghost use Rattle.state.specs.Renewals.{after_notice, after_try, is_try_due, moment_after};
 ghost use Rattle.state.specs.Renewals.{notice_of};
@@ -53,14 +53,16 @@ impl<E: Ends + Drop> Model for Keeper<E> {
       patience = k.patience;
     } };
 
-    ghost invariant = { λ k. IsKeeping (E.deeds k.ends) k.standing k.bears_loss
+    ghost invariant = { λ k. IsKeeping (E.log k.ends) (E.deeds k.ends) k.standing k.bears_loss
         (E.failed k.ends + k.stops) };
 }
 
 impl<E: Ends + Drop> Keeper<E> {
-    /// One over these ends, at which nothing was done: the log begins with this gateway's state.
+    /// One over these ends, at which nothing was done and nothing has passed: the log begins with
+    /// this gateway's state.
     pub fn new(mut ends: E, gateway: &Gateway, bears_loss: bool) -> Keeper<E>
         requires nothing { E.deeds ends ≡ [] }
+        requires quiet { IfSome (E.log ends) (λ log. log ≡ []) }
         requires few { E.failed ends ≤ u64.MAX }
         ensures log { E.log result.ends ≡ E.log ends }
         ensures failed { E.failed result.ends + result.stops ≡ E.failed ends }
@@ -85,6 +87,7 @@ impl<E: Ends + Drop> Keeper<E> {
     /// Looks at the gateway between two steps: begins a new log with its state, where that is due.
     /// The state is that to which all received events have led.
     pub fn look(&mut self, gateway: &Gateway)
+        ensures passed { HasPassed (E.log self.old.ends) (E.deeds self.old.ends) }
         ensures port { IsPortLeft E.log E.failed E.ended E.script self.old.ends self.new.ends }
         ensures left { (self.new.stops ≡ self.old.stops)
             × (self.new.bears_loss ≡ self.old.bears_loss) }
@@ -157,7 +160,8 @@ impl<E: Ends + Drop> Keeper<E> {
 
     /// How far the received events are on the disk.
     pub fn standing(&self) -> Standing
-        ensures { IsOrderly self.now.bears_loss result (E.deeds self.now.ends) }
+        ensures orderly { IsOrderly self.now.bears_loss result (E.deeds self.now.ends) }
+        ensures passed { HasPassed (E.log self.now.ends) (E.deeds self.now.ends) }
     {
         self.standing
     }
@@ -224,7 +228,7 @@ impl<P: Watched + Drop, F: Folder + Drop> Keeper<Pair<P, DiskStore<F>>> {
 }
 
 impl<E: Ends + Drop> Port for Keeper<E> {
-    ghost use Rattle.state.specs.Keeping.{KeptFixture, kept_fixture};
+    ghost use Rattle.state.specs.Keeping.{UnlookedFixture, unlooked_fixture};
 
     ghost log = { λ k. E.log k.ends };
 
@@ -232,10 +236,11 @@ impl<E: Ends + Drop> Port for Keeper<E> {
 
     ghost ended = { λ k. E.ended k.ends };
 
-    ghost Fixed = { KeptFixture E.Fixed };
+    ghost Fixed = { UnlookedFixture E.Fixed };
 
-    /// What is fixed of the ends, and whether a loss is borne.
-    ghost script = { λ k. kept_fixture (E.script k.ends) k.bears_loss };
+    /// What is fixed of the ends, whether a loss is borne, and the logs that were begun: none is
+    /// begun but at a look.
+    ghost script = { λ k. unlooked_fixture (E.script k.ends) k.bears_loss (E.deeds k.ends) };
 
     /// The event has been appended when it is passed on. Where no event comes any more, all that
     /// came are on the disk.
@@ -247,8 +252,10 @@ impl<E: Ends + Drop> Port for Keeper<E> {
             ≡ logged_by result buf.new ++ passed (E.deeds self.old.ends) }
         ensures fits { FitsBuffer result }
         ensures done { result ≡ Done → E.ended self.new.ends ≡ true }
-        ensures script { kept_fixture (E.script self.new.ends) self.new.bears_loss
-            ≡ kept_fixture (E.script self.old.ends) self.old.bears_loss }
+        ensures script { unlooked_fixture (E.script self.new.ends) self.new.bears_loss
+            (E.deeds self.new.ends)
+            ≡ unlooked_fixture (E.script self.old.ends) self.old.bears_loss
+            (E.deeds self.old.ends) }
         ensures cause { E.failed self.new.ends + self.new.stops
             ≡ E.failed self.old.ends + self.old.stops + faults_of result }
         ensures moment { self.new.patience ≡ record self.old.patience {
@@ -280,8 +287,10 @@ impl<E: Ends + Drop> Port for Keeper<E> {
         ensures passes { passed (E.deeds self.new.ends)
             ≡ (if result then Went now (output_of action.now) ∷ [] else [])
             ++ passed (E.deeds self.old.ends) }
-        ensures script { kept_fixture (E.script self.new.ends) self.new.bears_loss
-            ≡ kept_fixture (E.script self.old.ends) self.old.bears_loss }
+        ensures script { unlooked_fixture (E.script self.new.ends) self.new.bears_loss
+            (E.deeds self.new.ends)
+            ≡ unlooked_fixture (E.script self.old.ends) self.old.bears_loss
+            (E.deeds self.old.ends) }
         ensures cause { E.failed self.new.ends + self.new.stops
             ≡ E.failed self.old.ends + self.old.stops + (if result then 0 else 1) }
         ensures asks { is_stopped self.new.standing self.old.bears_loss ≡ false →
@@ -305,9 +314,17 @@ impl<E: Ends + Drop> Port for Keeper<E> {
 }
 
 impl<E: Ends + Drop> Watched for Keeper<E> {
-    ghost use Rattle.state.specs.Keeping.{HasTended, failure_of};
+    ghost use Rattle.state.specs.Keeping.{HasTended, KeptFixture, failure_of, kept_fixture};
+    ghost use Rattle.std.proofs.Common.{ap};
 
-    ghost tends = { λ old state new notice. HasTended E.deeds old state new notice };
+    ghost Lasting = { KeptFixture E.Fixed };
+
+    /// Whether a loss is borne, and what is fixed of the ends.
+    ghost lasting = { λ k. kept_fixture (E.script k.ends) k.bears_loss };
+
+    ghost lasts = { λ one other same. ap (λ f. f.kept) same };
+
+    ghost tends = { λ old state new notice. HasTended E.log E.deeds old state new notice };
 
     ghost failure = { λ k. failure_of k.stops (E.failure k.ends) };
 

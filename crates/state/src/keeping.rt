@@ -1,7 +1,7 @@
 //! What is appended and when it is synced.
 ghost use Rattle.std.specs.Prelude.{◌≡◌, ℕ, Bool, false, List};
 ghost use Rattle.gateway.specs.Ports.{FitsBuffer, logged_by};
-ghost use Rattle.state.specs.Deeds.{AreRight, IsSafe, passed};
+ghost use Rattle.state.specs.Deeds.{AreRight, IsSafe, heads, passed};
 ghost use Rattle.state.specs.Keeping.{IsOrderly};
 ghost use Rattle.state.specs.Standings.{HasReceived, IsMomentOf, IsPortLeft, IsSettled, IsStanding};
 ghost use Rattle.state.specs.Standings.{is_stopped};
@@ -33,6 +33,7 @@ pub(crate) fn settle<E: Ends>(ends: &mut E, standing: Standing) -> Standing
     ensures settled { IsSettled result }
     ensures safe { (bears : Bool) → is_stopped result bears ≡ false → IsSafe (E.deeds ends.new) }
     ensures passed { passed (E.deeds ends.new) ≡ passed (E.deeds ends.old) }
+    ensures heads { heads (E.deeds ends.new) ≡ heads (E.deeds ends.old) }
     ensures port { IsPortLeft E.log E.failed E.ended E.script ends.old ends.new }
 {
     match standing {
@@ -59,6 +60,7 @@ pub(crate) fn keep<E: Ends>(
     ensures orderly { (bears : Bool) → AreRight bears (E.deeds ends.old) →
         IsOrderly bears result (E.deeds ends.new) }
     ensures passed { passed (E.deeds ends.new) ≡ passed (E.deeds ends.old) }
+    ensures heads { heads (E.deeds ends.new) ≡ heads (E.deeds ends.old) }
     ensures port { IsPortLeft E.log E.failed E.ended E.script ends.old ends.new }
 {
     let Some(now) = moment_of(next) else {

@@ -203,21 +203,21 @@ pub fn a_line_can_hold_each_event()
 /// tried again. Else nothing is done at the store.
 pub fn a_log_is_begun_where_one_is_due<E: Ends + Drop>()
     ensures grown { (old new : Keeping E) (state : State) (notice : Option Notice) →
-        HasTended E.deeds old state new notice → is_lost old.standing ≡ false →
+        HasTended E.log E.deeds old state new notice → is_lost old.standing ≡ false →
         3900000 < length (lines_of_log (written (E.deeds old.ends))) →
         (E.deeds new.ends ≡ Begun state ∷ E.deeds old.ends)
         ⊎ ((loss : Loss) × (E.deeds new.ends ≡ GivenUp Failed loss ∷ E.deeds old.ends)) }
     ensures lost { (old new : Keeping E) (state : State) (notice : Option Notice) →
-        HasTended E.deeds old state new notice → is_lost old.standing ≡ true →
+        HasTended E.log E.deeds old state new notice → is_lost old.standing ≡ true →
         is_try_due old.patience ≡ true →
         (E.deeds new.ends ≡ Begun state ∷ E.deeds old.ends)
         ⊎ ((loss : Loss) × (E.deeds new.ends ≡ GivenUp Failed loss ∷ E.deeds old.ends)) }
     ensures small { (old new : Keeping E) (state : State) (notice : Option Notice) →
-        HasTended E.deeds old state new notice → is_lost old.standing ≡ false →
+        HasTended E.log E.deeds old state new notice → is_lost old.standing ≡ false →
         length (lines_of_log (written (E.deeds old.ends))) ≤ 3900000 →
         E.deeds new.ends ≡ E.deeds old.ends }
     ensures waits { (old new : Keeping E) (state : State) (notice : Option Notice) →
-        HasTended E.deeds old state new notice → is_lost old.standing ≡ true →
+        HasTended E.log E.deeds old state new notice → is_lost old.standing ≡ true →
         is_try_due old.patience ≡ false → E.deeds new.ends ≡ E.deeds old.ends }
 {}
 

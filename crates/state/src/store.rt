@@ -6,7 +6,8 @@ use gateway::Gateway;
 /// A log of lines behind the state of a gateway. It says what it has, and what of it is on the
 /// disk.
 pub trait Store {
-    ghost use Rattle.gateway.specs.Restored.{state_lines};
+    ghost use Rattle.gateway.specs.Restored.{IsSavable, state_lines};
+    ghost use Rattle.gateway.specs.State.{IsBetweenSteps};
     ghost use Rattle.state.specs.Lines.{IsRefusedBy, longest_line};
     ghost use Rattle.state.specs.Stores.{Stored};
     ghost use Rattle.std.specs.Io.Iter.{u64_saturate};
@@ -57,6 +58,8 @@ pub trait Store {
     fn begin(&mut self, gateway: &Gateway) -> bool
         ensures begun { result ≡ true → stored self.new
             ≡ record { head = settings self.old ∷ state_lines gateway.now; text = []; safe = [] } }
+        // A start can read the state there again, if the gateway is between two steps.
+        ensures savable { result ≡ true → IsBetweenSteps gateway.now → IsSavable gateway.now }
         ensures mark { result ≡ true → mark self.new ≡ Some false }
         ensures bears { result ≡ true → bears self.new (next self.old) }
         ensures above { result ≡ true → next self.new ≡ u64_saturate (next self.old + 1) }

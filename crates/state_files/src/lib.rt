@@ -27,6 +27,7 @@ mod names;
 
 use crate::marks::Marks;
 use crate::names::SystemNames;
+use gateway::History;
 pub use laws::{a_mark_is_on_the_disk_where_it_is_told, files_are_put_aside_in_pairs};
 pub use looking::{Stood, stood_in};
 use segments::Segment;
@@ -40,6 +41,8 @@ use std::{fs, io};
 #[derive(Drop)]
 pub struct Directory {
     marks: Marks<SystemNames>,
+    /// What led to the state at the head of its newest log.
+    lineage: History,
 }
 
 /// Why the system refused.
@@ -66,8 +69,9 @@ fn refusal(error: &OpenError) -> FolderFault
 }
 
 impl Directory {
-    /// The directory at a path. Nothing is asked of the system yet.
-    pub fn new(rt: HostRuntime, path: String) -> Directory
+    /// The directory at a path, to whose state this history has led. Nothing is asked of the system
+    /// yet.
+    pub fn new(rt: HostRuntime, path: String, lineage: History) -> Directory
         ensures { result ≡ record {
           marks = record {
             names = record { rt = rt; path = path; lock = None };
@@ -75,6 +79,7 @@ impl Directory {
             mark = None;
             has_put_aside = false;
           };
+          lineage = lineage;
         } }
     {
         Directory {
@@ -83,6 +88,7 @@ impl Directory {
                 path,
                 lock: None,
             }),
+            lineage,
         }
     }
 
@@ -110,6 +116,8 @@ impl Folder for Directory {
     ghost mark = { λ d. d.marks.mark };
 
     ghost is_locked = { λ d. d.marks.is_locked };
+
+    ghost lineage = { λ d. d.lineage.entries };
 
     ghost aside = { λ d _ _. d.marks.has_put_aside ≡ true };
 

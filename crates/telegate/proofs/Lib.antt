@@ -6,6 +6,7 @@ pub mod Addresses
 pub mod Turning
 pub mod Looks
 pub mod WholeRuns
+pub mod ManyLives
 pub mod Lives
 pub mod RunPorts
 pub mod Begins

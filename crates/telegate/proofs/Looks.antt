@@ -20,14 +20,15 @@ use Rattle.telegate.specs.Turns.{WithoutEnd, shown_to}
 use Rattle.telegate.proofs.Turning.{no_events_yet, one_more_event}
 
 -- by so many events, and the gateway still follows the log
-gone_on : {P : Type 0} (log : P → Option Log) (tends : P → State → P → Option Notice → Type 0)
-    (first : RunStanding P) (n : ℕ) (last : RunStanding P) → HasGoneOn log tends first n last
+gone_on : {P F : Type 0} (log : P → Option Log) (script : P → F)
+    (tends : P → State → P → Option Notice → Type 0) (first : RunStanding P) (n : ℕ)
+    (last : RunStanding P) → HasGoneOn log script tends first n last
     → MoreEvents n (log first.port) (log last.port)
     × ((p : Setup) → Follows p first.gateway (log first.port) → Rests p (log first.port)
     → Follows p last.gateway (log last.port) × Rests p (log last.port))
-gone_on log tends first _ _ Begun = (no_events_yet (log first.port), λ p f r. (f, r))
-gone_on log tends first _ _ (Turned n before taken after h t l) =
-    let b = gone_on log tends first n before h in (
+gone_on log script tends first _ _ Begun = (no_events_yet (log first.port), λ p f r. (f, r))
+gone_on log script tends first _ _ (Turned n before taken after h t l) =
+    let b = gone_on log script tends first n before h in (
       subst (MoreEvents (n + 1) (log first.port)) (sym l.quiet)
           (one_more_event n (log first.port) (log before.port) (log taken.port) b.0 t.one),
       λ p f r.
@@ -40,13 +41,13 @@ gone_on log tends first _ _ (Turned n before taken after h t l) =
     )
 
 -- behind the event that came last
-looked_last : {P : Type 0} (log : P → Option Log)
+looked_last : {P F : Type 0} (log : P → Option Log) (script : P → F)
     (tends : P → State → P → Option Notice → Type 0) (first : RunStanding P) (n : ℕ)
-    (before taken after : RunStanding P) → HasGoneOn log tends first n before
-    → TakesEvent log before taken → HaveLooked log tends taken after
+    (before taken after : RunStanding P) → HasGoneOn log script tends first n before
+    → TakesEvent log script before taken → HaveLooked log tends taken after
     → AllLooked log tends first (n + 1)
-looked_last log tends first n before taken after h t l =
-    let b = gone_on log tends first n before h in
+looked_last log script tends first n before taken after h t l =
+    let b = gone_on log script tends first n before h in
     record {
       at = taken;
       behind = after;
@@ -55,14 +56,14 @@ looked_last log tends first n before taken after h t l =
       follows = λ p f r. let was = b.1 p f r in (t.follows p was.0 was.1).0;
     }
 
-looked_behind : {P : Type 0} (log : P → Option Log)
+looked_behind : {P F : Type 0} (log : P → Option Log) (script : P → F)
     (tends : P → State → P → Option Notice → Type 0) (first : RunStanding P) (n : ℕ)
-    (last : RunStanding P) → HasGoneOn log tends first n last → (k : ℕ) → k < n
+    (last : RunStanding P) → HasGoneOn log script tends first n last → (k : ℕ) → k < n
     → AllLooked log tends first (k + 1)
-looked_behind log tends first _ _ Begun k less =
+looked_behind log script tends first _ _ Begun k less =
     let none : ⊥ = omega (arith, less) in absurd none
-looked_behind log tends first _ _ (Turned n before taken after h t l) k less =
-    go (looked_behind log tends first n before h k) (cases_lt k n)
+looked_behind log script tends first _ _ (Turned n before taken after h t l) k less =
+    go (looked_behind log script tends first n before h k) (cases_lt k n)
   where
     go : (k < n → AllLooked log tends first (k + 1)) → (k < n) ⊎ (n ≤ k)
         → AllLooked log tends first (k + 1)
@@ -70,12 +71,13 @@ looked_behind log tends first _ _ (Turned n before taken after h t l) k less =
     go earlier (inr past) =
         let so_many : n ≡ k = omega (arith, past, less) in
         subst (λ m. AllLooked log tends first (m + 1)) so_many
-        (looked_last log tends first n before taken after h t l)
+        (looked_last log script tends first n before taken after h t l)
 
-pub looked_behind_each : {P : Type 0} (log : P → Option Log)
+pub looked_behind_each : {P F : Type 0} (log : P → Option Log) (script : P → F)
     (tends : P → State → P → Option Notice → Type 0) (first last : RunStanding P) (n k : ℕ)
-    → HasGoneOn log tends first n last → k < n → AllLooked log tends first (k + 1)
-looked_behind_each log tends first last n k h less = looked_behind log tends first n last h k less
+    → HasGoneOn log script tends first n last → k < n → AllLooked log tends first (k + 1)
+looked_behind_each log script tends first last n k h less =
+    looked_behind log script tends first n last h k less
 
 -- visitors for whom there is a listener are shown the run
 pub shown_there : {D S : Type 0} {streams : Ghosts S} (l : Look)
@@ -101,17 +103,17 @@ seen : {X Y : Type 0} → (X → Y) → RunStanding X → RunStanding Y
 seen f s = stands s.gateway (f s.port) s.book s.shown
 
 -- what was tended is tended, seen so
-gone_on_seen : {X Y : Type 0} (f : X → Y) (log : Y → Option Log)
+gone_on_seen : {X Y F : Type 0} (f : X → Y) (log : Y → Option Log) (script : Y → F)
     (tends : Y → State → Y → Option Notice → Type 0) (first : RunStanding X) (n : ℕ)
     (last : RunStanding X)
-    → HasGoneOn (λ x. log (f x)) (λ a s b w. tends (f a) s (f b) w) first n last
-    → HasGoneOn log tends (seen f first) n (seen f last)
+    → HasGoneOn (λ x. log (f x)) (λ x. script (f x)) (λ a s b w. tends (f a) s (f b) w) first n last
+    → HasGoneOn log script tends (seen f first) n (seen f last)
 unfolding seen
-gone_on_seen f log tends first _ _ Begun = Begun
-gone_on_seen f log tends first _ _ (Turned n before taken after h t l) =
+gone_on_seen f log script tends first _ _ Begun = Begun
+gone_on_seen f log script tends first _ _ (Turned n before taken after h t l) =
     Turned n (seen f before) (seen f taken) (seen f after)
-    (gone_on_seen f log tends first n before h)
-    (record { one = t.one; follows = t.follows; shown = t.shown })
+    (gone_on_seen f log script tends first n before h)
+    (record { one = t.one; fixed = t.fixed; follows = t.follows; shown = t.shown })
     (record {
       notice = l.notice;
       same = l.same;
@@ -121,23 +123,31 @@ gone_on_seen f log tends first _ _ (Turned n before taken after h t l) =
       shown = l.shown;
     })
 
-pub served_seen : {X Y E : Type 0} (f : X → Y) (log : Y → Option Log)
+pub served_seen : {X Y F E : Type 0} (f : X → Y) (log : Y → Option Log) (script : Y → F)
     (tends : Y → State → Y → Option Notice → Type 0) (failure : Y → Option Failure)
     (first last : RunStanding X) (ended : Result (Unit {0}) E)
-    → HasServed (λ x. log (f x)) (λ a s b w. tends (f a) s (f b) w) (λ x. failure (f x)) first last
-    ended
-    → HasServed log tends failure (stands first.gateway (f first.port) first.book first.shown)
+    → HasServed (λ x. log (f x)) (λ x. script (f x)) (λ a s b w. tends (f a) s (f b) w)
+    (λ x. failure (f x)) first last ended
+    → HasServed log script tends failure (stands first.gateway (f first.port) first.book
+    first.shown)
     (stands last.gateway (f last.port) last.book last.shown) ended
 unfolding seen
-served_seen f log tends failure first last _ (InATurn n before ended h e) =
-    InATurn n (seen f before) ended (gone_on_seen f log tends first n before h)
-    (record { few = e.few; between = e.between; closes = e.closes; shown = e.shown })
-served_seen f log tends failure first last _ (WithoutEnd h) =
-    WithoutEnd (gone_on_seen f log tends first 18446744073709551615 last h)
+served_seen f log script tends failure first last _ (InATurn n before ended h e) =
+    InATurn n (seen f before) ended (gone_on_seen f log script tends first n before h)
+    (record {
+      few = e.few;
+      fixed = e.fixed;
+      between = e.between;
+      closes = e.closes;
+      shown = e.shown;
+    })
+served_seen f log script tends failure first last _ (WithoutEnd h) =
+    WithoutEnd (gone_on_seen f log script tends first 18446744073709551615 last h)
 
-pub served_from : {P E : Type 0} (log : P → Option Log)
+pub served_from : {P F E : Type 0} (log : P → Option Log) (script : P → F)
     (tends : P → State → P → Option Notice → Type 0) (failure : P → Option Failure)
     (first from last : RunStanding P) (ended : Result (Unit {0}) E) → first ≡ from
-    → HasServed log tends failure first last ended → HasServed log tends failure from last ended
-served_from log tends failure first from last ended same served =
-    subst (λ stood. HasServed log tends failure stood last ended) same served
+    → HasServed log script tends failure first last ended
+    → HasServed log script tends failure from last ended
+served_from log script tends failure first from last ended same served =
+    subst (λ stood. HasServed log script tends failure stood last ended) same served

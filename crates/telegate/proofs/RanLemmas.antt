@@ -5,8 +5,11 @@ use Rattle.std.specs.Borrow.{Bor}
 use Rattle.std.specs.Prelude.{MatchOption}
 use Rattle.clap.specs.Words.{Text}
 use Rattle.gateway.specs.Config.{Settings}
+use Rattle.gateway.specs.Log.{Log}
 use Rattle.live.specs.Ends.{Fixture}
 use Rattle.settings.specs.Live.{Places}
+use Rattle.sqlite_disk.specs.declared.Disk.{Ghosts}
+use Rattle.state.specs.Directories.{BeginsIn}
 use Rattle.state.specs.declared.beginning.Origin.{Origin}
 use Rattle.telegate.specs.AsWished.{IsAsWished}
 use Rattle.telegate.specs.Asked.{Asked, StateIn, asked_for, call_if, ends_asked, run_asked}
@@ -14,8 +17,10 @@ use Rattle.telegate.specs.Asked.{LineAt, ListenAt, LogAt, RecordAt, SiteCall, St
 use Rattle.telegate.specs.Asked.{scribes_asked}
 use Rattle.telegate.specs.Kept.{HasLivedFrom, first_moment}
 use Rattle.telegate.specs.Living.{HasLived}
-use Rattle.telegate.specs.Ran.{HasLivedAnew, HasLivedAs, HasLivedKept, RunLeft}
+use Rattle.telegate.specs.Ran.{HasLivedAnew, HasLivedAs, HasLivedKept, IfOver, RunLeft}
 use Rattle.telegate.specs.declared.host.Wishes.{Wishes}
+use Rattle.telegate.specs.declared.living.Over.{Over}
+use Rattle.telegate.specs.declared.living.Over.TheVariants.{Anew, Kept}
 
 pub lived_anew : {E : Type 0} (begins : Origin → Type 0) (settings : Settings) (wishes : Wishes)
     (old new : Asked) (left : RunLeft) (ended : Result (Unit {0}) E) → wishes.state ≡ None
@@ -57,6 +62,44 @@ by_state : {P A K : Type 0} (state : Option (Bor Text)) → (A → P) → (K →
 by_state None anew kept h = anew h
 by_state (Some directory) anew kept h = kept h
 
+-- a run that began anew, or one whose state is kept
+pub of_anew : {A K : Type 0} (anew : A → Type 0) (kept : K → Type 0) (over : Over A K) (run : A)
+    → over ≡ Anew run → IfOver over anew kept → anew run
+of_anew anew kept over run is h = subst (λ o. IfOver o anew kept) is h
+
+pub of_kept : {A K : Type 0} (anew : A → Type 0) (kept : K → Type 0) (over : Over A K) (run : K)
+    → over ≡ Kept run → IfOver over anew kept → kept run
+of_kept anew kept over run is h = subst (λ o. IfOver o anew kept) is h
+
+-- the log so far under another name
+pub begins_by : {D : Type 0} (g : Ghosts D) (c : Settings) (text : List ℕ) (one other : Log)
+    (o : Origin) → one ≡ other → BeginsIn g c text one o → BeginsIn g c text other o
+begins_by g c text one other o same begun = subst (λ log. BeginsIn g c text log o) same begun
+
+-- a run that began so began in a way that follows from that
+pub begins_weaker : {E : Type 0} (strong weak : Origin → Type 0) (settings : Settings)
+    (wishes : Wishes) (old new : Asked) (left : RunLeft) (ended : Result (Unit {0}) E)
+    → HasLivedAs strong settings wishes old new left ended → ((o : Origin) → strong o → weak o)
+    → HasLivedAs weak settings wishes old new left ended
+begins_weaker {E} strong weak settings wishes old new left ended h implies = by wishes.state h
+  where
+    by : (state : Option (Bor Text))
+        → MatchOption state (HasLivedAnew settings wishes old new left ended)
+        (λ _. HasLivedKept strong settings wishes old new left ended)
+        → MatchOption state (HasLivedAnew settings wishes old new left ended)
+        (λ _. HasLivedKept weak settings wishes old new left ended)
+    by None anew = anew
+    by (Some directory) kept = record {
+      lived = record {
+        origin = kept.lived.origin;
+        begun = implies kept.lived.origin kept.lived.begun;
+        clock = kept.lived.clock;
+        on = kept.lived.on;
+      };
+      wished = kept.wished;
+      bears = kept.bears;
+    }
+
 -- what is left of it is as it was wished
 pub as_wished : {E : Type 0} (begins : Origin → Type 0) (settings : Settings) (wishes : Wishes)
     (old new : Asked) (left : RunLeft) (ended : Result (Unit {0}) E)
@@ -94,30 +137,43 @@ bears_as_wished begins settings wishes old new left ended directory h named =
 
 -- each call that is asked for is noted
 all_noted : (again : Bool) (moment : ℕ) (state status : Option (Bor Text)) (places : Places)
-    (before : List SiteCall) (moments : List ℕ)
+    (lineage : Log) (before : List SiteCall) (moments : List ℕ)
     → let a : Asked = ends_asked again moment (asked_for (call_if StateIn state)
-    (scribes_asked status
-    (record { places = places; calls = Some before; clocks = Some moments }))) in
+    (scribes_asked status (record {
+      places = places;
+      lineage = lineage;
+      calls = Some before;
+      clocks = Some moments;
+    }))) in
     (a.calls ≡ Some (LineAt places.line again true ∷ ListenAt places.listen true
     ∷ call_if StateIn state ++ RecordAt ∷ call_if StatusAt status ++ LogAt ∷ before))
     × (a.clocks ≡ Some (moment ∷ moments))
-all_noted again moment None None places before moments = (refl, refl)
-all_noted again moment None (Some place) places before moments = (refl, refl)
-all_noted again moment (Some name) None places before moments = (refl, refl)
-all_noted again moment (Some name) (Some place) places before moments = (refl, refl)
+all_noted again moment None None places lineage before moments = (refl, refl)
+all_noted again moment None (Some place) places lineage before moments = (refl, refl)
+all_noted again moment (Some name) None places lineage before moments = (refl, refl)
+all_noted again moment (Some name) (Some place) places lineage before moments = (refl, refl)
 
 -- so is what it asked for
 pub asked_as_wished : {E : Type 0} (begins : Origin → Type 0) (settings : Settings)
-    (wishes : Wishes) (places : Places) (before : List SiteCall) (moments : List ℕ) (new : Asked)
-    (left : RunLeft) (ended : Result (Unit {0}) E)
-    → HasLivedAs begins settings wishes
-    (record { places = places; calls = Some before; clocks = Some moments }) new left ended
+    (wishes : Wishes) (places : Places) (lineage : Log) (before : List SiteCall)
+    (moments : List ℕ) (new : Asked) (left : RunLeft) (ended : Result (Unit {0}) E)
+    → HasLivedAs begins settings wishes (record {
+      places = places;
+      lineage = lineage;
+      calls = Some before;
+      clocks = Some moments;
+    }) new left ended
     → (moment : ℕ) × (new.calls ≡ Some (LineAt places.line wishes.redial true
     ∷ ListenAt places.listen true
     ∷ call_if StateIn wishes.state ++ RecordAt ∷ call_if StatusAt wishes.status ++ LogAt ∷ before))
     × (new.clocks ≡ Some (moment ∷ moments))
-asked_as_wished begins settings wishes places before moments new left ended h =
-    let old : Asked = record { places = places; calls = Some before; clocks = Some moments } in
+asked_as_wished begins settings wishes places lineage before moments new left ended h =
+    let old : Asked = record {
+      places = places;
+      lineage = lineage;
+      calls = Some before;
+      clocks = Some moments;
+    } in
     let at : (moment : ℕ) × (new ≡ run_asked wishes moment old) =
     by_state wishes.state
     (λ (a : HasLivedAnew settings wishes old new left ended). (0, a.asked))
@@ -125,7 +181,8 @@ asked_as_wished begins settings wishes places before moments new left ended h =
       first_moment k.lived.origin.moment,
       k.lived.clock,
     )) h in
-    let all = all_noted wishes.redial at.0 wishes.state wishes.status places before moments in (
+    let all = all_noted wishes.redial at.0 wishes.state wishes.status places lineage before
+    moments in (
       at.0,
       ap (λ (a : Asked). a.calls) at.1 ∙ all.0,
       ap (λ (a : Asked). a.clocks) at.1 ∙ all.1,

@@ -1,11 +1,12 @@
 -- A run turn by turn.
 use Rattle.std.proofs.Common.{◌≡◌, ℕ, ◌+◌, List, [], length, Option, Some, None, option_map, refl}
-use Rattle.std.proofs.Common.{sym, ap, subst, ◌∙◌, arith}
+use Rattle.std.proofs.Common.{sym, ap, ap₂, subst, ◌∙◌, arith}
 use Rattle.gateway.specs.Agrees.{Follows, Rests}
 use Rattle.gateway.specs.Log.{Log, LogEntry}
 use Rattle.gateway.specs.Reports.{Setup}
 use Rattle.gateway.specs.Runs.{MoreEvents, events_logged}
 use Rattle.gateway.specs.State.{State}
+use Rattle.runlog.specs.Logging.{Book, BookFixture, LoggedFixture, logged_fixture}
 
 -- at first nothing has come
 none_more : (events : Option (List LogEntry)) → option_map length events
@@ -43,3 +44,14 @@ begun p s shown begins empty =
     let P : Option Log → Type 0 = λ t. Follows p s t in
     let Q : Option Log → Type 0 = λ t. Rests p t in
     (subst P (sym empty) begins, subst Q (sym empty) tt)
+
+-- what lasts of a port lasts beside its log too, where all that is fixed of it does
+pub lasting_logged : {P F G : Type 0} (script : P → F) (lasting : P → G)
+    → ((one other : P) → script one ≡ script other → lasting one ≡ lasting other)
+    → (one other : P) (b c : Book)
+    → logged_fixture (script one) b ≡ logged_fixture (script other) c
+    → logged_fixture (lasting one) b ≡ logged_fixture (lasting other) c
+lasting_logged {P} {F} {G} script lasting lasts one other b c same =
+    ap₂ (λ (port : G) (book : BookFixture). record { port = port; book = book })
+    (lasts one other (ap (λ (f : LoggedFixture F). f.port) same))
+    (ap (λ (f : LoggedFixture F). f.book) same)

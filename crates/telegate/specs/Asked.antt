@@ -3,6 +3,7 @@ use Rattle.std.specs.Prelude.{◌≡◌, ℕ, Bool, true, false, List, [], ◌�
 use Rattle.std.specs.Prelude.{option_map, Result, IfErr}
 use Rattle.std.specs.Borrow.{Bor}
 use Rattle.clap.specs.Words.{Text}
+use Rattle.gateway.specs.Log.{Log}
 use Rattle.settings.specs.Live.{Places}
 use Rattle.telegate.specs.declared.host.Wishes.{Wishes}
 
@@ -18,10 +19,12 @@ pub data SiteCall : Type 0 where
   ListenAt : (place : List ℕ) → (given : Bool) → SiteCall
   LineAt : (place : List ℕ) → (again given : Bool) → SiteCall
 
--- The places of a site. What it was asked for, the newest first, and the moments, in ms, at which
--- the clocks that it gave begin, where it notes that.
+-- The places of a site, and what led to the state at the head of the newest log in its directory.
+-- What it was asked for, the newest first, and the moments, in ms, at which the clocks that it gave
+-- begin, where it notes that.
 pub record Asked : Type 0 where
   pub places : Places
+  pub lineage : Log
   pub calls : Option (List SiteCall)
   pub clocks : Option (List ℕ)
 
@@ -35,6 +38,7 @@ calls_behind (call ∷ calls) before =
 abbrev pub asked_for : List SiteCall → Asked → Asked
 asked_for calls a = record {
   places = a.places;
+  lineage = a.lineage;
   calls = calls_behind calls a.calls;
   clocks = a.clocks;
 }
@@ -54,6 +58,7 @@ clocks_by false moment clocks = clocks
 abbrev pub clock_asked : (given : Bool) → (moment : ℕ) → Asked → Asked
 clock_asked given moment a = record {
   places = a.places;
+  lineage = a.lineage;
   calls = a.calls;
   clocks = clocks_by given moment a.clocks;
 }

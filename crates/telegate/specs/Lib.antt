@@ -33,3 +33,4 @@ pub mod Captures
 pub mod Playing
 pub mod Turns
 pub mod Served
+pub mod ManyLives

@@ -11,10 +11,10 @@ use Rattle.live.specs.declared.watched.Notice.{Notice}
 use Rattle.lookout.specs.Looking.{looked, turned_after}
 use Rattle.lookout.specs.Looks.{Look, Standing}
 use Rattle.lookout.specs.declared.lookout.Lookout.{Lookout}
-use Rattle.record.specs.Recording.{Recording}
+use Rattle.record.specs.Recording.{AreAgreed, RecordedFixture, Recording, recorded_fixture}
 use Rattle.runlog.specs.Logging.{Book, Closes, Tends}
 use Rattle.status.specs.declared.streams.Stream.{Ghosts}
-use Rattle.telegate.specs.Lives.{all_passed}
+use Rattle.telegate.specs.Lives.{LivesFixture, all_passed, fixture}
 
 -- How a run stands: its gateway, its port, what was logged, and what is shown to visitors, where
 -- there is a listener for them.
@@ -38,10 +38,12 @@ abbrev pub shown_to : {D S : Type 0} {streams : Ghosts S} → Option (Lookout D 
 shown_to lookout = option_map (λ l. record { turned = l.turned; shown = l.shown }) lookout
 
 -- One event was taken, and what follows from it went out. A gateway that followed the log still
--- does.
-pub record TakesEvent {P : Type 0} (log : P → Option Log) (before after : RunStanding P) : Type 0
+-- does. What is fixed of the port but for looks is as before.
+pub record TakesEvent {P F : Type 0} (log : P → Option Log) (script : P → F)
+    (before after : RunStanding P) : Type 0
   where
     pub one : MoreEvents 1 (log before.port) (log after.port)
+    pub fixed : script after.port ≡ script before.port
     pub follows : (p : Setup) → Follows p before.gateway (log before.port)
         → Rests p (log before.port)
         → Follows p after.gateway (log after.port) × Rests p (log after.port)
@@ -73,13 +75,14 @@ pub record HaveLooked {P : Type 0} (log : P → Option Log)
   }) before.shown after.shown
 
 -- So many events were taken, and behind each of them all looked before the next one came.
-pub data HasGoneOn {P : Type 0} (log : P → Option Log)
+pub data HasGoneOn {P F : Type 0} (log : P → Option Log) (script : P → F)
     (tends : P → State → P → Option Notice → Type 0) (first : RunStanding P)
     : ℕ → RunStanding P → Type 0 where
-  Begun : HasGoneOn log tends first 0 first
-  Turned : (n : ℕ) (before taken after : RunStanding P) → HasGoneOn log tends first n before
-      → TakesEvent log before taken → HaveLooked log tends taken after
-      → HasGoneOn log tends first (n + 1) after
+  Begun : HasGoneOn log script tends first 0 first
+  Turned : (n : ℕ) (before taken after : RunStanding P)
+      → HasGoneOn log script tends first n before
+      → TakesEvent log script before taken → HaveLooked log tends taken after
+      → HasGoneOn log script tends first (n + 1) after
 
 -- All looked at the gateway once so many events had come. If it followed the log at first, it does
 -- at that look.
@@ -95,23 +98,24 @@ pub record AllLooked {P : Type 0} (log : P → Option Log)
 
 -- In its last turn a run took one event at most. Then what failed was logged, if anything, and what
 -- the gateway had counted.
-pub record EndsInTurn {P : Type 0} (log : P → Option Log) (failure : P → Option Failure)
-    (before after : RunStanding P) : Type 0 where
+pub record EndsInTurn {P F : Type 0} (log : P → Option Log) (script : P → F)
+    (failure : P → Option Failure) (before after : RunStanding P) : Type 0 where
   pub few : AtMostEvents 1 (log before.port) (log after.port)
+  pub fixed : script after.port ≡ script before.port
   pub between : Book
   pub closes : Closes between (failure after.port) after.gateway after.book
   pub shown : after.shown ≡ before.shown
 
 -- The run went on so from the first standing to the last one. It ended in a turn, or once all turns
 -- that can be counted were used up.
-pub data HasServed {P E : Type 0} (log : P → Option Log)
+pub data HasServed {P F E : Type 0} (log : P → Option Log) (script : P → F)
     (tends : P → State → P → Option Notice → Type 0) (failure : P → Option Failure)
     (first last : RunStanding P) : Result (Unit {0}) E → Type 0 where
   InATurn : (n : ℕ) (before : RunStanding P) (ended : Result (Unit {0}) E)
-      → HasGoneOn log tends first n before → EndsInTurn log failure before last
-      → HasServed log tends failure first last ended
-  WithoutEnd : HasGoneOn log tends first 18446744073709551615 last
-      → HasServed log tends failure first last (Ok tt)
+      → HasGoneOn log script tends first n before → EndsInTurn log script failure before last
+      → HasServed log script tends failure first last ended
+  WithoutEnd : HasGoneOn log script tends first 18446744073709551615 last
+      → HasServed log script tends failure first last (Ok tt)
 
 -- a port in its life: what passed in the lives before, what is recorded of it, and itself
 pub record PortOfLife (P : Type 0) : Type 0 where
@@ -126,11 +130,20 @@ in_life before pen port = record { before = before; pen = pen; port = port }
 abbrev pub log_in_life : {P : Type 0} → (P → Option Log) → PortOfLife P → Option Log
 log_in_life log l = all_passed l.before l.pen (log l.port)
 
--- it tended the state, of which nothing is recorded
-abbrev pub tends_in_life : {P : Type 0} → (P → State → P → Option Notice → Type 0)
-    → PortOfLife P → State → PortOfLife P → Option Notice → Type 0
-tends_in_life tends old state new notice =
-    tends old.port state new.port notice × (new.pen ≡ old.pen)
+-- what is fixed of it
+abbrev pub script_in_life : {P F : Type 0} → (P → F) → PortOfLife P
+    → LivesFixture (RecordedFixture F)
+script_in_life script l = fixture (recorded_fixture (script l.port) l.pen) l.before
+
+-- It tended the state, of which nothing is recorded. What is recorded is what has passed, where
+-- both
+-- is known.
+abbrev pub tends_in_life : {P : Type 0} → (P → Option Log)
+    → (P → State → P → Option Notice → Type 0) → PortOfLife P → State → PortOfLife P
+    → Option Notice → Type 0
+tends_in_life log tends old state new notice =
+    (tends old.port state new.port notice × (new.pen ≡ old.pen)
+    × AreAgreed old.pen (log old.port)) × (new.before ≡ old.before)
 
 abbrev pub failure_in_life : {P : Type 0} → (P → Option Failure) → PortOfLife P → Option Failure
 failure_in_life failure l = failure l.port

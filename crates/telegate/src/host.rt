@@ -16,7 +16,7 @@ use crate::playing::{play_behind, scenario_of};
 use crate::running::DeviceFailed;
 use crate::site::Process;
 use crate::source::Source;
-use gateway::Config;
+use gateway::{Config, History};
 use live::{AllowList, SystemClock};
 use runlog::{LogNames, NamedStation};
 use settings::LiveSettings;
@@ -142,14 +142,17 @@ pub(crate) trait Host {
         ensures none { IfErr result (λ why. why ≡ unread.Unreadable → silent self.now place.now) };
 }
 
-/// The system of a process. Of what its files hold nothing is known.
-#[derive(Clone, Copy)]
+/// The system of a process. Of what its files hold nothing is known, but what led to the state that
+/// a run may find, which only proofs know.
+#[derive(Drop)]
 pub(crate) struct System<'r> {
     pub(crate) rt: &'r HostRuntime,
     /// Whether its standard error is a terminal, and its standard output isn't.
     pub(crate) is_watched: bool,
     /// Whether standard output shows colours of itself.
     pub(crate) has_colours: bool,
+    /// What led to the state at the head of the newest log, in the directory that a run is told.
+    pub(crate) lineage: History,
 }
 
 impl Host for System<'_> {
@@ -160,9 +163,8 @@ impl Host for System<'_> {
     ghost use Rattle.state.specs.Directories.{BeginsIn};
     ghost use Rattle.telegate.specs.Ran.{HasRunBy};
 
-    ghost ran = { λ _ _ text wishes ended. HasRunBy (λ settings kept. BeginsIn
-        ⟦<DiskFile as Disk>⟧ settings kept ⟦<Directory as Folder>⟧.lineage)
-        text wishes ended };
+    ghost ran = { λ old _ text wishes ended. HasRunBy (λ settings kept. BeginsIn
+        ⟦<DiskFile as Disk>⟧ settings kept old.lineage.entries) text wishes ended };
 
     ghost use Rattle.telegate.specs.Playing.{ArePlayedBy};
 
@@ -219,7 +221,8 @@ impl Host for System<'_> {
             return Err(Fault::EndUnusable);
         };
         let names = named_by(wishes.names, stations.as_slice());
-        let mut site = process_of(self.rt, &places, names, wishes.log_severity);
+        let lineage = self.lineage.again();
+        let mut site = process_of(self.rt, &places, names, wishes.log_severity, lineage);
         match run_at(&mut site, &settings, config, wishes) {
             Ok(Over::Anew(run)) => answer_to(run.ended),
             Ok(Over::Kept(run)) => answer_to(run.ended),
@@ -284,21 +287,24 @@ fn answer_to(ended: Result<(), DeviceFailed>) -> Result<(), Fault>
     }
 }
 
-/// A process with these settings, names and form of its log.
+/// A process with these settings, names and form of its log, to whose state this has led.
 fn process_of<'a>(
     rt: &'a HostRuntime,
     places: &'a LiveSettings,
     names: LogNames<'a>,
     has_severity: bool,
+    lineage: History,
 ) -> Process<'a>
     ensures severity { result.has_severity ≡ has_severity }
     ensures places { result.places.now ≡ places.now }
+    ensures lineage { result.lineage.entries ≡ lineage.entries }
 {
     Process {
         rt,
         places,
         names,
         has_severity,
+        lineage,
     }
 }
 

@@ -1,13 +1,24 @@
 //! What of a run's ends is seen by its log and by its page, and what is said of a run.
 ghost use Rattle.std.specs.Prelude.{◌≡◌, ◌<◌, ◌+◌, ◌||◌, ◌∷◌, ◌++◌, ℕ, List, not, Some};
-ghost use Rattle.std.specs.Prelude.{Result, true};
+ghost use Rattle.std.specs.Prelude.{Bool, Result, true};
 ghost use Rattle.std.specs.Borrow.{Bor};
 ghost use Rattle.std.specs.Option.{is_some, option_or};
 ghost use Rattle.clap.specs.Words.{Text};
 ghost use Rattle.gateway.specs.Config.{Settings};
+ghost use Rattle.gateway.specs.Log.{Log};
+ghost use Rattle.gateway.specs.Reports.{Setup};
+ghost use Rattle.gateway.specs.Restored.{IsSavable};
+ghost use Rattle.gateway.specs.Setups.{setup_of};
+ghost use Rattle.gateway.specs.State.{State, IsBetweenSteps};
 ghost use Rattle.settings.specs.Live.{Places};
 ghost use Rattle.sitefile.specs.Site.{SiteNames, SiteValues, names_of};
+ghost use Rattle.state.specs.Both.{Both};
+ghost use Rattle.state.specs.Deeds.{AreRight, Deeds, heads};
 ghost use Rattle.state.specs.Directories.{BeginsIn};
+ghost use Rattle.state.specs.Keeping.{Keeping};
+ghost use Rattle.state.specs.Returns.{HasReturned};
+ghost use Rattle.state.specs.declared.beginning.Origin.{Origin};
+ghost use Rattle.live.specs.Ends.{LiveEnds};
 ghost use Rattle.live.specs.Redial.{Redial};
 ghost use Rattle.live.specs.Runs.{ShowsRun};
 ghost use Rattle.live.specs.Streams.{Calls};
@@ -16,8 +27,10 @@ ghost use Rattle.telegate.specs.AllowLists.{IsAllowListOf};
 ghost use Rattle.telegate.specs.Asked.{Asked, LineAt, ListenAt, LogAt, RecordAt};
 ghost use Rattle.telegate.specs.Asked.{SiteCall, StateIn, StatusAt, call_if};
 ghost use Rattle.telegate.specs.CommandLine.{text_of, texts_of};
+ghost use Rattle.telegate.specs.ManyLives.{ComesBehind, HasKeptOn, IsHeadIn, IsHeadUpTo};
+ghost use Rattle.telegate.specs.ManyLives.{IsLastOfLives, IsUpTo};
 ghost use Rattle.telegate.specs.Ran.{HasLivedAs, RunLeft};
-ghost use Rattle.telegate.specs.Turns.{AllLooked, HasGoneOn, RunStanding};
+ghost use Rattle.telegate.specs.Turns.{AllLooked, HasGoneOn, PortOfLife, RunStanding};
 ghost use Rattle.telegate.specs.Wishes.{AreWishes, Said, said_by, said_in, said_of};
 ghost use Rattle.telegate.specs.declared.host.Wishes.{Wishes};
 ghost use Rattle.telegate.specs.declared.run_words.RunWords.{RunWords};
@@ -27,8 +40,11 @@ ghost use Rattle.telegate.specs.declared.site.ProcessLine.TheVariants.{Once, Aga
 use crate::life::Life;
 use crate::living::Kept;
 use crate::site::{ReturningLine, RunSite, SystemLine};
+use gateway::steps_leave_nothing_open;
 use live::{LineSocket, OctetStream, RunPort, Watched};
 use record::Recorder;
+use sqlite_disk::Disk;
+use state::Store;
 
 /// The line of the program.
 type ProgramLine = SystemLine<'static, HostRuntime>;
@@ -99,13 +115,13 @@ pub fn what_is_said_keeps_its_name()
 pub fn runs_are_as_they_were_wished<T: RunSite>()
     ensures all { (c : Settings) (text : List ℕ) (w : Wishes) (old new : Asked) (left : RunLeft)
         (ended : Result (Unit {0}) DeviceFailed) →
-        HasLivedAs (BeginsIn T.Folder.File.Disk c text T.Folder.lineage) c w old new left ended →
+        HasLivedAs (BeginsIn T.Folder.File.Disk c text old.lineage) c w old new left ended →
         (left.book.is_wished ≡ w.log) × (left.pen.is_wished ≡ w.record)
         × (left.book.is_watching ≡ is_some w.status) × (left.is_shown ≡ is_some w.status)
         × (left.port.allow_list ≡ w.allow_list) }
     ensures bears { (c : Settings) (text : List ℕ) (w : Wishes) (old new : Asked)
         (left : RunLeft) (ended : Result (Unit {0}) DeviceFailed) (directory : Bor Text) →
-        HasLivedAs (BeginsIn T.Folder.File.Disk c text T.Folder.lineage) c w old new left ended →
+        HasLivedAs (BeginsIn T.Folder.File.Disk c text old.lineage) c w old new left ended →
         w.state ≡ Some directory →
         left.bears_loss ≡ Some w.bears_loss }
 {}
@@ -116,11 +132,15 @@ pub fn runs_are_as_they_were_wished<T: RunSite>()
 /// and one clock. The line was to be reached again where that was wished.
 #[tactic(auto, using(crate::proofs::RanLemmas::asked_as_wished))]
 pub fn runs_ask_for_the_places_of_their_settings<T: RunSite>()
-    ensures { (c : Settings) (text : List ℕ) (w : Wishes) (places : Places)
+    ensures { (c : Settings) (text : List ℕ) (w : Wishes) (places : Places) (lineage : Log)
         (before : List SiteCall) (moments : List ℕ) (new : Asked) (left : RunLeft)
         (ended : Result (Unit {0}) DeviceFailed) →
-        HasLivedAs (BeginsIn T.Folder.File.Disk c text T.Folder.lineage) c w
-        (record { places = places; calls = Some before; clocks = Some moments }) new left ended →
+        HasLivedAs (BeginsIn T.Folder.File.Disk c text lineage) c w (record {
+          places = places;
+          lineage = lineage;
+          calls = Some before;
+          clocks = Some moments;
+        }) new left ended →
         (moment : ℕ) × (new.calls ≡ Some (LineAt places.line w.redial true
         ∷ ListenAt places.listen true
         ∷ call_if StateIn w.state ++ RecordAt ∷ call_if StatusAt w.status ++ LogAt ∷ before))
@@ -132,6 +152,38 @@ pub fn runs_ask_for_the_places_of_their_settings<T: RunSite>()
 /// followed the log at first follows it at each look, with all events so far.
 #[tactic(auto, using(crate::proofs::Looks::looked_behind_each))]
 pub fn behind_each_event_all_look<P: Watched>()
-    ensures { (first last : RunStanding P) (n k : ℕ) → HasGoneOn P.log P.tends first n last →
+    ensures { (first last : RunStanding P) (n k : ℕ) →
+        HasGoneOn P.log P.script P.tends first n last →
         k < n → AllLooked P.log P.tends first (k + 1) }
 {}
+
+/// Each log that a run begins on the disk has at its head a state that follows all that had passed
+/// by then, in this run and in the lives before. So it is wherever the gateway followed the lives
+/// before when the run began. Such a state can be read again. It is that of the first log, of one
+/// that was begun at a look, or of one that is begun at the next look.
+pub fn each_log_begins_where_the_run_stands<S: Store>()
+    ensures heads { (p : Setup) (origin : Origin) (events : ℕ)
+        (now : RunStanding (PortOfLife (Keeping (Both LiveEnds S)))) (head : State × Log) →
+        HasKeptOn origin events now → IsUpTo p origin.before.entries origin.gateway →
+        IsHeadIn origin now head → IsHeadUpTo p origin.before.entries head }
+    ensures readable { (bears : Bool) (deeds : Deeds) (head : State × Log)
+        (earlier : List (State × Log)) → AreRight bears deeds → heads deeds ≡ head ∷ earlier →
+        IsBetweenSteps head.0 → IsSavable head.0 }
+{}
+
+/// Any number of lives, one behind another, are one run. The first one begins anew, and each is cut
+/// at some moment. The next one begins over what the crash leaves of the files, with the same
+/// settings. Then its gateway follows the log of all lives before: with what had passed when the
+/// newest log was begun, with the events that were synced behind that, and with the oldest of those
+/// that waited. So what `run_kept` promises of all lives together holds of each life.
+pub fn all_lives_are_one_run<S: Store, D: Disk>()
+    ensures lives { (c : Settings) (text : List ℕ) (origin : Origin) →
+        IsLastOfLives S D.Disk c text origin →
+        IsUpTo (setup_of c) origin.before.entries origin.gateway }
+    ensures next { (c : Settings) (text : List ℕ) (this next : Origin)
+        (b : ComesBehind S D.Disk c text this next) →
+        IsUpTo (setup_of c) this.before.entries this.gateway →
+        HasReturned c (b.head.1 ++ this.before.entries) b.deeds next }
+{
+    steps_leave_nothing_open();
+}

@@ -85,8 +85,19 @@ impl<P: Port + Drop> Port for Life<P> {
 }
 
 impl<P: Watched + Drop> Watched for Life<P> {
-    ghost tends = { λ old state new notice.
-        P.tends old.port state new.port notice };
+    ghost use Rattle.std.proofs.Common.{ap, ap₂};
+    ghost use Rattle.telegate.specs.Lives.{LivesFixture, fixture};
+
+    ghost tends = { λ old state new notice. P.tends old.port state new.port notice
+        × (new.before.entries ≡ old.before.entries) };
+
+    ghost Lasting = { LivesFixture P.Lasting };
+
+    ghost lasting = { λ l. fixture (P.lasting l.port) l.before.entries };
+
+    ghost lasts = { λ one other same.
+        ap₂ (λ port before. record { port = port; before = before })
+        (P.lasts one.port other.port (ap (λ f. f.port) same)) (ap (λ f. f.before) same) };
 
     ghost failure = { λ l. P.failure l.port };
 

@@ -272,9 +272,11 @@ pub(crate) fn run_at<T: RunSite>(
     wishes: Wishes<'_>,
 ) -> Result<RunOver<T>, Fault>
     requires severity { T.severe site.old ≡ wishes.log_severity }
-    // A run as wished lived, and so it ended.
+    // A run as wished lived, and so it ended. If its state is kept, all looked behind each event
+    // before the next one came.
     ensures lived { IfOk result (λ over. IfOver over
-        (λ anew. HasLivedAs (BeginsIn T.Folder.File.Disk config.now text.now T.Folder.lineage)
+        (λ anew. HasLivedAs
+        (BeginsIn T.Folder.File.Disk config.now text.now (T.asked site.old).lineage)
         config.now wishes.entry (T.asked site.old) (T.asked site.new) (record {
           before = anew.run_log.port.before.entries;
           port = anew.run_log.port.port.port;
@@ -283,7 +285,10 @@ pub(crate) fn run_at<T: RunSite>(
           is_shown = is_some anew.lookout;
           bears_loss = None;
         }) anew.ended)
-        (λ kept. HasLivedAs (BeginsIn T.Folder.File.Disk config.now text.now T.Folder.lineage)
+        (λ kept. HasLivedAs (λ origin.
+        BeginsIn T.Folder.File.Disk config.now text.now (T.asked site.old).lineage origin
+        × HasServedOn origin (in_life kept.run_log.port.before.entries kept.run_log.port.port.pen
+        kept.run_log.port.port.port) kept.run_log.logger (shown_to kept.lookout) kept.ended)
         config.now wishes.entry (T.asked site.old) (T.asked site.new) (record {
           before = kept.run_log.port.before.entries;
           port = kept.run_log.port.port.port.ends.port;
@@ -292,15 +297,11 @@ pub(crate) fn run_at<T: RunSite>(
           is_shown = is_some kept.lookout;
           bears_loss = Some kept.run_log.port.port.port.bears_loss;
         }) kept.ended)) }
-    // Behind each event its port, its log and visitors looked before the next one came.
+    // So did those of a run that began anew.
     ensures served { IfOk result (λ over. IfOver over
         (λ anew. HasServedAnew config.now (in_life anew.run_log.port.before.entries
         anew.run_log.port.port.pen anew.run_log.port.port.port) anew.run_log.logger
-        (shown_to anew.lookout) anew.ended)
-        (λ kept. (origin : Origin)
-        × BeginsIn T.Folder.File.Disk config.now text.now T.Folder.lineage origin
-        × HasServedOn origin (in_life kept.run_log.port.before.entries kept.run_log.port.port.pen
-        kept.run_log.port.port.port) kept.run_log.logger (shown_to kept.lookout) kept.ended)) }
+        (shown_to anew.lookout) anew.ended) (λ _. Unit {0})) }
     // Without a clock nothing has run.
     ensures none { UnclockedIfErr result (T.asked site.old) (T.asked site.new) }
     ensures fault { IfErr result IsKeptFault }
@@ -410,21 +411,19 @@ fn run_kept<T: RunSite>(
     directory: &str,
     wishes: Wishes<'_>,
 ) -> Result<Lived<Kept<T>, T::Sheet, T::Sink, T::Glass>, Fault>
-    // It went on from what the directory had.
-    ensures lived { IfOk result (λ lived. HasLivedFrom
-        (BeginsIn T.Folder.File.Disk config.now text.now T.Folder.lineage) config.now
-        wishes.entry.allow_list (λ moment. T.asked site.new
+    // It went on from what the directory had, and all looked behind each of its events.
+    ensures lived { IfOk result (λ lived. HasLivedFrom (λ origin.
+        BeginsIn T.Folder.File.Disk config.now text.now (T.asked site.old).lineage origin
+        × HasServedOn origin (in_life lived.run_log.port.before.entries
+        lived.run_log.port.port.pen lived.run_log.port.port.port) lived.run_log.logger
+        (shown_to lived.lookout) lived.ended) config.now wishes.entry.allow_list
+        (λ moment. T.asked site.new
         ≡ ends_asked wishes.entry.redial moment (asked_for (StateIn directory.now true ∷ [])
         (scribes_asked wishes.entry.status (T.asked site.old))))
         lived.run_log.port.before.entries lived.run_log.port.port.port.ends.port
         lived.run_log.port.port.pen lived.ended) }
     ensures wished { IfOk result (λ lived. IsAsWished wishes.entry lived.run_log.logger
         lived.run_log.port.port.pen (is_some lived.lookout)) }
-    ensures served { IfOk result (λ lived. (origin : Origin)
-        × BeginsIn T.Folder.File.Disk config.now text.now T.Folder.lineage origin
-        × HasServedOn origin (in_life lived.run_log.port.before.entries
-        lived.run_log.port.port.pen lived.run_log.port.port.port) lived.run_log.logger
-        (shown_to lived.lookout) lived.ended) }
     // It bore the loss of its state where that was wished.
     ensures bears { IfOk result (λ lived.
         lived.run_log.port.port.port.bears_loss ≡ wishes.entry.bears_loss) }
@@ -492,7 +491,7 @@ fn begun_in<T: RunSite>(
     directory: &str,
     logger: &mut Logger<T::Sink>,
 ) -> Result<Begun<T::Folder>, Fault>
-    ensures begun { IfOk result (λ b. IsBegun config.now text.now T.Folder.lineage
+    ensures begun { IfOk result (λ b. IsBegun config.now text.now (T.asked site.old).lineage
         (T.Folder.mark b.store.folder) b.store.opened b.origin) }
     ensures settings { IfOk result (λ b. b.store.settings.items ≡ text.now) }
     ensures logged { IfOk result (λ b. LogsBeginning b.origin logger.old logger.new) }

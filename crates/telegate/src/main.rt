@@ -57,6 +57,7 @@ mod stood;
 mod wishes;
 
 use fault::{Fault, USAGE};
+use gateway::History;
 use host::{Host, System};
 use manner::shows_colours;
 use performing::write_fault;
@@ -77,6 +78,7 @@ fn main(rt: HostRuntime) -> ExitCode {
         rt: &rt,
         is_watched,
         has_colours,
+        lineage: History::new(),
     };
     ExitCode::from(run(&rt, &mut system, &mut out, &mut err))
 }

@@ -4,11 +4,12 @@ ghost use Rattle.std.specs.Option.{is_some};
 ghost use Rattle.gateway.specs.Agrees.{Follows, Rests};
 ghost use Rattle.gateway.specs.Reports.{Setup};
 ghost use Rattle.gateway.specs.State.{State};
+ghost use Rattle.record.specs.Recording.{AreAgreed};
 ghost use Rattle.runlog.specs.Logging.{book_fixture, logged_fixture};
 ghost use Rattle.telegate.specs.Lives.{all_passed};
 ghost use Rattle.telegate.specs.Running.{HasEnded, HasRun, HasRunFaithfully, IsRecorded};
-ghost use Rattle.telegate.specs.Turns.{HasServed, failure_in_life, in_life, log_in_life, shown_to};
-ghost use Rattle.telegate.specs.Turns.{stands, tends_in_life};
+ghost use Rattle.telegate.specs.Turns.{HasServed, failure_in_life, in_life, log_in_life};
+ghost use Rattle.telegate.specs.Turns.{script_in_life, shown_to, stands, tends_in_life};
 
 use crate::life::Life;
 use gateway::{End, Gateway, History, drive_on};
@@ -61,8 +62,8 @@ fn serve<P: Watched + Drop, S: LogSink + Drop, D: StreamSource + Drop>(
     // It ended well only after all of its events.
     ensures over { OnOk result (HasEnded (P.ended run_log.new.port) (P.log run_log.old.port)
         (P.log run_log.new.port)) }
-    ensures script { logged_fixture (P.script run_log.new.port) run_log.new.logger
-        ≡ logged_fixture (P.script run_log.old.port) run_log.old.logger }
+    ensures lasting { logged_fixture (P.lasting run_log.new.port) run_log.new.logger
+        ≡ logged_fixture (P.lasting run_log.old.port) run_log.old.logger }
     ensures looked { is_some lookout.new ≡ is_some lookout.old }
     // Where the gateway begins with the state that the log so far leads to, what the log then shows
     // keeps every promise of a gateway with these settings.
@@ -70,7 +71,7 @@ fn serve<P: Watched + Drop, S: LogSink + Drop, D: StreamSource + Drop>(
         Rests p (P.log run_log.old.port) →
         HasRunFaithfully p (P.log run_log.new.port) result }
     // Behind each event all look at the gateway before the next one comes.
-    ensures served { (last : State) × HasServed P.log P.tends P.failure
+    ensures served { (last : State) × HasServed P.log P.script P.tends P.failure
         (stands gateway run_log.old.port run_log.old.logger (shown_to lookout.old))
         (stands last run_log.new.port run_log.new.logger (shown_to lookout.new)) result }
 {
@@ -102,13 +103,14 @@ pub(crate) fn live<
     S: LogSink + Drop,
     D: StreamSource + Drop,
 >(gateway: Gateway, port: P, before: History, scribes: Scribes<S, W, D>) -> Lived<P, W, S, D>
-    requires { P.failed port < u64.MAX }
+    requires few { P.failed port < u64.MAX }
+    requires agreed { AreAgreed scribes.pen (P.log port) }
     ensures device { HasRun (P.failed port) (P.failed result.run_log.port.port.port) result.ended }
     ensures over { OnOk result.ended (HasEnded (P.ended result.run_log.port.port.port)
         (all_passed before.entries scribes.pen (P.log port))
         (all_passed before.entries result.run_log.port.port.pen
         (P.log result.run_log.port.port.port))) }
-    ensures script { P.script result.run_log.port.port.port ≡ P.script port }
+    ensures lasting { P.lasting result.run_log.port.port.port ≡ P.lasting port }
     // It was logged, recorded and shown to its end, where it was at its beginning.
     ensures logged { book_fixture result.run_log.logger ≡ book_fixture scribes.logger }
     ensures recorded { result.run_log.port.port.pen.is_wished ≡ scribes.pen.is_wished }
@@ -117,9 +119,10 @@ pub(crate) fn live<
     ensures shown { P.shows result.run_log.port.port.port result.sight }
     // Behind each event all look at the gateway before the next one comes: its port, the log, and
     // visitors.
-    ensures served { (last : State) × HasServed (log_in_life P.log) (tends_in_life P.tends)
-        (failure_in_life P.failure) (stands gateway (in_life before.entries scribes.pen port)
-        scribes.logger (shown_to scribes.lookout)) (stands last
+    ensures served { (last : State) × HasServed (log_in_life P.log) (script_in_life P.script)
+        (tends_in_life P.log P.tends) (failure_in_life P.failure)
+        (stands gateway (in_life before.entries scribes.pen port) scribes.logger
+        (shown_to scribes.lookout)) (stands last
         (in_life result.run_log.port.before.entries result.run_log.port.port.pen
         result.run_log.port.port.port) result.run_log.logger (shown_to result.lookout))
         result.ended }

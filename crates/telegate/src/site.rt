@@ -6,6 +6,7 @@ ghost use Rattle.telegate.specs.Lines.{is_again, of_line};
 ghost use Rattle.telegate.specs.Logged.{fault_of};
 
 use crate::fault::Fault;
+use gateway::History;
 use live::{
     CentreListener, Got, LineDialler, LineSocket, Listener, OctetStream, Presence, Reached,
     Redialled, SystemClock,
@@ -121,12 +122,14 @@ pub(crate) trait RunSite {
 
     /// The directory of this name, in which a state is kept. Nothing in it is touched yet.
     fn folder(&mut self, name: &str) -> Result<Self::Folder, AllocError>
+        ensures lineage { IfOk result (λ folder.
+            Self.Folder.lineage folder ≡ (asked self.old).lineage) }
         ensures asked { asked self.new
             ≡ asked_for (StateIn name.now (is_ok result) ∷ []) (asked self.old) };
 }
 
 /// The ends that a process has at these places.
-#[derive(Clone, Copy)]
+#[derive(Drop)]
 pub(crate) struct Process<'r> {
     pub(crate) rt: &'r HostRuntime,
     pub(crate) places: &'r LiveSettings,
@@ -134,6 +137,8 @@ pub(crate) struct Process<'r> {
     pub(crate) names: LogNames<'r>,
     /// Each line of the log begins with how severe it is.
     pub(crate) has_severity: bool,
+    /// What led to the state at the head of the newest log in its directory.
+    pub(crate) lineage: History,
 }
 
 /// The line of a process.
@@ -220,6 +225,7 @@ impl<'r> RunSite for Process<'r> {
     // A process notes none of its calls.
     ghost asked = { λ process. record {
       places = places_of process.places.now;
+      lineage = process.lineage.entries;
       calls = None;
       clocks = None;
     } };
@@ -279,7 +285,8 @@ impl<'r> RunSite for Process<'r> {
     }
 
     fn folder(&mut self, name: &str) -> Result<Directory, AllocError> {
-        Ok(Directory::new(*self.rt, String::from_str(self.rt.alloc(), name)?))
+        let path = String::from_str(self.rt.alloc(), name)?;
+        Ok(Directory::new(*self.rt, path, self.lineage.again()))
     }
 }
 

@@ -12,6 +12,7 @@ ghost use Rattle.live.specs.OctetStreams.{StreamHistory};
 ghost use Rattle.live.specs.Reaching.{AsksOn, AtPath, Began, Came, DialsAt, DialsHost, LookedUp};
 ghost use Rattle.live.specs.Reaching.{Opened, ReachStep, TriesEach};
 ghost use Rattle.live.specs.Reaching.{ReachesAt, ReachesHost, Showed, Stood, Waited, WaitedAt};
+ghost use Rattle.live.specs.Reaching.{WaitsForEach};
 ghost use Rattle.live.specs.Reaching.{is_in_time};
 ghost use Rattle.live.specs.Redial.{is_reached};
 ghost use Rattle.live.specs.Streams.{ReadsWithin, SendsAtOnce, Sets, SystemCall, Waits};
@@ -76,7 +77,9 @@ pub fn the_addresses_of_a_host_are_tried_in_turn()
 
 /// A line that is reached before a run is one at its place. It stands at the socket of the path, or
 /// at the first address of the host that answered within 5 s. Where that can be used a line is
-/// answered, and else none.
+/// answered, and else none. No line is answered for a host only where it isn't known, where the
+/// stream that was opened can't be used, or where each address that came was waited for, until none
+/// came any more or 32 had come.
 pub fn a_line_is_reached_at_its_place()
     ensures path { (path : List ℕ) (steps after : List ReachStep)
         (answer : Result StreamHistory Error) → ReachesAt path answer (Some steps) (Some after) →
@@ -88,6 +91,12 @@ pub fn a_line_is_reached_at_its_place()
         × (found : Unit {0}) × (tried : List ReachStep)
         × (after ≡ Opened stream true ∷ Waited address 5000 (Ok stream) ∷ Came (Some address)
         ∷ (tried ++ (LookedUp host (Ok found) ∷ steps))) }
+    ensures waited { (host : List ℕ) (steps after : List ReachStep)
+        (answer : Result StreamHistory Error) → ReachesHost host answer (Some steps) (Some after) →
+        is_ok answer ≡ false → ((fault : Error) × (after ≡ LookedUp host (Err fault) ∷ steps))
+        ⊎ (((stream : ReachedStream) × (rest : List ReachStep)
+        × (after ≡ Opened stream false ∷ rest))
+        ⊎ ((found : Unit {0}) × WaitsForEach (LookedUp host (Ok found) ∷ steps) after)) }
 {}
 
 /// How long calls of a stream wait. At the line a look waits for 1 ms, a write for 20. Of a control

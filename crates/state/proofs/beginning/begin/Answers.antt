@@ -20,12 +20,13 @@ returns-in-Anew-clause-begun g c =
     c.anew.ensures.store
     (λ b new moment is store.
     subst (λ s. IsBegun {D = _} {g = g.F.File.Disk} c.args.config.now c.args.text.now
-    g.F.Folder.lineage (g.F.Folder.mark s.folder) s.opened b.origin)
+    (g.F.Folder.lineage c.args.folder) (g.F.Folder.mark s.folder) s.opened b.origin)
     (sym store)
     (subst (λ o. IsBegun {D = _} {g = g.F.File.Disk} c.args.config.now c.args.text.now
-    g.F.Folder.lineage (g.F.Folder.mark c.with_files.result.folder) o b.origin)
+    (g.F.Folder.lineage c.args.folder) (g.F.Folder.mark c.with_files.result.folder) o b.origin)
     (sym c.with_files.ensures.opened)
-    (anew_begun c.args.config.now c.args.text.now g.F.Folder.lineage _ _ _ b.origin new moment is
+    (anew_begun c.args.config.now c.args.text.now (g.F.Folder.lineage c.args.folder) _ _ _ b.origin
+    new moment is
     (λ one other.
     let newest = c.into_files-newest.ensures.newest in
     let spare = c.into_files-newest.ensures.other in

@@ -10,7 +10,7 @@ pub returns-in-Ok-clause-begun : goal.returns-in-Ok-clause-begun
 returns-in-Ok-clause-begun g c =
     let is = c.origin_of.ensures in
     let folder = c.with_files.ensures.folder ∙ c.new-store.ensures.folder in
-    begun_from c.args.config.now c.args.settings.items g.F.Folder.lineage
+    begun_from c.args.config.now c.args.settings.items (g.F.Folder.lineage c.args.folder)
     (g.F.Folder.mark c.with_files.result.folder)
     c.with_files.result.opened c.into_files-newest.result.0 c.into_files-newest.result.1
     c.resume.new.start.newest
@@ -37,11 +37,11 @@ returns-in-Ok-clause-begun g c =
           (subst AreLinesRead c.resume.ensures.seen read))
     ])
     (λ clean. subst (λ (o : Origin). GoesOnFrom c.in_ok-goes_on.goes_on c.args.config.now
-    c.args.settings.items g.F.Folder.lineage
+    c.args.settings.items (g.F.Folder.lineage c.args.folder)
     (g.F.File.Disk.seen c.resume.new.start.newest) o.is_moved o.gap o.before.entries o.gateway)
     (sym is)
     (subst (λ (text : List ℕ). GoesOnFrom c.in_ok-goes_on.goes_on c.args.config.now text
-    g.F.Folder.lineage
+    (g.F.Folder.lineage c.args.folder)
     (g.F.File.Disk.seen c.resume.new.start.newest) c.in-Ok.resumed.is_moved c.in-Ok.resumed.gap
     c.in-Ok.resumed.before.entries c.in-Ok.resumed.gateway) c.deref.ensures.value
     (c.in-Ok.ensures.goes_on clean)))

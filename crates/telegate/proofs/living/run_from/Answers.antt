@@ -30,7 +30,7 @@ pub returns-clause-served : goal.returns-clause-served
 returns-clause-served g c =
     let served = c.live.ensures.served in
     let entries = c.args.begun.origin.before.entries in
-    served_whole _ _ _ _ entries entries c.args.scribes.pen c.keeper_between-keeper.result
+    served_whole _ _ _ _ _ entries entries c.args.scribes.pen c.keeper_between-keeper.result
     c.args.begun.origin.gateway _ _ served.0 _ _ _ _
     (refl, c.keeper_between-keeper.ensures.begun) refl (ap Some c.keeper_between-keeper.ensures.log)
     c.requires.new served.1

@@ -1,13 +1,13 @@
 use Rattle.std.proofs.Common.{◌≡◌, rules, refl, ◌∙◌, ap, subst, sym, arith}
 use Rattle.gateway.specs.Runs.{AtMostEvents}
-use Rattle.runlog.specs.Logging.{Book, Closes}
+use Rattle.runlog.specs.Logging.{Book, Closes, LoggedFixture}
 use Rattle.runlog.specs.Watching.{Watching}
 use Rattle.telegate.specs.Turns.{HasGoneOn, Begun, Turned, InATurn, WithoutEnd}
 use Rattle.telegate.specs.Turns.{shown_to, stands}
 use Rattle.lookout.specs.Looking.{looked, turned_after}
 use Rattle.lookout.specs.Looks.{Look}
 use Rattle.telegate.proofs.Looks.{none_shown, shown_there}
-use Rattle.telegate.proofs.Turning.{no_events_yet, one_more_event}
+use Rattle.telegate.proofs.Turning.{lasting_logged, no_events_yet, one_more_event}
 use Rattle.telegate.proofs.running.serve.Goals as goal
 use Rattle.telegate.proofs.running.serve.Goals.{in-Some, in_default}
 
@@ -37,7 +37,11 @@ turning-preserved g c =
       more =
           rw logs (one_more_event c.turning.counter _ _ _ c.turning.invariant.more
           (ran.turns refl));
-      fixed = c.look-notice.ensures.script ∙ (ran.script ∙ c.turning.invariant.fixed);
+      fixed =
+          c.look-notice.ensures.lasting
+          ∙ (lasting_logged g.P.Port.script g.P.Watched.lasting g.met.P.Watched.lasts _ _
+          c.drive_on.new.port.logger c.turning.run_log.logger ran.script
+          ∙ c.turning.invariant.fixed);
       faithful = λ p begins rests. let h = c.turning.invariant.faithful p begins rests in
           rw logs (ran.kept p h.0 h.1, ran.rests p h.0 h.1);
       looked = search (rules, c.turning.invariant.looked);
@@ -45,6 +49,7 @@ turning-preserved g c =
           rw logs (ran.faithful p h.0 h.1);
       on = Turned c.turning.counter _ _ _ c.turning.invariant.on (record {
         one = ran.turns refl;
+        fixed = ap (λ (f : LoggedFixture _). f.port) ran.script;
         follows = λ p follows rests. (ran.kept p follows rests, ran.rests p follows rests);
         shown = refl;
       }) (record {
@@ -74,6 +79,8 @@ returns-in-Finished-clause-served g c = (
   InATurn c.turning.counter _ _ c.turning.invariant.on (record {
     few = subst (AtMostEvents 1 (g.P.Port.log c.turning.run_log.port))
         (ap g.P.Port.log (sym c.close.ensures.passes)) c.drive_on.ensures.most;
+    fixed = ap g.P.Port.script c.close.ensures.passes
+        ∙ ap (λ (f : LoggedFixture _). f.port) c.drive_on.ensures.script;
     between = c.drive_on.new.port.logger;
     closes = subst (λ q. Closes c.drive_on.new.port.logger (g.P.Watched.failure q)
         c.drive_on.new.gateway c.close.new.self.logger) (sym c.close.ensures.passes)
@@ -88,6 +95,8 @@ returns-in-Device-clause-served g c = (
   InATurn c.turning.counter _ _ c.turning.invariant.on (record {
     few = subst (AtMostEvents 1 (g.P.Port.log c.turning.run_log.port))
         (ap g.P.Port.log (sym c.close-in-Device.ensures.passes)) c.drive_on.ensures.most;
+    fixed = ap g.P.Port.script c.close-in-Device.ensures.passes
+        ∙ ap (λ (f : LoggedFixture _). f.port) c.drive_on.ensures.script;
     between = c.drive_on.new.port.logger;
     closes = subst (λ q. Closes c.drive_on.new.port.logger (g.P.Watched.failure q)
         c.drive_on.new.gateway c.close-in-Device.new.self.logger)
@@ -105,6 +114,18 @@ returns-clause-served g c =
     let last = stands c.turning.gateway c.turning.run_log.port c.turning.run_log.logger
     (shown_to c.turning.lookout) in (
       c.turning.gateway,
-      WithoutEnd (subst (λ n. HasGoneOn g.P.Port.log g.P.Watched.tends first n last) all_used
-          c.turning.invariant.on),
+      WithoutEnd (subst (λ n. HasGoneOn g.P.Port.log g.P.Port.script g.P.Watched.tends first n
+          last) all_used c.turning.invariant.on),
     )
+
+pub returns-in-Finished-clause-lasting : goal.returns-in-Finished-clause-lasting
+returns-in-Finished-clause-lasting g c =
+    lasting_logged g.P.Port.script g.P.Watched.lasting g.met.P.Watched.lasts _ _
+    c.close.new.self.logger c.turning.run_log.logger
+    (c.close.ensures.script ∙ c.drive_on.ensures.script) ∙ c.turning.invariant.fixed
+
+pub returns-in-Device-clause-lasting : goal.returns-in-Device-clause-lasting
+returns-in-Device-clause-lasting g c =
+    lasting_logged g.P.Port.script g.P.Watched.lasting g.met.P.Watched.lasts _ _
+    c.close-in-Device.new.self.logger c.turning.run_log.logger
+    (c.close-in-Device.ensures.script ∙ c.drive_on.ensures.script) ∙ c.turning.invariant.fixed

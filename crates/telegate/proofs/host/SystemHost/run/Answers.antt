@@ -1,5 +1,6 @@
-use Rattle.std.proofs.Common.{Some, None, inl, inr, ap, is_some}
+use Rattle.std.proofs.Common.{Some, None, inl, inr, ap, is_some, ◌∙◌}
 use Rattle.settings.specs.Live.{places_of}
+use Rattle.telegate.proofs.RanLemmas.{begins_by, begins_weaker, of_anew, of_kept}
 use Rattle.telegate.proofs.host.SystemHost.run.Goals as goal
 
 pub returns-in_default : goal.returns-in_default
@@ -23,7 +24,8 @@ returns-in_default-standard_descriptors c =
 pub returns-in-Ok-Anew : goal.returns-in-Ok-Anew
 returns-in-Ok-Anew c =
     let run = c.in-Ok-Anew.run' in
-    let lived = rw c.in-Ok-Anew.field-0-is at c.in-Ok-Anew.ensures.lived in
+    let lived = of_anew _ _ _ run c.in-Ok-Anew.field-0-is c.in-Ok-Anew.ensures.lived in
+    let same = c.process_of-site.ensures.lineage ∙ c.again-lineage.ensures in
     inl (record {
       settings = c.in_ok-settings.settings;
       places = c.in_ok-settings.places;
@@ -31,6 +33,7 @@ returns-in-Ok-Anew c =
       came = inr (record {
         old = record {
           places = places_of c.process_of-site.result.places.now;
+          lineage = c.process_of-site.result.lineage.entries;
           calls = None;
           clocks = None;
         };
@@ -45,7 +48,8 @@ returns-in-Ok-Anew c =
           bears_loss = None;
         };
         ended = run.ended;
-        lived = lived;
+        lived = begins_weaker _ _ _ _ _ _ _ _ lived
+            (λ o begun. begins_by _ _ _ _ _ o same begun);
         answered = c.answer_to.ensures;
       });
     })
@@ -53,7 +57,8 @@ returns-in-Ok-Anew c =
 pub returns-in-Ok-Kept : goal.returns-in-Ok-Kept
 returns-in-Ok-Kept c =
     let run = c.in-Ok-Kept.run' in
-    let lived = rw c.in-Ok-Kept.field-0-is at c.in-Ok-Kept.ensures.lived in
+    let lived = of_kept _ _ _ run c.in-Ok-Kept.field-0-is c.in-Ok-Kept.ensures.lived in
+    let same = c.process_of-site.ensures.lineage ∙ c.again-lineage.ensures in
     inl (record {
       settings = c.in_ok-settings.settings;
       places = c.in_ok-settings.places;
@@ -61,6 +66,7 @@ returns-in-Ok-Kept c =
       came = inr (record {
         old = record {
           places = places_of c.process_of-site.result.places.now;
+          lineage = c.process_of-site.result.lineage.entries;
           calls = None;
           clocks = None;
         };
@@ -75,7 +81,8 @@ returns-in-Ok-Kept c =
           bears_loss = Some run.run_log.port.port.port.bears_loss;
         };
         ended = run.ended;
-        lived = lived;
+        lived = begins_weaker _ _ _ _ _ _ _ _ lived
+            (λ o begun. begins_by _ _ _ _ _ o same begun.0);
         answered = c.answer_to-in-Ok-Kept.ensures;
       });
     })
