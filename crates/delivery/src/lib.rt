@@ -28,7 +28,9 @@
 //! ([`what_stands_on_a_line_goes_on_with_its_station`]), which each part takes up
 //! ([`new_settings_are_taken_up`]).
 //!
-//! Commands wait for the line by their stations ([`commands_wait_for_each_station`]).
+//! Commands wait for the line by their stations ([`commands_wait_for_each_station`]), requests for
+//! an answer and polls for room ([`requests_wait_for_an_answer_and_polls_for_room`]). The line
+//! rests only where there is none ([`a_line_rests_only_for_want_of_room`]).
 //!
 //! What the gateway's definitions take for granted of a connection is said here too: which octets
 //! are its own ([`octets_are_those_of_their_connection`]), what closes it
@@ -84,4 +86,7 @@ pub use received::{
     octets_are_those_of_their_connection, pieces_are_acknowledged_with_their_frames,
     what_has_come_is_one_run,
 };
-pub use waiting::commands_wait_for_each_station;
+pub use waiting::{
+    a_line_rests_only_for_want_of_room, commands_wait_for_each_station,
+    requests_wait_for_an_answer_and_polls_for_room,
+};

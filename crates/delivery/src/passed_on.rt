@@ -3,7 +3,8 @@ ghost use Rattle.std.specs.Prelude.{◌≡◌, ◌<◌, ◌≤◌, ◌+◌, ◌%
 ghost use Rattle.std.specs.Prelude.{length, drop, slice_get, slice_index, Some, None, true, false};
 ghost use Rattle.std.specs.List.{flat_map, AllByRecursion};
 ghost use Rattle.elements.specs.declared.tag.Cp56.{Cp56};
-ghost use Rattle.asdu.specs.Asdu.{AsduValue, Info, IsAsdu};
+ghost use Rattle.asdu.specs.Asdu.{AsduValue, Info, IsAsdu, IsNoAsdu};
+ghost use Rattle.elements.specs.Octets.{AreOctets};
 ghost use Rattle.asdu.specs.InformationObjects.{InformationObject, objects_of};
 ghost use Rattle.asdu.specs.Layout.{HaveOneHead, IsObjectOf};
 ghost use Rattle.asdu.specs.Sizes.{tcp};
@@ -149,8 +150,9 @@ pub fn pieces_bear_as_many_objects_as_fit()
 
 /// A report of a monitor type is passed on with all its objects, in the pieces that carry it,
 /// whatever its cause, addresses and values; only a negative 'unknown type' (cause 44 with P/N set)
-/// is kept back. Of a report of another type nothing goes into the queue. It needs as many places
-/// as it has pieces.
+/// is kept back. Of a report of another type nothing goes into the queue, nor of octets that are no
+/// ASDU in the sizes of the line (IEC 60870-5-101, 7.1). A report needs as many places as it has
+/// pieces.
 pub fn reports_of_monitor_types_are_passed_on()
     ensures passed { (sizes : Sizes) (u : AsduValue) (report : List ℕ) → IsAsdu sizes u report →
         (row u.kind).monitor ≡ true → (slice_index report 2 % 128 ≡ 108 → ⊥) →
@@ -164,6 +166,9 @@ pub fn reports_of_monitor_types_are_passed_on()
         ((row u.kind).monitor ≡ false) ⊎ (slice_index report 2 % 128 ≡ 108) →
         (monitor_objects sizes report ≡ []) × (pieces_of_report sizes report ≡ [])
         × (parts_of sizes report ≡ 0) }
+    ensures unread { (sizes : Sizes) (report : List ℕ) → AreOctets report →
+        IsNoAsdu sizes report → (monitor_objects sizes report ≡ [])
+        × (pieces_of_report sizes report ≡ []) × (parts_of sizes report ≡ 0) }
 {
     monitor_reports_are_passed_on();
     pieces_carry_the_report();

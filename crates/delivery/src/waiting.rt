@@ -1,19 +1,29 @@
-//! Which commands wait for the line, and which of them a line at rest leaves.
-ghost use Rattle.std.specs.Prelude.{◌≡◌, ◌⊎◌, ◌<◌, ℕ, Bool, List, [], ◌∷◌, length, None, true, false};
+//! What waits for the line: commands, requests and polls. What a line at rest leaves.
+ghost use Rattle.std.specs.Prelude.{◌≡◌, ◌⊎◌, ◌<◌, ◌≤◌, ◌+◌, ℕ, Bool, true, false, List, []};
+ghost use Rattle.std.specs.Prelude.{◌∷◌, ◌++◌, length, Some, None};
+ghost use Rattle.ft12.specs.Fronts.{front_of};
+ghost use Rattle.ft12.specs.Spelling.{spelling};
+ghost use Rattle.link.specs.Exchanges.{OpenExchange, IsOutstanding, view};
 ghost use Rattle.link.specs.Flags.{clear, flags_after};
-ghost use Rattle.link.specs.Leave.{holds_poll};
-ghost use Rattle.link.specs.Procedure.{holds_command, link_after};
+ghost use Rattle.link.specs.Leave.{holds_poll, is_poll_request};
+ghost use Rattle.link.specs.Procedure.{holds_command, link_after, IsUp};
+ghost use Rattle.link.specs.Requests.{request_frame};
 ghost use Rattle.link.specs.Runs.{Call, Next};
 ghost use Rattle.link.specs.Turns.{CommandsWaiting};
 ghost use Rattle.link.specs.declared.procedure.Link.TheVariants.{Down};
+ghost use Rattle.link.specs.declared.service.Asked.{Asked};
 ghost use Rattle.command.specs.History.{next_octets};
 ghost use Rattle.command.specs.State.{octets_waiting};
 ghost use Rattle.gateway.specs.Calling.{Asks, EndsStep};
-ghost use Rattle.gateway.specs.Course.{Course, Runs};
-ghost use Rattle.gateway.specs.Frames.{Connection};
+ghost use Rattle.gateway.specs.Course.{Course, here_of, Runs};
+ghost use Rattle.gateway.specs.Frames.{Connection, acknowledged_reports};
 ghost use Rattle.gateway.specs.Line.{IsLineAtRest, IsWaiting, done_in};
-ghost use Rattle.gateway.specs.Log.{Log, latest};
-ghost use Rattle.gateway.specs.Reports.{Setup, address_at, exchanges_with};
+ghost use Rattle.gateway.specs.Log.{Log, Went, LineOut, latest};
+ghost use Rattle.gateway.specs.Reports.{Setup, address_at, exchanges_with, parts_of_all};
+ghost use Rattle.gateway.specs.Reports.{exchanges_of, reports_in};
+ghost use Rattle.gateway.specs.Traffic.{IsAtRest, IsFaithful};
+
+use gateway::polls_need_three_places;
 
 /// Whichever station a command was forwarded to, it waits for that station's turn until it goes
 /// out: each request is asked for with the oldest one that waits for each station. So is one in a
@@ -40,3 +50,37 @@ pub fn commands_wait_for_each_station()
         ⊎ (holds_poll (link_after p.link (address_at p.addresses station) Down
         (exchanges_with p station log)) ≡ true) }
 {}
+
+/// A line rests only for want of room. Where a step leaves no exchange outstanding, each link is
+/// up, and fewer than three places of the queue are free. Each piece of a report taken has a place
+/// until it is acknowledged. So the gateway starts each link, and polls while there is room
+/// (profile).
+pub fn a_line_rests_only_for_want_of_room()
+    ensures full { (p : Setup) (log : Log) → IsAtRest p log → (IsWaiting p log → ⊥) →
+        (c : Course) × Runs p log c
+        × (p.places + acknowledged_reports (here_of c ∷ c.earlier)
+        < parts_of_all p.sizes (reports_in p log) + 3) }
+    ensures up { (p : Setup) (log : Log) (station : ℕ) → IsAtRest p log →
+        (IsWaiting p log → ⊥) → station < length p.addresses →
+        IsUp p.link (address_at p.addresses station) (exchanges_with p station log) }
+{}
+
+/// A request goes to the line only while no exchange is outstanding: the one before was answered,
+/// is closed or was given up (IEC 60870-5-2, unbalanced transmission). A poll goes out only where
+/// three places of the queue are free. So whatever the station answers has room (profile).
+pub fn requests_wait_for_an_answer_and_polls_for_room()
+    ensures alone { (p : Setup) (newer log : Log) (now : ℕ) (octets : List ℕ)
+        (x : OpenExchange) → IsFaithful p (newer ++ Went now (LineOut octets) ∷ log) →
+        (exchanges_of p log).current ≡ Some x → IsOutstanding (address_at p.addresses x.station)
+        (view (front_of p.link.size) x).exchange → ⊥ }
+    ensures polls { (p : Setup) (newer log : Log) (now : ℕ) (octets : List ℕ) →
+        IsFaithful p (newer ++ Went now (LineOut octets) ∷ log) →
+        (station : ℕ) × (request : Asked) × (station < length p.addresses)
+        × (octets ≡ spelling p.link.size
+        (request_frame (address_at p.addresses station) request))
+        × (is_poll_request request ≡ true → (c : Course) × Runs p log c
+        × (parts_of_all p.sizes (reports_in p log) + 3
+        ≤ p.places + acknowledged_reports (here_of c ∷ c.earlier))) }
+{
+    polls_need_three_places();
+}

@@ -57,3 +57,15 @@ returns-clause-kept_back c = λ sizes u report is why.
           none,
       ap (λ (os : List InformationObject). if length os == 0 then 0 else parts sizes report) none,
     )
+
+pub returns-clause-unread : goal.returns-clause-unread
+returns-clause-unread c = λ sizes report octets other.
+    let law = c.objects_are_those_of_the_asdu.ensures in
+    let none : monitor_objects sizes report ≡ [] =
+    (law.nothing sizes report (law.not_read sizes report octets other)).1 in (
+      none,
+      ap (λ (os : List InformationObject).
+          if length os == 0 then [] else typed_pieces sizes (type_of (slice_index report 0)) report)
+          none,
+      ap (λ (os : List InformationObject). if length os == 0 then 0 else parts sizes report) none,
+    )
