@@ -53,3 +53,4 @@ pub mod Apart
 pub mod GoingOut
 pub mod Told
 pub mod Forwarded
+pub mod AskedFirst

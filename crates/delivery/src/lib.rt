@@ -31,7 +31,8 @@
 //!
 //! Commands wait for the line by their stations ([`commands_wait_for_each_station`]), requests for
 //! an answer and polls for room ([`requests_wait_for_an_answer_and_polls_for_room`]). The line
-//! rests only where there is none ([`a_line_rests_only_for_want_of_room`]).
+//! rests only where there is none ([`a_line_rests_only_for_want_of_room`]). It is asked before octets
+//! go to TCP ([`the_line_is_asked_before_octets_go_to_tcp`]).
 //!
 //! What the gateway's definitions take for granted of a connection is said here too: which octets
 //! are its own ([`octets_are_those_of_their_connection`]), what its frames bear
@@ -94,5 +95,5 @@ pub use received::{
 pub use restarting::no_command_is_sent_again_behind_a_restart;
 pub use waiting::{
     a_line_rests_only_for_want_of_room, commands_wait_for_each_station,
-    requests_wait_for_an_answer_and_polls_for_room,
+    requests_wait_for_an_answer_and_polls_for_room, the_line_is_asked_before_octets_go_to_tcp,
 };
