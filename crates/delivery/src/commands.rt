@@ -122,9 +122,9 @@ pub fn each_command_is_given_once()
     commands_are_accepted();
 }
 
-/// Each command that has no fault is forwarded: one of the control centre's whose station needs no
-/// select, and each execute that is selected. The only other cause is that 64 commands wait. So no
-/// command is refused without a reason (IEC 60870-5-101, 7.2.6; the 64 places are profile).
+/// A command that has no fault is forwarded where its station asks for no select. So is each
+/// execute that is selected. Both need their places among the 64 commands that may wait. So none of
+/// these is refused without a reason (IEC 60870-5-101, 7.2.6; the 64 places are profile).
 pub fn faultless_commands_are_forwarded()
     ensures direct { (p : Setup) (log : Log) (c : Course) (newer older : History) (now : ℕ)
         (wall : Option ℕ) (xs : List ℕ) (answer : Option (List ℕ)) → Runs p log c →

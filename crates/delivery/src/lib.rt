@@ -4,13 +4,13 @@
 //! Laws over every log of a gateway ([`gateway::drive`] promises that its log is faithful), with no
 //! body, since they hold of definitions. Upwards: [`nothing_is_lost`], and
 //! [`each_session_is_known`] for links that are reset on the way, where [`losses_are_reported`] as
-//! gaps ([`gaps_are_reported_by_their_station`], [`gaps_are_told_before_the_next_request`]) and [`losses_have_gaps`] says how many gaps there
-//! are at most. What comes of it to the control centre is one run, over closes and new connections:
-//! [`what_has_come_is_one_run`]. A piece is acknowledged with its frame:
-//! [`pieces_are_acknowledged_with_their_frames`].
-//! Downwards: [`each_command_is_given_once`], and [`faultless_commands_are_forwarded`]. What isn't
-//! given is answered ([`what_is_refused_is_answered`]). Between them: [`the_course_is_the_logs`], that what the
-//! gateway's course logs of the line and of commands is what the octets of the log show; and
+//! gaps ([`gaps_are_reported_by_their_station`], [`gaps_are_told_before_the_next_request`]) and
+//! [`losses_have_gaps`] says how many gaps there are at most. What comes of it to the control
+//! centre is one run, over closes and new connections: [`what_has_come_is_one_run`]. A piece is
+//! acknowledged with its frame: [`pieces_are_acknowledged_with_their_frames`]. Downwards:
+//! [`each_command_is_given_once`], and [`faultless_commands_are_forwarded`]. What isn't given is
+//! answered ([`what_is_refused_is_answered`]). Between them: [`the_course_is_the_logs`], that what
+//! the gateway's course logs of the line and of commands is what the octets of the log show; and
 //! [`selections_end_in_time`], by the log's moments. What is counted of commands is what the log
 //! shows ([`counts_of_commands_are_the_logs`]), and at other settings what stood on the lines
 //! ([`commands_lost_at_new_settings_are_counted`]). What a station says of a command goes on as it
@@ -31,8 +31,8 @@
 //!
 //! Commands wait for the line by their stations ([`commands_wait_for_each_station`]), requests for
 //! an answer and polls for room ([`requests_wait_for_an_answer_and_polls_for_room`]). The line
-//! rests only where there is none ([`a_line_rests_only_for_want_of_room`]). It is asked before octets
-//! go to TCP ([`the_line_is_asked_before_octets_go_to_tcp`]).
+//! rests only where there is none ([`a_line_rests_only_for_want_of_room`]). It is asked before
+//! octets go to TCP ([`the_line_is_asked_before_octets_go_to_tcp`]).
 //!
 //! What the gateway's definitions take for granted of a connection is said here too: which octets
 //! are its own ([`octets_are_those_of_their_connection`]), what its frames bear

@@ -114,7 +114,8 @@ pub fn octets_are_those_of_their_connection()
 /// Octets go to TCP only while a connection is open, and each time they are one whole APDU. Each
 /// frame bears the counts of its connection, in the octets that are handed over (IEC 60870-5-104,
 /// 5.1). An I frame has as N(S) how many I frames went out before it, and as N(R) how many came. An
-/// S frame has this N(R), too. So the control centre finds no gap, and what it sent is acknowledged.
+/// S frame has this N(R), too. So the control centre finds no gap, and what it sent is
+/// acknowledged.
 pub fn frames_go_out_whole_and_with_their_counts()
     ensures whole { (p : Setup) (newer log : Log) (now : ℕ) (octets : List ℕ) →
         IsFaithful p (newer ++ Went now (TcpOut octets) ∷ log) →

@@ -18,10 +18,10 @@ use link::{
     requests_wait_their_turn, the_latest_exchange_is_marked,
 };
 
-/// No command is sent again behind a restart. By the exchanges of the log no station holds one
-/// then, so what goes out to it next is a status or another service. Each other station's link
-/// stays as it was, so a report that waits there is polled as before. What was said on the
-/// connection stays, and so do own answers and the commands that wait (profile).
+/// No command is sent again behind a restart: by the exchanges of the log no station holds one
+/// then. Each other station's link stays as it was, so a report that waits there is polled as
+/// before. What was said on the connection stays, and so do own answers and the commands that wait
+/// (profile).
 pub fn no_command_is_sent_again_behind_a_restart()
     ensures given_up { (p : Setup) (log : Log) (at station : ℕ) →
         IsFaithful p (Came at Restarted ∷ log) → IsSetUp p → station < length p.addresses →
