@@ -50,3 +50,7 @@ pub mod NoMore
 pub mod Standing
 pub mod Having
 pub mod Apart
+pub mod GoingOut
+pub mod Told
+pub mod Forwarded
+pub mod AskedFirst

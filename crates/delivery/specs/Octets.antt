@@ -2,7 +2,8 @@
 -- gateway's own profile). Nothing here is borrowed from the gateway's channels.
 use Rattle.std.specs.Prelude.{◌≡◌, Bool, true, false, List, [], ◌∷◌, ◌++◌, ℕ}
 use Rattle.session.specs.declared.kinds.Close.TheVariants.{OwnAnswers, Replaced}
-use Rattle.gateway.specs.Log.{Log, LogEntry, Came, Went, Opened, CutOff, TcpIn, TcpOut, Closed}
+use Rattle.gateway.specs.Log.{Log, LogEntry, Input, Came, Went, Opened, CutOff, TcpIn, TcpOut}
+use Rattle.gateway.specs.Log.{Closed}
 
 -- A connection begins where one is opened. It ends where TCP is cut, where the gateway closes it
 -- with a cause from 1 to 6, and where the next one is opened (which is told with cause 7).
@@ -44,3 +45,8 @@ abbrev pub AreActions : Log → Type 0
 AreActions [] = Unit {0}
 AreActions (Came now event ∷ log) = ⊥
 AreActions (Went now action ∷ log) = AreActions log
+
+-- the event is octets that came by TCP
+abbrev pub brings_octets : Input → Bool
+brings_octets (TcpIn octets) = true
+brings_octets event = false

@@ -1,14 +1,16 @@
 -- What the control centre has received of what was handed to TCP (IEC 60870-5-104, 5.1 and 5.2).
-use Rattle.std.specs.Prelude.{◌≡◌, ℕ, ◌+◌, ◌≤◌, List, [], ◌∷◌, ◌++◌, length, take, drop, Option}
+use Rattle.std.specs.Prelude.{◌≡◌, ℕ, ◌+◌, ◌%◌, ◌≤◌, List, [], ◌∷◌, ◌++◌, length, take, drop, Option}
 use Rattle.std.specs.Prelude.{Some, None}
 use Rattle.asdu.specs.InformationObjects.{InformationObject}
 use Rattle.apci.specs.declared.apdu.Apdu.{Apdu}
+use Rattle.apci.specs.declared.apdu.Apdu.TheVariants.{I, S, U}
 use Rattle.session.specs.declared.kinds.Close.{Close}
 use Rattle.session.specs.declared.kinds.Taken.{Taken}
 use Rattle.session.specs.declared.kinds.Taken.TheVariants.{Nothing, Asdu, Close as Closes}
 use Rattle.gateway.specs.Connections.{Channel}
 use Rattle.gateway.specs.Frames.{Connection, Sent, IsNumberedFrom, acknowledged_count}
-use Rattle.gateway.specs.Frames.{data_frames, first_unacknowledged, objects_of_frames}
+use Rattle.gateway.specs.Frames.{data_frames, first_unacknowledged, i_frames, objects_of_frames}
+use Rattle.gateway.specs.Course.{Course, came_frames}
 use Rattle.gateway.specs.Streams.{spelled, AllFit}
 
 -- A beginning of the octets that were handed to TCP has come, and these are the I frames that stand
@@ -68,6 +70,14 @@ pub record IsOneRun (taken : List InformationObject) (connections : List Connect
     (came : List (List Sent)) : Type 0 where
   pub run : received_on connections came ≡ take (length (received_on connections came)) taken
   pub acknowledged : first_unacknowledged connections ≤ length (received_on connections came)
+
+-- An I frame bears as N(S) how many I frames went out before it on the connection, and as N(R) how
+-- many came, both modulo 32768. An S frame bears this N(R) (5.1).
+abbrev pub BearsCounts : Apdu → Course → Type 0
+BearsCounts (I ns nr asdu) c =
+    (ns ≡ length c.sent % 32768) × (nr ≡ i_frames (came_frames c.talk) % 32768)
+BearsCounts (S nr) c = nr ≡ i_frames (came_frames c.talk) % 32768
+BearsCounts (U function) c = Unit {0}
 
 -- the cause to close the connection that a frame leads to, if any (5.1 and 5.3)
 abbrev pub close_by : Taken → Option Close

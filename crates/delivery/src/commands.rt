@@ -1,12 +1,14 @@
 //! The way of a command: the course of a log is that of its exchanges, and each command is one of
 //! the control centre's, given once.
 ghost use Rattle.std.specs.Prelude.{◌≡◌, ◌⊎◌, ◌<◌, ◌≤◌, ℕ, List, [], ◌∷◌, length, None, Some};
-ghost use Rattle.std.specs.Prelude.{slice_get};
+ghost use Rattle.std.specs.Prelude.{◌++◌, slice_get, Option, true, false};
 ghost use Rattle.ft12.specs.declared.frame.LinkSize.TheVariants as link_size;
 ghost use Rattle.asdu.specs.declared.sizes.CaSize.TheVariants as ca_size;
 ghost use Rattle.link.specs.Outstation.{Turn, all_done};
 ghost use Rattle.link.specs.Delivery.{commands};
-ghost use Rattle.command.specs.History.{AnswersWholly};
+ghost use Rattle.command.specs.History.{AnswersWholly, History, Judged, IsSelected};
+ghost use Rattle.command.specs.Passing.{FindsPlaces};
+ghost use Rattle.command.specs.Standard.{cause_of_fault, executes, must_be_selected};
 ghost use Rattle.gateway.specs.Course.{Course, here_of, Runs};
 ghost use Rattle.gateway.specs.Config.{Settings, AreStations};
 ghost use Rattle.gateway.specs.Log.{Log};
@@ -118,6 +120,26 @@ pub fn each_command_is_given_once()
     courses_keep_commands();
     sessions_are_known();
     commands_are_accepted();
+}
+
+/// A command that has no fault is forwarded where its station asks for no select. So is each
+/// execute that is selected. Both need their places among the 64 commands that may wait. So none of
+/// these is refused without a reason (IEC 60870-5-101, 7.2.6; the 64 places are profile).
+pub fn faultless_commands_are_forwarded()
+    ensures direct { (p : Setup) (log : Log) (c : Course) (newer older : History) (now : ℕ)
+        (wall : Option ℕ) (xs : List ℕ) (answer : Option (List ℕ)) → Runs p log c →
+        c.works.history ≡ newer ++ Judged now wall xs answer ∷ older →
+        cause_of_fault p.sizes p.stations p.max_age_ms wall xs ≡ None →
+        FindsPlaces p.stations xs older → must_be_selected p.stations xs ≡ false →
+        answer ≡ None }
+    ensures selected { (p : Setup) (log : Log) (c : Course) (newer older : History) (now : ℕ)
+        (wall : Option ℕ) (xs : List ℕ) (answer : Option (List ℕ)) → Runs p log c →
+        c.works.history ≡ newer ++ Judged now wall xs answer ∷ older →
+        cause_of_fault p.sizes p.stations p.max_age_ms wall xs ≡ None →
+        FindsPlaces p.stations xs older → executes xs ≡ true →
+        IsSelected p.sizes p.stations p.select_ms p.max_age_ms xs now older → answer ≡ None }
+{
+    courses_keep_commands();
 }
 
 /// Each ASDU of the control centre that is refused is answered (IEC 60870-5-101, 7.2.3), and so is

@@ -1,15 +1,16 @@
 //! The laws.
 ghost use Rattle.std.specs.Prelude.{◌≡◌, ◌≢◌, ◌<◌, ◌≤◌, ◌++◌, ℕ, true, false, List, length, Some};
-ghost use Rattle.std.specs.Prelude.{flat_map};
+ghost use Rattle.std.specs.Prelude.{flat_map, [], ◌∷◌};
 ghost use Rattle.std.specs.List.{AllByRecursion};
+ghost use Rattle.ft12.specs.Fronts.{front_of};
 ghost use Rattle.link.specs.declared.answer.Answer.TheVariants.{Unable};
 ghost use Rattle.link.specs.Exchanges.{answer_to};
 ghost use Rattle.link.specs.Outstation.{Turn, all_done};
 ghost use Rattle.link.specs.Delivery.{learnt, reports, HasReports, AcceptsSendings};
 ghost use Rattle.link.specs.Delivery.{AcceptsAllSendings};
-ghost use Rattle.link.specs.Gaps.{ended_with_gap};
-ghost use Rattle.gateway.specs.Log.{Log};
-ghost use Rattle.gateway.specs.Reports.{Setup, address_at, exchanges_with};
+ghost use Rattle.link.specs.Gaps.{ended_with_gap, gaps_at};
+ghost use Rattle.gateway.specs.Log.{Log, Went, LineOut, GapOut};
+ghost use Rattle.gateway.specs.Reports.{Setup, address_at, exchanges_of, exchanges_with};
 ghost use Rattle.gateway.specs.Gaps.{gaps_reported};
 ghost use Rattle.gateway.specs.Traffic.{IsFaithful, HasRested};
 ghost use Rattle.delivery.specs.Delivery.{IsHonest, IsSteady, reports_from, Delivers};
@@ -99,6 +100,24 @@ pub fn losses_are_reported()
 /// all gaps of the log, those with its number, in their order, each by the number of its session.
 pub fn gaps_are_reported_by_their_station()
     ensures { (i : ℕ) (log : Log) → gaps_reported i log ≡ values_of i (gaps_on log) }
+{}
+
+/// A gap is told at once. When it is told, it is the next of its station's sessions that ended with
+/// one, and no other station has a gap that is untold. Before a request goes to the line each gap
+/// is told. So the control centre knows of a loss before the line goes on (profile).
+pub fn gaps_are_told_before_the_next_request()
+    ensures told { (p : Setup) (newer log : Log) (now station session : ℕ) →
+        IsFaithful p (newer ++ Went now (GapOut station session) ∷ log) →
+        gaps_at (front_of p.link.size) p.addresses station (exchanges_of p log)
+        ≡ gaps_reported station log ++ session ∷ [] }
+    ensures others { (p : Setup) (newer log : Log) (now station session other : ℕ) →
+        IsFaithful p (newer ++ Went now (GapOut station session) ∷ log) → station ≢ other →
+        gaps_at (front_of p.link.size) p.addresses other (exchanges_of p log)
+        ≡ gaps_reported other log }
+    ensures asked { (p : Setup) (newer log : Log) (now : ℕ) (octets : List ℕ) (station : ℕ) →
+        IsFaithful p (newer ++ Went now (LineOut octets) ∷ log) →
+        gaps_at (front_of p.link.size) p.addresses station (exchanges_of p log)
+        ≡ gaps_reported station log }
 {}
 
 /// Of the reports that the outstation gave in sessions that ended, at most as many were not taken

@@ -4,13 +4,13 @@
 //! Laws over every log of a gateway ([`gateway::drive`] promises that its log is faithful), with no
 //! body, since they hold of definitions. Upwards: [`nothing_is_lost`], and
 //! [`each_session_is_known`] for links that are reset on the way, where [`losses_are_reported`] as
-//! gaps ([`gaps_are_reported_by_their_station`]) and [`losses_have_gaps`] says how many gaps there
-//! are at most. What comes of it to the control centre is one run, over closes and new connections:
-//! [`what_has_come_is_one_run`]. A piece is acknowledged with its frame:
-//! [`pieces_are_acknowledged_with_their_frames`].
-//! Downwards: [`each_command_is_given_once`], and what isn't given is answered
-//! ([`what_is_refused_is_answered`]). Between them: [`the_course_is_the_logs`], that what the
-//! gateway's course logs of the line and of commands is what the octets of the log show; and
+//! gaps ([`gaps_are_reported_by_their_station`], [`gaps_are_told_before_the_next_request`]) and
+//! [`losses_have_gaps`] says how many gaps there are at most. What comes of it to the control
+//! centre is one run, over closes and new connections: [`what_has_come_is_one_run`]. A piece is
+//! acknowledged with its frame: [`pieces_are_acknowledged_with_their_frames`]. Downwards:
+//! [`each_command_is_given_once`], and [`faultless_commands_are_forwarded`]. What isn't given is
+//! answered ([`what_is_refused_is_answered`]). Between them: [`the_course_is_the_logs`], that what
+//! the gateway's course logs of the line and of commands is what the octets of the log show; and
 //! [`selections_end_in_time`], by the log's moments. What is counted of commands is what the log
 //! shows ([`counts_of_commands_are_the_logs`]), and at other settings what stood on the lines
 //! ([`commands_lost_at_new_settings_are_counted`]). What a station says of a command goes on as it
@@ -26,14 +26,17 @@
 //! ([`only_a_failed_device_ends_a_promise`]). Stations are told apart
 //! ([`stations_are_told_apart`]), and what stands on their lines outlives other settings
 //! ([`what_stands_on_a_line_goes_on_with_its_station`]), which each part takes up
-//! ([`new_settings_are_taken_up`]).
+//! ([`new_settings_are_taken_up`]). At a restart no command goes out again
+//! ([`no_command_is_sent_again_behind_a_restart`]).
 //!
 //! Commands wait for the line by their stations ([`commands_wait_for_each_station`]), requests for
 //! an answer and polls for room ([`requests_wait_for_an_answer_and_polls_for_room`]). The line
-//! rests only where there is none ([`a_line_rests_only_for_want_of_room`]).
+//! rests only where there is none ([`a_line_rests_only_for_want_of_room`]). It is asked before
+//! octets go to TCP ([`the_line_is_asked_before_octets_go_to_tcp`]).
 //!
 //! What the gateway's definitions take for granted of a connection is said here too: which octets
-//! are its own ([`octets_are_those_of_their_connection`]), what closes it
+//! are its own ([`octets_are_those_of_their_connection`]), what its frames bear
+//! ([`frames_go_out_whole_and_with_their_counts`]), what closes it
 //! ([`frames_have_the_faults_of_their_history`], [`a_replaced_connection_is_reported`],
 //! [`connections_are_closed_for_the_cause_that_is_told`]), and that it keeps the rules and leaves
 //! nothing undone ([`connections_keep_the_rules_of_the_session`]).
@@ -59,16 +62,19 @@ mod logged;
 mod new_settings;
 mod passed_on;
 mod received;
+mod restarting;
 mod waiting;
 
 pub use commands::{
-    each_command_is_given_once, selections_end_in_time, settings_are_set_up,
-    stations_are_told_apart, the_course_is_the_logs, what_is_refused_is_answered,
+    each_command_is_given_once, faultless_commands_are_forwarded, selections_end_in_time,
+    settings_are_set_up, stations_are_told_apart, the_course_is_the_logs,
+    what_is_refused_is_answered,
 };
 pub use counting::{commands_lost_at_new_settings_are_counted, counts_of_commands_are_the_logs};
 pub use laws::{
-    each_session_is_known, gaps_are_reported_by_their_station, losses_are_reported,
-    losses_have_gaps, nothing_is_lost, silence_is_no_reset,
+    each_session_is_known, gaps_are_reported_by_their_station,
+    gaps_are_told_before_the_next_request, losses_are_reported, losses_have_gaps, nothing_is_lost,
+    silence_is_no_reset,
 };
 pub use logged::{
     events_and_actions_stand_under_their_names, only_a_failed_device_ends_a_promise,
@@ -82,11 +88,12 @@ pub use passed_on::{
 };
 pub use received::{
     a_replaced_connection_is_reported, connections_are_closed_for_the_cause_that_is_told,
-    connections_keep_the_rules_of_the_session, frames_have_the_faults_of_their_history,
-    octets_are_those_of_their_connection, pieces_are_acknowledged_with_their_frames,
-    what_has_come_is_one_run,
+    connections_keep_the_rules_of_the_session, frames_go_out_whole_and_with_their_counts,
+    frames_have_the_faults_of_their_history, octets_are_those_of_their_connection,
+    pieces_are_acknowledged_with_their_frames, what_has_come_is_one_run,
 };
+pub use restarting::no_command_is_sent_again_behind_a_restart;
 pub use waiting::{
     a_line_rests_only_for_want_of_room, commands_wait_for_each_station,
-    requests_wait_for_an_answer_and_polls_for_room,
+    requests_wait_for_an_answer_and_polls_for_room, the_line_is_asked_before_octets_go_to_tcp,
 };

@@ -2,6 +2,7 @@
 ghost use Rattle.std.specs.Prelude.{◌≡◌, ◌+◌, ℕ, List, [], ◌∷◌, ◌++◌, length, take, true, false};
 ghost use Rattle.std.specs.List.{flat_map};
 ghost use Rattle.apci.specs.declared.apdu.Apdu.{Apdu};
+ghost use Rattle.apci.specs.Spelling.{spelling, Fits};
 ghost use Rattle.asdu.specs.declared.sizes.Sizes.{Sizes};
 ghost use Rattle.session.specs.History as talk;
 ghost use Rattle.session.specs.declared.kinds.Close.{Close};
@@ -16,7 +17,7 @@ ghost use Rattle.gateway.specs.Frames.{Connection, Sent, acknowledged_count, ack
 ghost use Rattle.gateway.specs.Frames.{first_unacknowledged, objects_of_frames, transfers};
 ghost use Rattle.gateway.specs.Frames.{i_frames, fault_of};
 ghost use Rattle.gateway.specs.Log.{Log, LogEntry, Input, Output, Came, Went, Opened, LineOut};
-ghost use Rattle.gateway.specs.Log.{Closed};
+ghost use Rattle.gateway.specs.Log.{Closed, TcpOut};
 ghost use Rattle.gateway.specs.Entries.{number_of};
 ghost use Rattle.gateway.specs.Objects.{pieces_of_report};
 ghost use Rattle.gateway.specs.Reports.{Setup, taken_objects, taken_pieces, reports_in};
@@ -28,7 +29,7 @@ ghost use Rattle.delivery.specs.Delivery.{Delivers};
 ghost use Rattle.delivery.specs.Octets.{Ends, GoesOn, AreActions, is_opening, lacks_place};
 ghost use Rattle.delivery.specs.Octets.{octets_in, octets_out};
 ghost use Rattle.delivery.specs.Received.{AcknowledgeWhatCame, AreRuns, HaveCome, IsOneRun};
-ghost use Rattle.delivery.specs.Received.{close_by};
+ghost use Rattle.delivery.specs.Received.{close_by, BearsCounts};
 
 use apci::spellings_cancel;
 use gateway::own_answers_go_out;
@@ -109,6 +110,23 @@ pub fn octets_are_those_of_their_connection()
     ensures before_event { (now : ℕ) (event : Input) (actions log : Log) → AreActions actions →
         received_before (actions ++ Came now event ∷ log) ≡ (present log).received }
 {}
+
+/// Octets go to TCP only while a connection is open, and each time they are one whole APDU. Each
+/// frame bears the counts of its connection, in the octets that are handed over (IEC 60870-5-104,
+/// 5.1). An I frame has as N(S) how many I frames went out before it, and as N(R) how many came. An
+/// S frame has this N(R), too. So the control centre finds no gap, and what it sent is
+/// acknowledged.
+pub fn frames_go_out_whole_and_with_their_counts()
+    ensures whole { (p : Setup) (newer log : Log) (now : ℕ) (octets : List ℕ) →
+        IsFaithful p (newer ++ Went now (TcpOut octets) ∷ log) →
+        ((present log).is_open ≡ true)
+        × (frame : Apdu) × Fits frame × (octets ≡ spelling frame) }
+    ensures counts { (p : Setup) (log : Log) (now : ℕ) (frame : Apdu) (c : Course) →
+        Runs p (Went now (TcpOut (spelling frame)) ∷ log) c →
+        (before : Course) × Runs p log before × BearsCounts frame before }
+{
+    spellings_cancel();
+}
 
 /// What closes a connection is judged by what came and went before it on this connection: the
 /// frames that came say of data transfer and of the I frames received what the history has, and a

@@ -18,10 +18,11 @@ ghost use Rattle.gateway.specs.Calling.{Asks, EndsStep};
 ghost use Rattle.gateway.specs.Course.{Course, here_of, Runs};
 ghost use Rattle.gateway.specs.Frames.{Connection, acknowledged_reports};
 ghost use Rattle.gateway.specs.Line.{IsLineAtRest, IsWaiting, done_in};
-ghost use Rattle.gateway.specs.Log.{Log, Went, LineOut, latest};
+ghost use Rattle.gateway.specs.Log.{Log, Input, Came, Went, LineOut, latest};
 ghost use Rattle.gateway.specs.Reports.{Setup, address_at, exchanges_with, parts_of_all};
 ghost use Rattle.gateway.specs.Reports.{exchanges_of, reports_in};
 ghost use Rattle.gateway.specs.Traffic.{IsAtRest, IsFaithful};
+ghost use Rattle.delivery.specs.Octets.{AreActions, brings_octets, octets_out};
 
 use gateway::polls_need_three_places;
 
@@ -84,3 +85,12 @@ pub fn requests_wait_for_an_answer_and_polls_for_room()
 {
     polls_need_three_places();
 }
+
+/// The line is asked before octets go to TCP. Where a step's event isn't octets of TCP, none go to
+/// TCP before its request. So the control centre doesn't hold up the line (profile).
+pub fn the_line_is_asked_before_octets_go_to_tcp()
+    ensures { (p : Setup) (newer actions log : Log) (now at : ℕ) (event : Input)
+        (octets : List ℕ) →
+        IsFaithful p (newer ++ Went now (LineOut octets) ∷ (actions ++ Came at event ∷ log)) →
+        AreActions actions → brings_octets event ≡ false → octets_out actions ≡ [] }
+{}
