@@ -6,3 +6,4 @@ pub mod VisitLemmas
 pub mod ReadingLemmas
 pub mod PageLemmas
 pub mod HourLemmas
+pub mod SightLemmas

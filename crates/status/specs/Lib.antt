@@ -13,6 +13,7 @@ pub mod Reading
 pub mod Reply
 pub mod Request
 pub mod Seats
+pub mod Sights
 pub mod Streams
 pub mod Table
 pub mod Texts

@@ -38,6 +38,7 @@ mod reading_laws;
 mod reply;
 mod request;
 mod seat;
+mod sight_laws;
 mod snapshot;
 mod sockets;
 mod streams;
@@ -57,6 +58,10 @@ pub use reading_laws::{
     lists_have_each_thing, numbers_stand_under_their_names, texts_are_read_back,
 };
 pub use reply::{UNKNOWN, body_of, exit_status};
+pub use sight_laws::{
+    queue_and_state_stand_in_their_lines, stations_stand_in_their_order,
+    the_centre_stands_in_its_line,
+};
 pub use snapshot::{
     CentreView, Keeping, LineView, LinkState, Queue, Setting, Snapshot, StationView,
 };
