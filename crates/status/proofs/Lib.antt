@@ -7,3 +7,4 @@ pub mod ReadingLemmas
 pub mod PageLemmas
 pub mod HourLemmas
 pub mod SightLemmas
+pub mod ReplyLemmas

@@ -81,7 +81,7 @@ over first label one other words f age end next q more is =
     (first, next ++ (q ++ more), simp (append_assoc, append-nil))
 
 -- what ends with its last part
-last_part : (xs : List (List ℕ)) (k : ℕ) (first label : List ℕ)
+pub last_part : (xs : List (List ℕ)) (k : ℕ) (first label : List ℕ)
     → drop k xs ≡ (first ++ label) ∷ [] → EndsWith (joined xs) label
 last_part xs zero first label is =
     (first, ap joined is ∙ append-nil (first ++ label))
@@ -108,7 +108,7 @@ ends_from (x ∷ xs) (suc k) part ends =
     (x ++ before, ap (λ (l : List ℕ). x ++ l) same ∙ sym (append_assoc x before part))
 
 -- a text that begins in the last part of what stands before
-has_over : (text label rest part after : List ℕ) → EndsWith text label → rest ≡ part ++ after
+pub has_over : (text label rest part after : List ℕ) → EndsWith text label → rest ≡ part ++ after
     → Has (text ++ rest) (label ++ part)
 has_over text label rest part after (before, same) is = (
   before,

@@ -10,6 +10,7 @@ pub mod Metrics
 pub mod TextPage
 pub mod Visits
 pub mod Reading
+pub mod Replies
 pub mod Reply
 pub mod Request
 pub mod Seats
