@@ -9,12 +9,12 @@ use Rattle.gateway.specs.Config.{Settings}
 use Rattle.gateway.specs.State.{State}
 use Rattle.gateway.specs.declared.settings.StationSettings.{StationSettings as Setting}
 use Rattle.live.specs.declared.watched.Notice.{Notice}
-use Rattle.lookout.specs.Looking.{counted, first_of, gone_after, is_over, keeping_by, keeping_at_first, noted}
+use Rattle.lookout.specs.Looking.{counted, first_of, gone_after, is_over, keeping_by, keeping_at_first, noted, turned_after}
 use Rattle.lookout.specs.Looks.{HasCounted, IsClosed, IsSilent, Look, Standing, after_look}
 use Rattle.lookout.specs.Looks.{after_looks, noted_after}
 use Rattle.lookout.specs.Shown.{AreKnown, AreRows, IsStationRow, Pair, Shows, known_as}
 use Rattle.lookout.specs.Shown.{chosen_as, in_force, keeping_after, shown_as, stands_since, text_or_none, viewed_as}
-use Rattle.lookout.specs.Sights.{IsSight, ShowsSettings, TellsOf}
+use Rattle.lookout.specs.Sights.{Counts, count_at, counts_after, newest, IsSight, ShowsSettings, TellsOf}
 use Rattle.lookout.specs.declared.known.Known.{Known}
 use Rattle.lookout.specs.declared.lookout.ShownRun.{ShownRun}
 use Rattle.runlog.specs.Watching.{Watching}
@@ -22,7 +22,12 @@ use Rattle.runlog.specs.declared.ends.OpenConnection.{OpenConnection}
 use Rattle.runlog.specs.declared.names.LogNames.{LogNames}
 use Rattle.runlog.specs.declared.stations.StationWatch.{StationWatch}
 use Rattle.runlog.specs.declared.traffic.Traffic.{Traffic}
+use Rattle.runlog.specs.Logging.{taken_in}
+use Rattle.status.specs.Hour as hour
+use Rattle.status.specs.Hour.{Samples}
+use Rattle.status.specs.LastHour.{QueueLook, after}
 use Rattle.status.specs.Labels.{standing_text}
+use Rattle.std.specs.Prelude.{◌&&◌}
 use Rattle.status.specs.declared.snapshot.Keeping.{Keeping}
 use Rattle.status.specs.declared.snapshot.Snapshot.{Snapshot}
 use Rattle.status.specs.declared.snapshot.StationView.{StationView}
@@ -85,6 +90,61 @@ pub noted_append : (s : ShownRun) (before later : List Look)
 noted_append s [] later = refl
 noted_append s (l ∷ before) later = noted_append (noted l.watch l.notice s) before later
 
+-- What is counted
+
+-- these are the counts that were noted
+pub record AreNoted (s : Standing) (c : Counts) : Type 0 where
+  pub turned : s.turned ≡ c.turned
+  pub counted : s.shown.counted ≡ newest c.counts
+  pub hour : s.shown.hour ≡ after c.counts
+
+noted_by : (a b d : Bool) (l : Look) (n : ShownRun) (counts : List QueueLook) (t u : Option ℕ)
+    → t ≡ u → n.counted ≡ newest counts → n.hour ≡ after counts
+    → b ≡ d
+    → let look : QueueLook = record { moment = l.watch.moment; taken = taken_in l.gateway } in
+    let m : ShownRun = record n {
+      counted = Some l.watch.moment;
+      taken = taken_in l.gateway;
+      hour = hour.noted l.watch.moment (taken_in l.gateway) n.hour;
+    } in
+    AreNoted (record { turned = t; shown = if a then (if b then m else n) else n })
+    (record { turned = u; counts = if a && d then look ∷ counts else counts })
+noted_by true true true l n counts t u same at hours is = record {
+  turned = same;
+  counted = refl;
+  hour = ap (hour.noted l.watch.moment (taken_in l.gateway)) hours;
+}
+noted_by true false false l n counts t u same at hours is =
+    record { turned = same; counted = at; hour = hours }
+noted_by true true false l n counts t u same at hours is = cc
+noted_by true false true l n counts t u same at hours is = cc
+noted_by false b d l n counts t u same at hours is =
+    record { turned = same; counted = at; hour = hours }
+
+one_noted : (s : Standing) (c : Counts) (l : Look) → AreNoted s c
+    → AreNoted (after_look l s) (count_at l c)
+one_noted s c l is =
+    let n = noted l.watch l.notice s.shown in
+    let now = l.watch.moment in
+    subst
+    (λ (t : Option ℕ). AreNoted (after_look l s)
+    (record {
+      turned = turned_after c.turned now;
+      counts = if is_over t now 20 && is_over (newest c.counts) now 1000
+          then record { moment = now; taken = taken_in l.gateway } ∷ c.counts else c.counts;
+    }))
+    is.turned
+    (noted_by (is_over s.turned now 20) (is_over n.counted now 1000)
+    (is_over (newest c.counts) now 1000) l n c.counts (turned_after s.turned now)
+    (turned_after c.turned now) (ap (λ (t : Option ℕ). turned_after t now) is.turned) is.counted
+    is.hour (ap (λ (o : Option ℕ). is_over o now 1000) is.counted))
+
+all_noted : (s : Standing) (c : Counts) (looks : List Look) → AreNoted s c
+    → AreNoted (after_looks s looks) (counts_after c looks)
+all_noted s c [] is = is
+all_noted s c (l ∷ looks) is =
+    all_noted (after_look l s) (count_at l c) looks (one_noted s c l is)
+
 -- What of that a visitor is shown
 
 module _ (c : Settings) (names : LogNames) (keeps : Bool) (looks : List Look) (last : Look)
@@ -121,6 +181,15 @@ module _ (c : Settings) (names : LogNames) (keeps : Bool) (looks : List Look) (l
   unacknowledged =
       subst (λ (n : ℕ). HasCounted all last.watch.moment n)
       (sym k.seen.numbers.centre.unacknowledged) counted_by
+
+  pub hours : s.queue.hour.now
+      ≡ (after (counts_after (record { turned = None; counts = [] }) all).counts).numbers
+  hours =
+      let begins : AreNoted start (record { turned = None; counts = [] }) =
+      record { turned = refl; counted = k.begins.counted; hour = k.begins.numbers } in
+      k.seen.numbers.hour ∙ ap (λ (x : ShownRun). x.hour.numbers) k.noted
+      ∙ ap (λ (x : Samples). x.numbers)
+      (all_noted start (record { turned = None; counts = [] }) all begins).hour
 
   gone_since : IsClosed last → s.centre.since_ms ≡ (noted_after k.fresh all).gone_since
   gone_since closed =

@@ -1,10 +1,10 @@
 -- Words of the laws of what a visitor sees of a run (this gateway's own profile).
-use Rattle.std.specs.Prelude.{◌≡◌, ℕ, Bool, true, List, [], ◌∷◌, ◌++◌, Some, None}
-use Rattle.std.specs.Prelude.{codes, map}
+use Rattle.std.specs.Prelude.{◌≡◌, ℕ, Bool, true, Option, List, [], ◌∷◌, ◌++◌, Some, None}
+use Rattle.std.specs.Prelude.{codes, map, ◌&&◌, if◌then◌else◌}
 use Rattle.std.specs.Fmt.{decimal}
 use Rattle.gateway.specs.Config.{Settings}
 use Rattle.gateway.specs.declared.settings.StationSettings.{StationSettings as Setting}
-use Rattle.lookout.specs.Looking.{IsFreshLookout, IsShown, is_over}
+use Rattle.lookout.specs.Looking.{IsFreshLookout, IsShown, is_over, turned_after}
 use Rattle.lookout.specs.Looks.{Look, after_looks, standing_word}
 use Rattle.lookout.specs.Shown.{Pair, silence_text, viewed_as}
 use Rattle.lookout.specs.declared.lookout.ShownRun.{ShownRun}
@@ -12,7 +12,9 @@ use Rattle.runlog.specs.Names.{name_in}
 use Rattle.runlog.specs.declared.names.LogNames.{LogNames}
 use Rattle.runlog.specs.declared.stations.StationWatch.{StationWatch}
 use Rattle.runlog.specs.declared.traffic.Traffic.{Traffic}
+use Rattle.runlog.specs.Logging.{taken_in}
 use Rattle.status.specs.Labels.{standing_text}
+use Rattle.status.specs.LastHour.{QueueLook}
 use Rattle.status.specs.declared.snapshot.Setting.{Setting as SettingView}
 use Rattle.status.specs.declared.snapshot.Snapshot.{Snapshot}
 use Rattle.status.specs.declared.snapshot.StationView.{StationView}
@@ -33,6 +35,28 @@ pub record IsSight (c : Settings) (names : LogNames) (keeps : Bool) (looks : Lis
         peer = shown.peer;
       }
   pub seen : IsShown shown last.watch s
+
+-- when the visitors had a turn last, and the counts of the queue so far, the newest one first
+pub record Counts : Type 0 where
+  pub turned : Option ℕ
+  pub counts : List QueueLook
+
+abbrev pub newest : List QueueLook → Option ℕ
+newest [] = None
+newest (count ∷ counts) = Some count.moment
+
+-- The queue is counted where the visitors have a turn, a second or more after the count before.
+abbrev pub count_at : Look → Counts → Counts
+count_at l c = record {
+  turned = turned_after c.turned l.watch.moment;
+  counts = if is_over c.turned l.watch.moment 20 && is_over (newest c.counts) l.watch.moment 1000
+      then record { moment = l.watch.moment; taken = taken_in l.gateway } ∷ c.counts
+      else c.counts;
+}
+
+abbrev pub counts_after : Counts → List Look → Counts
+counts_after c [] = c
+counts_after c (l ∷ looks) = counts_after (count_at l c) looks
 
 -- a row tells of the station with this setting what was watched and counted of it
 pub record TellsOf (names : LogNames) (setting : Setting) (watch : StationWatch)

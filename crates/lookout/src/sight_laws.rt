@@ -8,13 +8,14 @@ ghost use Rattle.gateway.specs.declared.settings.StationSettings.{StationSetting
 ghost use Rattle.live.specs.declared.ends.Presence.TheVariants as presence;
 ghost use Rattle.live.specs.declared.watched.Notice.TheVariants as notice;
 ghost use Rattle.lookout.specs.Looks.{HasCounted, IsClosed, IsSilent, Look};
-ghost use Rattle.lookout.specs.Sights.{IsSight, ShowsSettings, TellsOf};
+ghost use Rattle.lookout.specs.Sights.{IsSight, ShowsSettings, TellsOf, counts_after};
 ghost use Rattle.runlog.specs.Watching.{wall_of};
 ghost use Rattle.runlog.specs.declared.ends.OpenConnection.{OpenConnection};
 ghost use Rattle.runlog.specs.declared.names.LogNames.{LogNames};
 ghost use Rattle.runlog.specs.declared.stations.StationWatch.{StationWatch};
 ghost use Rattle.runlog.specs.declared.traffic.Traffic.{Traffic};
 ghost use Rattle.status.specs.Labels.{keeping_text};
+ghost use Rattle.status.specs.LastHour.{after};
 ghost use Rattle.status.specs.declared.snapshot.Snapshot.{Snapshot};
 ghost use Rattle.status.specs.declared.snapshot.StationView.{StationView};
 
@@ -68,7 +69,8 @@ pub fn the_centre_is_shown_as_it_is()
 {}
 
 /// Of the queue the places of the settings are shown. As many of them are shown as taken, and as
-/// not acknowledged, as were taken at one of the looks, less than a second ago.
+/// not acknowledged, as were taken at one of the looks, less than a second ago. The numbers of the
+/// last hour are those after all counts of the queue.
 pub fn the_queue_is_shown_as_it_is()
     ensures places { (c : Settings) (names : LogNames) (keeps : Bool) (looks : List Look)
         (last : Look) (s : Snapshot) → IsSight c names keeps looks last s →
@@ -80,6 +82,10 @@ pub fn the_queue_is_shown_as_it_is()
         (looks : List Look) (last : Look) (s : Snapshot) →
         IsSight c names keeps looks last s →
         HasCounted (looks ++ last ∷ []) last.watch.moment s.centre.unacknowledged }
+    ensures hour { (c : Settings) (names : LogNames) (keeps : Bool) (looks : List Look)
+        (last : Look) (s : Snapshot) → IsSight c names keeps looks last s →
+        s.queue.hour.now ≡ (after
+        (counts_after (record { turned = None; counts = [] }) (looks ++ last ∷ [])).counts).numbers }
 {}
 
 /// The line is shown as there just where it is there or receives, since when it is so, under the
