@@ -243,6 +243,13 @@ module _ (c : Settings) (names : LogNames) (keeps : Bool) (looks : List Look) (l
       ∙ k.begins.name
       ∙ ap (λ (o : Option (Bor (List ℕ))). text_or_none (option_map (λ n. n.now) o)) is
 
+  pub version : s.version.now ≡ k.fresh.version.now
+  version =
+      let f : ShownRun → List ℕ = λ x. x.version.now in
+      k.seen.numbers.version ∙ ap f k.noted
+      ∙ stays f (λ w n x. refl)
+      (λ g now x. either f (is_over x.counted now 1000) _ x x.version.now refl refl) start all
+
   in_force_is : map viewed_as s.settings.now ≡ in_force c
   in_force_is =
       let f : ShownRun → List Pair = λ x. map chosen_as x.chosen.items in
@@ -280,6 +287,10 @@ same_length f g [] (y ∷ ys) is = cc
 same_length f g (x ∷ xs) [] is = cc
 same_length f g (x ∷ xs) (y ∷ ys) is = ap suc (same_length f g xs ys cc)
 
+one_more : {A : Type 0} (x : A) (xs first : List A) (one : A) (rest : List A)
+    → xs ≡ first ++ one ∷ rest → x ∷ xs ≡ (x ∷ first) ++ one ∷ rest
+one_more x xs first one rest is = ap (λ l. x ∷ l) is
+
 known_at : {A B C : Type 0} (f : A → C) (g : B → C) (xs : List A) (before : List B) (y : B)
     (after : List B) → map f xs ≡ map g (before ++ y ∷ after)
     → (first : List A) × (x : A) × (rest : List A) × (xs ≡ first ++ x ∷ rest)
@@ -289,7 +300,7 @@ known_at f g (x ∷ xs) [] y after is = ([], x, xs, refl, refl, cc)
 known_at f g [] (b ∷ before) y after is = cc
 known_at f g (x ∷ xs) (b ∷ before) y after is =
     let (first, one, rest, split, long, same) = known_at f g xs before y after cc in
-    (x ∷ first, one, rest, ap (λ l. x ∷ l) split, ap suc long, same)
+    (x ∷ first, one, rest, one_more x xs first one rest split, ap suc long, same)
 
 rows_at : (n : ℕ) (first : List Known) (k : Known) (rest : List Known)
     (earlier : List StationWatch) (w : StationWatch) (later : List StationWatch)
@@ -313,7 +324,7 @@ rows_at (suc n) (a ∷ first) k rest (x ∷ earlier) w later (y ∷ past) t next
     let (above, below, row, split, long, is) =
     rows_at n first k rest earlier w later past t next rows more (omega (arith, e))
     (omega (arith, p)) (omega (arith, lt)) in
-    (r ∷ above, below, row, ap (λ l. r ∷ l) split, ap suc long, is)
+    (r ∷ above, below, row, one_more r rows above row below split, ap suc long, is)
 
 rows_count : (n : ℕ) (known : List Known) (ws : List StationWatch) (ts : List Traffic)
     (rows : List StationView) → AreRows n known ws ts rows → length known ≤ n

@@ -1,9 +1,11 @@
 -- What is answered to whom, and what rows and lines begin with.
 use Rattle.std.proofs.Common.{◌≡◌, ◌≢◌, ℕ, List, [], ◌∷◌, ◌++◌, Bool, true, false, None, Some, inl}
-use Rattle.std.proofs.Common.{drop, refl, ap, subst, ◌∙◌, append_assoc, codes, nat_lt}
+use Rattle.std.proofs.Common.{Option, drop, refl, sym, ap, subst, ◌∙◌, append_assoc, codes, nat_lt}
 use Rattle.std.proofs.Common.{◌/◌, ◌<◌, ◌≤◌, arith, if◌then◌else◌}
 use Rattle.std.proofs.lemmas.Bool.Decides.{nat_tests}
 use Rattle.std.proofs.lemmas.List.{append-nil}
+use Rattle.std.proofs.lemmas.List.Sums.{sum_by-cons}
+use Rattle.std.specs.Prelude.{cond, ◌+◌}
 use Rattle.std.proofs.lemmas.Slice.Eq.{bytes_eq-Decides}
 use Rattle.std.specs.Fmt.{decimal}
 use Rattle.std.specs.Prelude.{bytes_eq}
@@ -11,21 +13,29 @@ use Rattle.status.specs.Html as html
 use Rattle.status.specs.Html.{html_of, html_parts}
 use Rattle.status.specs.Json.{flag, json_of, json_parts, parts_before_peer}
 use Rattle.status.specs.Judge.{judgement_of}
-use Rattle.status.specs.Labels.{judgement_text, standing_text, wide_text}
+use Rattle.status.specs.Labels.{judgement_text, keeping_text, standing_text, wide_text}
 use Rattle.status.specs.Reading.{Has, HasMember, quoted}
-use Rattle.status.specs.Replies.{HasMoments, SaysOfLine, SaysWhose}
+use Rattle.status.specs.Replies.{AreUp, Connected, HasMoments, IsCentreWord, IsLineWord, LineAway}
+use Rattle.status.specs.Replies.{LineThere, NoStation, NotConnected, NotUp, OneUp, SaysInSum}
+use Rattle.status.specs.Replies.{SaysOfLine, SaysWhose, name_line, numbers_of, summary_of}
+use Rattle.std.specs.Borrow.{Bor}
+use Rattle.std.specs.Prelude.{count_by, is_some, suc, length}
+use Rattle.status.specs.Judge.{is_up, stands_up}
+use Rattle.status.specs.Metrics.{metrics_of, metrics_parts, text_of_info}
+use Rattle.status.specs.declared.snapshot.LinkState.{LinkState}
+use Rattle.status.specs.declared.snapshot.LinkState.TheVariants as stands
 use Rattle.status.specs.Request.{asked_by, view_of}
 use Rattle.status.specs.Table as table
 use Rattle.status.specs.Table.{table_of, table_parts}
-use Rattle.status.specs.Texts.{age_text, comma_behind}
-use Rattle.status.specs.Words.{escaped, escaped_or, joined, number_or, right}
+use Rattle.status.specs.Texts.{age_text, comma_behind, summary}
+use Rattle.status.specs.Words.{escaped, escaped_or, joined, number_or, right, rows}
 use Rattle.status.specs.declared.request.Inquiry.TheVariants.{Forbidden}
 use Rattle.status.specs.declared.request.View.TheVariants as view
 use Rattle.status.specs.declared.snapshot.Snapshot.{Snapshot}
 use Rattle.status.specs.declared.snapshot.StationView.{StationView}
 use Rattle.status.specs.declared.words.Marks.TheVariants.{Html, Json, Plain}
-use Rattle.status.proofs.ReadingLemmas.{has_at, has_from, has_front, member, string_member}
-use Rattle.status.proofs.SightLemmas.{has_over, last_part, plain_is_itself}
+use Rattle.status.proofs.ReadingLemmas.{has_all, rows_has, has_at, has_from, has_front, member, string_member}
+use Rattle.status.proofs.SightLemmas.{ends_from, has_over, last_part, plain_is_itself}
 
 -- What is asked
 
@@ -126,6 +136,14 @@ row : (first a b d e f g h i : List ℕ)
     (a ++ (b ++ (d ++ (e ++ (d ++ (f ++ (g ++ (h ++ d))))))))
 row first a b d e f g h i = (first, i, simp append_assoc)
 
+named_row : (s : StationView) → table.row_counts s ≡ numbers_of s
+named_row s =
+    ap (λ (l : List ℕ).
+    codes " " ++ (right 8 s.reports ++ (codes " " ++ (right 8 s.skipped ++ (codes " "
+    ++ (right 5 s.gaps ++ (codes " " ++ (right 9 s.commands ++ (codes "  " ++ (l
+    ++ codes "\n"))))))))))
+    (plain_is_itself s.name.now)
+
 pub says_whose : (s : StationView) (now : ℕ) → SaysWhose s now
 says_whose s now = record {
   table = (
@@ -133,6 +151,8 @@ says_whose s now = record {
     four (right 7 s.address) (right 7 s.common_address) (codes "  ") (wide_text s.standing)
         (joined (drop 1 (table.row_parts now s))),
   );
+  numbers = ends_from (table.row_parts now s) 3 (numbers_of s)
+      ([], append-nil (table.row_counts s) ∙ named_row s);
   page =
       let part : List ℕ = codes "<td>" ++ (escaped Html s.name.now ++ (html.cell
       ++ (decimal s.address ++ (html.cell ++ (decimal s.common_address
@@ -265,3 +285,110 @@ has_moments s = record {
       (member (parts_before_peer s) 8 (codes ",") (codes "wall_ms")
       (number_or s.wall_ms (codes "null")) (codes "\"line\":{\"name\":\"") _ 44 refl (inl refl));
 }
+
+-- The summary
+
+up_by : (b : Bool) (station : StationView) (stations : List StationView) (n : ℕ)
+    → stands_up station.standing ≡ b → AreUp stations n
+    → AreUp (station ∷ stations) (if b then suc n else n)
+up_by true station stations n is up = OneUp station stations n (is_up_so station.standing is) up
+  where
+    is_up_so : (l : LinkState) → stands_up l ≡ true → l ≡ stands.Up
+    is_up_so stands.NotAsked is = cc
+    is_up_so stands.Asked is = cc
+    is_up_so stands.Up is = refl
+    is_up_so stands.Silent is = cc
+    is_up_so stands.Down is = cc
+up_by false station stations n is up = NotUp station stations n (not_up station.standing is) up
+  where
+    not_up : (l : LinkState) → stands_up l ≡ false → l ≢ stands.Up
+    not_up stands.NotAsked is same = cc
+    not_up stands.Asked is same = cc
+    not_up stands.Up is same = cc
+    not_up stands.Silent is same = cc
+    not_up stands.Down is same = cc
+
+are_up : (stations : List StationView) → AreUp stations (count_by is_up stations)
+are_up [] = NoStation
+are_up (station ∷ stations) =
+    subst (AreUp (station ∷ stations))
+    (one_or_none (is_up station) (count_by is_up stations)
+    ∙ sym (sum_by-cons (λ (x : StationView). cond (is_up x) 1 0) station stations))
+    (up_by (is_up station) station stations (count_by is_up stations) refl (are_up stations))
+  where
+    one_or_none : (b : Bool) (n : ℕ) → (if b then suc n else n) ≡ cond b 1 0 + n
+    one_or_none true n = omega arith
+    one_or_none false n = omega arith
+
+line_word : (s : Snapshot) (line : List ℕ) → IsLineWord s line → word_of s.line.is_there ≡ line
+line_word s _ (LineThere is) = ap word_of is
+line_word s _ (LineAway is) = ap word_of is
+
+some_is : (o : Option (Bor (List ℕ))) → o ≢ None → is_some o ≡ true
+some_is None some = absurd (some refl)
+some_is (Some x) some = refl
+
+abbrev centre_word : Bool → List ℕ
+centre_word connected = if connected then codes "connected" else codes "not connected"
+
+centre_is : (s : Snapshot) (centre : List ℕ) → IsCentreWord s centre
+    → centre_word (is_some s.centre.peer) ≡ centre
+centre_is s _ (Connected some) = ap centre_word (some_is s.centre.peer some)
+centre_is s _ (NotConnected none) =
+    ap (λ (o : Option (Bor (List ℕ))). centre_word (is_some o)) none
+
+thirteen : (a b d e f g h i j k l m n o : List ℕ)
+    → a ++ (b ++ (d ++ (e ++ (f ++ (g ++ (h ++ (i ++ (j ++ (k ++ (l ++ (e ++ (m ++ (n
+    ++ (o ++ []))))))))))))))
+    ≡ a ++ (b ++ (d ++ (e ++ (f ++ (g ++ (h ++ (i ++ (j ++ (k ++ (l ++ (e ++ (m ++ (n
+    ++ o)))))))))))))
+thirteen a b d e f g h i j k l m n o = simp append-nil
+
+abbrev paragraph_rest : List ℕ
+paragraph_rest = codes "\n<table>\n<tr><th>running for</th><td>"
+
+two : (a end next more : List ℕ) → a ++ ((end ++ next) ++ more) ≡ (a ++ end) ++ (next ++ more)
+two a end next more = simp append_assoc
+
+sum_is : (s : Snapshot)
+    → summary s
+    ≡ summary_of s (count_by is_up s.stations.now) (word_of s.line.is_there)
+    (centre_word (is_some s.centre.peer))
+sum_is s = thirteen (judgement_text (judgement_of s)) (codes ": ")
+    (decimal (count_by is_up s.stations.now)) (codes " of ")
+    (decimal (length s.stations.now)) (codes " stations up, line ") (word_of s.line.is_there)
+    (codes ", control centre ") (centre_word (is_some s.centre.peer)) (codes ", queue ")
+    (decimal s.queue.taken) (decimal s.queue.places) (codes ", state ") (keeping_text s.keeping)
+
+pub says_in_sum : (s : Snapshot) (line centre : List ℕ) → IsLineWord s line
+    → IsCentreWord s centre → SaysInSum s line centre
+says_in_sum s line centre is_line is_centre =
+    let up : ℕ = count_by is_up s.stations.now in
+    let same : summary s ≡ summary_of s up line centre =
+    sum_is s
+    ∙ ap (λ (l : List ℕ). summary_of s up l (centre_word (is_some s.centre.peer)))
+    (line_word s line is_line)
+    ∙ ap (λ (l : List ℕ). summary_of s up line l) (centre_is s centre is_centre) in
+    record {
+      up = up;
+      counted = are_up s.stations.now;
+      table = (
+        joined (drop 1 (table_parts s)),
+        ap (λ (l : List ℕ). l ++ joined (drop 1 (table_parts s))) same,
+      );
+      page = subst (λ (l : List ℕ). Has (html_of s) (l ++ codes "</p>")) same
+          (has_from (html_parts s) 1 (summary s ++ codes "</p>") (
+            [],
+            paragraph_rest ++ joined (drop 3 (html_parts s)),
+            two (summary s) (codes "</p>") paragraph_rest (joined (drop 3 (html_parts s))),
+          ));
+    }
+
+-- Names for Prometheus
+
+pub has_name_line : (s : Snapshot) (before after : List StationView) (station : StationView)
+    → s.stations.now ≡ before ++ station ∷ after → Has (metrics_of s) (name_line station)
+has_name_line s before after station is =
+    has_at (metrics_parts s) 1 (name_line station)
+    (subst (λ (l : List StationView). Has (rows text_of_info l) (name_line station)) (sym is)
+    (rows_has text_of_info before after station (name_line station) (has_all (name_line station))))

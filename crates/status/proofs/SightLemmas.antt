@@ -11,14 +11,15 @@ use Rattle.status.specs.Json.{json_parts, parts_before_hour, parts_before_peer}
 use Rattle.status.specs.Labels.{keeping_text}
 use Rattle.status.specs.Reading.{Has}
 use Rattle.status.specs.Sights.{EndsWith, JsonOfCentre, SaysOfCentre, SaysOfQueue, SaysOfState}
-use Rattle.status.specs.Sights.{StandInOrder}
+use Rattle.status.specs.Sights.{StandInOrder, SaysSetting}
 use Rattle.status.specs.Table as table
 use Rattle.status.specs.Table.{table_of, table_parts}
 use Rattle.status.specs.Texts.{age_text}
 use Rattle.status.specs.Words.{escaped, escaped_or, joined, listed, rows}
 use Rattle.status.specs.declared.snapshot.Snapshot.{Snapshot}
 use Rattle.status.specs.declared.words.Marks.{Marks}
-use Rattle.status.specs.declared.words.Marks.TheVariants.{Html, Plain}
+use Rattle.status.specs.declared.words.Marks.TheVariants.{Html, Json, Plain}
+use Rattle.status.specs.declared.snapshot.Setting.{Setting}
 use Rattle.status.proofs.ReadingLemmas.{has_at, has_from}
 
 pub plain_is_itself : (text : List ℕ) → escaped Plain text ≡ text
@@ -99,7 +100,7 @@ ends_behind text label rest (before, same) = (
       ∙ ap (λ (l : List ℕ). before ++ (label ++ l)) (append-nil rest),
 )
 
-ends_from : (xs : List (List ℕ)) (k : ℕ) (part : List ℕ) → EndsWith (joined (drop k xs)) part
+pub ends_from : (xs : List (List ℕ)) (k : ℕ) (part : List ℕ) → EndsWith (joined (drop k xs)) part
     → EndsWith (joined xs) part
 ends_from xs zero part ends = ends
 ends_from [] (suc k) part ends = ends
@@ -283,7 +284,26 @@ stand_in_order s = record {
       (joined (drop 7 (json_parts s)))));
   settings = three_from (json_parts s) 6 (codes "],") (codes "\"settings\":{") (listed json_of_setting s.settings.now)
       (codes "}}\n") [] [] refl;
+  page_settings = three_from (html_parts s) 13 (codes "</table></div>\n")
+      (codes "<h2>Settings in force</h2>\n<div class=\"scroll\"><table>\n")
+      (rows html.text_of_setting s.settings.now) (codes "</table>")
+      (codes "</div>\n</body>\n</html>\n") [] refl;
 }
   where
     heads : List ℕ
     heads = codes "<h2>Stations</h2>\n<div class=\"scroll\"><table>\n<tr><th>name</th><th>address</th><th>common address</th><th>standing</th><th>since</th><th>last report</th><th>reports</th><th>skipped</th><th>gaps</th>"
+
+six : (a b d e f : List ℕ) → a ++ (b ++ (d ++ (e ++ (f ++ [])))) ≡ a ++ (b ++ (d ++ (e ++ f)))
+six a b d e f = simp append-nil
+
+pair : (mark a colon b : List ℕ)
+    → mark ++ (a ++ ((mark ++ (colon ++ mark)) ++ (b ++ (mark ++ []))))
+    ≡ (mark ++ (a ++ mark)) ++ (colon ++ (mark ++ (b ++ mark)))
+pair mark a colon b = simp (append_assoc, append-nil)
+
+pub says_setting : (s : Setting) → SaysSetting s
+says_setting s = record {
+  page = six (codes "<tr><th>") (escaped Html s.key.now) (codes "</th><td>")
+      (escaped Html s.value.now) (codes "</td></tr>\n");
+  json = pair (codes "\"") (escaped Json s.key.now) (codes ":") (escaped Json s.value.now);
+}

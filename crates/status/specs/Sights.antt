@@ -2,14 +2,16 @@
 use Rattle.std.specs.Prelude.{◌≡◌, ℕ, List, ◌++◌, codes}
 use Rattle.std.specs.Fmt.{decimal}
 use Rattle.status.specs.Html as html
-use Rattle.status.specs.Html.{html_of}
+use Rattle.status.specs.Html.{html_of, text_of_setting}
 use Rattle.status.specs.Json.{json_of, json_of_setting, json_of_station}
 use Rattle.status.specs.Labels.{keeping_text}
-use Rattle.status.specs.Reading.{Has}
+use Rattle.status.specs.Reading.{Has, quoted}
 use Rattle.status.specs.Table as table
 use Rattle.status.specs.Table.{table_of}
 use Rattle.status.specs.Texts.{age_text}
-use Rattle.status.specs.Words.{listed, rows}
+use Rattle.status.specs.Words.{escaped, listed, rows}
+use Rattle.status.specs.declared.snapshot.Setting.{Setting}
+use Rattle.status.specs.declared.words.Marks.TheVariants.{Html, Json}
 use Rattle.status.specs.declared.snapshot.Snapshot.{Snapshot}
 
 -- The table and the page for a person say these words of the control centre, and for how long it
@@ -74,3 +76,14 @@ pub record StandInOrder (s : Snapshot) : Type 0 where
       (codes "\"stations\":[" ++ (listed json_of_station s.stations.now ++ codes "]"))
   pub settings : Has (json_of s)
       (codes "\"settings\":{" ++ (listed json_of_setting s.settings.now ++ codes "}}\n"))
+  pub page_settings : Has (html_of s)
+      (codes "<h2>Settings in force</h2>\n<div class=\"scroll\"><table>\n"
+      ++ (rows text_of_setting s.settings.now ++ codes "</table>"))
+
+-- A setting's row has its name and its value, and so has its member in JSON.
+pub record SaysSetting (s : Setting) : Type 0 where
+  pub page : text_of_setting s
+      ≡ codes "<tr><th>" ++ (escaped Html s.key.now ++ (codes "</th><td>"
+      ++ (escaped Html s.value.now ++ codes "</td></tr>\n")))
+  pub json : json_of_setting s
+      ≡ quoted (escaped Json s.key.now) ++ (codes ":" ++ quoted (escaped Json s.value.now))

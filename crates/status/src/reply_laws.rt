@@ -1,11 +1,13 @@
 //! What is answered to whom, and how long ago things are said to be.
 ghost use Rattle.std.specs.Fmt.{decimal};
-ghost use Rattle.std.specs.Prelude.{◌≡◌, ◌≢◌, ◌-◌, ◌/◌, ◌<◌, ◌≤◌, ◌++◌, List, [], Bool, ℕ, codes};
+ghost use Rattle.std.specs.Prelude.{◌≡◌, ◌≢◌, ◌-◌, ◌/◌, ◌<◌, ◌≤◌, ◌++◌, ◌∷◌, List, [], Bool, ℕ, codes};
 ghost use Rattle.std.specs.Prelude.{true, false, None, replicate};
 ghost use Rattle.status.specs.Answer.{body_in, body_sent, head_before, head_text};
 ghost use Rattle.status.specs.Html.{html_of};
 ghost use Rattle.status.specs.Json.{json_of};
 ghost use Rattle.status.specs.Metrics.{metrics_of};
+ghost use Rattle.status.specs.Reading.{Has};
+ghost use Rattle.status.specs.Replies.{IsCentreWord, IsLineWord, SaysInSum, name_line};
 ghost use Rattle.status.specs.Replies.{HasMoments, IsAnsweredWith, SaysOfLine, SaysWhose, plain};
 ghost use Rattle.status.specs.Request.{asked_by, path_of};
 ghost use Rattle.status.specs.Table.{table_of};
@@ -75,7 +77,7 @@ pub fn ages_are_told_whole()
 
 /// A station's row says whose it is: its addresses, how it stands and its name. Each page says of
 /// the line whether it is there and for how long, and for how long the gateway runs. JSON has the
-/// moments under their names.
+/// moments under their names. For Prometheus a station's name stands with its addresses.
 pub fn rows_and_line_say_what_they_are_of()
     ensures whose { (s : StationView) (now : ℕ) → SaysWhose s now }
     ensures there { (s : Snapshot) → s.line.is_there ≡ true →
@@ -83,4 +85,14 @@ pub fn rows_and_line_say_what_they_are_of()
     ensures away { (s : Snapshot) → s.line.is_there ≡ false →
         SaysOfLine s (codes "away") (codes "false") }
     ensures moments { (s : Snapshot) → HasMoments s }
+    ensures named { (s : Snapshot) (before after : List StationView) (station : StationView) →
+        s.stations.now ≡ before ++ station ∷ after → Has (metrics_of s) (name_line station) }
+{}
+
+/// The table begins with one line, and the page for a person has it. It has the judgement, how many
+/// of all stations are up, the words for the line and the control centre, how much of the queue is
+/// taken, and whether the state is kept.
+pub fn the_summary_says_how_all_stands()
+    ensures { (s : Snapshot) (line centre : List ℕ) → IsLineWord s line →
+        IsCentreWord s centre → SaysInSum s line centre }
 {}

@@ -3,8 +3,9 @@ ghost use Rattle.std.specs.Borrow.{Bor};
 ghost use Rattle.std.specs.Prelude.{◌≡◌, ◌++◌, codes, false, true, List, ℕ, None, Some};
 ghost use Rattle.status.specs.Reading.{quoted};
 ghost use Rattle.status.specs.Sights.{JsonOfCentre, SaysOfCentre, SaysOfQueue, SaysOfState};
-ghost use Rattle.status.specs.Sights.{StandInOrder};
+ghost use Rattle.status.specs.Sights.{SaysSetting, StandInOrder};
 ghost use Rattle.status.specs.Words.{escaped};
+ghost use Rattle.status.specs.declared.snapshot.Setting.{Setting};
 ghost use Rattle.status.specs.declared.snapshot.Snapshot.{Snapshot};
 ghost use Rattle.status.specs.declared.words.Marks.TheVariants.{Html, Json};
 
@@ -37,7 +38,9 @@ pub fn queue_and_state_stand_in_their_lines()
 {}
 
 /// The stations stand behind their head in the order of the snapshot, each once, and nothing stands
-/// between them. Behind the last one the table ends. In JSON the settings follow in their order.
+/// between them. Behind the last one the table ends. The settings stand in their order too, each with
+/// its name and its value.
 pub fn stations_stand_in_their_order()
-    ensures { (s : Snapshot) → StandInOrder s }
+    ensures order { (s : Snapshot) → StandInOrder s }
+    ensures setting { (s : Setting) → SaysSetting s }
 {}

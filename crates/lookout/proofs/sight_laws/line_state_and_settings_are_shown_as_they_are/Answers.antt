@@ -1,7 +1,7 @@
 use Rattle.std.proofs.Common.{ap, true, false}
 use Rattle.live.specs.declared.watched.Notice.TheVariants.{KeptAgain, NotKept}
 use Rattle.status.specs.Labels.{keeping_text}
-use Rattle.lookout.proofs.SightLaws.{began, named, reported, settings, unreported}
+use Rattle.lookout.proofs.SightLaws.{began, named, reported, settings, unreported, version}
 use Rattle.lookout.proofs.sight_laws.line_state_and_settings_are_shown_as_they_are.Goals as goal
 
 pub returns-clause-named : goal.returns-clause-named
@@ -28,3 +28,6 @@ returns-clause-not_to_be_kept c d names looks last s k each =
 
 pub returns-clause-settings : goal.returns-clause-settings
 returns-clause-settings c d names keeps looks last s k = settings d names keeps looks last s k
+
+pub returns-clause-version : goal.returns-clause-version
+returns-clause-version c d names keeps looks last s k = version d names keeps looks last s k
