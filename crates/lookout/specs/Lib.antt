@@ -1,3 +1,4 @@
 pub mod Shown
 pub mod Looking
 pub mod Looks
+pub mod Sights

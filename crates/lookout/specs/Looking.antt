@@ -1,8 +1,10 @@
 -- What is noted of a run at each look, for those who look at it (this gateway's own profile).
 use Rattle.std.specs.Prelude.{◌≡◌, ℕ, ◌-◌, nat_le, Bool, true, false, not, ◌&&◌, ◌||◌, []}
 use Rattle.std.specs.Prelude.{map, take, Option, Some, None, is_some, is_none, option_map}
-use Rattle.std.specs.Prelude.{string_bytes}
+use Rattle.std.specs.Prelude.{List, codes, string_bytes}
 use Rattle.std.specs.Prelude.{if◌then◌else◌}
+use Rattle.std.specs.Net.Text.{ip_text}
+use Rattle.std.specs.declared.net.ip_addr.IpAddr.{IpAddr}
 use Rattle.gateway.specs.Config.{Settings}
 use Rattle.gateway.specs.State.{State}
 use Rattle.live.specs.declared.watched.Notice.{Notice}
@@ -63,6 +65,12 @@ noted w notice s = let is_open = is_some w.connection.opening in record s {
   was_open = is_open;
   opened = w.connection.count;
 }
+
+-- the text of an address: that it isn't known, or none where memory is refused
+pub data IsPeerText (peer : Option IpAddr) : (text : List ℕ) → Type 0 where
+  Known : (address : IpAddr) → peer ≡ Some address → IsPeerText peer (ip_text address)
+  Unknown : peer ≡ None → IsPeerText peer (codes "unknown")
+  NoMemory : IsPeerText peer []
 
 -- once a second the gateway's pieces are counted
 abbrev pub counted : State → (now : ℕ) → ShownRun → ShownRun

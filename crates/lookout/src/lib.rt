@@ -18,6 +18,11 @@ mod laws;
 mod lookout;
 mod setting;
 mod shown;
+mod sight_laws;
 
 pub use laws::{looks_are_noted, stations_are_shown_as_they_stand, visitors_see_the_present};
 pub use lookout::Lookout;
+pub use sight_laws::{
+    each_station_has_its_row, line_state_and_settings_are_shown_as_they_are,
+    the_centre_is_shown_as_it_is, the_queue_is_shown_as_it_is,
+};

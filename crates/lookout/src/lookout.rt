@@ -1,7 +1,8 @@
 //! Who looks at a run.
-ghost use Rattle.std.specs.Prelude.{◌≡◌, false, true, map, IfOk, None};
+ghost use Rattle.std.specs.Prelude.{◌≡◌, ◌≢◌, false, true, map, IfOk, None, string_bytes};
+ghost use Rattle.std.specs.Prelude.{◌++◌, List, ℕ};
 ghost use Rattle.lookout.specs.Looking as spec;
-ghost use Rattle.lookout.specs.Looking.{IsFreshLookout, IsShown, IsSnapshotOf, is_over};
+ghost use Rattle.lookout.specs.Looking.{IsFreshLookout, IsPeerText, IsShown, IsSnapshotOf, is_over};
 ghost use Rattle.status.specs.Visits.{IsRound, place};
 ghost use Rattle.status.specs.declared.snapshot.Snapshot.{Snapshot};
 
@@ -13,6 +14,7 @@ use live::Notice;
 use runlog::{LogNames, Watch, taken_places};
 use status::{Hour, Keeping, Queue, Snapshot, StreamSource, Visitors};
 use std::alloc::{AllocError, Global};
+use std::net::IpAddr;
 
 /// How long after a turn of the visitors the next one follows, in ms of the run.
 // A visitor's page takes some four turns; the way of a report is to stay as short as without them.
@@ -92,6 +94,11 @@ impl<D: StreamSource + Drop> Lookout<D> {
         ensures turned { self.new.turned ≡ spec.turned_after self.old.turned watch.now.moment }
         ensures waits { is_over self.old.turned watch.now.moment 20 ≡ false →
             self.new.visitors ≡ self.old.visitors }
+        // A look that finds another connection than the one before names its other end.
+        ensures peer { self.old.shown.opened ≢ watch.now.connection.count →
+            IsPeerText watch.now.connection.peer (string_bytes self.new.shown.peer) }
+        ensures same_peer { self.old.shown.opened ≡ watch.now.connection.count →
+            self.new.shown.peer ≡ self.old.shown.peer }
         // What visitors are shown is the run as it is at this look.
         ensures shows { is_over self.old.turned watch.now.moment 20 ≡ true →
             (s : Snapshot) × IsShown self.new.shown watch.now s
@@ -142,6 +149,17 @@ fn is_over(since: Option<u64>, now: u64, ms: u64) -> bool
     }
 }
 
+/// Writes the address of a connection's other end, or that it isn't known.
+fn write_peer(text: &mut String, peer: Option<IpAddr>) -> Result<(), AllocError>
+    ensures { IfOk result (λ _. (words : List ℕ) × IsPeerText peer words
+        × (string_bytes text.new ≡ string_bytes text.old ++ words)) }
+{
+    match peer {
+        Some(address) => write!(text, "{address}"),
+        None => write!(text, "unknown"),
+    }
+}
+
 impl ShownRun {
     fn new(
         alloc: Global,
@@ -173,8 +191,12 @@ impl ShownRun {
 
     /// Notes what is said once: of the state on the disk, and of connections.
     fn note(&mut self, watch: &Watch, notice: Option<Notice>)
-        ensures { self.new
+        ensures noted { self.new
             ≡ record (spec.noted watch.now notice self.old) { peer = self.new.peer } }
+        ensures peer { self.old.opened ≢ watch.now.connection.count →
+            IsPeerText watch.now.connection.peer (string_bytes self.new.peer) }
+        ensures same { self.old.opened ≡ watch.now.connection.count →
+            self.new.peer ≡ self.old.peer }
     {
         let now = watch.moment();
         let is_open = watch.opening().is_some();
@@ -193,13 +215,10 @@ impl ShownRun {
     /// Notes the address of the connection's other end.
     fn name_peer(&mut self, watch: &Watch)
         ensures same { self.new ≡ record self.old { peer = self.new.peer } }
+        ensures peer { IsPeerText watch.now.connection.peer (string_bytes self.new.peer) }
     {
         self.peer.clear();
-        let named = match watch.peer() {
-            Some(address) => write!(self.peer, "{address}"),
-            None => write!(self.peer, "unknown"),
-        };
-        if named.is_err() {
+        if write_peer(&mut self.peer, watch.peer()).is_err() {
             self.peer.clear();
         }
     }

@@ -6,3 +6,5 @@ pub mod VisitLemmas
 pub mod ReadingLemmas
 pub mod PageLemmas
 pub mod HourLemmas
+pub mod SightLemmas
+pub mod ReplyLemmas

@@ -70,8 +70,8 @@ centre_text s = joined (
     ∷ (if s.centre.is_started then codes ", started" else codes "") ∷ codes " for " ∷ [])
 
 -- the queue and the state, with what stands before the last hour
-abbrev pub queue_text : Snapshot → List ℕ
-queue_text s = joined (
+abbrev pub queue_parts : Snapshot → List (List ℕ)
+queue_parts s =
     codes "</td></tr>\n<tr><th>unacknowledged</th><td>" ∷ decimal s.centre.unacknowledged
     ∷ codes "</td></tr>\n<tr><th>state</th><td>" ∷ keeping_text s.keeping
     ∷ codes "</td></tr>\n<tr><th>queue</th><td>" ∷ decimal s.queue.taken
@@ -80,7 +80,10 @@ queue_text s = joined (
     ∷ codes "\" value=\"" ∷ decimal s.queue.taken
     ∷ codes "\"></meter></td></tr>\n</table>\n<h2>Queue in the last hour</h2>\n"
     ∷ codes "<svg viewBox=\"0 0 60 100\" preserveAspectRatio=\"none\">"
-    ∷ codes "<path d=\"M0 100" ∷ [])
+    ∷ codes "<path d=\"M0 100" ∷ []
+
+abbrev pub queue_text : Snapshot → List ℕ
+queue_text s = joined (queue_parts s)
 
 abbrev pub html_parts : Snapshot → List (List ℕ)
 html_parts s =

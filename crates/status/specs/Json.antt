@@ -39,8 +39,8 @@ json_of_setting s = joined (
     ∷ codes "\"" ∷ [])
 
 -- what stands before the address of the control centre
-abbrev pub json_before_peer : Snapshot → List ℕ
-json_before_peer s = joined (
+abbrev pub parts_before_peer : Snapshot → List (List ℕ)
+parts_before_peer s =
     codes "{\"version\":\"" ∷ escaped Json s.version.now
     ∷ codes "\",\"judgement\":\"" ∷ judgement_text (judgement_of s)
     ∷ codes "\",\"now_ms\":" ∷ decimal s.now_ms ∷ codes ",\"started_ms\":" ∷ decimal s.started_ms
@@ -48,16 +48,22 @@ json_before_peer s = joined (
     ∷ codes ",\"line\":{\"name\":\"" ∷ escaped Json s.name.now
     ∷ codes "\",\"there\":" ∷ flag s.line.is_there
     ∷ codes ",\"since_ms\":" ∷ decimal s.line.since_ms
-    ∷ codes "},\"centre\":{\"peer\":" ∷ [])
+    ∷ codes "},\"centre\":{\"peer\":" ∷ []
+
+abbrev pub json_before_peer : Snapshot → List ℕ
+json_before_peer s = joined (parts_before_peer s)
 
 -- what stands between that and the numbers of the last hour
-abbrev pub json_before_hour : Snapshot → List ℕ
-json_before_hour s = joined (
+abbrev pub parts_before_hour : Snapshot → List (List ℕ)
+parts_before_hour s =
     codes ",\"started\":" ∷ flag s.centre.is_started
     ∷ codes ",\"since_ms\":" ∷ decimal s.centre.since_ms
     ∷ codes ",\"unacknowledged\":" ∷ decimal s.centre.unacknowledged
     ∷ codes "},\"queue\":{\"taken\":" ∷ decimal s.queue.taken
-    ∷ codes ",\"places\":" ∷ decimal s.queue.places ∷ codes ",\"hour\":[" ∷ [])
+    ∷ codes ",\"places\":" ∷ decimal s.queue.places ∷ codes ",\"hour\":[" ∷ []
+
+abbrev pub json_before_hour : Snapshot → List ℕ
+json_before_hour s = joined (parts_before_hour s)
 
 -- what stands between that and the stations
 abbrev pub json_before_stations : Snapshot → List ℕ

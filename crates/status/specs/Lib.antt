@@ -10,9 +10,11 @@ pub mod Metrics
 pub mod TextPage
 pub mod Visits
 pub mod Reading
+pub mod Replies
 pub mod Reply
 pub mod Request
 pub mod Seats
+pub mod Sights
 pub mod Streams
 pub mod Table
 pub mod Texts

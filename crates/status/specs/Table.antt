@@ -46,13 +46,16 @@ centre_text s = joined (
     codes "\ncontrol centre  " ∷ escaped_or Plain s.centre.peer (codes "not connected")
     ∷ (if s.centre.is_started then codes ", started" else codes "") ∷ codes " for " ∷ [])
 
-abbrev pub queue_text : Snapshot → List ℕ
-queue_text s = joined (
+abbrev pub queue_parts : Snapshot → List (List ℕ)
+queue_parts s =
     codes "\nunacknowledged  " ∷ decimal s.centre.unacknowledged
     ∷ codes "\nqueue           " ∷ decimal s.queue.taken ∷ codes " of " ∷ decimal s.queue.places
     ∷ codes "\nstate           " ∷ keeping_text s.keeping
     ∷ codes "\n\naddress     ca  standing       since   last report  reports"
-    ∷ codes "  skipped  gaps  commands  name\n" ∷ [])
+    ∷ codes "  skipped  gaps  commands  name\n" ∷ []
+
+abbrev pub queue_text : Snapshot → List ℕ
+queue_text s = joined (queue_parts s)
 
 abbrev pub table_parts : Snapshot → List (List ℕ)
 table_parts s =

@@ -36,8 +36,10 @@ mod metrics;
 mod page;
 mod reading_laws;
 mod reply;
+mod reply_laws;
 mod request;
 mod seat;
+mod sight_laws;
 mod snapshot;
 mod sockets;
 mod streams;
@@ -57,6 +59,14 @@ pub use reading_laws::{
     lists_have_each_thing, numbers_stand_under_their_names, texts_are_read_back,
 };
 pub use reply::{UNKNOWN, body_of, exit_status};
+pub use reply_laws::{
+    ages_are_told_whole, each_request_has_its_answer, rows_and_line_say_what_they_are_of,
+    the_summary_says_how_all_stands,
+};
+pub use sight_laws::{
+    queue_and_state_stand_in_their_lines, stations_stand_in_their_order,
+    the_centre_stands_in_its_line,
+};
 pub use snapshot::{
     CentreView, Keeping, LineView, LinkState, Queue, Setting, Snapshot, StationView,
 };
