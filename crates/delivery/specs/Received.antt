@@ -1,5 +1,6 @@
 -- What the control centre has received of what was handed to TCP (IEC 60870-5-104, 5.1 and 5.2).
-use Rattle.std.specs.Prelude.{◌≡◌, ℕ, ◌+◌, ◌%◌, ◌≤◌, List, [], ◌∷◌, ◌++◌, length, take, drop, Option}
+use Rattle.std.specs.Prelude.{◌≡◌, ℕ, ◌+◌, ◌%◌, ◌≤◌, List, [], ◌∷◌, ◌++◌, length, take, drop}
+use Rattle.std.specs.Prelude.{Option}
 use Rattle.std.specs.Prelude.{Some, None}
 use Rattle.asdu.specs.InformationObjects.{InformationObject}
 use Rattle.apci.specs.declared.apdu.Apdu.{Apdu}

@@ -1,6 +1,7 @@
 -- What visitors are shown after any looks.
 use Rattle.std.proofs.Common.{◌≡◌, ◌≢◌, ℕ, zero, suc, ◌<◌, ◌≤◌, Bool, true, false, List}
-use Rattle.std.proofs.Common.{[], ◌∷◌, ◌++◌, length, map, Option, Some, None, option_map, is_some, refl, sym}
+use Rattle.std.proofs.Common.{[], ◌∷◌, ◌++◌, length, map, Option, Some, None, option_map, is_some}
+use Rattle.std.proofs.Common.{refl, sym}
 use Rattle.std.proofs.Common.{ap, subst, ◌∙◌, arith, take, drop, if◌then◌else◌}
 use Rattle.std.specs.Prelude.{string_bytes}
 use Rattle.std.specs.List.{AllByRecursion}
@@ -9,12 +10,15 @@ use Rattle.gateway.specs.Config.{Settings}
 use Rattle.gateway.specs.State.{State}
 use Rattle.gateway.specs.declared.settings.StationSettings.{StationSettings as Setting}
 use Rattle.live.specs.declared.watched.Notice.{Notice}
-use Rattle.lookout.specs.Looking.{counted, first_of, gone_after, is_over, keeping_by, keeping_at_first, noted, turned_after}
+use Rattle.lookout.specs.Looking.{counted, first_of, gone_after, is_over, keeping_by}
+use Rattle.lookout.specs.Looking.{keeping_at_first, noted, turned_after}
 use Rattle.lookout.specs.Looks.{HasCounted, IsClosed, IsSilent, Look, Standing, after_look}
 use Rattle.lookout.specs.Looks.{after_looks, noted_after}
 use Rattle.lookout.specs.Shown.{AreKnown, AreRows, IsStationRow, Pair, Shows, known_as}
-use Rattle.lookout.specs.Shown.{chosen_as, in_force, keeping_after, shown_as, stands_since, text_or_none, viewed_as}
-use Rattle.lookout.specs.Sights.{Counts, count_at, counts_after, newest, IsSight, ShowsSettings, TellsOf}
+use Rattle.lookout.specs.Shown.{chosen_as, in_force, keeping_after, shown_as, stands_since}
+use Rattle.lookout.specs.Shown.{text_or_none, viewed_as}
+use Rattle.lookout.specs.Sights.{Counts, count_at, counts_after, newest, IsSight, ShowsSettings}
+use Rattle.lookout.specs.Sights.{TellsOf}
 use Rattle.lookout.specs.declared.known.Known.{Known}
 use Rattle.lookout.specs.declared.lookout.ShownRun.{ShownRun}
 use Rattle.runlog.specs.Watching.{Watching}
@@ -257,7 +261,8 @@ module _ (c : Settings) (names : LogNames) (keeps : Bool) (looks : List Look) (l
       ∙ ap (take 16)
       (ap f k.noted
       ∙ stays f (λ w n x. refl)
-      (λ g now x. either f (is_over x.counted now 1000) _ x (map chosen_as x.chosen.items) refl refl)
+      (λ g now x. either f (is_over x.counted now 1000) _ x (map chosen_as x.chosen.items) refl
+      refl)
       start all
       ∙ k.begins.chosen)
 

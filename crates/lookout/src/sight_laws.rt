@@ -84,8 +84,8 @@ pub fn the_queue_is_shown_as_it_is()
         HasCounted (looks ++ last ∷ []) last.watch.moment s.centre.unacknowledged }
     ensures hour { (c : Settings) (names : LogNames) (keeps : Bool) (looks : List Look)
         (last : Look) (s : Snapshot) → IsSight c names keeps looks last s →
-        s.queue.hour.now ≡ (after
-        (counts_after (record { turned = None; counts = [] }) (looks ++ last ∷ [])).counts).numbers }
+        s.queue.hour.now ≡ (after (counts_after
+        (record { turned = None; counts = [] }) (looks ++ last ∷ [])).counts).numbers }
 {}
 
 /// The line is shown as there just where it is there or receives, since when it is so, under the

@@ -34,7 +34,8 @@ use Rattle.status.specs.declared.request.View.TheVariants as view
 use Rattle.status.specs.declared.snapshot.Snapshot.{Snapshot}
 use Rattle.status.specs.declared.snapshot.StationView.{StationView}
 use Rattle.status.specs.declared.words.Marks.TheVariants.{Html, Json, Plain}
-use Rattle.status.proofs.ReadingLemmas.{has_all, rows_has, has_at, has_from, has_front, member, string_member}
+use Rattle.status.proofs.ReadingLemmas.{has_all, rows_has, has_at, has_from, has_front, member}
+use Rattle.status.proofs.ReadingLemmas.{string_member}
 use Rattle.status.proofs.SightLemmas.{ends_from, has_over, last_part, plain_is_itself}
 
 -- What is asked

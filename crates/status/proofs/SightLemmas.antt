@@ -1,5 +1,6 @@
 -- What a visitor sees of the control centre, the queue and the order of the stations.
-use Rattle.std.proofs.Common.{◌≡◌, ℕ, zero, suc, List, [], ◌∷◌, ◌++◌, Option, drop, get_or, refl, sym, ap}
+use Rattle.std.proofs.Common.{◌≡◌, ℕ, zero, suc, List, [], ◌∷◌, ◌++◌, Option, drop, get_or, refl}
+use Rattle.std.proofs.Common.{sym, ap}
 use Rattle.std.proofs.Common.{Bool, subst, ◌∙◌, append_assoc, codes, if◌then◌else◌}
 use Rattle.std.proofs.lemmas.List.{append-nil}
 use Rattle.std.specs.Borrow.{Bor}
@@ -220,13 +221,16 @@ json_queue s =
 
 pub says_of_queue : (s : Snapshot) → SaysOfQueue s
 says_of_queue s = record {
-  table = five_in (table_parts s) (table.queue_parts s) 7 2 [] (codes "\nqueue           ") (decimal s.queue.taken) (codes " of ")
+  table = five_in (table_parts s) (table.queue_parts s) 7 2 [] (codes "\nqueue           ")
+      (decimal s.queue.taken) (codes " of ")
       (decimal s.queue.places) (codes "\n") (codes "state           ")
       (joined (drop 7 (table.queue_parts s))) refl refl;
-  page = five_in (html_parts s) (html.queue_parts s) 8 4 (codes "</td></tr>\n<tr>") (codes "<th>queue</th><td>") (decimal s.queue.taken)
+  page = five_in (html_parts s) (html.queue_parts s) 8 4 (codes "</td></tr>\n<tr>")
+      (codes "<th>queue</th><td>") (decimal s.queue.taken)
       (codes " of ") (decimal s.queue.places) (codes " <meter min=\"0\" max=\"") []
       (joined (drop 9 (html.queue_parts s))) refl refl;
-  meter = five_in (html_parts s) (html.queue_parts s) 8 8 [] (codes " <meter min=\"0\" max=\"") (decimal s.queue.places)
+  meter = five_in (html_parts s) (html.queue_parts s) 8 8 [] (codes " <meter min=\"0\" max=\"")
+      (decimal s.queue.places)
       (codes "\" value=\"") (decimal s.queue.taken) (codes "\"></meter></td>")
       (codes "</tr>\n</table>\n<h2>Queue in the last hour</h2>\n")
       (joined (drop 13 (html.queue_parts s))) refl refl;
@@ -241,17 +245,21 @@ says_of_queue s = record {
 
 pub says_of_state : (s : Snapshot) → SaysOfState s
 says_of_state s = record {
-  table = three_in (table_parts s) (table.queue_parts s) 7 6 [] (codes "\nstate           ") (keeping_text s.keeping) (codes "\n")
+  table = three_in (table_parts s) (table.queue_parts s) 7 6 [] (codes "\nstate           ")
+      (keeping_text s.keeping) (codes "\n")
       (codes "\naddress     ca  standing       since   last report  reports")
       (joined (drop 9 (table.queue_parts s))) refl refl;
-  page = three_in (html_parts s) (html.queue_parts s) 8 2 (codes "</td></tr>\n<tr>") (codes "<th>state</th><td>") (keeping_text s.keeping)
+  page = three_in (html_parts s) (html.queue_parts s) 8 2 (codes "</td></tr>\n<tr>")
+      (codes "<th>state</th><td>") (keeping_text s.keeping)
       (codes "</td>") (codes "</tr>\n<tr><th>queue</th><td>")
       (joined (drop 5 (html.queue_parts s))) refl refl;
   json = three_in (json_parts s) (stations_parts s) 4 0 (codes "]},") (codes "\"state\":\"")
       (keeping_text s.keeping) (codes "\",") (codes "\"stations\":[") [] refl refl;
-  unacknowledged = three_in (table_parts s) (table.queue_parts s) 7 0 [] (codes "\nunacknowledged  ") (decimal s.centre.unacknowledged) (codes "\n")
+  unacknowledged = three_in (table_parts s) (table.queue_parts s) 7 0 []
+      (codes "\nunacknowledged  ") (decimal s.centre.unacknowledged) (codes "\n")
       (codes "queue           ") (joined (drop 3 (table.queue_parts s))) refl refl;
-  unacknowledged_on_the_page = three_in (html_parts s) (html.queue_parts s) 8 0 (codes "</td></tr>\n<tr>") (codes "<th>unacknowledged</th><td>")
+  unacknowledged_on_the_page = three_in (html_parts s) (html.queue_parts s) 8 0
+      (codes "</td></tr>\n<tr>") (codes "<th>unacknowledged</th><td>")
       (decimal s.centre.unacknowledged) (codes "</td>")
       (codes "</tr>\n<tr><th>state</th><td>") (joined (drop 3 (html.queue_parts s))) refl refl;
 }
@@ -282,7 +290,8 @@ stand_in_order s = record {
       (last_part (stations_parts s) 2 (codes "\",") (codes "\"stations\":[") refl)
       (ends_it (listed json_of_station s.stations.now) (codes "]") (codes ",\"settings\":{")
       (joined (drop 7 (json_parts s)))));
-  settings = three_from (json_parts s) 6 (codes "],") (codes "\"settings\":{") (listed json_of_setting s.settings.now)
+  settings = three_from (json_parts s) 6 (codes "],") (codes "\"settings\":{")
+      (listed json_of_setting s.settings.now)
       (codes "}}\n") [] [] refl;
   page_settings = three_from (html_parts s) 13 (codes "</table></div>\n")
       (codes "<h2>Settings in force</h2>\n<div class=\"scroll\"><table>\n")
@@ -291,7 +300,9 @@ stand_in_order s = record {
 }
   where
     heads : List ℕ
-    heads = codes "<h2>Stations</h2>\n<div class=\"scroll\"><table>\n<tr><th>name</th><th>address</th><th>common address</th><th>standing</th><th>since</th><th>last report</th><th>reports</th><th>skipped</th><th>gaps</th>"
+    heads =
+        codes
+        "<h2>Stations</h2>\n<div class=\"scroll\"><table>\n<tr><th>name</th><th>address</th><th>common address</th><th>standing</th><th>since</th><th>last report</th><th>reports</th><th>skipped</th><th>gaps</th>"
 
 six : (a b d e f : List ℕ) → a ++ (b ++ (d ++ (e ++ (f ++ [])))) ≡ a ++ (b ++ (d ++ (e ++ f)))
 six a b d e f = simp append-nil

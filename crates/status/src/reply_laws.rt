@@ -1,6 +1,7 @@
 //! What is answered to whom, and how long ago things are said to be.
 ghost use Rattle.std.specs.Fmt.{decimal};
-ghost use Rattle.std.specs.Prelude.{◌≡◌, ◌≢◌, ◌-◌, ◌/◌, ◌<◌, ◌≤◌, ◌++◌, ◌∷◌, List, [], Bool, ℕ, codes};
+ghost use Rattle.std.specs.Prelude.{◌≡◌, ◌≢◌, ◌-◌, ◌/◌, ◌<◌, ◌≤◌, ◌++◌, ◌∷◌, List, [], Bool, ℕ};
+ghost use Rattle.std.specs.Prelude.{codes};
 ghost use Rattle.std.specs.Prelude.{true, false, None, replicate};
 ghost use Rattle.status.specs.Answer.{body_in, body_sent, head_before, head_text};
 ghost use Rattle.status.specs.Html.{html_of};

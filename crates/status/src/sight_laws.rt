@@ -19,7 +19,8 @@ pub fn the_centre_stands_in_its_line()
         s.centre.is_started ≡ false → SaysOfCentre s peer.now (escaped Html peer.now) }
     ensures started { (s : Snapshot) (peer : Bor (List ℕ)) → s.centre.peer ≡ Some peer →
         s.centre.is_started ≡ true →
-        SaysOfCentre s (peer.now ++ codes ", started") (escaped Html peer.now ++ codes ", started") }
+        SaysOfCentre s (peer.now ++ codes ", started")
+        (escaped Html peer.now ++ codes ", started") }
     ensures json_nobody { (s : Snapshot) → s.centre.peer ≡ None → s.centre.is_started ≡ false →
         JsonOfCentre s (codes "null") (codes "false") }
     ensures json_connected { (s : Snapshot) (peer : Bor (List ℕ)) →
@@ -38,8 +39,8 @@ pub fn queue_and_state_stand_in_their_lines()
 {}
 
 /// The stations stand behind their head in the order of the snapshot, each once, and nothing stands
-/// between them. Behind the last one the table ends. The settings stand in their order too, each with
-/// its name and its value.
+/// between them. Behind the last one the table ends. The settings stand in their order too, each
+/// with its name and its value.
 pub fn stations_stand_in_their_order()
     ensures order { (s : Snapshot) → StandInOrder s }
     ensures setting { (s : Setting) → SaysSetting s }
