@@ -1,7 +1,7 @@
 -- Lines that are handed to where they go.
-use Rattle.std.proofs.Common.{◌≡◌, Bool, true, false, if◌then◌else◌, List, ◌∷◌, Option, Some, None}
-use Rattle.std.proofs.Common.{not, refl, ap, ◌∙◌}
-use Rattle.runlog.specs.Logging.{Book, Lines, kept, logged}
+use Rattle.std.proofs.Common.{◌≡◌, Bool, true, false, if◌then◌else◌, List, ◌∷◌, Some}
+use Rattle.std.proofs.Common.{not, ap, ◌∙◌}
+use Rattle.runlog.specs.Logging.{Book, kept, logged}
 use Rattle.runlog.specs.declared.note.LogLine.{LogLine}
 
 -- the book behind a line, where the log isn't over

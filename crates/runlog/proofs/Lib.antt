@@ -15,3 +15,8 @@ pub mod Others
 pub mod Walls
 pub mod Failures
 pub mod Seen
+pub mod Standing
+pub mod Addressed
+pub mod Places
+pub mod Counted
+pub mod Answered

@@ -1,7 +1,7 @@
 -- What passes a run and has nothing of its connections: these stay as they are, and what the wall
 -- clock showed, and the moment.
 use Rattle.std.proofs.Common.{◌≡◌, ℕ, ◌-◌, ◌==◌, Bool, true, false, List, Option, Some, None}
-use Rattle.std.proofs.Common.{refl, ◌∙◌, nat_lt}
+use Rattle.std.proofs.Common.{refl, ap, ◌∙◌, nat_lt}
 use Rattle.std.specs.Prelude.{slice_get, if◌then◌else◌, is_some}
 use Rattle.gateway.specs.State.{State, counts_of}
 use Rattle.gateway.specs.declared.counts.Counts.{Counts}
@@ -34,23 +34,45 @@ pub record Same (a b : Watching) : Type 0 where
   pub connection : a.connection ≡ b.connection
   pub wall : a.wall ≡ b.wall
   pub moment : a.moment ≡ b.moment
+  pub link : a.link ≡ b.link
+  pub stations : a.stations ≡ b.stations
 
 pub same : (w : Watching) → Same w w
-same w = record { connection = refl; wall = refl; moment = refl }
+same w = record {
+  connection = refl;
+  wall = refl;
+  moment = refl;
+  link = refl;
+  stations = refl;
+}
 
 then_same : (a b c : Watching) → Same a b → Same b c → Same a c
 then_same a b c x y = record {
   connection = x.connection ∙ y.connection;
   wall = x.wall ∙ y.wall;
   moment = x.moment ∙ y.moment;
+  link = x.link ∙ y.link;
+  stations = x.stations ∙ y.stations;
 }
 
 -- ---- Events
 
 unless_logged_same : (s : EndsSight) (x : LineWatch × Option LogLine) (w : Watching)
     → Same (unless_logged s (with_line x w)).0 w
-unless_logged_same s (l, Some line) w = record { connection = refl; wall = refl; moment = refl }
-unless_logged_same s (l, None) w = record { connection = refl; wall = refl; moment = refl }
+unless_logged_same s (l, Some line) w = record {
+  connection = refl;
+  wall = refl;
+  moment = refl;
+  link = refl;
+  stations = refl;
+}
+unless_logged_same s (l, None) w = record {
+  connection = refl;
+  wall = refl;
+  moment = refl;
+  link = refl;
+  stations = refl;
+}
 
 pub seen_same : (s : EndsSight) (w : Watching) → Same (seen s w).0 w
 seen_same s w = unless_logged_same s (line_seen s.line w.moment w.line) w
@@ -58,7 +80,13 @@ seen_same s w = unless_logged_same s (line_seen s.line w.moment w.line) w
 suffered_by_same : (t : Option Traffic) (place : ℕ) (what : Mishap) (w : Watching)
     → Same (suffered_by t place what w) w
 suffered_by_same None place what w = same w
-suffered_by_same (Some t) place what w = record { connection = refl; wall = refl; moment = refl }
+suffered_by_same (Some t) place what w = record {
+  connection = refl;
+  wall = refl;
+  moment = refl;
+  link = refl;
+  stations = refl;
+}
 
 suffered_at_same : (place : Option ℕ) (what : Mishap) (w : Watching)
     → Same (suffered_at place what w) w
@@ -68,8 +96,20 @@ suffered_at_same (Some place) what w = suffered_by_same (slice_get w.traffic pla
 late_same_by : (b : Bool) (late : ℕ) (place : Option ℕ) (w : Watching)
     → Same (as_late late (if b then suffered_at place mishap.Late w else w)) w
 late_same_by true late place w = let x = suffered_at_same place mishap.Late w in
-    record { connection = x.connection; wall = x.wall; moment = x.moment }
-late_same_by false late place w = record { connection = refl; wall = refl; moment = refl }
+    record {
+      connection = x.connection;
+      wall = x.wall;
+      moment = x.moment;
+      link = x.link;
+      stations = x.stations;
+    }
+late_same_by false late place w = record {
+  connection = refl;
+  wall = refl;
+  moment = refl;
+  link = refl;
+  stations = refl;
+}
 
 pub late_same : (late : ℕ) (w : Watching) → Same (late_noted late w) w
 late_same late w = late_same_by (nat_lt w.late late) late w.exchange.overdue w
@@ -89,12 +129,20 @@ counts_same counts w =
       connection = z.connection ∙ y.connection ∙ x.connection;
       wall = z.wall ∙ y.wall ∙ x.wall;
       moment = z.moment ∙ y.moment ∙ x.moment;
+      link = z.link ∙ y.link ∙ x.link;
+      stations = z.stations ∙ y.stations ∙ x.stations;
     }
 
 answered_same : (a : Option (Option Answer)) (t : Traffic) (place : ℕ) (w : Watching)
     → Same (answered_by a t place w) w
 answered_same None t place w = same w
-answered_same (Some answer) t place w = record { connection = refl; wall = refl; moment = refl }
+answered_same (Some answer) t place w = record {
+  connection = refl;
+  wall = refl;
+  moment = refl;
+  link = refl;
+  stations = refl;
+}
 
 answer_noted_same : (t : Option Traffic) (place : ℕ) (w : Watching)
     → Same (answer_noted_by t place w) w
@@ -110,7 +158,13 @@ pub line_received_same : (octets : List ℕ) (w : Watching) → Same (line_recei
 line_received_same octets w =
     let v : Watching = record w { exchange = exchange.received octets w.exchange } in
     let x = answer_at_same w.exchange.place v in
-    record { connection = x.connection; wall = x.wall; moment = x.moment }
+    record {
+      connection = x.connection;
+      wall = x.wall;
+      moment = x.moment;
+      link = x.link;
+      stations = x.stations;
+    }
 
 received_by : (b : Bool) (v w : Watching) → Same v w → Same (if b then v else w) w
 received_by true v w x = x
@@ -119,14 +173,26 @@ received_by false v w x = same w
 pub received_same : (octets : List ℕ) (w : Watching) → Same (received octets w) w
 received_same octets w = received_by (is_some w.connection.opening)
     (record w { inbox = inbox.received octets w.inbox }) w
-    (record { connection = refl; wall = refl; moment = refl })
+    (record {
+      connection = refl;
+      wall = refl;
+      moment = refl;
+      link = refl;
+      stations = refl;
+    })
 
 -- ---- Actions
 
 sent_by_so : (b : Bool) (w : Watching) (traffic : List Traffic)
     → Same (if b then w else record w { traffic = traffic }) w
 sent_by_so true w traffic = same w
-sent_by_so false w traffic = record { connection = refl; wall = refl; moment = refl }
+sent_by_so false w traffic = record {
+  connection = refl;
+  wall = refl;
+  moment = refl;
+  link = refl;
+  stations = refl;
+}
 
 sent_by_same : (t : Option Traffic) (place : ℕ) (octets : List ℕ) (w : Watching)
     → Same (sent_by t place octets w) w
@@ -143,13 +209,33 @@ sent_at_same (Some place) awaited.Command octets w =
 sent_at_same (Some place) awaited.Poll octets w = same w
 sent_at_same (Some place) awaited.Nothing octets w = same w
 
-pub asked_same : (octets : List ℕ) (now : ℕ) (w : Watching) → Same (asked octets now w).0 w
+-- a request changes the stations, and nothing else of these
+pub asked_same : (octets : List ℕ) (now : ℕ) (w : Watching)
+    → Same (asked octets now w).0 (record w { stations = (asked octets now w).0.stations })
 asked_same octets now w =
     let place = exchange.place_of (stations.address_of w.link octets) w.traffic in
     let what = exchange.awaited_of octets in
     let v : Watching = record w { exchange = exchange.asked place what now w.exchange } in
     let x = sent_at_same place what octets v in
-    record { connection = x.connection; wall = x.wall; moment = x.moment }
+    record {
+      connection = x.connection;
+      wall = x.wall;
+      moment = x.moment;
+      link = x.link;
+      stations = refl;
+    }
+
+-- and those as one that goes out to its station
+pub asked_stations : (octets : List ℕ) (now : ℕ) (w : Watching)
+    → ((asked octets now w).0.stations, (asked octets now w).1)
+    ≡ stations.asked w.link octets now w.stations
+asked_stations octets now w =
+    let place = exchange.place_of (stations.address_of w.link octets) w.traffic in
+    let what = exchange.awaited_of octets in
+    let v : Watching = record w { exchange = exchange.asked place what now w.exchange } in
+    let x = sent_at_same place what octets v in
+    ap (λ size. stations.asked size octets now (sent_at place what octets v).stations) x.link
+    ∙ ap (λ ws. stations.asked w.link octets now ws) x.stations
 
 -- ---- Looks
 
@@ -159,7 +245,13 @@ one_of b x y = if b then x else y
 queue_same : (counts : Counts) (taken : ℕ) (q : QueueWatch × Option LogLine) (w : Watching)
     → Same (unless_queue counts taken q w).0 w
 queue_same counts taken (queue, Some line) w =
-    record { connection = refl; wall = refl; moment = refl }
+    record {
+      connection = refl;
+      wall = refl;
+      moment = refl;
+      link = refl;
+      stations = refl;
+    }
 queue_same counts taken (queue, None) w =
     counted_by (nat_lt (w.moment - w.counted) 60000)
   where
@@ -167,15 +259,33 @@ queue_same counts taken (queue, None) w =
       record w { queue = queue; counted = w.moment },
       Some (watching.sum_line counts taken (record w { queue = queue })),
     )).0 w
-    counted_by true = record { connection = refl; wall = refl; moment = refl }
-    counted_by false = record { connection = refl; wall = refl; moment = refl }
+    counted_by true = record {
+      connection = refl;
+      wall = refl;
+      moment = refl;
+      link = refl;
+      stations = refl;
+    }
+    counted_by false = record {
+      connection = refl;
+      wall = refl;
+      moment = refl;
+      link = refl;
+      stations = refl;
+    }
 
 looked_at_same : (counts : Counts) (taken : ℕ) (w : Watching)
     → Same (looked_at counts taken w).0 w
 looked_at_same counts taken w =
     let v : Watching = record w { looked = w.moment } in
     let x = queue_same counts taken (queue_seen taken w.places w.moment w.queue) v in
-    record { connection = x.connection; wall = x.wall; moment = x.moment }
+    record {
+      connection = x.connection;
+      wall = x.wall;
+      moment = x.moment;
+      link = x.link;
+      stations = x.stations;
+    }
 
 due_same : (b : Bool) (v w : Watching) (line : Option LogLine) → Same v w
     → Same (one_of b (v, line) (w, None)).0 w
@@ -188,8 +298,20 @@ looked_if_due_same s w =
     (looked_at (counts_of s) (taken_in s) w).1 (looked_at_same (counts_of s) (taken_in s) w)
 
 inbox_same : (x : Inbox × Option LogLine) (w : Watching) → Same (unless_inbox x w).0 w
-inbox_same (b, Some line) w = record { connection = refl; wall = refl; moment = refl }
-inbox_same (b, None) w = record { connection = refl; wall = refl; moment = refl }
+inbox_same (b, Some line) w = record {
+  connection = refl;
+  wall = refl;
+  moment = refl;
+  link = refl;
+  stations = refl;
+}
+inbox_same (b, None) w = record {
+  connection = refl;
+  wall = refl;
+  moment = refl;
+  link = refl;
+  stations = refl;
+}
 
 gathered_by : (b : Bool) (v w : Watching) (line : Option LogLine) → Same v w
     → Same (one_of b (w, None) (v, line)).0 w
@@ -202,7 +324,13 @@ gathered_same w =
     let found = unless_inbox (inbox.line_of w.moment w.inbox) v in
     let x = inbox_same (inbox.line_of w.moment w.inbox) v in
     gathered_by (w.sought == w.moment) found.0 w found.1
-    (record { connection = x.connection; wall = x.wall; moment = x.moment })
+    (record {
+      connection = x.connection;
+      wall = x.wall;
+      moment = x.moment;
+      link = x.link;
+      stations = x.stations;
+    })
 
 unless_line_same : (x : Watching × Option LogLine) → Same (unless_line x).0 x.0
 unless_line_same (w, Some line) = same w
@@ -212,7 +340,13 @@ judged_same : (s : State) (w : Watching) → Same (judged s w) w
 judged_same s w =
     let v : Watching = record w { inbox = inbox.judged s w.connection.peer w.inbox } in
     let x = counts_same (counts_of s) v in
-    record { connection = x.connection; wall = x.wall; moment = x.moment }
+    record {
+      connection = x.connection;
+      wall = x.wall;
+      moment = x.moment;
+      link = x.link;
+      stations = x.stations;
+    }
 
 pub looked_same : (s : State) (w : Watching) → Same (looked s w).0 w
 looked_same s w =
@@ -223,4 +357,6 @@ looked_same s w =
       connection = x.connection ∙ y.connection ∙ z.connection;
       wall = x.wall ∙ y.wall ∙ z.wall;
       moment = x.moment ∙ y.moment ∙ z.moment;
+      link = x.link ∙ y.link ∙ z.link;
+      stations = x.stations ∙ y.stations ∙ z.stations;
     }

@@ -12,8 +12,10 @@ pub mod Stations
 pub mod Traffic
 pub mod Waiting
 pub mod Exchange
+pub mod Answering
 pub mod Watching
 pub mod Logging
 pub mod Passing
+pub mod Standings
 pub mod Examples
 pub mod Names

@@ -33,11 +33,16 @@
 //! ([`a_line_stands_so_since_the_look_that_found_it_so`]). So is what has failed at the end
 //! ([`failures_are_logged_at_the_end`]), who was refused ([`who_was_refused_is_logged`]), and
 //! where the queue fills and is free again
-//! ([`the_queue_is_logged_where_it_fills_and_where_it_is_free_again`]). The wall clock is shown as
-//! it goes on ([`the_wall_clock_goes_on_between_its_events`]). What becomes of a command, and each
-//! mishap, is logged for the station that it befell ([`what_becomes_of_commands_is_logged`]), and
-//! nothing that may be logged waits ([`nothing_waits_that_may_be_logged`]). That a line's UTC time
-//! is right, and what standard error does with it, is no matter of a proof.
+//! ([`the_queue_is_logged_where_it_fills_and_where_it_is_free_again`]). How a station stands is
+//! known by the requests to it ([`a_station_stands_as_its_requests_say`]), and where it goes and is
+//! back is logged ([`a_station_is_logged_where_it_goes_and_where_it_is_back`]). The wall clock is
+//! shown as it goes on ([`the_wall_clock_goes_on_between_its_events`]). What becomes of a command,
+//! and each mishap, is logged for the station that it befell
+//! ([`what_becomes_of_commands_is_logged`]), and nothing that may be logged waits
+//! ([`nothing_waits_that_may_be_logged`]). What a station answers is read as of the request before
+//! it ([`answers_are_read_as_of_their_request`]), and counted
+//! ([`what_a_station_does_is_counted`]). That a line's UTC time is right, and what standard error
+//! does with it, is no matter of a proof.
 #![tactic(auto)]
 
 mod connection_laws;
@@ -46,6 +51,7 @@ mod ends;
 mod ends_laws;
 mod examples;
 mod exchange;
+mod exchange_laws;
 mod failure_laws;
 mod fate;
 mod fate_laws;
@@ -62,6 +68,7 @@ mod port;
 mod queue;
 mod severity;
 mod sink;
+mod station_laws;
 mod stations;
 mod traffic;
 mod watch;
@@ -82,6 +89,7 @@ pub use examples::{
     commands_by_example, late_answers_by_example, log_lines_by_example, moments_by_example,
     standings_by_example, stations_by_example,
 };
+pub use exchange_laws::{answers_are_read_as_of_their_request, what_a_station_does_is_counted};
 pub use failure_laws::{
     a_line_is_logged_where_it_goes_and_where_it_is_back, failures_are_logged_at_the_end,
 };
@@ -103,6 +111,10 @@ pub use order::{Order, OrderKind, Value};
 pub use port::RunLog;
 pub use severity::Severity;
 pub use sink::{LogSink, StandardError};
+pub use station_laws::{
+    a_station_is_logged_where_it_goes_and_where_it_is_back, a_station_stands_as_its_requests_say,
+    each_station_has_its_own_watch, requests_are_noted_of_their_own_station,
+};
 pub use stations::{StationStanding, StationWatch};
 pub use traffic::Traffic;
 pub use watch::Watch;

@@ -1,0 +1,114 @@
+-- What is counted of a station.
+use Rattle.std.proofs.Common.{◌≡◌, ℕ, List, Option, Some, None, refl, ap}
+use Rattle.asdu.specs.declared.sizes.Sizes.{Sizes}
+use Rattle.runlog.specs.Answering.{IsCounted}
+use Rattle.runlog.specs.Limits.{one_more}
+use Rattle.runlog.specs.Orders.{order_of}
+use Rattle.runlog.specs.Orders.{octet}
+use Rattle.runlog.specs.Traffic.{content_noted, content_of, ended, ended_by, fate_noted, replied_by}
+use Rattle.runlog.specs.Traffic.{reply_of, reported, sent, suffered}
+use Rattle.runlog.specs.declared.content.Content.{Content}
+use Rattle.runlog.specs.declared.content.Content.TheVariants as content
+use Rattle.runlog.specs.declared.content.Skip.{Skip}
+use Rattle.runlog.specs.declared.fate.CommandFate.{CommandFate}
+use Rattle.runlog.specs.declared.fate.CommandFate.TheVariants as fate
+use Rattle.runlog.specs.declared.fate.Mishap.{Mishap}
+use Rattle.runlog.specs.declared.fate.Mishap.TheVariants as mishap
+use Rattle.runlog.specs.declared.order.Order.{Order}
+use Rattle.runlog.specs.declared.traffic.Traffic.{Traffic}
+
+abbrev Same : (t v : Traffic) → Type 0
+Same t v = IsCounted t.reports t.last_report t.skipped t.commands t v
+
+same : (t : Traffic) → Same t t
+same t = record { address = refl; reported = refl; at = refl; skips = refl; orders = refl }
+
+fate_same : (what : CommandFate) (o : Order) (t : Traffic) → Same t (fate_noted what o t)
+fate_same fate.Sent o t =
+    record { address = refl; reported = refl; at = refl; skips = refl; orders = refl }
+fate_same fate.Confirmed o t =
+    record { address = refl; reported = refl; at = refl; skips = refl; orders = refl }
+fate_same fate.Denied o t =
+    record { address = refl; reported = refl; at = refl; skips = refl; orders = refl }
+fate_same fate.Terminated o t =
+    record { address = refl; reported = refl; at = refl; skips = refl; orders = refl }
+fate_same fate.Busy o t =
+    record { address = refl; reported = refl; at = refl; skips = refl; orders = refl }
+fate_same fate.GivenUp o t =
+    record { address = refl; reported = refl; at = refl; skips = refl; orders = refl }
+
+ended_same : (o : Option Order) (what : CommandFate) (t : Traffic) → Same t (ended_by o what t)
+ended_same None what t = same t
+ended_same (Some o) what t = fate_same what o t
+
+pub fate_so : (what : CommandFate) (t : Traffic)
+    → IsCounted t.reports t.last_report t.skipped t.commands t (ended what t)
+fate_so what t = ended_same t.order what t
+
+pub mishap_so : (what : Mishap) (t : Traffic)
+    → IsCounted t.reports t.last_report t.skipped t.commands t (suffered what t)
+mishap_so mishap.GivenUp t = fate_so fate.GivenUp t
+mishap_so mishap.MirrorDropped t =
+    record { address = refl; reported = refl; at = refl; skips = refl; orders = refl }
+mishap_so mishap.Spoilt t =
+    record { address = refl; reported = refl; at = refl; skips = refl; orders = refl }
+mishap_so mishap.Late t =
+    record { address = refl; reported = refl; at = refl; skips = refl; orders = refl }
+
+pub command_so : (o : Option Order) (t : Traffic)
+    → IsCounted t.reports t.last_report t.skipped (one_more t.commands) t (sent o t)
+command_so None t =
+    record { address = refl; reported = refl; at = refl; skips = refl; orders = refl }
+command_so (Some o) t =
+    let x = fate_same fate.Sent o (record t { commands = one_more t.commands; order = Some o }) in
+    record {
+      address = x.address;
+      reported = x.reported;
+      at = x.at;
+      skips = x.skips;
+      orders = x.orders;
+    }
+
+replied_same : (what : Option CommandFate) (o : Option Order) (t : Traffic)
+    → Same t (replied_by what o t)
+replied_same (Some what) (Some o) t = fate_same what o t
+replied_same (Some what) None t = same t
+replied_same None (Some o) t = same t
+replied_same None None t = same t
+
+-- a report that isn't skipped changes no count of the station but its own
+noted_same : (what : Content) (sizes : Sizes) (octets : List ℕ) (t : Traffic)
+    → ((why : Skip) → what ≡ content.Skipped why → ⊥)
+    → Same t (content_noted what sizes octets t)
+noted_same content.Report sizes octets t other = same t
+noted_same content.Reply sizes octets t other =
+    replied_same (reply_of (octet octets 2)) (order_of sizes octets) t
+noted_same (content.Skipped why) sizes octets t other = absurd (other why refl)
+
+abbrev counted : ℕ → Traffic → Traffic
+counted now t = record t { reports = one_more t.reports; last_report = Some now }
+
+pub passed_on_so : (sizes : Sizes) (now : ℕ) (octets : List ℕ) (t : Traffic)
+    → ((why : Skip) → content_of sizes octets ≡ content.Skipped why → ⊥)
+    → IsCounted (one_more t.reports) (Some now) t.skipped t.commands t (reported sizes now octets t)
+passed_on_so sizes now octets t other =
+    let x = noted_same (content_of sizes octets) sizes octets (counted now t) other in record {
+      address = x.address;
+      reported = x.reported;
+      at = x.at;
+      skips = x.skips;
+      orders = x.orders;
+    }
+
+pub skipped_so : (sizes : Sizes) (now : ℕ) (octets : List ℕ) (why : Skip) (t : Traffic)
+    → content_of sizes octets ≡ content.Skipped why
+    → IsCounted (one_more t.reports) (Some now) (one_more t.skipped) t.commands
+    t (reported sizes now octets t)
+skipped_so sizes now octets why t is =
+    let e = ap (λ what. content_noted what sizes octets (counted now t)) is in record {
+      address = ap (λ v. v.address) e;
+      reported = ap (λ v. v.reports) e;
+      at = ap (λ v. v.last_report) e;
+      skips = ap (λ v. v.skipped) e;
+      orders = ap (λ v. v.commands) e;
+    }

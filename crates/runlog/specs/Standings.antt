@@ -1,0 +1,150 @@
+-- How a station stands by the requests that went out to it, and whose a request is (IEC 60870-5-2,
+-- 5.1.2; what is said of a station is this gateway's own profile, docs/STATUS.md and
+-- docs/TEXTS.md).
+use Rattle.std.specs.Prelude.{◌≡◌, ℕ, ◌+◌, ◌^◌, ◌<◌, ◌≤◌, nat_lt, Bool, true, false, List, [], ◌∷◌}
+use Rattle.std.specs.Prelude.{Option, Some, None, if◌then◌else◌}
+use Rattle.std.specs.Bool.{beq}
+use Rattle.std.specs.List.{AllByRecursion}
+use Rattle.link.specs.declared.service.Asked.{Asked as Request}
+use Rattle.link.specs.declared.service.Asked.TheVariants as request
+use Rattle.gateway.specs.Log.{LineOut, GapOut}
+use Rattle.gateway.specs.declared.settings.StationSettings.{StationSettings}
+use Rattle.runlog.specs.Passing.{Passed, Went}
+use Rattle.runlog.specs.Stations.{station_asked}
+use Rattle.runlog.specs.declared.limit.Limit.{Limit}
+use Rattle.runlog.specs.declared.note.LogLine.{LogLine}
+use Rattle.runlog.specs.declared.note.Note.{Note}
+use Rattle.runlog.specs.declared.stations.Asking.{Asking}
+use Rattle.runlog.specs.declared.stations.Asking.TheVariants.{Status, Counted, Other, Missed}
+use Rattle.runlog.specs.declared.stations.StationLogged.{StationLogged}
+use Rattle.runlog.specs.declared.stations.StationLogged.TheVariants as logged
+use Rattle.runlog.specs.declared.stations.StationStanding.{StationStanding}
+use Rattle.runlog.specs.declared.stations.StationStanding.TheVariants as standing
+use Rattle.runlog.specs.declared.stations.StationWatch.{StationWatch}
+
+-- what a request asks: the status of the link, or a service with its frame count bit
+abbrev pub asking_for : Request → Asking
+asking_for request.Status = Status
+asking_for request.Reset = Other
+asking_for (request.Counted fcb service) = Counted fcb
+
+-- none of these stations has this link address
+abbrev pub AreOthers : (address : ℕ) → List StationWatch → Type 0
+AreOthers address ws = AllByRecursion (λ (w : StationWatch). w.address ≡ address → ⊥) ws
+
+-- whose a watch is, and how often a request goes out to that station before it counts as silent
+abbrev pub seat : StationWatch → ℕ × ℕ
+seat w = (w.address, w.tries)
+
+abbrev pub seat_of : (tries : ℕ) → StationSettings → ℕ × ℕ
+seat_of tries s = (s.address, tries)
+
+-- neither a request to a station nor a gap of one
+abbrev pub IsNoRequest : Passed → Type 0
+IsNoRequest (Went now (LineOut octets)) = ⊥
+IsNoRequest (Went now (GapOut station session)) = ⊥
+IsNoRequest p = Unit {0}
+
+-- ---- How a station stands
+
+-- What was asked of a station, the newest first, each with its moment; and what of it says how the
+-- station stands.
+abbrev pub tells : Asking → Bool
+tells Status = true
+tells (Counted bit) = true
+tells Other = false
+tells Missed = false
+
+abbrev pub telling : List (ℕ × Asking) → List Asking
+telling [] = []
+telling (x ∷ earlier) = if tells x.1 then x.1 ∷ telling earlier else telling earlier
+
+-- the status once more, or a service with the frame count bit of the one before
+abbrev pub is_alike : (asking before : Asking) → Bool
+is_alike Status Status = true
+is_alike (Counted bit) (Counted before) = beq before bit
+is_alike asking before = false
+
+-- how often the latest of these went out, one behind another
+abbrev pub times : List Asking → ℕ
+times [] = 0
+times (asking ∷ []) = 1
+times (asking ∷ (before ∷ earlier)) =
+    if is_alike asking before then times (before ∷ earlier) + 1 else 1
+
+-- the link was reset before: a service was asked for
+abbrev pub had_service : List Asking → Bool
+had_service [] = false
+had_service (Counted bit ∷ earlier) = true
+had_service (asking ∷ earlier) = had_service earlier
+
+abbrev pub answering : Asking → (had_service : Bool) → StationStanding
+answering (Counted bit) had = standing.Up
+answering Status true = standing.Down
+answering asking had = standing.Asked
+
+-- A station doesn't answer where the latest request went out more often than that. Else it is up
+-- where that asks for a service; and where it asks for the status the station is down if it was up
+-- before.
+abbrev pub stands : (tries : ℕ) → List Asking → StationStanding
+stands tries [] = standing.NotAsked
+stands tries (asking ∷ earlier) =
+    if nat_lt tries (times (asking ∷ earlier)) then standing.Silent
+    else answering asking (had_service earlier)
+
+-- how often reports may have been lost
+abbrev pub missed : List (ℕ × Asking) → ℕ
+missed [] = 0
+missed ((now, Missed) ∷ earlier) = missed earlier + 1
+missed (x ∷ earlier) = missed earlier
+
+-- the watch of a station behind all this
+abbrev pub after : StationWatch → List (ℕ × Asking) → StationWatch
+after w [] = w
+after w (x ∷ earlier) = (station_asked x.1 x.0 (after w earlier)).0
+
+-- ---- What is logged
+
+-- The line is logged at this moment, and it was logged of the station last that it stands so. The
+-- kind of line has its limit anew.
+pub record IsLogged (now : ℕ) (what : Note) (so : StationLogged) (before behind : Limit)
+    (told : StationWatch × Option LogLine)
+    : Type 0 where
+  pub line : told.1
+      ≡ Some (record { moment = now; note = what; left_out = before.left_out })
+  pub so_far : told.0.logged ≡ so
+  pub limit : behind ≡ record { logged = Some now; left_out = 0 }
+
+-- Nothing is logged, and what was logged last stays.
+abbrev pub IsQuiet : StationWatch → (told : StationWatch × Option LogLine) → Type 0
+IsQuiet w told = (told.1 ≡ None) × (told.0.logged ≡ w.logged)
+
+-- it was logged that the station is up, and since then perhaps that it doesn't answer
+abbrev pub IsLoggedUp : StationLogged → Type 0
+IsLoggedUp logged.Up = Unit {0}
+IsLoggedUp logged.Silent = Unit {0}
+IsLoggedUp l = ⊥
+
+-- or that its status is asked, for the first time or again
+abbrev pub IsLoggedAsked : StationLogged → Type 0
+IsLoggedAsked logged.Asked = Unit {0}
+IsLoggedAsked logged.Down = Unit {0}
+IsLoggedAsked l = ⊥
+
+-- The service with this frame count bit went out before as often as a station that is there lets
+-- it.
+pub record IsAgainTooOften (w : StationWatch) (bit : Bool) : Type 0 where
+  pub again : w.bit ≡ Some bit
+  pub often : w.tries ≤ w.sent
+  pub tries : w.tries < 2 ^ 32
+
+-- The question for the status did.
+pub record IsAskedTooOften (w : StationWatch) : Type 0 where
+  pub again : w.bit ≡ None
+  pub often : w.tries ≤ w.sent
+  pub tries : w.tries < 2 ^ 32
+
+-- It is another service, or one that may go out once more.
+pub record IsOftenEnough (w : StationWatch) (bit : Bool) : Type 0 where
+  pub tries : 0 < w.tries
+  pub may : w.bit ≡ Some bit → w.sent < w.tries

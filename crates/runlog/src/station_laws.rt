@@ -1,0 +1,142 @@
+//! Laws of what is logged of the stations, and of how each of them stands.
+ghost use Rattle.std.specs.Prelude.{◌≡◌, ℕ, ◌+◌, ◌^◌, ◌<◌, ◌≤◌, Bool, List, ◌∷◌, ◌++◌, length};
+ghost use Rattle.std.specs.Prelude.{Some, None, map};
+ghost use Rattle.gateway.specs.Config.{Settings};
+ghost use Rattle.gateway.specs.Log.{GapOut, LineOut};
+ghost use Rattle.runlog.specs.Passing.{Passed, Went, passed, watched};
+ghost use Rattle.runlog.specs.Watching.{Watching, new_watching};
+ghost use Rattle.ft12.specs.declared.frame.LinkSize.{LinkSize};
+ghost use Rattle.ft12.specs.Spelling.{spelling};
+ghost use Rattle.link.specs.declared.service.Asked.{Asked as Request};
+ghost use Rattle.link.specs.Requests.{request_frame};
+ghost use Rattle.runlog.specs.Limits.{IsSecondAfter};
+ghost use Rattle.runlog.specs.Standings.{AreOthers, IsAgainTooOften, IsAskedTooOften, IsLogged};
+ghost use Rattle.runlog.specs.Standings.{IsLoggedAsked, IsLoggedUp, IsNoRequest, IsOftenEnough};
+ghost use Rattle.runlog.specs.Standings.{IsQuiet};
+ghost use Rattle.runlog.specs.Standings.{after, asking_for, missed, seat, seat_of, stands, telling};
+ghost use Rattle.runlog.specs.Stations.{asked, gap, new_station, standing_of, station_asked};
+ghost use Rattle.runlog.specs.declared.note.Note.TheVariants as note;
+ghost use Rattle.runlog.specs.declared.stations.Asking.{Asking};
+ghost use Rattle.runlog.specs.declared.stations.Asking.TheVariants.{Status, Counted, Other, Missed};
+ghost use Rattle.runlog.specs.declared.stations.StationLogged.TheVariants as logged;
+ghost use Rattle.runlog.specs.declared.stations.StationWatch.{StationWatch};
+
+/// A request is noted of the station whose link address its octets bear, whatever it asks for, and
+/// of no other one. So is a gap of the station at its place. Where no station has that address or
+/// that place, nothing is noted and nothing is logged.
+pub fn requests_are_noted_of_their_own_station()
+    ensures own { (size : LinkSize) (request : Request) (now : ℕ)
+        (before behind : List StationWatch) (w : StationWatch) →
+        AreOthers w.address before → AreOthers w.address behind →
+        asked size (spelling size (request_frame w.address request)) now (before ++ w ∷ behind)
+        ≡ (
+          before ++ (station_asked (asking_for request) now w).0 ∷ behind,
+          (station_asked (asking_for request) now w).1,
+        ) }
+    ensures nobody { (size : LinkSize) (address : ℕ) (request : Request) (now : ℕ)
+        (ws : List StationWatch) → AreOthers address ws →
+        asked size (spelling size (request_frame address request)) now ws ≡ (ws, None) }
+    ensures gap { (now : ℕ) (before behind : List StationWatch) (w : StationWatch) →
+        AreOthers w.address before → AreOthers w.address behind →
+        gap (length before) now (before ++ w ∷ behind)
+        ≡ (before ++ (station_asked Missed now w).0 ∷ behind, (station_asked Missed now w).1) }
+    ensures no_gap { (place now : ℕ) (ws : List StationWatch) → length ws ≤ place →
+        gap place now ws ≡ (ws, None) }
+{}
+
+/// Each station has a watch, at its place in the settings, whatever passes. What goes out to the
+/// line, and a gap, are noted in these watches; nothing else changes one.
+pub fn each_station_has_its_own_watch()
+    ensures request { (octets : List ℕ) (now : ℕ) (w : Watching) → (
+      (passed (Went now (LineOut octets)) w).0.stations,
+      (passed (Went now (LineOut octets)) w).1,
+    ) ≡ asked w.link octets now w.stations }
+    ensures gap { (station session now : ℕ) (w : Watching) → (
+      (passed (Went now (GapOut station session)) w).0.stations,
+      (passed (Went now (GapOut station session)) w).1,
+    ) ≡ gap station now w.stations }
+    ensures nothing { (p : Passed) (w : Watching) → IsNoRequest p →
+        (passed p w).0.stations ≡ w.stations }
+    ensures places { (c : Settings) (ps : List Passed) →
+        map seat (watched (new_watching c) ps).stations
+        ≡ map (seat_of (c.line.retries + 1)) c.stations }
+    ensures size { (c : Settings) (ps : List Passed) →
+        (watched (new_watching c) ps).link ≡ c.line.link }
+{}
+
+/// A station doesn't answer where the latest request has gone out to it more often than a station
+/// that is there lets it: a service with one frame count bit, or the question for the status. Else
+/// it is up where the latest request is for a service. Where its status is asked it is down if it
+/// had a service before, and else it is asked. Since when it stands so is the moment of the request
+/// that made it stand so. Gaps are counted one by one.
+pub fn a_station_stands_as_its_requests_say()
+    ensures standing { (tries address : ℕ) (requests : List (ℕ × Asking)) →
+        length requests < 2 ^ 64 →
+        standing_of (after (new_station tries address) requests)
+        ≡ stands tries (telling requests) }
+    ensures since { (w : StationWatch) (asking : Asking) (now : ℕ) →
+        (standing_of (station_asked asking now w).0 ≡ standing_of w → ⊥) →
+        (station_asked asking now w).0.since ≡ now }
+    ensures still { (w : StationWatch) (asking : Asking) (now : ℕ) →
+        standing_of (station_asked asking now w).0 ≡ standing_of w →
+        (station_asked asking now w).0.since ≡ w.since }
+    ensures gaps { (tries address : ℕ) (requests : List (ℕ × Asking)) →
+        length requests < 2 ^ 64 →
+        (after (new_station tries address) requests).gaps ≡ missed requests }
+    ensures address { (w : StationWatch) (requests : List (ℕ × Asking)) →
+        (after w requests).address ≡ w.address }
+{}
+
+/// A station is logged as up at its first service, and as down where its status is asked again.
+/// Where a request has gone out more often than a station that is there lets it, it is logged that
+/// the station doesn't answer, and each minute again while that lasts. That it answers again is
+/// logged at the next service with another frame count bit. Each line names the station by its link
+/// address. A line that comes too early is left to a later request: then what was logged last
+/// stays.
+pub fn a_station_is_logged_where_it_goes_and_where_it_is_back()
+    ensures asked { (w : StationWatch) (now : ℕ) → w.logged ≡ logged.Nothing →
+        IsSecondAfter w.asked.logged now → IsLogged now (note.Asked w.address) logged.Asked
+        w.asked (station_asked Status now w).0.asked (station_asked Status now w) }
+    ensures up { (w : StationWatch) (bit : Bool) (now : ℕ) → (IsLoggedUp w.logged → ⊥) →
+        IsSecondAfter w.up.logged now → IsLogged now (note.Up w.address) logged.Up
+        w.up (station_asked (Counted bit) now w).0.up (station_asked (Counted bit) now w) }
+    ensures silent { (w : StationWatch) (bit : Bool) (now : ℕ) → w.logged ≡ logged.Up →
+        IsAgainTooOften w bit → IsSecondAfter w.silent.logged now →
+        IsLogged now (note.Silent w.address) logged.Silent
+        w.silent (station_asked (Counted bit) now w).0.silent (station_asked (Counted bit) now w) }
+    ensures answers { (w : StationWatch) (bit : Bool) (now : ℕ) → w.logged ≡ logged.Up →
+        IsOftenEnough w bit → IsQuiet w (station_asked (Counted bit) now w) }
+    ensures still { (w : StationWatch) (bit : Bool) (now before : ℕ) → w.logged ≡ logged.Silent →
+        IsAgainTooOften w bit → w.silent.logged ≡ Some before → before + 60000 ≤ now →
+        IsLogged now (note.Silent w.address) logged.Silent
+        w.silent (station_asked (Counted bit) now w).0.silent (station_asked (Counted bit) now w) }
+    ensures between { (w : StationWatch) (bit : Bool) (now before : ℕ) →
+        w.logged ≡ logged.Silent → IsAgainTooOften w bit → w.silent.logged ≡ Some before →
+        now < before + 60000 → IsQuiet w (station_asked (Counted bit) now w) }
+    ensures again { (w : StationWatch) (bit : Bool) (now : ℕ) → w.logged ≡ logged.Silent →
+        IsOftenEnough w bit → IsSecondAfter w.again.logged now →
+        IsLogged now (note.Again w.address) logged.Up
+        w.again (station_asked (Counted bit) now w).0.again (station_asked (Counted bit) now w) }
+    ensures down { (w : StationWatch) (now : ℕ) → IsLoggedUp w.logged →
+        IsSecondAfter w.down.logged now → IsLogged now (note.Down w.address) logged.Down
+        w.down (station_asked Status now w).0.down (station_asked Status now w) }
+    ensures unanswered { (w : StationWatch) (now : ℕ) → IsLoggedAsked w.logged →
+        IsAskedTooOften w → IsSecondAfter w.silent.logged now →
+        IsLogged now (note.Silent w.address) logged.Unanswered
+        w.silent (station_asked Status now w).0.silent (station_asked Status now w) }
+    ensures waits { (w : StationWatch) (now : ℕ) → IsLoggedAsked w.logged → 0 < w.tries →
+        (w.bit ≡ None → w.sent < w.tries) → IsQuiet w (station_asked Status now w) }
+    ensures still_asked { (w : StationWatch) (now before : ℕ) → w.logged ≡ logged.Unanswered →
+        IsAskedTooOften w → w.silent.logged ≡ Some before → before + 60000 ≤ now →
+        IsLogged now (note.Silent w.address) logged.Unanswered
+        w.silent (station_asked Status now w).0.silent (station_asked Status now w) }
+    ensures asked_between { (w : StationWatch) (now before : ℕ) → w.logged ≡ logged.Unanswered →
+        w.silent.logged ≡ Some before → now < before + 60000 →
+        IsQuiet w (station_asked Status now w) }
+    ensures gap { (w : StationWatch) (now : ℕ) → IsSecondAfter w.gap.logged now →
+        IsLogged now (note.Gap w.address) w.logged
+        w.gap (station_asked Missed now w).0.gap (station_asked Missed now w) }
+    ensures other { (w : StationWatch) (now : ℕ) → IsQuiet w (station_asked Other now w) }
+    ensures none { (w : StationWatch) (asking : Asking) (now : ℕ) →
+        (station_asked asking now w).1 ≡ None → IsQuiet w (station_asked asking now w) }
+{}
