@@ -20,9 +20,10 @@ ghost use Rattle.status.specs.declared.snapshot.Snapshot.{Snapshot};
 ghost use Rattle.status.specs.declared.snapshot.StationView.{StationView};
 
 /// The rows stand in the order of the settings. The station with so many before it has the row with
-/// so many before it, and that row tells what was watched and counted of this very station. Its
-/// name is the one that the site gives to its link address. Of up to 32 stations each has a row,
-/// and there is no other row.
+/// so many before it, and that row tells what was watched and counted at this place. That what is
+/// watched there is this very station, the run log says (`each_station_has_its_own_watch` of
+/// `runlog`). Its name is the one that the site gives to its link address. Of up to 32 stations
+/// each has a row, and there is no other row.
 pub fn each_station_has_its_row()
     ensures row { (c : Settings) (names : LogNames) (keeps : Bool) (looks : List Look)
         (last : Look) (s : Snapshot) → IsSight c names keeps looks last s →

@@ -1,12 +1,18 @@
 -- What is counted of a station.
-use Rattle.std.proofs.Common.{◌≡◌, ℕ, List, Option, Some, None, refl, ap}
+use Rattle.std.proofs.Common.{◌≡◌, ℕ, List, Option, Some, None, refl, ap, ◌∙◌}
 use Rattle.asdu.specs.declared.sizes.Sizes.{Sizes}
+use Rattle.link.specs.declared.answer.Answer.{Answer}
+use Rattle.link.specs.declared.answer.Answer.TheVariants as answer
 use Rattle.runlog.specs.Answering.{IsCounted}
 use Rattle.runlog.specs.Limits.{one_more}
 use Rattle.runlog.specs.Orders.{order_of}
 use Rattle.runlog.specs.Orders.{octet}
 use Rattle.runlog.specs.Traffic.{content_noted, content_of, ended, ended_by, fate_noted, replied_by}
-use Rattle.runlog.specs.Traffic.{reply_of, reported, sent, suffered}
+use Rattle.runlog.specs.Traffic.{reply_of, reported, sent, suffered, traffic_line, minute_line}
+use Rattle.runlog.specs.Traffic.{sent_line, confirmed_line, denied_line, terminated_line}
+use Rattle.runlog.specs.Traffic.{failed_line, skips_line, mirrors_line, spoilt_line, late_line}
+use Rattle.runlog.specs.Traffic.{or_else}
+use Rattle.runlog.specs.Exchange.{traffic_after}
 use Rattle.runlog.specs.declared.content.Content.{Content}
 use Rattle.runlog.specs.declared.content.Content.TheVariants as content
 use Rattle.runlog.specs.declared.content.Skip.{Skip}
@@ -14,6 +20,7 @@ use Rattle.runlog.specs.declared.fate.CommandFate.{CommandFate}
 use Rattle.runlog.specs.declared.fate.CommandFate.TheVariants as fate
 use Rattle.runlog.specs.declared.fate.Mishap.{Mishap}
 use Rattle.runlog.specs.declared.fate.Mishap.TheVariants as mishap
+use Rattle.runlog.specs.declared.note.LogLine.{LogLine}
 use Rattle.runlog.specs.declared.order.Order.{Order}
 use Rattle.runlog.specs.declared.traffic.Traffic.{Traffic}
 
@@ -112,3 +119,45 @@ skipped_so sizes now octets why t is =
       skips = ap (λ v. v.skipped) e;
       orders = ap (λ v. v.commands) e;
     }
+
+-- ---- Its address stays
+
+noted_address : (what : Content) (sizes : Sizes) (octets : List ℕ) (t : Traffic)
+    → (content_noted what sizes octets t).address ≡ t.address
+noted_address content.Report sizes octets t = refl
+noted_address content.Reply sizes octets t =
+    (replied_same (reply_of (octet octets 2)) (order_of sizes octets) t).address
+noted_address (content.Skipped why) sizes octets t = refl
+
+pub answered_address : (answer : Option Answer) (sizes : Sizes) (now : ℕ) (t : Traffic)
+    → (traffic_after answer sizes now t).address ≡ t.address
+answered_address None sizes now t = refl
+answered_address (Some (answer.Report octets)) sizes now t =
+    noted_address (content_of sizes octets) sizes octets (counted now t)
+answered_address (Some answer.Busy) sizes now t = (fate_so fate.Busy t).address
+answered_address (Some answer.NoData) sizes now t = refl
+answered_address (Some answer.Confirmed) sizes now t = refl
+answered_address (Some answer.Ready) sizes now t = refl
+answered_address (Some answer.Unable) sizes now t = refl
+
+-- what is sought among its lines
+or_else_address : (x : Traffic × Option LogLine) (f : Traffic → Traffic × Option LogLine) (n : ℕ)
+    → x.0.address ≡ n → ((t : Traffic) → t.address ≡ n → (f t).0.address ≡ n)
+    → (or_else x f).0.address ≡ n
+or_else_address (t, Some line) f n is more = is
+or_else_address (t, None) f n is more = more t is
+
+minute_address : (now : ℕ) (t : Traffic) → (minute_line now t).0.address ≡ t.address
+minute_address now t =
+    or_else_address (skips_line now t) _ t.address refl (λ u is.
+    or_else_address (mirrors_line now u) _ t.address is (λ v so.
+    or_else_address (spoilt_line now v) (late_line now) t.address so (λ x same. same)))
+
+pub line_address : (now : ℕ) (t : Traffic) → (traffic_line now t).0.address ≡ t.address
+line_address now t =
+    or_else_address (sent_line now t) _ t.address refl (λ a is.
+    or_else_address (confirmed_line now a) _ t.address is (λ b is.
+    or_else_address (denied_line now b) _ t.address is (λ c is.
+    or_else_address (terminated_line now c) _ t.address is (λ d is.
+    or_else_address (failed_line now d) (minute_line now) t.address is (λ e is.
+    minute_address now e ∙ is)))))

@@ -1,8 +1,10 @@
 -- What passes a run and has nothing of its connections: these stay as they are, and what the wall
 -- clock showed, and the moment.
 use Rattle.std.proofs.Common.{◌≡◌, ℕ, ◌-◌, ◌==◌, Bool, true, false, List, Option, Some, None}
-use Rattle.std.proofs.Common.{refl, ap, ◌∙◌, nat_lt}
-use Rattle.std.specs.Prelude.{slice_get, if◌then◌else◌, is_some}
+use Rattle.std.proofs.Common.{refl, sym, ap, ◌∙◌, nat_lt, [], ◌∷◌, map}
+use Rattle.std.proofs.Math.Seq.{map-set_same}
+use Rattle.std.proofs.lemmas.Option.{get_or_from_slice_get}
+use Rattle.std.specs.Prelude.{slice_get, slice_set, if◌then◌else◌, is_some}
 use Rattle.gateway.specs.State.{State, counts_of}
 use Rattle.gateway.specs.declared.counts.Counts.{Counts}
 use Rattle.link.specs.declared.answer.Answer.{Answer}
@@ -14,7 +16,11 @@ use Rattle.runlog.specs.Stations as stations
 use Rattle.runlog.specs.Inbox as inbox
 use Rattle.runlog.specs.Inbox.{Inbox}
 use Rattle.runlog.specs.Logging.{looked, looked_if_due, taken_in}
+use Rattle.runlog.specs.Traffic as traffic
+use Rattle.runlog.specs.Traffic.{first_by, first_line, suffered, traffic_line}
+use Rattle.runlog.specs.Exchange.{traffic_after}
 use Rattle.runlog.specs.Watching as watching
+use Rattle.runlog.specs.Watching.{order_at}
 use Rattle.runlog.specs.Watching.{Watching, unless_logged, seen, with_line, answered_by}
 use Rattle.runlog.specs.Watching.{answer_noted_by, answer_noted_at, line_received, received}
 use Rattle.runlog.specs.Watching.{suffered_by, suffered_at, suffered_if, counts_noted, late_noted}
@@ -29,6 +35,11 @@ use Rattle.runlog.specs.declared.fate.Mishap.TheVariants as mishap
 use Rattle.runlog.specs.declared.note.LogLine.{LogLine}
 use Rattle.runlog.specs.declared.queue.QueueWatch.{QueueWatch}
 use Rattle.runlog.specs.declared.traffic.Traffic.{Traffic}
+use Rattle.runlog.proofs.Counted.{answered_address, command_so, line_address, mishap_so}
+
+-- the link addresses of these stations
+abbrev pub addresses_of : List Traffic → List ℕ
+addresses_of ts = map (λ (t : Traffic). t.address) ts
 
 pub record Same (a b : Watching) : Type 0 where
   pub connection : a.connection ≡ b.connection
@@ -36,6 +47,7 @@ pub record Same (a b : Watching) : Type 0 where
   pub moment : a.moment ≡ b.moment
   pub link : a.link ≡ b.link
   pub stations : a.stations ≡ b.stations
+  pub addresses : addresses_of a.traffic ≡ addresses_of b.traffic
 
 pub same : (w : Watching) → Same w w
 same w = record {
@@ -44,6 +56,7 @@ same w = record {
   moment = refl;
   link = refl;
   stations = refl;
+  addresses = refl;
 }
 
 then_same : (a b c : Watching) → Same a b → Same b c → Same a c
@@ -53,7 +66,15 @@ then_same a b c x y = record {
   moment = x.moment ∙ y.moment;
   link = x.link ∙ y.link;
   stations = x.stations ∙ y.stations;
+  addresses = x.addresses ∙ y.addresses;
 }
+
+-- One station's traffic is replaced by one with its address.
+replaced : (ts : List Traffic) (place : ℕ) (t v : Traffic) → slice_get ts place ≡ Some t
+    → v.address ≡ t.address → addresses_of (slice_set ts place v) ≡ addresses_of ts
+replaced ts place t v is same =
+    map-set_same (λ (x : Traffic). x.address) ts place v t
+    (same ∙ sym (ap (λ (x : Traffic). x.address) (get_or_from_slice_get ts place t t is)))
 
 -- ---- Events
 
@@ -65,6 +86,7 @@ unless_logged_same s (l, Some line) w = record {
   moment = refl;
   link = refl;
   stations = refl;
+  addresses = refl;
 }
 unless_logged_same s (l, None) w = record {
   connection = refl;
@@ -72,26 +94,28 @@ unless_logged_same s (l, None) w = record {
   moment = refl;
   link = refl;
   stations = refl;
+  addresses = refl;
 }
 
 pub seen_same : (s : EndsSight) (w : Watching) → Same (seen s w).0 w
 seen_same s w = unless_logged_same s (line_seen s.line w.moment w.line) w
 
 suffered_by_same : (t : Option Traffic) (place : ℕ) (what : Mishap) (w : Watching)
-    → Same (suffered_by t place what w) w
-suffered_by_same None place what w = same w
-suffered_by_same (Some t) place what w = record {
+    → slice_get w.traffic place ≡ t → Same (suffered_by t place what w) w
+suffered_by_same None place what w is = same w
+suffered_by_same (Some t) place what w is = record {
   connection = refl;
   wall = refl;
   moment = refl;
   link = refl;
   stations = refl;
+  addresses = replaced w.traffic place t (suffered what t) is (mishap_so what t).address;
 }
 
 suffered_at_same : (place : Option ℕ) (what : Mishap) (w : Watching)
     → Same (suffered_at place what w) w
 suffered_at_same None what w = same w
-suffered_at_same (Some place) what w = suffered_by_same (slice_get w.traffic place) place what w
+suffered_at_same (Some place) what w = suffered_by_same (slice_get w.traffic place) place what w refl
 
 late_same_by : (b : Bool) (late : ℕ) (place : Option ℕ) (w : Watching)
     → Same (as_late late (if b then suffered_at place mishap.Late w else w)) w
@@ -102,6 +126,7 @@ late_same_by true late place w = let x = suffered_at_same place mishap.Late w in
       moment = x.moment;
       link = x.link;
       stations = x.stations;
+      addresses = x.addresses;
     }
 late_same_by false late place w = record {
   connection = refl;
@@ -109,6 +134,7 @@ late_same_by false late place w = record {
   moment = refl;
   link = refl;
   stations = refl;
+  addresses = refl;
 }
 
 pub late_same : (late : ℕ) (w : Watching) → Same (late_noted late w) w
@@ -131,28 +157,31 @@ counts_same counts w =
       moment = z.moment ∙ y.moment ∙ x.moment;
       link = z.link ∙ y.link ∙ x.link;
       stations = z.stations ∙ y.stations ∙ x.stations;
+      addresses = z.addresses ∙ y.addresses ∙ x.addresses;
     }
 
 answered_same : (a : Option (Option Answer)) (t : Traffic) (place : ℕ) (w : Watching)
-    → Same (answered_by a t place w) w
-answered_same None t place w = same w
-answered_same (Some answer) t place w = record {
+    → slice_get w.traffic place ≡ Some t → Same (answered_by a t place w) w
+answered_same None t place w is = same w
+answered_same (Some answer) t place w is = record {
   connection = refl;
   wall = refl;
   moment = refl;
   link = refl;
   stations = refl;
+  addresses = replaced w.traffic place t (traffic_after answer w.sizes w.moment t) is
+      (answered_address answer w.sizes w.moment t);
 }
 
 answer_noted_same : (t : Option Traffic) (place : ℕ) (w : Watching)
-    → Same (answer_noted_by t place w) w
-answer_noted_same None place w = same w
-answer_noted_same (Some t) place w =
-    answered_same (answer_in w.link t.address w.exchange) t place w
+    → slice_get w.traffic place ≡ t → Same (answer_noted_by t place w) w
+answer_noted_same None place w is = same w
+answer_noted_same (Some t) place w is =
+    answered_same (answer_in w.link t.address w.exchange) t place w is
 
 answer_at_same : (place : Option ℕ) (w : Watching) → Same (answer_noted_at place w) w
 answer_at_same None w = same w
-answer_at_same (Some place) w = answer_noted_same (slice_get w.traffic place) place w
+answer_at_same (Some place) w = answer_noted_same (slice_get w.traffic place) place w refl
 
 pub line_received_same : (octets : List ℕ) (w : Watching) → Same (line_received octets w) w
 line_received_same octets w =
@@ -164,6 +193,7 @@ line_received_same octets w =
       moment = x.moment;
       link = x.link;
       stations = x.stations;
+      addresses = x.addresses;
     }
 
 received_by : (b : Bool) (v w : Watching) → Same v w → Same (if b then v else w) w
@@ -179,25 +209,31 @@ received_same octets w = received_by (is_some w.connection.opening)
       moment = refl;
       link = refl;
       stations = refl;
+      addresses = refl;
     })
 
 -- ---- Actions
 
 sent_by_so : (b : Bool) (w : Watching) (traffic : List Traffic)
+    → addresses_of traffic ≡ addresses_of w.traffic
     → Same (if b then w else record w { traffic = traffic }) w
-sent_by_so true w traffic = same w
-sent_by_so false w traffic = record {
+sent_by_so true w traffic are = same w
+sent_by_so false w traffic are = record {
   connection = refl;
   wall = refl;
   moment = refl;
   link = refl;
   stations = refl;
+  addresses = are;
 }
 
 sent_by_same : (t : Option Traffic) (place : ℕ) (octets : List ℕ) (w : Watching)
-    → Same (sent_by t place octets w) w
-sent_by_same None place octets w = same w
-sent_by_same (Some t) place octets w = sent_by_so (is_repeat place octets w) w _
+    → slice_get w.traffic place ≡ t → Same (sent_by t place octets w) w
+sent_by_same None place octets w is = same w
+sent_by_same (Some t) place octets w is =
+    let v = traffic.sent (order_at octets w) t in
+    sent_by_so (is_repeat place octets w) w (slice_set w.traffic place v)
+    (replaced w.traffic place t v is (command_so (order_at octets w) t).address)
 
 sent_at_same : (place : Option ℕ) (what : AwaitedAnswer) (octets : List ℕ) (w : Watching)
     → Same (sent_at place what octets w) w
@@ -205,7 +241,7 @@ sent_at_same None awaited.Command octets w = same w
 sent_at_same None awaited.Poll octets w = same w
 sent_at_same None awaited.Nothing octets w = same w
 sent_at_same (Some place) awaited.Command octets w =
-    sent_by_same (slice_get w.traffic place) place octets w
+    sent_by_same (slice_get w.traffic place) place octets w refl
 sent_at_same (Some place) awaited.Poll octets w = same w
 sent_at_same (Some place) awaited.Nothing octets w = same w
 
@@ -223,6 +259,7 @@ asked_same octets now w =
       moment = x.moment;
       link = x.link;
       stations = refl;
+      addresses = x.addresses;
     }
 
 -- and those as one that goes out to its station
@@ -251,6 +288,7 @@ queue_same counts taken (queue, Some line) w =
       moment = refl;
       link = refl;
       stations = refl;
+      addresses = refl;
     }
 queue_same counts taken (queue, None) w =
     counted_by (nat_lt (w.moment - w.counted) 60000)
@@ -265,6 +303,7 @@ queue_same counts taken (queue, None) w =
       moment = refl;
       link = refl;
       stations = refl;
+      addresses = refl;
     }
     counted_by false = record {
       connection = refl;
@@ -272,6 +311,7 @@ queue_same counts taken (queue, None) w =
       moment = refl;
       link = refl;
       stations = refl;
+      addresses = refl;
     }
 
 looked_at_same : (counts : Counts) (taken : ℕ) (w : Watching)
@@ -285,6 +325,7 @@ looked_at_same counts taken w =
       moment = x.moment;
       link = x.link;
       stations = x.stations;
+      addresses = x.addresses;
     }
 
 due_same : (b : Bool) (v w : Watching) (line : Option LogLine) → Same v w
@@ -297,6 +338,19 @@ looked_if_due_same s w =
     due_same (is_look_due w) (looked_at (counts_of s) (taken_in s) w).0 w
     (looked_at (counts_of s) (taken_in s) w).1 (looked_at_same (counts_of s) (taken_in s) w)
 
+lines_addresses : (now : ℕ) (ts : List Traffic)
+    → addresses_of (first_line now ts).0 ≡ addresses_of ts
+lines_addresses now [] = refl
+lines_addresses now (t ∷ ts) =
+    by (traffic_line now t) (line_address now t) (lines_addresses now ts)
+  where
+    by : (x : Traffic × Option LogLine) → x.0.address ≡ t.address
+        → addresses_of (first_line now ts).0 ≡ addresses_of ts
+        → addresses_of (first_by x ts (first_line now ts)).0 ≡ addresses_of (t ∷ ts)
+    by (v, Some line) is rest = ap (λ n. n ∷ addresses_of ts) is
+    by (v, None) is rest = ap (λ n. n ∷ addresses_of (first_line now ts).0) is
+        ∙ ap (λ ns. t.address ∷ ns) rest
+
 inbox_same : (x : Inbox × Option LogLine) (w : Watching) → Same (unless_inbox x w).0 w
 inbox_same (b, Some line) w = record {
   connection = refl;
@@ -304,6 +358,7 @@ inbox_same (b, Some line) w = record {
   moment = refl;
   link = refl;
   stations = refl;
+  addresses = refl;
 }
 inbox_same (b, None) w = record {
   connection = refl;
@@ -311,6 +366,7 @@ inbox_same (b, None) w = record {
   moment = refl;
   link = refl;
   stations = refl;
+  addresses = lines_addresses w.moment w.traffic;
 }
 
 gathered_by : (b : Bool) (v w : Watching) (line : Option LogLine) → Same v w
@@ -330,6 +386,7 @@ gathered_same w =
       moment = x.moment;
       link = x.link;
       stations = x.stations;
+      addresses = x.addresses;
     })
 
 unless_line_same : (x : Watching × Option LogLine) → Same (unless_line x).0 x.0
@@ -346,6 +403,7 @@ judged_same s w =
       moment = x.moment;
       link = x.link;
       stations = x.stations;
+      addresses = x.addresses;
     }
 
 pub looked_same : (s : State) (w : Watching) → Same (looked s w).0 w
@@ -359,4 +417,5 @@ looked_same s w =
       moment = x.moment ∙ y.moment ∙ z.moment;
       link = x.link ∙ y.link ∙ z.link;
       stations = x.stations ∙ y.stations ∙ z.stations;
+      addresses = x.addresses ∙ y.addresses ∙ z.addresses;
     }

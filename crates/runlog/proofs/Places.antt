@@ -15,7 +15,9 @@ use Rattle.runlog.specs.Watching.{new_watching, received, walled}
 use Rattle.runlog.specs.declared.stations.Asking.{Asking}
 use Rattle.runlog.specs.declared.stations.Asking.TheVariants.{Missed}
 use Rattle.runlog.specs.declared.stations.StationWatch.{StationWatch}
-use Rattle.runlog.proofs.Passings.{asked_same, asked_stations, late_same, line_received_same}
+use Rattle.runlog.specs.declared.traffic.Traffic.{Traffic}
+use Rattle.runlog.specs.Traffic.{new_traffics}
+use Rattle.runlog.proofs.Passings.{addresses_of, asked_same, asked_stations, late_same, line_received_same}
 use Rattle.runlog.proofs.Passings.{looked_same, received_same, seen_same}
 use Rattle.runlog.proofs.Standing.{address_stays, tries_stay}
 
@@ -92,6 +94,45 @@ pub places_so : (c : Settings) (ps : List Passed)
     ≡ map (seat_of (c.line.retries + 1)) c.stations
 places_so c [] = new_seats (c.line.retries + 1) c.stations
 places_so c (p ∷ ps) = passed_seats p (watched (new_watching c) ps) ∙ places_so c ps
+
+-- ---- What is counted of each
+
+passed_addresses : (p : Passed) (w : Watching)
+    → addresses_of (passed p w).0.traffic ≡ addresses_of w.traffic
+passed_addresses (Went now (LineOut octets)) w = (asked_same octets now w).addresses
+passed_addresses (Went now (GapOut station session)) w = refl
+passed_addresses (Went now (TcpOut octets)) w = refl
+passed_addresses (Went now (Closed cause)) w = refl
+passed_addresses (Between gateway) w = (looked_same gateway w).addresses
+passed_addresses (Came (next.Open now) octets s) w = (late_same s.late_octets w).addresses
+passed_addresses (Came (next.Cut now) octets s) w = (late_same s.late_octets w).addresses
+passed_addresses (Came (next.Line now len) octets s) w =
+    let v = at now (late_noted s.late_octets w) in
+    (seen_same s (line_received (take len octets) v)).addresses
+    ∙ (line_received_same (take len octets) v).addresses ∙ (late_same s.late_octets w).addresses
+passed_addresses (Came (next.Bytes now len) octets s) w =
+    let v = at now (late_noted s.late_octets w) in
+    (seen_same s (received (take len octets) v)).addresses
+    ∙ (received_same (take len octets) v).addresses ∙ (late_same s.late_octets w).addresses
+passed_addresses (Came (next.Tick now) octets s) w =
+    (seen_same s (at now (late_noted s.late_octets w))).addresses
+    ∙ (late_same s.late_octets w).addresses
+passed_addresses (Came (next.Wall now shown) octets s) w =
+    (seen_same s (walled now shown (at now (late_noted s.late_octets w)))).addresses
+    ∙ (late_same s.late_octets w).addresses
+passed_addresses (Came next.Fault octets s) w = (late_same s.late_octets w).addresses
+passed_addresses (Came next.Done octets s) w = (late_same s.late_octets w).addresses
+
+new_addresses : (settings : List StationSettings)
+    → addresses_of (new_traffics settings) ≡ map (λ (s : StationSettings). s.address) settings
+new_addresses [] = refl
+new_addresses (s ∷ settings) = ap (λ ns. s.address ∷ ns) (new_addresses settings)
+
+pub counts_so : (c : Settings) (ps : List Passed)
+    → map (λ (t : Traffic). t.address) (watched (new_watching c) ps).traffic
+    ≡ map (λ (s : StationSettings). s.address) c.stations
+counts_so c [] = new_addresses c.stations
+counts_so c (p ∷ ps) = passed_addresses p (watched (new_watching c) ps) ∙ counts_so c ps
 
 -- ---- How long an address is
 

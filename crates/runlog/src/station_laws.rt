@@ -44,8 +44,9 @@ pub fn requests_are_noted_of_their_own_station()
         gap place now ws ≡ (ws, None) }
 {}
 
-/// Each station has a watch, at its place in the settings, whatever passes. What goes out to the
-/// line, and a gap, are noted in these watches; nothing else changes one.
+/// Each station has a watch, at its place in the settings, whatever passes, and counts of its own
+/// there. What goes out to the line, and a gap, are noted in these watches; nothing else changes
+/// one.
 pub fn each_station_has_its_own_watch()
     ensures request { (octets : List ℕ) (now : ℕ) (w : Watching) → (
       (passed (Went now (LineOut octets)) w).0.stations,
@@ -60,6 +61,9 @@ pub fn each_station_has_its_own_watch()
     ensures places { (c : Settings) (ps : List Passed) →
         map seat (watched (new_watching c) ps).stations
         ≡ map (seat_of (c.line.retries + 1)) c.stations }
+    ensures counts { (c : Settings) (ps : List Passed) →
+        map (λ t. t.address) (watched (new_watching c) ps).traffic
+        ≡ map (λ s. s.address) c.stations }
     ensures size { (c : Settings) (ps : List Passed) →
         (watched (new_watching c) ps).link ≡ c.line.link }
 {}

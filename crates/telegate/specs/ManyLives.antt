@@ -67,9 +67,8 @@ pub data IsHeadIn {S : Type 0} (origin : Origin)
       → IsHeadIn origin now (next.taken.gateway, passed next.taken.port.port.ends.deeds)
 
 -- The one run comes behind the other, with the same settings. That one was cut, at a moment at
--- which
--- these were the deeds: so this state stands at the head of its log, and can be read. The next run
--- finds what the crash has left.
+-- which these were the deeds: so this state stands at the head of its log, and can be read. The
+-- next run finds what the crash has left.
 pub record ComesBehind (S : Type 0) {D : Type 0} (g : Ghosts D) (c : Settings) (text : List ℕ)
     (this next : Origin) : Type 0 where
   pub events : ℕ

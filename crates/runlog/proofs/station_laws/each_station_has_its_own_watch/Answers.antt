@@ -1,5 +1,5 @@
 use Rattle.runlog.proofs.Passings.{asked_stations}
-use Rattle.runlog.proofs.Places.{link_so, nothing_so, places_so}
+use Rattle.runlog.proofs.Places.{counts_so, link_so, nothing_so, places_so}
 use Rattle.runlog.proofs.station_laws.each_station_has_its_own_watch.Goals as goal
 
 pub returns-clause-request : goal.returns-clause-request
@@ -13,3 +13,6 @@ returns-clause-places c = places_so
 
 pub returns-clause-size : goal.returns-clause-size
 returns-clause-size c = link_so
+
+pub returns-clause-counts : goal.returns-clause-counts
+returns-clause-counts c = counts_so
