@@ -1,18 +1,20 @@
 -- What a visitor sees of the control centre, the queue and the order of the stations.
 use Rattle.std.proofs.Common.{◌≡◌, ℕ, zero, suc, List, [], ◌∷◌, ◌++◌, Option, drop, get_or, refl}
-use Rattle.std.proofs.Common.{sym, ap}
+use Rattle.std.proofs.Common.{sym, ap, ◌+◌, ◌-◌, ◌*◌, ◌/◌, ◌%◌, ◌<◌, ◌≤◌, min, false, arith}
+use Rattle.std.proofs.Math.Nat.{div-add-mod', div-le_of_le-mul, mod-lt, mul-div_cancel_left}
+use Rattle.std.specs.Prelude.{◌==◌}
 use Rattle.std.proofs.Common.{Bool, subst, ◌∙◌, append_assoc, codes, if◌then◌else◌}
 use Rattle.std.proofs.lemmas.List.{append-nil}
 use Rattle.std.specs.Borrow.{Bor}
 use Rattle.std.specs.Fmt.{decimal}
 use Rattle.status.specs.Html as html
-use Rattle.status.specs.Html.{html_of, html_parts}
+use Rattle.status.specs.Html.{depth, html_of, html_parts, text_of_step}
 use Rattle.status.specs.Json.{flag, json_of_peer, json_of_setting, json_of_station}
 use Rattle.status.specs.Json.{json_parts, parts_before_hour, parts_before_peer}
 use Rattle.status.specs.Labels.{keeping_text}
 use Rattle.status.specs.Reading.{Has}
 use Rattle.status.specs.Sights.{EndsWith, JsonOfCentre, SaysOfCentre, SaysOfQueue, SaysOfState}
-use Rattle.status.specs.Sights.{StandInOrder, SaysSetting}
+use Rattle.status.specs.Sights.{IsDrawn, StandInOrder, StandsToScale, SaysSetting}
 use Rattle.status.specs.Table as table
 use Rattle.status.specs.Table.{table_of, table_parts}
 use Rattle.status.specs.Texts.{age_text}
@@ -318,3 +320,77 @@ says_setting s = record {
       (escaped Html s.value.now) (codes "</td></tr>\n");
   json = pair (codes "\"") (escaped Json s.key.now) (codes ":") (escaped Json s.value.now);
 }
+
+-- ---- The last hour
+
+pub is_drawn : (s : Snapshot) → IsDrawn s
+is_drawn s =
+    let steps = rows (text_of_step s.queue.places) s.queue.hour.now in
+    let more = joined (drop 11 (html_parts s)) in
+    has_from (html_parts s) 8 (codes "<path d=\"M0 100" ++ (steps ++ codes "V100z\"/></svg>"))
+    (has_over (joined (html.queue_parts s)) (codes "<path d=\"M0 100")
+    (joined (drop 9 (html_parts s))) (steps ++ codes "V100z\"/></svg>") (codes "\n" ++ more)
+    (last_part (html.queue_parts s) 14 [] (codes "<path d=\"M0 100") refl)
+    (ends_it steps (codes "V100z\"/></svg>") (codes "\n") more))
+
+one_step : (v number h : List ℕ) → v ++ (number ++ (h ++ [])) ≡ v ++ (number ++ h)
+one_step v number h = simp append-nil
+
+pub step_so : (places taken : ℕ)
+    → text_of_step places taken ≡ codes "V" ++ (decimal (depth places taken) ++ codes "h1")
+step_so places taken = one_step (codes "V") (decimal (depth places taken)) (codes "h1")
+
+some_places : (places : ℕ) → 0 < places → (places == 0) ≡ false
+some_places places some = grind (arith, some)
+
+-- how far from the bottom it is, in percent
+abbrev height : (places taken : ℕ) → ℕ
+height places taken = taken * 100 / places
+
+depth_so : (places taken : ℕ) → 0 < places → taken ≤ places
+    → depth places taken ≡ 100 - height places taken
+depth_so places taken some fits =
+    ap (λ b. if b then 100 else 100 - min taken places * 100 / places) (some_places places some)
+    ∙ ap (λ n. 100 - n * 100 / places) (least taken places fits)
+  where
+    least : (t p : ℕ) → t ≤ p → min t p ≡ t
+    least t p le = omega (arith, le)
+
+height_fits : (places taken : ℕ) → taken ≤ places → height places taken ≤ 100
+height_fits places taken fits = div-le_of_le-mul places (times places taken fits)
+  where
+    times : (p t : ℕ) → t ≤ p → t * 100 ≤ p * 100
+    times p t le = omega (arith, le)
+
+pub to_scale : (places taken : ℕ) → 0 < places → taken ≤ places → StandsToScale places taken
+to_scale places taken some fits =
+    let up = height places taken in
+    let few = height_fits places taken fits in
+    let is = depth_so places taken some fits in
+    let back : 100 - depth places taken ≡ up = ap (λ d. 100 - d) is ∙ again up few in
+    let whole = div-add-mod' (taken * 100) places in
+    let rest = mod-lt (taken * 100) some in record {
+      inside = omega (arith, is, few);
+      at_least = subst (λ n. n * places ≤ taken * 100) (sym back)
+          (below (up * places) (taken * 100 % places) (taken * 100) whole);
+      at_most = subst (λ n. taken * 100 < n * places + places) (sym back)
+          (above (up * places) (taken * 100 % places) (taken * 100) places whole rest);
+    }
+  where
+    again : (n : ℕ) → n ≤ 100 → 100 - (100 - n) ≡ n
+    again n le = omega (arith, le)
+
+    below : (a b n : ℕ) → a + b ≡ n → a ≤ n
+    below a b n is = omega (arith, is)
+
+    above : (a b n p : ℕ) → a + b ≡ n → b < p → n < a + p
+    above a b n p is lt = omega (arith, is, lt)
+
+pub full_so : (places taken : ℕ) → 0 < places → places ≤ taken → depth places taken ≡ 0
+full_so places taken some full =
+    ap (λ b. if b then 100 else 100 - min taken places * 100 / places) (some_places places some)
+    ∙ ap (λ n. 100 - n * 100 / places) (least taken places full)
+    ∙ ap (λ n. 100 - n) (mul-div_cancel_left 100 some)
+  where
+    least : (t p : ℕ) → p ≤ t → min t p ≡ p
+    least t p le = omega (arith, le)

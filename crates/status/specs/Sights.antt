@@ -1,8 +1,8 @@
 -- What a visitor sees of the control centre, the queue, the state and the order of the stations.
-use Rattle.std.specs.Prelude.{◌≡◌, ℕ, List, ◌++◌, codes}
+use Rattle.std.specs.Prelude.{◌≡◌, ℕ, ◌+◌, ◌-◌, ◌*◌, ◌<◌, ◌≤◌, List, ◌++◌, codes}
 use Rattle.std.specs.Fmt.{decimal}
 use Rattle.status.specs.Html as html
-use Rattle.status.specs.Html.{html_of, text_of_setting}
+use Rattle.status.specs.Html.{depth, html_of, text_of_setting, text_of_step}
 use Rattle.status.specs.Json.{json_of, json_of_setting, json_of_station}
 use Rattle.status.specs.Labels.{keeping_text}
 use Rattle.status.specs.Reading.{Has, quoted}
@@ -87,3 +87,16 @@ pub record SaysSetting (s : Setting) : Type 0 where
       ++ (escaped Html s.value.now ++ codes "</td></tr>\n")))
   pub json : json_of_setting s
       ≡ quoted (escaped Json s.key.now) ++ (codes ":" ++ quoted (escaped Json s.value.now))
+
+-- The numbers of the last hour are drawn one behind another, from the bottom on, and back to it.
+abbrev pub IsDrawn : Snapshot → Type 0
+IsDrawn s = Has (html_of s)
+    (codes "<path d=\"M0 100" ++ (rows (text_of_step s.queue.places) s.queue.hour.now
+    ++ codes "V100z\"/></svg>"))
+
+-- The number stands so many percent of the picture's height above the bottom as it is of the places
+-- that the queue has; parts of a percent are cut off.
+pub record StandsToScale (places taken : ℕ) : Type 0 where
+  pub inside : depth places taken ≤ 100
+  pub at_least : (100 - depth places taken) * places ≤ taken * 100
+  pub at_most : taken * 100 < (100 - depth places taken) * places + places

@@ -65,7 +65,7 @@ pub use reply_laws::{
 };
 pub use sight_laws::{
     queue_and_state_stand_in_their_lines, stations_stand_in_their_order,
-    the_centre_stands_in_its_line,
+    the_centre_stands_in_its_line, the_last_hour_is_drawn_to_scale,
 };
 pub use snapshot::{
     CentreView, Keeping, LineView, LinkState, Queue, Setting, Snapshot, StationView,

@@ -1,9 +1,11 @@
 //! What a visitor sees of the control centre and the queue, and in which order stations stand.
 ghost use Rattle.std.specs.Borrow.{Bor};
-ghost use Rattle.std.specs.Prelude.{◌≡◌, ◌++◌, codes, false, true, List, ℕ, None, Some};
+ghost use Rattle.std.specs.Prelude.{◌≡◌, ◌<◌, ◌≤◌, ◌++◌, codes, false, true, List, ℕ, None, Some};
+ghost use Rattle.std.specs.Fmt.{decimal};
+ghost use Rattle.status.specs.Html.{depth, text_of_step};
 ghost use Rattle.status.specs.Reading.{quoted};
 ghost use Rattle.status.specs.Sights.{JsonOfCentre, SaysOfCentre, SaysOfQueue, SaysOfState};
-ghost use Rattle.status.specs.Sights.{SaysSetting, StandInOrder};
+ghost use Rattle.status.specs.Sights.{IsDrawn, SaysSetting, StandInOrder, StandsToScale};
 ghost use Rattle.status.specs.Words.{escaped};
 ghost use Rattle.status.specs.declared.snapshot.Setting.{Setting};
 ghost use Rattle.status.specs.declared.snapshot.Snapshot.{Snapshot};
@@ -44,4 +46,18 @@ pub fn queue_and_state_stand_in_their_lines()
 pub fn stations_stand_in_their_order()
     ensures order { (s : Snapshot) → StandInOrder s }
     ensures setting { (s : Setting) → SaysSetting s }
+{}
+
+/// The numbers of the last hour are drawn in their order, the oldest first, each one step to the
+/// right (SVG, 9.3). An empty queue stands at the bottom, and a full one at the top; where the queue
+/// has no places that is the bottom, too.
+pub fn the_last_hour_is_drawn_to_scale()
+    ensures drawn { (s : Snapshot) → IsDrawn s }
+    ensures step { (places taken : ℕ) → text_of_step places taken
+        ≡ codes "V" ++ (decimal (depth places taken) ++ codes "h1") }
+    ensures scale { (places taken : ℕ) → 0 < places → taken ≤ places →
+        StandsToScale places taken }
+    ensures full { (places taken : ℕ) → 0 < places → places ≤ taken →
+        depth places taken ≡ 0 }
+    ensures none { (taken : ℕ) → depth 0 taken ≡ 100 }
 {}
