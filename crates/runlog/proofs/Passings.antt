@@ -115,7 +115,8 @@ suffered_by_same (Some t) place what w is = record {
 suffered_at_same : (place : Option ℕ) (what : Mishap) (w : Watching)
     → Same (suffered_at place what w) w
 suffered_at_same None what w = same w
-suffered_at_same (Some place) what w = suffered_by_same (slice_get w.traffic place) place what w refl
+suffered_at_same (Some place) what w = suffered_by_same (slice_get w.traffic place) place what w
+    refl
 
 late_same_by : (b : Bool) (late : ℕ) (place : Option ℕ) (w : Watching)
     → Same (as_late late (if b then suffered_at place mishap.Late w else w)) w

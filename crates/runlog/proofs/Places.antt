@@ -17,7 +17,8 @@ use Rattle.runlog.specs.declared.stations.Asking.TheVariants.{Missed}
 use Rattle.runlog.specs.declared.stations.StationWatch.{StationWatch}
 use Rattle.runlog.specs.declared.traffic.Traffic.{Traffic}
 use Rattle.runlog.specs.Traffic.{new_traffics}
-use Rattle.runlog.proofs.Passings.{addresses_of, asked_same, asked_stations, late_same, line_received_same}
+use Rattle.runlog.proofs.Passings.{addresses_of, asked_same, asked_stations, late_same}
+use Rattle.runlog.proofs.Passings.{line_received_same}
 use Rattle.runlog.proofs.Passings.{looked_same, received_same, seen_same}
 use Rattle.runlog.proofs.Standing.{address_stays, tries_stay}
 

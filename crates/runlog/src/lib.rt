@@ -63,6 +63,7 @@ mod logger;
 mod names;
 mod note;
 mod order;
+mod order_laws;
 mod order_words;
 mod port;
 mod queue;
@@ -108,6 +109,10 @@ pub use logger::{Logger, taken_places};
 pub use names::{LogNames, NamedLine, NamedStation, name_of};
 pub use note::{LogLine, Note, RunCounts, Trouble};
 pub use order::{Order, OrderKind, Value};
+pub use order_laws::{
+    acts_of_commands_are_told_by_their_bits, commands_are_told_with_their_addresses,
+    values_of_commands_are_told_bit_by_bit,
+};
 pub use port::RunLog;
 pub use severity::Severity;
 pub use sink::{LogSink, StandardError};
