@@ -1,12 +1,13 @@
 //! Laws of what is logged of the queue and of who was refused, of since when a line stands so, and
 //! of octets that one connection leaves behind.
-ghost use Rattle.std.specs.Prelude.{◌≡◌, ◌≢◌, ℕ, ◌-◌, ◌<◌, ◌≤◌, List, [], Option, Some, None};
+ghost use Rattle.std.specs.Prelude.{◌≡◌, ◌≢◌, ℕ, ◌+◌, ◌-◌, ◌<◌, ◌≤◌, List, [], Option, Some, None};
 ghost use Rattle.std.specs.Prelude.{true, false};
 ghost use Rattle.std.specs.declared.net.ip_addr.IpAddr.{IpAddr};
 ghost use Rattle.session.specs.declared.kinds.Close.{Close};
 ghost use Rattle.session.specs.declared.kinds.Close.TheVariants as close;
 ghost use Rattle.gateway.specs.Log.{Closed};
-ghost use Rattle.gateway.specs.State.{State};
+ghost use Rattle.gateway.specs.State.{State, counts_of};
+ghost use Rattle.gateway.specs.declared.counts.Counts.{Counts};
 ghost use Rattle.gateway.specs.declared.ports.Next.TheVariants as next;
 ghost use Rattle.live.specs.declared.ends.Presence.TheVariants as presence;
 ghost use Rattle.live.specs.declared.ends.RefusedPeers.{RefusedPeers};
@@ -14,10 +15,12 @@ ghost use Rattle.live.specs.declared.watched.EndsSight.{EndsSight};
 ghost use Rattle.runlog.specs.Ends.{line_seen, listener_seen};
 ghost use Rattle.runlog.specs.Inbox.{Inbox, judged};
 ghost use Rattle.runlog.specs.Limits.{IsSecondAfter};
+ghost use Rattle.runlog.specs.Logging.{looked_if_due, taken_in};
 ghost use Rattle.runlog.specs.Passing.{Came, Went, passed};
-ghost use Rattle.runlog.specs.Watching.{Watching, queue_seen};
+ghost use Rattle.runlog.specs.Watching.{Watching, looked_at, queue_seen};
 ghost use Rattle.runlog.specs.declared.ends.LineWatch.{LineWatch};
 ghost use Rattle.runlog.specs.declared.ends.ListenerWatch.{ListenerWatch};
+ghost use Rattle.runlog.specs.declared.note.LogLine.{LogLine};
 ghost use Rattle.runlog.specs.declared.note.Note.TheVariants as note;
 ghost use Rattle.runlog.specs.declared.queue.QueueWatch.{QueueWatch};
 
@@ -88,4 +91,36 @@ pub fn nothing_of_a_connection_is_read_on_the_next()
         (passed (Went now (Closed close.Replaced)) w).0.inbox ≡ w.inbox }
     ensures left { (s : State) (peer : Option IpAddr) (b : Inbox) → b.is_closed ≡ true →
         (judged s peer b).octets ≡ [] }
+{}
+
+/// The queue is looked at once a second. At the first look a minute or more after the counts were
+/// logged they are logged again. A line of the queue goes before them, and they wait for the next
+/// look.
+pub fn the_counts_are_logged_each_minute()
+    ensures due { (counts : Counts) (taken : ℕ) (w : Watching) →
+        (queue_seen taken w.places w.moment w.queue).1 ≡ None → w.counted + 60000 ≤ w.moment →
+        ((looked_at counts taken w).1 ≡ Some (record {
+          moment = w.moment;
+          note = note.Counts (record {
+            counts = counts;
+            taken = taken;
+            places = w.places;
+            connections = w.connection.count;
+          });
+          left_out = 0;
+        })) × ((looked_at counts taken w).0.counted ≡ w.moment) }
+    ensures not_yet { (counts : Counts) (taken : ℕ) (w : Watching) →
+        (queue_seen taken w.places w.moment w.queue).1 ≡ None → w.moment < w.counted + 60000 →
+        ((looked_at counts taken w).1 ≡ None)
+        × ((looked_at counts taken w).0.counted ≡ w.counted) }
+    ensures behind { (counts : Counts) (taken : ℕ) (w : Watching) (line : LogLine) →
+        (queue_seen taken w.places w.moment w.queue).1 ≡ Some line →
+        ((looked_at counts taken w).1 ≡ Some line)
+        × ((looked_at counts taken w).0.counted ≡ w.counted) }
+    ensures looks { (s : State) (w : Watching) → w.looked + 1000 ≤ w.moment →
+        looked_if_due s w ≡ looked_at (counts_of s) (taken_in s) w }
+    ensures noted { (counts : Counts) (taken : ℕ) (w : Watching) →
+        (looked_at counts taken w).0.looked ≡ w.moment }
+    ensures waits { (s : State) (w : Watching) → w.moment < w.looked + 1000 →
+        looked_if_due s w ≡ (w, None) }
 {}

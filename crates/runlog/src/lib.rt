@@ -84,6 +84,7 @@ pub use content::Skip;
 pub use ends::OpenConnection;
 pub use ends_laws::{
     a_line_stands_so_since_the_look_that_found_it_so, nothing_of_a_connection_is_read_on_the_next,
+    the_counts_are_logged_each_minute,
     the_queue_is_logged_where_it_fills_and_where_it_is_free_again, who_was_refused_is_logged,
 };
 pub use examples::{
