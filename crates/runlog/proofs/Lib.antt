@@ -20,3 +20,4 @@ pub mod Addressed
 pub mod Places
 pub mod Counted
 pub mod Answered
+pub mod Namings

@@ -19,3 +19,4 @@ pub mod Passing
 pub mod Standings
 pub mod Examples
 pub mod Names
+pub mod Naming

@@ -60,6 +60,7 @@ mod inbox;
 mod laws;
 mod limit;
 mod logger;
+mod name_laws;
 mod names;
 mod note;
 mod order;
@@ -107,6 +108,7 @@ pub use laws::{
     what_is_gathered_is_logged_or_counted,
 };
 pub use logger::{Logger, taken_places};
+pub use name_laws::lines_end_with_the_name_of_what_they_are_about;
 pub use names::{LogNames, NamedLine, NamedStation, name_of};
 pub use note::{LogLine, Note, RunCounts, Trouble};
 pub use order::{Order, OrderKind, Value};
