@@ -56,6 +56,7 @@ pub mod Telltale
 pub mod Saved
 pub mod Fits
 pub mod RestoredBack
+pub mod ReadExactly
 pub mod Preceding
 pub mod Tabled
 pub mod Bursting
