@@ -1,5 +1,5 @@
 -- What lines are read as is what they were put of.
-use Rattle.std.proofs.Common.{◌≡◌, ℕ, zero, suc, ◌≤◌, ◌==◌, ◌&&◌, nat_le, Bool, true, false, min}
+use Rattle.std.proofs.Common.{◌≡◌, ℕ, ◌≤◌, ◌==◌, ◌&&◌, nat_le, Bool, true, false}
 use Rattle.std.proofs.Common.{if◌then◌else◌, List, [], ◌∷◌, ◌++◌, length, take, drop, Option, Some}
 use Rattle.std.proofs.Common.{None, refl, sym, ap, ◌∙◌, arith, eqb-true, option_map, map}
 use Rattle.std.proofs.Common.{append_assoc, Result, Ok, Err, MatchResult, IfOk}
@@ -15,7 +15,7 @@ use Rattle.arrayvec.specs.ArrayVec.{ArrayVec}
 use Rattle.elements.specs.declared.tag.Cp56.{Cp56}
 use Rattle.command.specs.Saved.{octets_in, is_received, is_for_line, received_in, for_line_in}
 use Rattle.command.specs.Saved.{waiting_numbers, waiting_with, waiting_in, line_numbers, bare_line}
-use Rattle.command.specs.Saved.{line_with, line_by, line_in, stage_number, stage_detail, stage_in}
+use Rattle.command.specs.Saved.{line_with, line_in, stage_number, stage_detail, stage_in}
 use Rattle.command.specs.Saved.{selection_numbers, are_fields, element_in, command_with}
 use Rattle.command.specs.Saved.{selection_with, selection_in, tag_numbers, sending_numbers, is_tag}
 use Rattle.command.specs.Saved.{tag_in, target_in, sending_with, sending_in, are_octets}

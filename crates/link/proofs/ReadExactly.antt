@@ -1,8 +1,7 @@
 -- What the lines of a primary's state are read as is what they were put of.
-use Rattle.std.proofs.Common.{◌≡◌, ℕ, ◌==◌, ◌&&◌, nat_lt, nat_le, Bool, true, false}
-use Rattle.std.proofs.Common.{if◌then◌else◌, List, [], ◌∷◌, ◌++◌, length, Option, Some, None, refl}
+use Rattle.std.proofs.Common.{◌≡◌, ℕ, ◌==◌, ◌&&◌, nat_lt, Bool, true, false}
+use Rattle.std.proofs.Common.{if◌then◌else◌, List, [], ◌∷◌, ◌++◌, Option, Some, None, refl}
 use Rattle.std.proofs.Common.{sym, ap, ◌∙◌, eqb-true, subst}
-use Rattle.std.specs.List.{list_all}
 use Rattle.ft12.specs.Assembly.{so_far_numbers}
 use Rattle.link.specs.Answers.{Asked, Status, Reset, Counted, Service, Class1, Class2, Command}
 use Rattle.link.specs.Procedure.{LinkSettings, Link, Down, Available, Next, Held}
@@ -12,15 +11,15 @@ use Rattle.link.specs.Primary.{Primary, Outstanding}
 use Rattle.link.specs.Holding.{outstanding_from, outstanding_of, Awaited}
 use Rattle.link.specs.declared.master.restoring.TurnLine.{TurnLine}
 use Rattle.link.specs.Saved.{bit_number, bit_from, service_numbers, command_from, command_service}
-use Rattle.link.specs.Saved.{bare_service, service_by, service_from, link_numbers, bare_link}
-use Rattle.link.specs.Saved.{next_by, next_from, held_with, held_missed, held_by, held_from}
-use Rattle.link.specs.Saved.{link_by, link_from, flags_numbers, bare_station, flags_from, station_by}
+use Rattle.link.specs.Saved.{bare_service, service_from, link_numbers, bare_link}
+use Rattle.link.specs.Saved.{next_by, next_from, held_with, held_by, held_from}
+use Rattle.link.specs.Saved.{link_from, flags_numbers, bare_station, flags_from}
 use Rattle.link.specs.Saved.{StandBefore}
-use Rattle.link.specs.Restored.{phase_numbers, phase_by, phase_from, asked_numbers, head_numbers}
+use Rattle.link.specs.Restored.{phase_numbers, phase_from, asked_numbers}
 use Rattle.link.specs.Restored.{awaited_numbers, received_numbers, head_by, head_from, counted_by}
-use Rattle.link.specs.Restored.{counted_from, bare_asked, asked_by, asked_from, awaited_with}
-use Rattle.link.specs.Restored.{some_awaited, no_awaited, awaited_by, awaited_from, octets_from}
-use Rattle.link.specs.Restored.{listening, deaf_by, received_by, answered_with, primary_with}
+use Rattle.link.specs.Restored.{counted_from, bare_asked, asked_from, awaited_with}
+use Rattle.link.specs.Restored.{some_awaited, no_awaited, awaited_from, octets_from}
+use Rattle.link.specs.Restored.{listening, deaf_by, answered_with, primary_with}
 use Rattle.link.specs.Restored.{IsStateOf}
 
 -- what is given only on a condition

@@ -1,5 +1,6 @@
 -- The primary's state as lines of numbers, and what is made of such lines.
-use Rattle.std.specs.Prelude.{◌≡◌, ℕ, ◌<◌, ◌==◌, ◌&&◌, nat_lt, Bool, true, false, if◌then◌else◌, List}
+use Rattle.std.specs.Prelude.{◌≡◌, ℕ, ◌<◌, ◌==◌, ◌&&◌, nat_lt, Bool, true, false, if◌then◌else◌}
+use Rattle.std.specs.Prelude.{List}
 use Rattle.std.specs.Prelude.{[], ◌∷◌, Option, Some, None, IfSome, is_none}
 use Rattle.std.specs.List.{AllByRecursion}
 use Rattle.ft12.specs.Reading.{IsProperBeginning}

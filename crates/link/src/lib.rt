@@ -6,7 +6,7 @@
 //! a line: moments and octets are handed in, requests and answers are handed out. Left out are
 //! balanced mode, user data without reply, requests for access demand, and links without an
 //! address. The state of a [`Master`] is put as lines ([`Master::put_state`]) and read back from
-//! them ([`Master::read_state`]).
+//! them ([`Master::read_state`]); lines that say no state give none.
 //!
 //! Each call of [`Master`] is one function on a small machine (`specs/Primary.antt`), and of
 //! [`Station`] on another (`specs/Secondary.antt`). Above them stand laws, as public functions with
