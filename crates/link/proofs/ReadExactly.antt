@@ -185,6 +185,9 @@ stands_behind [] t third lines mid rest are is = (third, rest, are ∙ is, refl)
 stands_behind (s ∷ ss) t third lines mid rest are is =
     (are.0, are.1, are.2, stands_behind ss t third are.1 mid rest are.3 is)
 
+pub then_is : (a b c : List StationState) → a ≡ b → b ≡ c → a ≡ c
+then_is a b c is same = is ∙ same
+
 pub before_none : (ss : List StationState) (lines : List (List ℕ)) → ss ≡ []
     → StandBefore ss lines lines
 before_none ss lines is =

@@ -3,7 +3,7 @@ use Rattle.std.proofs.Common.{not, true, arith, ap, ◌∙◌, ◌≡◌, ◌<�
 use Rattle.link.specs.Saved.{no_command_numbers}
 use Rattle.link.specs.Turns.{station_at}
 use Rattle.link.proofs.Saved.{fits_at, lines_at, read_one_more, all_read}
-use Rattle.link.proofs.ReadExactly.{one_more_stands, before_none}
+use Rattle.link.proofs.ReadExactly.{one_more_stands, before_none, then_is}
 use Rattle.link.proofs.saving.read_stations.Goals as goal
 
 pub loop-i-init : goal.loop-i-init
@@ -32,7 +32,7 @@ loop-i-preserved g c =
           (fits_at ss c.loop-i._i all lt) (inv.1
           ∙ lines_at ss c.loop-i._i rest lt) in
           let one = read_one_more ss rest _ c.loop-i._i _ _ lt inv.0 h.0 h.1 in
-          (pushed ∙ one.0, one.1);
+          (then_is _ _ _ pushed one.0, one.1);
       exact = one_more_stands _ _ _ _ _ _ c.loop-i.invariant.exact pushed c.in-Ok.ensures.exact;
     }
 
