@@ -31,6 +31,7 @@ pub mod Tagged
 pub mod Staying
 pub mod OwnAnswers
 pub mod SavedBack
+pub mod ReadExactly
 pub mod Places
 pub mod Wholes
 pub mod Heeded

@@ -164,11 +164,14 @@ impl Commands {
         line: &mut Vec<u64>,
     ) -> Result<Commands, StateFault>
         requires { length stations.now ≤ 32 }
-        ensures { (s : State) (rest : List (List ℕ)) → IsSavable s →
+        ensures back { (s : State) (rest : List (List ℕ)) → IsSavable s →
             HasSettings stations.now sizes select_ms max_age_ms s →
             L.coming lines.old ≡ commands_lines s ++ rest →
             MatchResult result (λ c. (c ≡ s) × (L.coming lines.new ≡ rest))
             (λ e. e ≡ Wrong → ⊥) }
+        // So what isn't the lines of a state is refused.
+        ensures exact { IfOk result (λ c.
+            L.coming lines.old ≡ commands_lines c ++ L.coming lines.new) }
     {
         let parts = read_parts(alloc, stations.len(), lines, line)?;
         Commands::of_parts(alloc, stations, sizes, select_ms, max_age_ms, parts)

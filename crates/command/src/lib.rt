@@ -34,8 +34,8 @@
 //! What is kept is put as lines of numbers ([`Commands::put_state`]) and made again of them
 //! ([`Commands::read_state`]). Proved: each state that a `Commands` has is one that can be saved
 //! (`IsSavable`), and its lines, with the settings, give that state and are never refused as wrong.
-//! `new`, `read_state` and `carried` take memory, and a line grows where it is too short; no other
-//! call does.
+//! What isn't the lines of a state gives none. `new`, `read_state` and `carried` take memory, and a
+//! line grows where it is too short; no other call does.
 #![tactic(auto)]
 
 mod act;

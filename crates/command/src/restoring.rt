@@ -6,7 +6,9 @@ ghost use Rattle.checkpoint.specs.declared.StateFault.TheVariants.{Wrong, NoMemo
 ghost use Rattle.command.specs.State.{State};
 ghost use Rattle.command.specs.Fields.{AreAsdus};
 ghost use Rattle.command.specs.Restored.{are_long, list_lines, commands_lines, IsSavable};
-ghost use Rattle.command.specs.Restored.{ArePartsOf, HaveRoom};
+ghost use Rattle.command.specs.Restored.{ArePartsOf, HaveRoom, state_with};
+ghost use Rattle.command.specs.declared.station.StationInfo.{StationInfo};
+ghost use Rattle.asdu.specs.declared.sizes.Sizes.{Sizes};
 ghost use Rattle.command.specs.Saved.{octets_in, received_in, for_line_in, waiting_in, line_by};
 ghost use Rattle.command.specs.Saved.{line_in, element_in, stage_in, command_with, selection_in};
 ghost use Rattle.command.specs.Saved.{tag_in, target_in, sending_in};
@@ -256,9 +258,10 @@ fn are_all_long(answers: &[OwnAnswer]) -> bool
 
 /// Reads the next line.
 fn read_item<T: Saved, L: Lines>(lines: &mut L, line: &mut Vec<u64>) -> Result<T, StateFault>
-    ensures { (x : T) (rest : List (List ℕ)) → T.is_savable x ≡ true →
+    ensures back { (x : T) (rest : List (List ℕ)) → T.is_savable x ≡ true →
         L.coming lines.old ≡ T.numbers x ∷ rest →
         MatchResult result (λ y. (y ≡ x) × (L.coming lines.new ≡ rest)) (λ e. e ≡ Wrong → ⊥) }
+    ensures exact { IfOk result (λ y. L.coming lines.old ≡ T.numbers y ∷ L.coming lines.new) }
 {
     lines.next(line)?;
     match T::read(line.as_slice()) {
@@ -280,6 +283,8 @@ fn read_items<T: Saved + Drop, L: Lines>(
         list_all T.is_savable xs ≡ true → L.coming lines.old ≡ map T.numbers xs ++ rest →
         MatchResult result (λ v. (v.items ≡ xs) × (L.coming lines.new ≡ rest))
         (λ e. e ≡ Wrong → ⊥) }
+    ensures exact { IfOk result (λ v.
+        L.coming lines.old ≡ map T.numbers v.items ++ L.coming lines.new) }
     ensures count { IfOk result (λ v. length v.items ≡ count) }
     ensures room { IfOk result (λ v. most ≤ vec_capacity v) }
 {
@@ -300,6 +305,8 @@ fn read_count<L: Lines>(
         L.coming lines.old ≡ (n ∷ []) ∷ rest →
         MatchResult result (λ count. (count ≡ n) × (L.coming lines.new ≡ rest))
         (λ e. e ≡ Wrong → ⊥) }
+    ensures exact { IfOk result (λ count.
+        L.coming lines.old ≡ (count ∷ []) ∷ L.coming lines.new) }
     ensures few { IfOk result (λ count. count ≤ most) }
 {
     lines.next(line)?;
@@ -321,6 +328,8 @@ fn read_list<T: Saved + Drop, L: Lines>(
         L.coming lines.old ≡ list_lines (map T.numbers xs) ++ rest →
         MatchResult result (λ v. (v.items ≡ xs) × (L.coming lines.new ≡ rest))
         (λ e. e ≡ Wrong → ⊥) }
+    ensures exact { IfOk result (λ v.
+        L.coming lines.old ≡ list_lines (map T.numbers v.items) ++ L.coming lines.new) }
     ensures few { IfOk result (λ v. length v.items ≤ most) }
     ensures room { IfOk result (λ v. most ≤ vec_capacity v) }
 {
@@ -370,6 +379,10 @@ pub(crate) fn read_parts<L: Lines>(
         length s.stations ≡ stations → L.coming lines.old ≡ commands_lines s ++ rest →
         MatchResult result (λ parts. ArePartsOf s parts × (L.coming lines.new ≡ rest))
         (λ e. e ≡ Wrong → ⊥) }
+    ensures exact { (known : List StationInfo) (sizes : Sizes) (select_ms max_age_ms : ℕ) →
+        IfOk result (λ parts. L.coming lines.old
+        ≡ commands_lines (state_with known sizes select_ms max_age_ms parts)
+        ++ L.coming lines.new) }
     ensures room { IfOk result (HaveRoom stations) }
 {
     let waiting = read_list(alloc, MOST_WAITING, lines, line)?;

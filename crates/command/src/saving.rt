@@ -36,9 +36,10 @@ pub(crate) trait Saved: Sized {
         ensures line { OnOk result (line.new.items ≡ line.old.items ++ numbers self.now) }
         ensures savable { OnOk result (is_savable self.now ≡ true) };
 
-    /// What the line says, if it says something.
+    /// What the line says. One that nothing puts says nothing.
     fn read(line: &[u64]) -> Option<Self>
-        ensures { (x : Self) → is_savable x ≡ true → line.now ≡ numbers x → result ≡ Some x };
+        ensures back { (x : Self) → is_savable x ≡ true → line.now ≡ numbers x → result ≡ Some x }
+        ensures exact { (x : Self) → result ≡ Some x → line.now ≡ numbers x };
 }
 
 impl Saved for Waiting {

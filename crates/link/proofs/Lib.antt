@@ -56,7 +56,10 @@ pub mod Telltale
 pub mod Saved
 pub mod Fits
 pub mod RestoredBack
+pub mod ReadExactly
+pub mod Counting
 pub mod Preceding
+pub mod FewPolls
 pub mod Tabled
 pub mod Bursting
 pub mod Following

@@ -1,5 +1,6 @@
 -- The primary's state as lines of numbers, and what is made of such lines.
-use Rattle.std.specs.Prelude.{ℕ, ◌<◌, ◌==◌, ◌&&◌, nat_lt, Bool, true, false, if◌then◌else◌, List}
+use Rattle.std.specs.Prelude.{◌≡◌, ℕ, ◌<◌, ◌==◌, ◌&&◌, nat_lt, Bool, true, false, if◌then◌else◌}
+use Rattle.std.specs.Prelude.{List}
 use Rattle.std.specs.Prelude.{[], ◌∷◌, Option, Some, None, IfSome, is_none}
 use Rattle.std.specs.List.{AllByRecursion}
 use Rattle.ft12.specs.Reading.{IsProperBeginning}
@@ -17,7 +18,7 @@ use Rattle.link.specs.Answers.{Service}
 use Rattle.link.specs.declared.awaited.Awaited.{Awaited}
 use Rattle.link.specs.declared.master.restoring.TurnLine.{TurnLine}
 use Rattle.link.specs.Saved.{bit_number, bit_from, service_numbers, service_from, FitsSavedStation}
-use Rattle.link.specs.Saved.{FitsSavedService, lines_of}
+use Rattle.link.specs.Saved.{FitsSavedService, lines_of, StandBefore}
 
 abbrev pub phase_numbers : Phase → List ℕ
 phase_numbers Starting = 0 ∷ []
@@ -213,3 +214,13 @@ received_by kind ns =
 abbrev pub answered_with : List ℕ → Option (Bool × List ℕ)
 answered_with [] = None
 answered_with (kind ∷ ns) = received_by kind ns
+
+-- The first of these lines say this state, and the rest stands behind them. What arrived is looked
+-- at where a request is outstanding, and of a station's three lines the first two are.
+pub record IsStateOf (p : Primary) (lines rest : List (List ℕ)) : Type 0 where
+  pub received : List ℕ
+  pub stations : List (List ℕ)
+  pub whole : lines
+      ≡ head_numbers p ∷ received ∷ awaited_numbers p.outstanding ∷ stations
+  pub arrived : (o : Outstanding) → p.outstanding ≡ Some o → received ≡ received_numbers (Some o)
+  pub behind : StandBefore p.stations stations rest

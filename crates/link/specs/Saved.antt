@@ -157,3 +157,11 @@ no_command_numbers = 0 ∷ []
 abbrev pub lines_of : List StationState → List (List ℕ)
 lines_of [] = []
 lines_of (s ∷ ss) = flags_numbers s ∷ link_numbers s.link ∷ no_command_numbers ∷ lines_of ss
+
+-- The first of these lines are those of such stations, whatever the third line of each says, and
+-- the rest stands behind them.
+abbrev pub StandBefore : List StationState → (lines rest : List (List ℕ)) → Type 0
+StandBefore [] lines rest = lines ≡ rest
+StandBefore (s ∷ ss) lines rest =
+    (third : List ℕ) × (others : List (List ℕ))
+    × (lines ≡ flags_numbers s ∷ link_numbers s.link ∷ third ∷ others) × StandBefore ss others rest

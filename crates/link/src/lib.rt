@@ -6,7 +6,7 @@
 //! a line: moments and octets are handed in, requests and answers are handed out. Left out are
 //! balanced mode, user data without reply, requests for access demand, and links without an
 //! address. The state of a [`Master`] is put as lines ([`Master::put_state`]) and read back from
-//! them ([`Master::read_state`]).
+//! them ([`Master::read_state`]); lines that say no state give none.
 //!
 //! Each call of [`Master`] is one function on a small machine (`specs/Primary.antt`), and of
 //! [`Station`] on another (`specs/Secondary.antt`). Above them stand laws, as public functions with
@@ -108,7 +108,7 @@ pub use laws::life::{
 };
 pub use laws::links::{links_are_what_the_latest_exchange_makes_them, lost_links_are_told};
 pub use laws::logging::{each_request_is_an_exchange, reports_are_data_of_answers};
-pub use laws::precedence::commands_go_before_polls;
+pub use laws::precedence::{commands_go_before_polls, few_polls_pass_a_waiting_command};
 pub use laws::refinement::{
     commands_are_accepted, each_service_acts_once, frame_count_bits_alternate, reports_are_learnt,
     sessions_are_known, silence_is_no_reset,
@@ -117,7 +117,9 @@ pub use laws::runs::{
     frame_count_bits_are_kept, outcomes_are_answers, spoilt_exchanges_are_counted, turns_go_round,
 };
 pub use laws::tables::{answers_are_whole, requests_are_whole, reserved_bits_are_not_looked_at};
-pub use laws::visits::{a_turn_is_one_visit, no_station_starves, turns_end};
+pub use laws::visits::{
+    a_turn_is_one_visit, no_station_starves, turns_end, waits_are_counted_by_requests,
+};
 pub use laws::{
     line_keeps_the_procedures, master_matches_the_log, outcomes_bear_the_reports,
     requests_are_read_back, requests_wait_their_turn, services_need_a_station_that_is_up,

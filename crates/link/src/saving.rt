@@ -3,7 +3,8 @@
 //! A station has three lines: its address, flags and session; its link; and one that says that no
 //! command of it is kept here.
 //! The part of a line whose length varies ends the line, so that no reader hands on a rest.
-ghost use Rattle.std.specs.Prelude.{◌≡◌, ◌++◌, ◌∷◌, ◌<◌, [], List, ℕ, length, OnOk, MatchResult};
+ghost use Rattle.std.specs.Prelude.{◌≡◌, ◌++◌, ◌∷◌, ◌<◌, [], List, ℕ, length, OnOk, IfOk};
+ghost use Rattle.std.specs.Prelude.{MatchResult};
 ghost use Rattle.std.specs.List.{AllByRecursion};
 ghost use Rattle.checkpoint.specs.declared.StateFault.TheVariants.{Wrong};
 ghost use Rattle.link.specs.Saved.{bit_number, bit_from, service_numbers, service_by, service_from};
@@ -12,7 +13,7 @@ ghost use Rattle.link.specs.Saved.{held_missed};
 ghost use Rattle.link.specs.Saved.{flags_numbers, flags_from, no_command_numbers};
 ghost use Rattle.link.specs.Saved.{command_from, lines_of};
 ghost use Rattle.link.specs.Saved.{FitsSavedService, FitsSavedLink};
-ghost use Rattle.link.specs.Saved.{FitsSavedStation};
+ghost use Rattle.link.specs.Saved.{FitsSavedStation, StandBefore};
 ghost use Rattle.link.specs.Turns.{StationState};
 
 use crate::asdu::{CommandOctets, LONGEST_COMMAND};
@@ -253,9 +254,11 @@ fn put_station<S: Sheet>(
 
 /// Reads a station's three lines, whatever the third one says.
 fn read_station<L: Lines>(lines: &mut L, line: &mut Vec<u64>) -> Result<StationState, StateFault>
-    ensures { (s : StationState) (third : List ℕ) (rest : List (List ℕ)) → FitsSavedStation s →
+    ensures back { (s : StationState) (third : List ℕ) (rest : List (List ℕ)) → FitsSavedStation s →
         L.coming lines.old ≡ flags_numbers s ∷ link_numbers s.link ∷ third ∷ rest →
         MatchResult result (λ t. (t ≡ s) × (L.coming lines.new ≡ rest)) (λ e. e ≡ Wrong → ⊥) }
+    ensures exact { IfOk result (λ t. (third : List ℕ) × (L.coming lines.old
+        ≡ flags_numbers t ∷ link_numbers t.link ∷ third ∷ L.coming lines.new)) }
 {
     lines.next(line)?;
     let Some(bare) = flags_from(line.as_slice()) else {
@@ -299,10 +302,12 @@ pub(crate) fn read_stations<L: Lines>(
     lines: &mut L,
     line: &mut Vec<u64>,
 ) -> Result<Vec<StationState>, StateFault>
-    ensures { (ss : List StationState) (rest : List (List ℕ)) → length ss ≡ count →
+    ensures back { (ss : List StationState) (rest : List (List ℕ)) → length ss ≡ count →
         AllByRecursion FitsSavedStation ss → L.coming lines.old ≡ lines_of ss ++ rest →
         MatchResult result (λ v. (v.items ≡ ss) × (L.coming lines.new ≡ rest))
         (λ e. e ≡ Wrong → ⊥) }
+    ensures exact { IfOk result (λ v.
+        StandBefore v.items (L.coming lines.old) (L.coming lines.new)) }
 {
     let mut stations = Vec::new(alloc);
     for _i in 0..count {

@@ -10,7 +10,7 @@ ghost use Rattle.link.specs.Holding.{outstanding_from};
 ghost use Rattle.link.specs.Restored.{phase_by, phase_from, head_from, asked_by, asked_from};
 ghost use Rattle.link.specs.Restored.{counted_from, awaited_from, awaited_by, some_awaited};
 ghost use Rattle.link.specs.Restored.{octets_from, received_by, answered_with as received_in};
-ghost use Rattle.link.specs.Restored.{primary_with, primary_lines, IsSavable};
+ghost use Rattle.link.specs.Restored.{primary_with, primary_lines, IsSavable, IsStateOf};
 
 use super::Master;
 use crate::asdu::CommandOctets;
@@ -308,10 +308,12 @@ impl Master {
         lines: &mut L,
         line: &mut Vec<u64>,
     ) -> Result<Master, StateFault>
-        ensures { (p : Primary) (rest : List (List ℕ)) → IsSavable p → p.settings ≡ settings →
+        ensures back { (p : Primary) (rest : List (List ℕ)) → IsSavable p → p.settings ≡ settings →
             length p.stations ≡ count → L.coming lines.old ≡ primary_lines p ++ rest →
             MatchResult result (λ m. (m ≡ p) × (L.coming lines.new ≡ rest))
             (λ e. e ≡ Wrong → ⊥) }
+        // So lines that say no state are refused.
+        ensures exact { IfOk result (λ m. IsStateOf m (L.coming lines.old) (L.coming lines.new)) }
     {
         lines.next(line)?;
         let Some(head) = head_from(line.as_slice()) else {

@@ -10,6 +10,8 @@ invariant-loop-i g l = record {
       → g.L.Lines.coming l.fn.lines ≡ map g.T.Saved.numbers xs ++ rest
       → (l.items.items ≡ take l._i xs)
       × (g.L.Lines.coming l.lines ≡ map g.T.Saved.numbers (drop l._i xs) ++ rest);
+  exact : g.L.Lines.coming l.fn.lines
+      ≡ map g.T.Saved.numbers l.items.items ++ g.L.Lines.coming l.lines;
   count : vec_len l.items ≡ l._i;
   room : vec_capacity l.items ≡ l.fn.most;
 }

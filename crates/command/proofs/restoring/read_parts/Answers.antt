@@ -3,8 +3,10 @@ use Rattle.std.proofs.Common.{◌≤◌}
 use Rattle.command.specs.Fields.{octets_of}
 use Rattle.command.specs.Restored.{list_lines}
 use Rattle.command.specs.Saved.{waiting_numbers, line_numbers, selection_numbers, sending_numbers}
+use Rattle.command.specs.Saved.{answer_numbers}
 use Rattle.command.proofs.SavedBack.{lists_of, answers_of, answers_back, answers_count}
 use Rattle.command.proofs.SavedBack.{answers_savable}
+use Rattle.command.proofs.ReadExactly.{all_lists}
 use Rattle.command.proofs.restoring.read_parts.Goals as goal
 
 pub returns-in_err-answers-clause-law : goal.returns-in_err-answers-clause-law
@@ -44,3 +46,13 @@ returns-clause-law g c = λ s rest sav len e.
       },
       h.1,
     )
+
+pub returns-clause-exact : goal.returns-clause-exact
+returns-clause-exact g c = λ known sizes select_ms max_age_ms.
+    all_lists (list_lines (map waiting_numbers c.in_ok-waiting.waiting.items))
+    (map line_numbers c.in_ok-on_lines.on_lines.items)
+    (list_lines (map selection_numbers c.in_ok-selections.selections.items))
+    (list_lines (map sending_numbers c.in_ok-sendings.sendings.items))
+    (list_lines (map answer_numbers c.in_ok-answers.answers.items)) _ _ _ _ _ _
+    c.in_ok-waiting.ensures.exact c.in_ok-on_lines.ensures.exact c.in_ok-selections.ensures.exact
+    c.in_ok-sendings.ensures.exact c.in_ok-answers.ensures.exact
