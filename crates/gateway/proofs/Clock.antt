@@ -2,7 +2,7 @@
 use Rattle.std.proofs.Common.{◌≡◌, ℕ, [], ◌∷◌, ◌++◌, Option, Some, None, refl, ap, sym, ◌∙◌}
 use Rattle.gateway.specs.declared.walls.Wall.{Wall}
 use Rattle.gateway.specs.Log.{Log, LineIn, Opened, TcpIn, CutOff, Ticked, WallIs, Restarted}
-use Rattle.gateway.specs.Log.{Came, Went, latest}
+use Rattle.gateway.specs.Log.{Came, Went}
 use Rattle.gateway.specs.Walls.{last_wall, wall_of, wall_on, HasNoWall, ShowsAt}
 
 -- the latest event counts

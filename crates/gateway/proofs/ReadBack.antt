@@ -1,5 +1,6 @@
 -- The lines of a state read back.
-use Rattle.std.proofs.Common.{◌≡◌, ℕ, List, ◌∷◌, Option, Some, None, Result, Ok, Err, refl, sym, ap}
+use Rattle.std.proofs.Common.{◌≡◌, ℕ, List, [], ◌∷◌, ◌++◌, Option, Some, None, Result, Ok, Err}
+use Rattle.std.proofs.Common.{refl, sym, ap}
 use Rattle.std.proofs.Common.{subst, ◌∙◌}
 use Rattle.std.specs.Prelude.{length, IfSome, IfOk, is_some, true, MatchResult}
 use Rattle.asdu.specs.declared.sizes.Sizes.{Sizes}
@@ -14,9 +15,12 @@ use Rattle.checkpoint.specs.declared.StateFault.{StateFault}
 use Rattle.gateway.specs.declared.counts.Tally.{Tally}
 use Rattle.gateway.specs.declared.walls.Wall.{Wall}
 use Rattle.gateway.specs.declared.engine.restoring.ClockLine.{ClockLine}
+use Rattle.link.specs.Primary.{Primary}
+use Rattle.command.specs.State.{State as Tasks}
 use Rattle.gateway.specs.Serial.{Serial}
 use Rattle.gateway.specs.State.{State, HasPlaces, IsBetweenSteps}
-use Rattle.gateway.specs.Restored.{wall_numbers, clock_line, clock_of, clock_from, tally_line}
+use Rattle.gateway.specs.Restored.{wall_numbers, clock_line, clock_numbers, clock_of, clock_from}
+use Rattle.gateway.specs.Restored.{tally_line, centre_lines, IsSaid, IsSerialSaid}
 use Rattle.gateway.specs.Restored.{tally_from, IsSavableCentre}
 
 by_wall : (moment : ℕ) (wall : Option Wall)
@@ -45,11 +49,83 @@ same_clock a b r e f = cc
 pub no_clock : (b : ClockLine) (r : Option ClockLine) → r ≡ None → r ≡ Some b → ⊥
 no_clock b r e f = cc
 
+-- the numbers that say this clock, and these counts
+clock_of_numbers : (ns : List ℕ) (c : ClockLine) → clock_from ns ≡ Some c → ns ≡ clock_numbers c
+clock_of_numbers (moment ∷ []) c is = let e : record { moment = moment; wall = None } ≡ c = cc in
+    ap clock_numbers e
+clock_of_numbers (moment ∷ since ∷ number ∷ []) c is =
+    let e : record { moment = moment; wall = Some (record { moment = since; number = number }) }
+    ≡ c =
+    cc in
+    ap clock_numbers e
+clock_of_numbers [] c is = absurd (cc)
+clock_of_numbers (a ∷ b ∷ []) c is = absurd (cc)
+clock_of_numbers (a ∷ b ∷ d ∷ e ∷ ns) c is = absurd (cc)
+
+tally_of_numbers : (ns : List ℕ) (t : Tally) → tally_from ns ≡ Some t → ns ≡ tally_line t
+tally_of_numbers (a ∷ b ∷ c ∷ []) t is =
+    let e : record { skipped = a; mirrors = b; lost = c } ≡ t = cc in ap tally_line e
+tally_of_numbers [] t is = absurd (cc)
+tally_of_numbers (a ∷ []) t is = absurd (cc)
+tally_of_numbers (a ∷ b ∷ []) t is = absurd (cc)
+tally_of_numbers (a ∷ b ∷ c ∷ d ∷ ns) t is = absurd (cc)
+
+pub clock_said : (all rest : List (List ℕ)) (x ns : List ℕ) (r : Option ClockLine) (c : ClockLine)
+    → all ≡ x ∷ rest → ns ≡ x → r ≡ clock_from ns → r ≡ Some c → all ≡ clock_numbers c ∷ rest
+clock_said all rest x ns r c are same from is =
+    are ∙ ap (λ (n : List ℕ). n ∷ rest)
+    (sym same ∙ clock_of_numbers ns c (sym from ∙ is))
+
+pub tally_said : (all rest : List (List ℕ)) (x ns : List ℕ) (r : Option Tally) (t : Tally)
+    → all ≡ x ∷ rest → ns ≡ x → r ≡ tally_from ns → r ≡ Some t → all ≡ tally_line t ∷ rest
+tally_said all rest x ns r t are same from is =
+    are ∙ ap (λ (n : List ℕ). n ∷ rest)
+    (sym same ∙ tally_of_numbers ns t (sym from ∙ is))
+
 pub same_tally : (a b : Tally) (r : Option Tally) → r ≡ Some a → r ≡ Some b → a ≡ b
 same_tally a b r e f = cc
 
 pub no_tally : (b : Tally) (r : Option Tally) → r ≡ None → r ≡ Some b → ⊥
 no_tally b r e f = cc
+
+pub serial_back : (line : Primary) (commands : Tasks) (counts : Tally) (s : Serial)
+    → line ≡ s.line → commands ≡ s.commands → counts ≡ s.counts
+    → (s.silent ≡ None) × (s.gap ≡ None)
+    → record { line = line; commands = commands; counts = counts; silent = None; gap = None } ≡ s
+serial_back line commands counts s l t k none =
+    ap (λ (x : Primary). record s {
+      line = x;
+      commands = commands;
+      counts = counts;
+      silent = None;
+      gap = None;
+    }) l
+    ∙ ap (λ (x : Tasks). record s { commands = x; counts = counts; silent = None; gap = None }) t
+    ∙ ap (λ (x : Tally). record s { counts = x; silent = None; gap = None }) k
+    ∙ ap (λ x. record s { silent = x; gap = None }) (sym none.0)
+    ∙ ap (λ x. record s { gap = x }) (sym none.1)
+
+-- the lines before, between and behind two sides say the state that is joined of them
+pub said_joined : (r : Result State StateFault) (sizes : Sizes) (clock : ClockLine)
+    (serial : Serial) (centre : Centre) (lines first second rest : List (List ℕ)) (why : Type 0)
+    → MatchResult r (λ s. s ≡ record {
+      serial = serial;
+      centre = centre;
+      sizes = sizes;
+      moment = clock.moment;
+      wall = clock.wall;
+    }) (λ fault. why)
+    → lines ≡ clock_numbers clock ∷ first → IsSerialSaid serial first second
+    → second ≡ centre_lines centre ++ rest → IfOk r (λ g. IsSaid g lines rest)
+said_joined (Ok g) sizes clock serial centre lines first second rest why is begins said behind =
+    subst (λ (s : State). IsSaid s lines rest) (sym is) (record {
+      serial = first;
+      clock = begins;
+      said = subst (IsSerialSaid serial first) behind said;
+    })
+said_joined (Err fault) sizes clock serial centre lines first second rest why is begins said
+    behind =
+    tt
 
 -- what is read is the state that was put, so what holds of that holds of it
 pub holds_of : (P : State → Type 0) (s : State) (left : Type 0) (r : Result State StateFault)

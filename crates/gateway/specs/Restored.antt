@@ -2,7 +2,7 @@
 -- own).
 use Rattle.std.specs.Prelude.{◌≡◌, ℕ, List, [], ◌∷◌, ◌++◌, length, map, Option, Some, None, IfSome}
 use Rattle.apci.specs.Assembly.{so_far_numbers, IsResumable}
-use Rattle.link.specs.Restored.{primary_lines, IsSavable as IsSavableLine}
+use Rattle.link.specs.Restored.{primary_lines, IsStateOf, IsSavable as IsSavableLine}
 use Rattle.session.specs.Restored.{session_lines, IsSavable as IsSavableSession}
 use Rattle.session.specs.Restored.{HasSettings as HasSessionSettings}
 use Rattle.command.specs.Restored.{commands_lines, IsSavable as AreSavableCommands}
@@ -40,6 +40,18 @@ centre_lines s =
 -- the lines of the whole state but the settings, which stand elsewhere
 abbrev pub state_lines : State → List (List ℕ)
 state_lines s = clock_line s ∷ (serial_lines s.serial ++ centre_lines s.centre)
+
+-- The first of these lines say the state of the line's side, and the rest stands behind them.
+pub record IsSerialSaid (s : Serial) (lines rest : List (List ℕ)) : Type 0 where
+  pub line : List (List ℕ)
+  pub counts : lines ≡ tally_line s.counts ∷ line
+  pub stations : IsStateOf s.line line (commands_lines s.commands ++ rest)
+
+-- They say this state.
+pub record IsSaid (s : State) (lines rest : List (List ℕ)) : Type 0 where
+  pub serial : List (List ℕ)
+  pub clock : lines ≡ clock_line s ∷ serial
+  pub said : IsSerialSaid s.serial serial (centre_lines s.centre ++ rest)
 
 -- ---- Which states these are
 
@@ -82,6 +94,9 @@ pub record HasSettings (c : Settings) (s : State) : Type 0 where
 
 abbrev pub clock_of : State → ClockLine
 clock_of s = record { moment = s.moment; wall = s.wall }
+
+abbrev pub clock_numbers : ClockLine → List ℕ
+clock_numbers c = c.moment ∷ wall_numbers c.wall
 
 abbrev pub clock_from : List ℕ → Option ClockLine
 clock_from (moment ∷ []) = Some (record { moment = moment; wall = None })

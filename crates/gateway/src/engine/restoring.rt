@@ -1,12 +1,12 @@
 //! A gateway out of the lines of a state.
 ghost use Rattle.std.specs.Prelude.{◌≡◌, ℕ, List, ◌∷◌, ◌++◌, length, map, Option, Some, None, All};
-ghost use Rattle.std.specs.Prelude.{is_some, true, IfSome, IfOk, MatchOption, MatchResult};
+ghost use Rattle.std.specs.Prelude.{is_some, true, IfSome, IfOk, OnOk, MatchOption, MatchResult};
 ghost use Rattle.checkpoint.specs.declared.StateFault.TheVariants.{Wrong};
 ghost use Rattle.apci.specs.Assembly.{IsResumable, so_far_numbers};
 ghost use Rattle.apci.specs.Reading.{IsMore};
 ghost use Rattle.apci.specs.Spelling.{IsOctet};
 ghost use Rattle.link.specs.Primary.{Primary};
-ghost use Rattle.link.specs.Restored.{primary_lines, IsSavable as IsSavableLine};
+ghost use Rattle.link.specs.Restored.{primary_lines, IsStateOf, IsSavable as IsSavableLine};
 ghost use Rattle.session.specs.Session.{from_queue, Session as Machine};
 ghost use Rattle.session.specs.Restored.{session_lines, IsSavable as IsSavableSession};
 ghost use Rattle.session.specs.Restored.{HasSettings as HasSessionSettings};
@@ -22,8 +22,9 @@ ghost use Rattle.gateway.specs.Log.{Log};
 ghost use Rattle.gateway.specs.Agrees.{Follows};
 ghost use Rattle.gateway.specs.Restored.{clock_line, tally_line, serial_lines, centre_lines};
 ghost use Rattle.gateway.specs.Restored.{state_lines};
-ghost use Rattle.gateway.specs.Restored.{clock_of, clock_from, tally_from};
-ghost use Rattle.gateway.specs.Restored.{IsSavableSerial, IsSavableCentre, IsSavable};
+ghost use Rattle.gateway.specs.Restored.{clock_of, clock_from, clock_numbers, tally_from};
+ghost use Rattle.gateway.specs.Restored.{IsSaid, IsSavableSerial, IsSavableCentre, IsSavable};
+ghost use Rattle.gateway.specs.Restored.{IsSerialSaid};
 ghost use Rattle.gateway.specs.Restored.{HasSerialSettings, HasCentreSettings, HasSettings};
 
 use super::centre::CentreSide;
@@ -82,9 +83,10 @@ fn tally_from(numbers: &[u64]) -> Option<Tally>
 }
 
 fn read_clock<L: Lines>(lines: &mut L, line: &mut Vec<u64>) -> Result<ClockLine, StateFault>
-    ensures { (s : State) (rest : List (List ℕ)) → L.coming lines.old ≡ clock_line s ∷ rest →
+    ensures back { (s : State) (rest : List (List ℕ)) → L.coming lines.old ≡ clock_line s ∷ rest →
         MatchResult result (λ c. (c ≡ clock_of s) × (L.coming lines.new ≡ rest))
         (λ fault. fault ≡ Wrong → ⊥) }
+    ensures exact { IfOk result (λ c. L.coming lines.old ≡ clock_numbers c ∷ L.coming lines.new) }
 {
     lines.next(line)?;
     match clock_from(line.as_slice()) {
@@ -94,9 +96,10 @@ fn read_clock<L: Lines>(lines: &mut L, line: &mut Vec<u64>) -> Result<ClockLine,
 }
 
 fn read_tally<L: Lines>(lines: &mut L, line: &mut Vec<u64>) -> Result<Tally, StateFault>
-    ensures { (t : Counted) (rest : List (List ℕ)) → L.coming lines.old ≡ tally_line t ∷ rest →
+    ensures back { (t : Counted) (rest : List (List ℕ)) → L.coming lines.old ≡ tally_line t ∷ rest →
         MatchResult result (λ r. (r ≡ t) × (L.coming lines.new ≡ rest))
         (λ fault. fault ≡ Wrong → ⊥) }
+    ensures exact { IfOk result (λ r. L.coming lines.old ≡ tally_line r ∷ L.coming lines.new) }
 {
     lines.next(line)?;
     match tally_from(line.as_slice()) {
@@ -107,8 +110,9 @@ fn read_tally<L: Lines>(lines: &mut L, line: &mut Vec<u64>) -> Result<Tally, Sta
 
 /// Puts the octets that numbers are in place of these. `Wrong` says that one is above 255.
 fn octets_from(numbers: &[u64], octets: &mut Vec<u8>) -> Result<(), StateFault>
-    ensures { All IsOctet numbers.now → MatchResult result (λ _. octets.new.items ≡ numbers.now)
-        (λ fault. fault ≡ Wrong → ⊥) }
+    ensures back { All IsOctet numbers.now → MatchResult result
+        (λ _. octets.new.items ≡ numbers.now) (λ fault. fault ≡ Wrong → ⊥) }
+    ensures exact { OnOk result (octets.new.items ≡ numbers.now) }
 {
     octets.clear();
     for number in numbers {
@@ -126,6 +130,7 @@ fn octets_from(numbers: &[u64], octets: &mut Vec<u8>) -> Result<(), StateFault>
 fn resumed(octets: &[u8]) -> Option<Assembler>
     ensures back { IsMore octets.now → MatchOption result ⊥
         (λ a. (a.so_far ≡ Some octets.now) × (a.whole ≡ None)) }
+    ensures exact { IfSome result (λ a. a.so_far ≡ Some octets.now) }
     ensures listens { IfSome result (λ a. is_some a.so_far ≡ true) }
     ensures taken { IfSome result (λ a. a.whole ≡ None) }
 {
@@ -148,6 +153,8 @@ fn read_assembler<L: Lines>(
         L.coming lines.old ≡ so_far_numbers (Some octets) ∷ rest →
         MatchResult result (λ a. (a.so_far ≡ Some octets) × (a.whole ≡ None)
         × (L.coming lines.new ≡ rest)) (λ fault. fault ≡ Wrong → ⊥) }
+    ensures exact { IfOk result (λ a.
+        L.coming lines.old ≡ so_far_numbers a.so_far ∷ L.coming lines.new) }
     ensures listens { IfOk result (λ a. is_some a.so_far ≡ true) }
     ensures taken { IfOk result (λ a. a.whole ≡ None) }
 {
@@ -169,12 +176,14 @@ fn read_commands<L: Lines>(
     lines: &mut L,
     line: &mut Vec<u64>,
 ) -> Result<Commands, StateFault>
-    ensures { (s : Tasks) (rest : List (List ℕ)) → AreSavableCommands s →
+    ensures back { (s : Tasks) (rest : List (List ℕ)) → AreSavableCommands s →
         HaveCommandSettings (map info_of config.now.stations) config.now.line.sizes
         config.now.tcp.select_ms config.now.tcp.max_age_ms s →
         L.coming lines.old ≡ commands_lines s ++ rest →
         MatchResult result (λ c. (c ≡ s) × (L.coming lines.new ≡ rest))
         (λ fault. fault ≡ Wrong → ⊥) }
+    ensures exact { IfOk result (λ c.
+        L.coming lines.old ≡ commands_lines c ++ L.coming lines.new) }
 {
     let stations = station_infos(alloc, config).map_err(|_| StateFault::NoMemory)?;
     let tcp = config.tcp();
@@ -196,12 +205,13 @@ fn read_master<L: Lines>(
     lines: &mut L,
     line: &mut Vec<u64>,
 ) -> Result<Master, StateFault>
-    ensures { (p : Primary) (rest : List (List ℕ)) → IsSavableLine p →
+    ensures back { (p : Primary) (rest : List (List ℕ)) → IsSavableLine p →
         p.settings ≡ link_of config.now.line →
         length p.stations ≡ length config.now.stations →
         L.coming lines.old ≡ primary_lines p ++ rest →
         MatchResult result (λ m. (m ≡ p) × (L.coming lines.new ≡ rest))
         (λ fault. fault ≡ Wrong → ⊥) }
+    ensures exact { IfOk result (λ m. IsStateOf m (L.coming lines.old) (L.coming lines.new)) }
 {
     let count = config.stations().len();
     Master::read_state(alloc, link_settings(config.line()), count, lines, line)
@@ -214,12 +224,14 @@ fn read_session<L: Lines>(
     lines: &mut L,
     line: &mut Vec<u64>,
 ) -> Result<Session, StateFault>
-    ensures { (s : Machine) (rest : List (List ℕ)) → IsSavableSession s →
+    ensures back { (s : Machine) (rest : List (List ℕ)) → IsSavableSession s →
         HasSessionSettings s config.now.tcp.k config.now.tcp.w config.now.tcp.t1_ms
         config.now.tcp.t2_ms config.now.tcp.t3_ms →
         L.coming lines.old ≡ session_lines s ++ rest →
         MatchResult result (λ r. (r ≡ s) × (L.coming lines.new ≡ rest))
         (λ fault. fault ≡ Wrong → ⊥) }
+    ensures exact { IfOk result (λ r.
+        L.coming lines.old ≡ session_lines r ++ L.coming lines.new) }
 {
     let tcp = config.tcp();
     Session::read_state(
@@ -240,6 +252,8 @@ impl SerialSide {
             L.coming lines.old ≡ serial_lines s ++ rest →
             MatchResult result (λ r. (r ≡ s) × (L.coming lines.new ≡ rest))
             (λ fault. fault ≡ Wrong → ⊥) }
+        ensures exact { IfOk result (λ s.
+            IsSerialSaid s (L.coming lines.old) (L.coming lines.new)) }
         ensures logged { IfOk result (λ s. (s.silent ≡ None) × (s.gap ≡ None)) }
     {
         let counts = read_tally(lines, line)?;
@@ -296,6 +310,8 @@ impl CentreSide {
             L.coming lines.old ≡ centre_lines s ++ rest →
             MatchResult result (λ r. (r ≡ s) × (L.coming lines.new ≡ rest))
             (λ fault. fault ≡ Wrong → ⊥) }
+        ensures exact { IfOk result (λ s.
+            L.coming lines.old ≡ centre_lines s ++ L.coming lines.new) }
         ensures taken { IfOk result (λ s. s.arrived ≡ None) }
     {
         let assembler = read_assembler(lines, line, octets)?;
@@ -349,6 +365,7 @@ impl Gateway {
             HasSettings config.now s → L.coming lines.old ≡ state_lines s ++ rest →
             MatchResult result (λ g. (g ≡ s) × (L.coming lines.new ≡ rest))
             (λ fault. fault ≡ Wrong → ⊥) }
+        ensures exact { IfOk result (λ g. IsSaid g (L.coming lines.old) (L.coming lines.new)) }
         ensures between { IfOk result IsBetweenSteps }
     {
         let clock = read_clock(lines, line)?;
@@ -379,6 +396,8 @@ impl Gateway {
             MatchResult result
             (λ g. Follows (setup_of config.now) g (Some log) × (L.coming lines.new ≡ rest))
             (λ fault. fault ≡ Wrong → ⊥) }
+        // So what isn't the lines of a state is refused.
+        ensures exact { IfOk result (λ g. IsSaid g (L.coming lines.old) (L.coming lines.new)) }
         ensures between { IfOk result IsBetweenSteps }
     {
         settings_are_kept();

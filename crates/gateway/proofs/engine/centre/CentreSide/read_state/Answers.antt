@@ -12,7 +12,7 @@ returns-clause-back g c = λ s rest savable has none e.
     let all : List (List ℕ) = (session_lines s.session ++ queue_lines s.queue) ++ rest in
     let k = c.in_ok-assembler.ensures.back o.0 all o.2 (e
     ∙ ap (λ (x : Option (List ℕ)). so_far_numbers x ∷ all) o.1) in
-    let m = c.in_ok-session.ensures s.session _ savable.session has.session
+    let m = c.in_ok-session.ensures.back s.session _ savable.session has.session
     (k.2 ∙ append_assoc (session_lines s.session) (queue_lines s.queue) rest) in
     let t = c.in_ok-queue.ensures.same s.queue rest savable.queue (has.places
     ∙ ap (λ (l : LineSettings). l.queue) (sym c.line.ensures) ∙ sym c.from-places.ensures) m.1 in
@@ -38,7 +38,7 @@ returns-in_err-session-clause-back g c = λ s rest savable has none e.
     let all : List (List ℕ) = (session_lines s.session ++ queue_lines s.queue) ++ rest in
     let k = c.in_ok-assembler.ensures.back o.0 all o.2 (e
     ∙ ap (λ (x : Option (List ℕ)). so_far_numbers x ∷ all) o.1) in
-    let h = c.in_err-session.ensures s.session _ savable.session has.session
+    let h = c.in_err-session.ensures.back s.session _ savable.session has.session
     (k.2 ∙ append_assoc (session_lines s.session) (queue_lines s.queue) rest) in search rules
 
 pub returns-in_err-queue-clause-back : goal.returns-in_err-queue-clause-back
@@ -47,7 +47,7 @@ returns-in_err-queue-clause-back g c = λ s rest savable has none e.
     let all : List (List ℕ) = (session_lines s.session ++ queue_lines s.queue) ++ rest in
     let k = c.in_ok-assembler.ensures.back o.0 all o.2 (e
     ∙ ap (λ (x : Option (List ℕ)). so_far_numbers x ∷ all) o.1) in
-    let m = c.in_ok-session.ensures s.session _ savable.session has.session
+    let m = c.in_ok-session.ensures.back s.session _ savable.session has.session
     (k.2 ∙ append_assoc (session_lines s.session) (queue_lines s.queue) rest) in
     let h = c.in_err-queue.ensures.same s.queue rest savable.queue (has.places
     ∙ ap (λ (l : LineSettings). l.queue) (sym c.line.ensures) ∙ sym c.from-places.ensures) m.1 in
