@@ -15,6 +15,7 @@
 #![tactic(auto)]
 
 mod driving;
+mod entry_laws;
 mod ladder;
 mod laws;
 mod memory;
@@ -24,6 +25,7 @@ mod scribe;
 mod taken;
 
 pub use driving::drive_in_words;
+pub use entry_laws::{each_entry_has_its_own_lines, runs_are_put_into_words_in_their_order};
 pub use ladder::Ladder;
 pub use laws::{remarks_are_as_written, rungs_by_example};
 pub use rungs::Style;
