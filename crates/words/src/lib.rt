@@ -18,6 +18,7 @@
 mod commands;
 mod connections;
 mod described;
+mod described_laws;
 mod examples;
 mod faults;
 mod floats;
@@ -34,6 +35,9 @@ mod units;
 
 pub use connections::{push_apdu, push_apdu_refusal, words_of_connection};
 pub use described::{both, describe_apdu, describe_apdus, describe_line, describe_line_frames};
+pub use described_laws::{
+    frames_are_described_one_by_one, lines_of_octets_are_read, what_is_not_read_is_told,
+};
 pub use examples::{asdus_by_example, frames_by_example, tags_by_example, values_by_example};
 pub use faults::push_cut_off;
 pub use laws::{
