@@ -22,7 +22,9 @@
 //! TCP has it, and as the record says ([`connections_are_streams`],
 //! [`connections_are_as_recorded`]). Comments are as docs/TEXTS.md has them
 //! ([`comments_are_as_written`]), and lines are read as `traces` reads them
-//! ([`lines_are_read_as_recorded`]). Comments and octets have worked examples
+//! ([`lines_are_read_as_recorded`]). Each line adds packets of its own
+//! ([`each_line_has_its_own_packets`]). The first wrong line ends a capture, and is named by its
+//! number ([`records_are_captured_up_to_a_wrong_line`]). Comments and octets have worked examples
 //! ([`comments_by_example`], [`octets_by_example`]).
 //!
 //! [`capture_text`] writes the capture of a whole record, which is read block by block, and which

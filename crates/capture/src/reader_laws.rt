@@ -48,7 +48,7 @@ pub fn connections_are_streams()
 {}
 
 /// Connections begin, end and break off as the record says, in its order, and one that is there at
-/// its end stays. A close of the gateway has its cause as the comment, and no other segment has one.
+/// its end stays. A close of the gateway has its cause as the comment. No other segment has one.
 pub fn connections_are_as_recorded()
     ensures marks { (size : LinkSize) (entries : List LogEntry) →
         filter_map mark_of (segments_in (whole_capture size entries))

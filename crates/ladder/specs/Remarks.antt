@@ -16,8 +16,8 @@ use Rattle.show.specs.declared.sizes.LineSizes.{LineSizes}
 use Rattle.words.specs.Connections.{AreConnectionWords, apdu_words, fault_of as apdu_fault_of}
 use Rattle.words.specs.Faults.{cut_off, no_frame}
 use Rattle.words.specs.Lines.{AreLineWords, fault_of, frame_words}
-use Rattle.ladder.specs.Described.{AreApdusReceived, AreFramesReceived, IsEntryLogged, IsLadder}
-use Rattle.ladder.specs.Described.{Remembered}
+use Rattle.ladder.specs.Described.{AreApdusReceived, AreFramesReceived, IsEntryLogged}
+use Rattle.ladder.specs.Described.{IsLoggedTo, Remembered}
 use Rattle.ladder.specs.Rungs.{head}
 use Rattle.ladder.specs.declared.rungs.Style.{Style}
 use Rattle.ladder.specs.declared.rungs.Way.TheVariants.{FromCentre, FromOutstation, ToCentre}
@@ -38,6 +38,10 @@ IsAwaitedBehind before (Frame frame) after = after ≡ false
 IsAwaitedBehind before More after = after ≡ before
 IsAwaitedBehind before (Never place why) after = after ≡ before
 IsAwaitedBehind before Deaf after = after ≡ before
+
+-- what ends a colour, and the two spaces before the words
+abbrev pub plain_end : List ℕ
+plain_end = 27 ∷ codes "[0m  "
 
 -- The words of what n octets of a piece bring: a frame has its words at the piece that ends it.
 -- Octets that begin no frame are told by what is wrong and where, all others by how many they are.
@@ -110,7 +114,8 @@ IsOfTheConnection (Came now CutOff) = Unit {0}
 IsOfTheConnection (Went now (Closed cause)) = Unit {0}
 IsOfTheConnection entry = ⊥
 
--- A request has one line: its way, `repeat` if its octets are those of the latest one, and the words
+-- A request has one line: its way, `repeat` if its octets are those of the latest one, and the
+-- words
 -- of its octets. What came of the line before it is no beginning of a frame any more.
 pub record IsRequestLine (style : Style) (now : ℕ) (before : Remembered) (octets : List ℕ)
     (after : Remembered) (lines : List ℕ) : Type 0 where
@@ -130,15 +135,16 @@ pub record IsSentLine (style : Style) (now : ℕ) (octets lines : List ℕ) : Ty
   pub are_words : AreConnectionWords octets words condition
   pub line : lines ≡ head style.is_coloured now ToCentre [] ++ words
 
--- the lines of the latest entry stand behind those of the entries before
-pub record IsLadderBehind (style : Style) (entry : LogEntry) (log : Log) (text : List ℕ) : Type 0
-  where
-    pub earlier : List ℕ
-    pub is_ladder : IsLadder style log earlier
-    pub after : Remembered
-    pub lines : List ℕ
-    pub are_lines : IsEntryLogged style is_ladder.mind entry after lines
-    pub joined : text ≡ earlier ++ lines
+-- The lines of the latest entry stand behind those of the entries before, and go on from what is
+-- remembered of these.
+pub record IsLoggedBehind (style : Style) (entry : LogEntry) (log : Log) (mind : Remembered)
+    (text : List ℕ) : Type 0 where
+  pub before : Remembered
+  pub earlier : List ℕ
+  pub is_logged : IsLoggedTo style log before earlier
+  pub lines : List ℕ
+  pub are_lines : IsEntryLogged style before entry mind lines
+  pub joined : text ≡ earlier ++ lines
 
 -- something goes to the line or comes from it
 abbrev pub IsOfTheLine : LogEntry → Type 0

@@ -1,21 +1,22 @@
 //! What lines each entry of a run's log has, as docs/TEXTS.md has them.
-ghost use Rattle.std.specs.Prelude.{◌≡◌, ◌++◌, ◌∷◌, [], ℕ, List, Some, codes, false};
+ghost use Rattle.std.specs.Prelude.{◌≡◌, ◌++◌, ◌∷◌, [], ℕ, List, Some, codes, false, true};
 ghost use Rattle.std.specs.Fmt.{decimal};
 ghost use Rattle.gateway.specs.Log.{Log, LogEntry, Came, Went, LineIn, Opened, TcpIn, CutOff};
 ghost use Rattle.gateway.specs.Log.{Ticked, WallIs, LineOut, TcpOut, Closed, GapOut};
 ghost use Rattle.session.specs.declared.kinds.Close.{Close};
 ghost use Rattle.ladder.specs.Described.{AreApdusReceived, AreFramesReceived, IsEntryLogged};
 ghost use Rattle.ladder.specs.Described.{IsLadder, IsLoggedTo, Remembered};
-ghost use Rattle.ladder.specs.Remarks.{IsFirstApdu, IsLadderBehind, IsOfTheConnection};
-ghost use Rattle.ladder.specs.Remarks.{IsRequestLine, IsSentLine};
+ghost use Rattle.ladder.specs.Remarks.{IsFirstApdu, IsLoggedBehind, IsOfTheConnection};
+ghost use Rattle.ladder.specs.Remarks.{IsRequestLine, IsSentLine, plain_end};
 ghost use Rattle.ladder.specs.Rungs.{close_text, gap_text, head};
 ghost use Rattle.ladder.specs.declared.rungs.Style.{Style};
-ghost use Rattle.ladder.specs.declared.rungs.Way.TheVariants.{FromCentre, Inside, ToCentre};
+ghost use Rattle.ladder.specs.declared.rungs.Way.TheVariants.{FromCentre, FromOutstation};
+ghost use Rattle.ladder.specs.declared.rungs.Way.TheVariants.{Inside, ToCentre, ToOutstation};
 
 /// A request has one line, with its remark and the words of its octets, and begins anew what comes
 /// of the line. An APDU, a close and a gap have one line each, without a remark. So have a
-/// connection that is opened or cut, and the wall clock. A tick has none. Each is coloured as the
-/// style says, and stands at its own moment.
+/// connection that is opened or cut, and the wall clock. A tick has none. A line begins with its
+/// moment and its way, in the colour of its side where the style says so, and its remark.
 pub fn each_entry_has_its_own_lines()
     ensures requests { (style : Style) (now : ℕ) (before after : Remembered)
         (octets lines : List ℕ) →
@@ -47,6 +48,28 @@ pub fn each_entry_has_its_own_lines()
         lines
         ≡ head style.is_coloured now Inside []
         ++ (codes "the wall clock shows " ++ (decimal wall ++ 10 ∷ [])) }
+    ensures heads { (now : ℕ) (remark : List ℕ) →
+        (head false now FromOutstation remark
+        ≡ decimal now ++ (codes " outstation > gateway" ++ (remark ++ codes "  ")))
+        × (head false now ToOutstation remark
+        ≡ decimal now ++ (codes " gateway > outstation" ++ (remark ++ codes "  ")))
+        × (head false now FromCentre remark
+        ≡ decimal now ++ (codes " control centre > gateway" ++ (remark ++ codes "  ")))
+        × (head false now ToCentre remark
+        ≡ decimal now ++ (codes " gateway > control centre" ++ (remark ++ codes "  ")))
+        × (head false now Inside remark
+        ≡ decimal now ++ (codes " gateway" ++ (remark ++ codes "  "))) }
+    ensures colours { (now : ℕ) (remark : List ℕ) →
+        (head true now FromOutstation remark ≡ decimal now
+        ++ (codes " " ++ (27 ∷ codes "[36moutstation > gateway" ++ (remark ++ plain_end))))
+        × (head true now ToOutstation remark ≡ decimal now
+        ++ (codes " " ++ (27 ∷ codes "[36mgateway > outstation" ++ (remark ++ plain_end))))
+        × (head true now FromCentre remark ≡ decimal now
+        ++ (codes " " ++ (27 ∷ codes "[32mcontrol centre > gateway" ++ (remark ++ plain_end))))
+        × (head true now ToCentre remark ≡ decimal now
+        ++ (codes " " ++ (27 ∷ codes "[32mgateway > control centre" ++ (remark ++ plain_end))))
+        × (head true now Inside remark ≡ decimal now
+        ++ (codes " " ++ (27 ∷ codes "[33mgateway" ++ (remark ++ plain_end)))) }
     ensures ticks { (style : Style) (now : ℕ) (before after : Remembered) (lines : List ℕ) →
         IsEntryLogged style before (Came now Ticked) after lines → lines ≡ [] }
 {}
@@ -65,8 +88,11 @@ pub fn runs_are_put_into_words_in_their_order()
           request = [];
           is_awaited = false;
         }) }
-    ensures behind { (style : Style) (entry : LogEntry) (log : Log) (text : List ℕ) →
-        IsLadder style (entry ∷ log) text → IsLadderBehind style entry log text }
+    ensures behind { (style : Style) (entry : LogEntry) (log : Log) (mind : Remembered)
+        (text : List ℕ) → IsLoggedTo style (entry ∷ log) mind text →
+        IsLoggedBehind style entry log mind text }
+    ensures whole { (style : Style) (log : Log) (text : List ℕ) → IsLadder style log text →
+        (mind : Remembered) × IsLoggedTo style log mind text }
     ensures pieces { (style : Style) (now : ℕ) (before after : Remembered)
         (octets lines : List ℕ) →
         (IsEntryLogged style before (Came now (LineIn octets)) after lines →

@@ -46,7 +46,8 @@ abbrev pub OneApduFront : Type 0
 OneApduFront = (octets : List ℕ) (a b : ApduFront) → IsApduFront octets a → IsApduFront octets b
     → a ≡ b
 
-line_ends : OneLineFront → (sizes : LineSizes) (octets : List ℕ) (end : ℕ) → IsLineEnd sizes.link octets end
+line_ends : OneLineFront → (sizes : LineSizes) (octets : List ℕ) (end : ℕ)
+    → IsLineEnd sizes.link octets end
     → EndsWithItsFrame sizes octets end
 line_ends one_line_front sizes octets end is =
     let same : (front : LineFront) → IsLineFront sizes.link octets front
@@ -59,7 +60,8 @@ line_ends one_line_front sizes octets end is =
       never = λ place why f. same (line.Never place why) f;
     }
 
-apdu_ends : OneApduFront → (octets : List ℕ) (end : ℕ) → IsApduEnd octets end → EndsWithItsApdu octets end
+apdu_ends : OneApduFront → (octets : List ℕ) (end : ℕ) → IsApduEnd octets end
+    → EndsWithItsApdu octets end
 apdu_ends one_apdu_front octets end is =
     let same : (front : ApduFront) → IsApduFront octets front
         → end ≡ apdu_end (length octets) front =
@@ -95,7 +97,8 @@ tcp_in_facts words octets text c h is =
 
 -- ---- what comes first
 
-pub first_of_line : OneLineFront → (words : Bool) (sizes : LineSizes) (first : ℕ) (octets text : List ℕ)
+pub first_of_line : OneLineFront
+    → (words : Bool) (sizes : LineSizes) (first : ℕ) (octets text : List ℕ)
     (condition : Condition) → AreLineFramesDescribed words sizes (first ∷ octets) text condition
     → IsFirstOfLine words sizes (first ∷ octets) text condition
 first_of_line one_front words sizes first octets text condition

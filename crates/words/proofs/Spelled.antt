@@ -85,5 +85,6 @@ others_fail front behind c h is_none =
     ∙ ap (λ (b : Bool). filter is_mark front ++ kept b c (filter is_mark behind)) (mark_by c h))
     ∙ none_if (decode_of (filter is_mark front ++ c ∷ filter is_mark behind))
     (λ octets ok.
-    let is_digit = amid (filter is_mark front) (filter is_mark behind) c (decode_of-ok _ octets ok).1
+    let is_digit = amid (filter is_mark front) (filter is_mark behind) c
+    (decode_of-ok _ octets ok).1
     in cc (sym is_digit ∙ ap is_some is_none))

@@ -50,7 +50,8 @@ pub record IsGoodIfAllAre (one rest all : Condition) : Type 0 where
   pub each : all ≡ Good → (one ≡ Good) × (rest ≡ Good)
   pub both : one ≡ Good → rest ≡ Good → all ≡ Good
 
--- The first frame of the line is described alone, in words or with a fact a line, and before what is
+-- The first frame of the line is described alone, in words or with a fact a line, and before what
+-- is
 -- behind it.
 pub record IsFirstOfLine (words : Bool) (sizes : LineSizes) (octets text : List ℕ)
     (condition : Condition) : Type 0 where

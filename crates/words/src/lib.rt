@@ -10,9 +10,9 @@
 //!
 //! Proved: each text is an exact function of the frame (`AreLineWords`, `AreConnectionWords`), for
 //! every type, value, quality and tag; an `Err` is want of memory alone. Laws say it bit by bit and
-//! field by field, whatever the octets are ([`values_are_told_bit_by_bit`] and its neighbours), and
-//! the words have worked examples (`values_by_example`, `tags_by_example`, `asdus_by_example`,
-//! `frames_by_example`).
+//! field by field, whatever the octets are ([`values_are_told_bit_by_bit`] and its neighbours).
+//! Several frames are told one by one ([`frames_are_described_one_by_one`]). The words have worked
+//! examples (`values_by_example`, `tags_by_example`, `asdus_by_example`, `frames_by_example`).
 #![tactic(auto)]
 
 mod commands;

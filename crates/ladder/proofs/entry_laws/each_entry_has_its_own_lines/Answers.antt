@@ -1,9 +1,11 @@
-use Rattle.std.proofs.Common.{◌≡◌, ℕ, Bool, true, false, List, [], ◌++◌, codes, ap, refl, ◌∙◌}
+use Rattle.std.proofs.Common.{◌≡◌, ℕ, Bool, true, false, List, [], ◌∷◌, ◌++◌, codes, ap, refl, ◌∙◌}
+use Rattle.std.proofs.lemmas.List.{append_assoc}
+use Rattle.std.specs.Fmt.{decimal}
 use Rattle.std.specs.Prelude.{IsTrue}
 use Rattle.gateway.specs.Log.{Went, LineOut, TcpOut}
 use Rattle.ladder.specs.Described.{IsEntryLogged, IsRequest, Remembered, centre_line, wall_line}
 use Rattle.ladder.specs.Remarks.{IsRequestLine, IsSentLine}
-use Rattle.ladder.specs.Rungs.{head, repeat_remark}
+use Rattle.ladder.specs.Rungs.{colour, head, plain, repeat_remark, side}
 use Rattle.ladder.specs.declared.rungs.Style.{Style}
 use Rattle.ladder.specs.declared.rungs.Way.TheVariants.{ToCentre, ToOutstation}
 use Rattle.ladder.proofs.entry_laws.each_entry_has_its_own_lines.Goals as goal
@@ -73,3 +75,30 @@ returns-clause-cuts c = λ style now before after lines h. h.1
 pub returns-clause-walls : goal.returns-clause-walls
 unfolding wall_line
 returns-clause-walls c = λ style now wall before after lines h. h.1
+
+-- a remark behind what stands before it
+remarked : (front remark behind : List ℕ) (now : ℕ)
+    → decimal now ++ (front ++ ((remark ++ behind) ++ codes "  "))
+    ≡ decimal now ++ (front ++ (remark ++ (behind ++ codes "  ")))
+remarked front remark behind now =
+    ap (λ (xs : List ℕ). decimal now ++ (front ++ xs)) (append_assoc remark behind (codes "  "))
+
+pub returns-clause-heads : goal.returns-clause-heads
+unfolding head side colour plain
+returns-clause-heads c = λ now remark. (
+  remarked (codes " outstation > gateway") remark [] now,
+  remarked (codes " gateway > outstation") remark [] now,
+  remarked (codes " control centre > gateway") remark [] now,
+  remarked (codes " gateway > control centre") remark [] now,
+  remarked (codes " gateway") remark [] now,
+)
+
+pub returns-clause-colours : goal.returns-clause-colours
+unfolding head side colour plain
+returns-clause-colours c = λ now remark. (
+  remarked (codes " " ++ 27 ∷ codes "[36moutstation > gateway") remark (27 ∷ codes "[0m") now,
+  remarked (codes " " ++ 27 ∷ codes "[36mgateway > outstation") remark (27 ∷ codes "[0m") now,
+  remarked (codes " " ++ 27 ∷ codes "[32mcontrol centre > gateway") remark (27 ∷ codes "[0m") now,
+  remarked (codes " " ++ 27 ∷ codes "[32mgateway > control centre") remark (27 ∷ codes "[0m") now,
+  remarked (codes " " ++ 27 ∷ codes "[33mgateway") remark (27 ∷ codes "[0m") now,
+)

@@ -9,11 +9,11 @@ use Rattle.apci.specs.declared.assembling.Received.{Received}
 use Rattle.apci.specs.declared.assembling.Received.TheVariants.{Whole, More, Never, Deaf}
 use Rattle.gateway.specs.Log.{Log, LogEntry, Came, Went, LineIn, Opened, TcpIn, CutOff, Ticked}
 use Rattle.gateway.specs.Log.{WallIs, Restarted, LineOut, TcpOut, Closed, GapOut}
-use Rattle.ladder.specs.Described.{AreApdusReceived, AreFramesReceived, IsEntryLogged, IsLadder}
+use Rattle.ladder.specs.Described.{AreApdusReceived, AreFramesReceived, IsEntryLogged, IsLoggedTo}
 use Rattle.ladder.specs.Described.{Listens, ListensTo, Remembered, apdu_received_line}
 use Rattle.ladder.specs.Described.{apdu_received_words, no_more, no_more_apdus, one_more}
 use Rattle.ladder.specs.Described.{one_more_apdu, still_awaited, whole_words}
-use Rattle.ladder.specs.Remarks.{IsApduHeard, IsApduSaid, IsFirstApdu, IsLadderBehind}
+use Rattle.ladder.specs.Remarks.{IsApduHeard, IsApduSaid, IsFirstApdu, IsLoggedBehind}
 use Rattle.ladder.specs.Remarks.{IsOfTheConnection}
 use Rattle.ladder.specs.declared.rungs.Style.{Style}
 use Rattle.ladder.proofs.entry_laws.runs_are_put_into_words_in_their_order.Goals as goal
@@ -140,23 +140,22 @@ centre_kept style before after (Went at (GapOut station session)) lines other h 
 
 -- ---- the log
 
-behind_log : (style : Style) (entry : LogEntry) (log : Log) (text : List ℕ)
-    → IsLadder style (entry ∷ log) text → IsLadderBehind style entry log text
-behind_log style entry log text h =
-    let l = h.logged in
-    record {
-      earlier = l.1;
-      is_ladder = record { mind = l.0; logged = l.3 };
-      after = h.mind;
-      lines = l.2;
-      are_lines = l.4;
-      joined = l.5;
-    }
+behind_log : (style : Style) (entry : LogEntry) (log : Log) (mind : Remembered) (text : List ℕ)
+    → IsLoggedTo style (entry ∷ log) mind text → IsLoggedBehind style entry log mind text
+behind_log style entry log mind text h = record {
+  before = h.0;
+  earlier = h.1;
+  is_logged = h.3;
+  lines = h.2;
+  are_lines = h.4;
+  joined = h.5;
+}
 
 pub returns : goal.returns
 returns c = record {
   nothing = λ style mind text h. (h.1, h.0);
   behind = behind_log;
+  whole = λ style log text h. (h.mind, h.logged);
   pieces = λ style now before after octets lines. (λ h. h, λ h. h);
   none = λ style now before after lines. (
     no_frames style now before after lines,

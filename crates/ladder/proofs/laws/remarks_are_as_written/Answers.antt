@@ -34,7 +34,8 @@ awaited_behind before More = refl
 awaited_behind before (Never place why) = refl
 awaited_behind before Deaf = refl
 
-said : (s : LineSizes) (n : ℕ) (arrived : Received) → IsSaid s n arrived (received_words s n arrived)
+said : (s : LineSizes) (n : ℕ) (arrived : Received)
+    → IsSaid s n arrived (received_words s n arrived)
 unfolding received_words
 said s n (Frame frame) = refl
 said s n More = refl
