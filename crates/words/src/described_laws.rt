@@ -1,6 +1,7 @@
 //! What holds of octets that are described frame by frame, and of lines that spell octets.
-ghost use Rattle.std.specs.Prelude.{◌≡◌, ◌≤◌, ◌<◌, ◌++◌, ◌∷◌, [], ℕ, List, Bool, None, Some};
-ghost use Rattle.std.specs.Prelude.{codes};
+ghost use Rattle.std.specs.Prelude.{◌≡◌, ◌≤◌, ◌<◌, ◌+◌, ◌*◌, ◌++◌, ◌∷◌, [], ℕ, List, Bool, None};
+ghost use Rattle.std.specs.Prelude.{Some};
+ghost use Rattle.std.specs.Prelude.{codes, option_map};
 ghost use Rattle.std.specs.List.{AllByRecursion};
 ghost use Rattle.hex.specs.Hex.{encode_lower, encode_upper, hex_digit_value};
 ghost use Rattle.asdu.specs.Refusals.{refusal};
@@ -38,10 +39,16 @@ pub fn frames_are_described_one_by_one()
     apci_one_front();
 }
 
-/// A line of octets is read as the octets that its digits spell, two digits of either case each.
-/// Blanks, which are at most 32, count for nothing wherever they stand. Nothing else counts for
-/// nothing: with any other character that is no digit the line is none of octets.
+/// A line of octets is read as the octets that its digits spell, two digits of either case each,
+/// and half an octet makes it none. Blanks, which are at most 32, count for nothing wherever they
+/// stand. Nothing else counts for nothing: with any other character that is no digit the line is
+/// none of octets.
 pub fn lines_of_octets_are_read()
+    ensures pairs { (high low h l : ℕ) (text : List ℕ) → hex_digit_value high ≡ Some h →
+        hex_digit_value low ≡ Some l → octets_in (high ∷ low ∷ text)
+        ≡ option_map (λ octets. (h * 16 + l) ∷ octets) (octets_in text) }
+    ensures ends { (octets_in [] ≡ Some []) × ((digit h : ℕ) → hex_digit_value digit ≡ Some h →
+        octets_in (digit ∷ []) ≡ None) }
     ensures spelled { (octets : List ℕ) → AllByRecursion IsOctet octets →
         (octets_in (encode_upper octets) ≡ Some octets)
         × (octets_in (encode_lower octets) ≡ Some octets) }
