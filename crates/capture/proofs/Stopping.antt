@@ -42,8 +42,7 @@ module _ (size : LinkSize) (known old new : Option (List ℕ))
         → (text : List ℕ) × Gives known text × StopsAt n size (kept_lines text) old new
     stops_there n h =
         let w = h.wrong in
-        let not_one = none_of (is_skipped w.wrong) (entry_logged w.wrong) w.is_wrong in
-        (
+        let not_one = none_of (is_skipped w.wrong) (entry_logged w.wrong) w.is_wrong in (
           h.text,
           h.is,
           record {

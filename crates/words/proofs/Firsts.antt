@@ -51,9 +51,9 @@ line_ends : OneLineFront → (sizes : LineSizes) (octets : List ℕ) (end : ℕ)
     → EndsWithItsFrame sizes octets end
 line_ends one_line_front sizes octets end is =
     let same : (front : LineFront) → IsLineFront sizes.link octets front
-        → end ≡ line_end (length octets) front =
+    → end ≡ line_end (length octets) front =
     λ front f. is.end_is ∙ ap (line_end (length octets))
-        (one_line_front sizes.link octets is.front front is.is_front f) in
+    (one_line_front sizes.link octets is.front front is.is_front f) in
     record {
       whole = λ frame n f. same (line.Whole frame n) f;
       more = λ f. same line.More f;
@@ -64,9 +64,9 @@ apdu_ends : OneApduFront → (octets : List ℕ) (end : ℕ) → IsApduEnd octet
     → EndsWithItsApdu octets end
 apdu_ends one_apdu_front octets end is =
     let same : (front : ApduFront) → IsApduFront octets front
-        → end ≡ apdu_end (length octets) front =
+    → end ≡ apdu_end (length octets) front =
     λ front f. is.end_is ∙ ap (apdu_end (length octets))
-        (one_apdu_front octets is.front front is.is_front f) in
+    (one_apdu_front octets is.front front is.is_front f) in
     record {
       whole = λ apdu n f. same (tcp.Whole apdu n) f;
       more = λ f. same tcp.More f;
