@@ -2,7 +2,7 @@
 ghost use Rattle.std.specs.Prelude.{◌≡◌, ◌++◌, ◌∷◌, [], ℕ, List, Some, codes, false, true};
 ghost use Rattle.std.specs.Fmt.{decimal};
 ghost use Rattle.gateway.specs.Log.{Log, LogEntry, Came, Went, LineIn, Opened, TcpIn, CutOff};
-ghost use Rattle.gateway.specs.Log.{Ticked, WallIs, LineOut, TcpOut, Closed, GapOut};
+ghost use Rattle.gateway.specs.Log.{Ticked, WallIs, Restarted, LineOut, TcpOut, Closed, GapOut};
 ghost use Rattle.session.specs.declared.kinds.Close.{Close};
 ghost use Rattle.ladder.specs.Described.{AreApdusReceived, AreFramesReceived, IsEntryLogged};
 ghost use Rattle.ladder.specs.Described.{IsLadder, IsLoggedTo, Remembered};
@@ -15,8 +15,9 @@ ghost use Rattle.ladder.specs.declared.rungs.Way.TheVariants.{Inside, ToCentre, 
 
 /// A request has one line, with its remark and the words of its octets, and begins anew what comes
 /// of the line. An APDU, a close and a gap have one line each, without a remark. So have a
-/// connection that is opened or cut, and the wall clock. A tick has none. A line begins with its
-/// moment and its way, in the colour of its side where the style says so, and its remark.
+/// connection that is opened or cut, and the wall clock. A tick and a restart have none. A line
+/// begins with its moment and its way, in the colour of its side where the style says so, and its
+/// remark.
 pub fn each_entry_has_its_own_lines()
     ensures requests { (style : Style) (now : ℕ) (before after : Remembered)
         (octets lines : List ℕ) →
@@ -71,7 +72,8 @@ pub fn each_entry_has_its_own_lines()
         × (head true now Inside remark ≡ decimal now
         ++ (codes " " ++ (27 ∷ codes "[33mgateway" ++ (remark ++ plain_end)))) }
     ensures ticks { (style : Style) (now : ℕ) (before after : Remembered) (lines : List ℕ) →
-        IsEntryLogged style before (Came now Ticked) after lines → lines ≡ [] }
+        (IsEntryLogged style before (Came now Ticked) after lines → lines ≡ [])
+        × (IsEntryLogged style before (Came now Restarted) after lines → lines ≡ []) }
 {}
 
 /// Before its first entry a run has no line, and nothing came yet: no frame is awaited, and there
