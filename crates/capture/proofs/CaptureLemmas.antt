@@ -77,13 +77,18 @@ entries_carried c is_up (entry ∷ entries) =
     ∙ ap (λ (xs : List ℕ). tcp_octets is_up entry ++ xs)
     (entries_carried (after c entry) is_up entries))
 
+-- the end of a record adds no segment
+pub whole_segments : (size : LinkSize) (entries : List LogEntry) →
+    segments_in (whole_capture size entries) ≡ segments_in (packets_in (begun size) entries)
+whole_segments size entries =
+    flat_map-append (λ (p : Packets). p.segments) (packets_in (begun size) entries)
+    (last_packets (after_all (begun size) entries) ∷ [])
+    ∙ append-nil (segments_in (packets_in (begun size) entries))
+
 pub connection_carried : (size : LinkSize) (is_up : Bool) (entries : List LogEntry) →
     joined is_up (segments_in (whole_capture size entries)) ≡ flat_map (tcp_octets is_up) entries
 connection_carried size is_up entries =
-    ap (λ (xs : List Sent). joined is_up xs)
-    (flat_map-append (λ (p : Packets). p.segments) (packets_in (begun size) entries)
-    (last_packets (after_all (begun size) entries) ∷ [])
-    ∙ append-nil (segments_in (packets_in (begun size) entries)))
+    ap (λ (xs : List Sent). joined is_up xs) (whole_segments size entries)
     ∙ entries_carried (begun size) is_up entries
 
 -- ---- The line
@@ -147,7 +152,7 @@ asked_joined line octets =
     ∙ no_frame_joined unfinished line.pending)
 
 -- what is pending, and comes with an entry, goes with it, or is pending then
-entry_received : (line : Line) (entry : LogEntry) →
+pub entry_received : (line : Line) (entry : LogEntry) →
     serial_joined false (serial_of line entry) ++ (line_after line entry).pending
     ≡ line.pending ++ line_octets false entry
 entry_received line (Came now (LineIn octets)) = received_joined line octets
@@ -303,7 +308,8 @@ entries_sent c (entry ∷ entries) =
     ∙ sym (sent_more c.connection (deeds_of entry) (flat_map deeds_of entries))
 
 pub segments_run : (size : LinkSize) (entries : List LogEntry) →
-    RunOn 0 0 (segments_in (packets_in (begun size) entries))
+    RunOn 0 0 (segments_in (whole_capture size entries))
 segments_run size entries =
-    subst (λ (sent : List Sent). RunOn 0 0 sent) (sym (entries_sent (begun size) entries))
+    subst (λ (sent : List Sent). RunOn 0 0 sent)
+    (sym (whole_segments size entries ∙ entries_sent (begun size) entries))
     (run_on (begun size).connection (flat_map deeds_of entries))

@@ -160,3 +160,20 @@ skipped_by false o is none = cc (ap is_some none)
 pub other_skipped : (text : List ℕ) → is_line text ≡ true → entry_logged text ≡ None
     → is_skipped text ≡ true
 other_skipped text is none = skipped_by (is_skipped text) (entry_logged text) is none
+
+-- a line that logs something, and one that is passed over
+right_by : (skipped : Bool) (o : Option LogEntry) (entry : LogEntry) → o ≡ Some entry
+    → (skipped || is_some o) ≡ true
+right_by true o entry is = refl
+right_by false o entry is = ap is_some is
+
+pub logged_right : (text : List ℕ) (entry : LogEntry) → entry_logged text ≡ Some entry
+    → is_line text ≡ true
+logged_right text entry is = right_by (is_skipped text) (entry_logged text) entry is
+
+pub skipped_right : (text : List ℕ) → is_skipped text ≡ true
+    → (is_line text ≡ true) × (entry_logged text ≡ None)
+skipped_right text is = (
+  ap (λ (b : Bool). b || is_some (entry_logged text)) is,
+  ap (λ (b : Bool). if b then None else entry_from (slice_split (λ b. b == 32) text)) is,
+)

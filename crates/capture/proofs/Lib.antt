@@ -17,3 +17,5 @@ pub mod ReadAlike
 pub mod Saying
 pub mod Kept
 pub mod Gaps
+pub mod Entering
+pub mod Stopping

@@ -147,7 +147,7 @@ broken_said size request is_awaited (octet ∷ octets) rest is h =
 
 -- ---- Entries
 
-abbrev IsPending : Line → Type 0
+abbrev pub IsPending : Line → Type 0
 IsPending line = front_of line.size line.pending ≡ More
 
 arrived_said : Fronts → (line : Line) (octets : List ℕ) (rest : List Serial) →
@@ -191,7 +191,7 @@ entry_said fronts line (Went now (Closed cause)) rest is h = h
 entry_said fronts line (Went now (GapOut station session)) rest is h =
     missing line.request line.is_awaited station session rest h
 
-pending_after : Fronts → (line : Line) (entry : LogEntry) → IsPending line →
+pub pending_after : Fronts → (line : Line) (entry : LogEntry) → IsPending line →
     IsPending (line_after line entry)
 pending_after fronts line (Came now (LineIn octets)) is =
     let cut = cut_of line.size (line.pending ++ octets) in
@@ -207,7 +207,7 @@ pending_after fronts line (Went now (TcpOut octets)) is = is
 pending_after fronts line (Went now (Closed cause)) is = is
 pending_after fronts line (Went now (GapOut station session)) is = is
 
-same_size : (line : Line) (entry : LogEntry) → (line_after line entry).size ≡ line.size
+pub same_size : (line : Line) (entry : LogEntry) → (line_after line entry).size ≡ line.size
 same_size line (Came now (LineIn octets)) = refl
 same_size line (Came now Opened) = refl
 same_size line (Came now (TcpIn octets)) = refl

@@ -1,18 +1,20 @@
 -- The segments of a capture are connections, one after another.
-use Rattle.std.proofs.Common.{◌≡◌, ℕ, Bool, true, false, List, [], ◌∷◌, ◌++◌, refl}
+use Rattle.std.proofs.Common.{◌≡◌, ℕ, Bool, true, false, List, [], ◌∷◌, ◌++◌, refl, subst}
+use Rattle.std.proofs.Common.{sym}
 use Rattle.ft12.specs.declared.frame.LinkSize.{LinkSize}
 use Rattle.gateway.specs.Log.{LogEntry, Came, Went, LineIn, Opened, TcpIn, CutOff, Ticked, WallIs}
 use Rattle.gateway.specs.Log.{Restarted, LineOut, TcpOut, Closed, GapOut}
 use Rattle.session.specs.declared.kinds.Close.TheVariants.{Grammar, SendNumber, ReceiveNumber}
 use Rattle.session.specs.declared.kinds.Close.TheVariants.{Stopped, Timeout, OwnAnswers, Replaced}
 use Rattle.capture.specs.Captures.{Captured, after, begun, close_comment, deeds_of, packets_in}
-use Rattle.capture.specs.Captures.{segments_in}
+use Rattle.capture.specs.Captures.{segments_in, whole_capture}
 use Rattle.capture.specs.Connections.{Sent, Deed, Opens, Carries, Closes, Cuts, after_deeds}
 use Rattle.capture.specs.Connections.{sent_in}
 use Rattle.capture.specs.Streams.{AreStreams, IsBare, Stage, Absent, Called, Answered, Open}
 use Rattle.capture.specs.Streams.{Leaving}
 use Rattle.capture.specs.Streams.{Left}
 use Rattle.capture.specs.declared.connection.Connection.{Connection}
+use Rattle.capture.proofs.CaptureLemmas.{whole_segments}
 
 -- a connection that is open has been answered and acknowledged
 abbrev stage_of : (is_open : Bool) → Stage
@@ -155,5 +157,7 @@ entries_on c (entry ∷ entries) =
     (segments_in (packets_in (after c entry) entries)) (entries_on (after c entry) entries)
 
 pub streams_so : (size : LinkSize) (entries : List LogEntry) →
-    AreStreams 49151 Absent (segments_in (packets_in (begun size) entries))
-streams_so size entries = entries_on (begun size) entries
+    AreStreams 49151 Absent (segments_in (whole_capture size entries))
+streams_so size entries =
+    subst (λ (sent : List Sent). AreStreams 49151 Absent sent) (sym (whole_segments size entries))
+    (entries_on (begun size) entries)

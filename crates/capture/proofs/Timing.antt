@@ -5,8 +5,10 @@ use Rattle.std.specs.Prelude.{unwrap_or}
 use Rattle.gateway.specs.Log.{Log, LogEntry, Came, Went, LineIn, Opened, TcpIn, CutOff, Ticked}
 use Rattle.gateway.specs.Log.{WallIs, Restarted, last_moment, latest}
 use Rattle.gateway.specs.Walls.{wall_on}
-use Rattle.capture.specs.Captures.{Captured, Packets, after, packets_in}
-use Rattle.capture.specs.Clocks.{clock_after, micros_of, time_of, times_of}
+use Rattle.ft12.specs.declared.frame.LinkSize.{LinkSize}
+use Rattle.capture.specs.Captures.{Captured, Packets, after, after_all, begun, last_packets}
+use Rattle.capture.specs.Captures.{packets_in}
+use Rattle.capture.specs.Clocks.{behind, clock_after, micros_of, time_of, times_of}
 use Rattle.capture.specs.declared.clock.Clock.{Clock}
 
 -- the clock behind a log
@@ -71,6 +73,18 @@ entries_timed c log (entry ∷ entries) h =
     (ap micros_of next ∙ time_is (entry ∷ log))
     ∙ ap (λ (ts : List ℕ). time_of (entry ∷ log) ∷ ts)
     (entries_timed (after c entry) (entry ∷ log) entries next)
+
+-- what is kept behind entries is of the log that they make
+clocked : (c : Captured) (log : Log) (entries : List LogEntry) → c.clock ≡ clock_of log
+    → (after_all c entries).clock ≡ clock_of (behind log entries)
+clocked c log [] h = h
+clocked c log (entry ∷ entries) h =
+    clocked (after c entry) (entry ∷ log) entries (ap (λ (k : Clock). clock_after k entry) h)
+
+pub end_timed : (size : LinkSize) (entries : List LogEntry)
+    → (last_packets (after_all (begun size) entries)).micros ≡ time_of (behind [] entries)
+end_timed size entries =
+    ap micros_of (clocked (begun size) [] entries refl) ∙ time_is (behind [] entries)
 
 -- ---- where the wall clock was given, and where it wasn't
 

@@ -28,6 +28,11 @@ micros_of clock =
 abbrev pub time_of : Log → ℕ
 time_of log = min (unwrap_or (wall_on log (latest log)) (latest log) * 1000) (2 ^ 64 - 1)
 
+-- a log with entries behind it
+abbrev pub behind : Log → List LogEntry → Log
+behind log [] = log
+behind log (entry ∷ entries) = behind (entry ∷ log) entries
+
 -- the times of entries, one after another, behind a log
 abbrev pub times_of : Log → List LogEntry → List ℕ
 times_of log [] = []

@@ -12,4 +12,6 @@ pub mod Captures
 pub mod Streams
 pub mod Readers
 pub mod Remarks
+pub mod Entered
 pub mod Texts
+pub mod Stops

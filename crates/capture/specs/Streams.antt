@@ -65,6 +65,10 @@ mark_of s =
     else (if s.segment.flags == 17 && s.segment.is_up then Some (Ends s.comment)
     else (if s.segment.flags == 20 then Some Breaks else None))
 
+-- a comment stands on the gateway's FIN alone
+abbrev pub IsUncommented : Sent → Type 0
+IsUncommented s = (s.segment.flags == 17 && s.segment.is_up) ≡ false → s.comment ≡ []
+
 -- what entries tell, where a connection is there or not: one that is opened takes the place of
 -- another; octets are of one that is there; and one that is gone doesn't end
 abbrev pub marks_due : (is_there : Bool) → List LogEntry → List Mark

@@ -26,7 +26,7 @@ pub fn remarks_are_as_written()
         IsRemembered before (LineOut octets) after remark →
         (before.request ≡ octets → remark ≡ codes ", repeat")
         × ((before.request ≡ octets → ⊥) → remark ≡ [])
-        × (after.request ≡ octets) × (after.is_awaited ≡ true) }
+        × (after.request ≡ octets) × (after.is_awaited ≡ true) × (after.line ≡ Some []) }
     ensures firsts { (style : Style) (now : ℕ) (before after : Remembered) (first : ℕ)
         (octets lines : List ℕ) → AreFramesReceived style now before (first ∷ octets) after lines →
         IsFirstLine style now before (first ∷ octets) after lines }

@@ -1,3 +1,5 @@
 pub mod Ends
 pub mod Opened
 pub mod Describing
+pub mod Firsts
+pub mod Spelled

@@ -9,3 +9,4 @@ pub mod Connections
 pub mod Pipes
 pub mod Described
 pub mod Told
+pub mod Firsts

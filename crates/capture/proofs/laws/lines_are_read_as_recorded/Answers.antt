@@ -1,6 +1,6 @@
 use Rattle.capture.proofs.ReadAlike.{actions_alike, events_alike}
 use Rattle.capture.proofs.Kept.{event_kept, request_kept, apdu_kept, close_kept, gap_kept}
-use Rattle.capture.proofs.Kept.{other_skipped}
+use Rattle.capture.proofs.Kept.{logged_right, other_skipped, skipped_right}
 use Rattle.capture.proofs.laws.lines_are_read_as_recorded.Goals as goal
 
 pub returns : goal.returns
@@ -13,4 +13,6 @@ returns c = record {
   closes = close_kept;
   gaps = gap_kept;
   others = other_skipped;
+  right = logged_right;
+  passed = skipped_right;
 }

@@ -1,6 +1,6 @@
 use Rattle.std.proofs.Common.{[], refl}
 use Rattle.capture.specs.Captures.{begun}
-use Rattle.capture.proofs.Timing.{entries_timed, shown_then, unshown_then}
+use Rattle.capture.proofs.Timing.{end_timed, entries_timed, shown_then, unshown_then}
 use Rattle.capture.proofs.laws.packets_stand_at_their_times.Goals as goal
 
 pub returns : goal.returns
@@ -8,6 +8,7 @@ returns c = record {
   times = λ size entries. entries_timed (begun size) [] entries refl;
   shown = shown_then;
   unshown = unshown_then;
+  last = end_timed;
   none = λ log. refl;
   each = λ log entry entries. refl;
 }

@@ -1,14 +1,19 @@
-use Rattle.std.proofs.Common.{◌≡◌, ℕ, Bool, true, false, not, List, [], ◌∷◌, refl, ap, ◌∙◌}
-use Rattle.std.specs.Prelude.{Option, Some}
+use Rattle.std.proofs.Common.{◌≡◌, ℕ, Bool, true, false, not, List, [], ◌∷◌, refl, ap, ◌∙◌, subst}
+use Rattle.std.specs.Prelude.{Option, Some, None, length}
+use Rattle.ft12.specs.Assembly.{Receives}
 use Rattle.ft12.specs.declared.assembling.Received.{Received}
 use Rattle.ft12.specs.declared.assembling.Received.TheVariants.{Frame, More, Never, Deaf}
+use Rattle.ft12.specs.declared.frame.LinkSize.{LinkSize}
 use Rattle.gateway.specs.Log.{LogEntry, Came, Went, LineIn, Opened, TcpIn, CutOff, Ticked, WallIs}
 use Rattle.gateway.specs.Log.{Restarted, LineOut, TcpOut, Closed, GapOut}
 use Rattle.ladder.specs.Described.{AreApdusReceived, AreFramesReceived, IsEntryLogged, Remembered}
 use Rattle.ladder.specs.Described.{no_more, no_more_apdus, one_more, one_more_apdu, still_awaited}
-use Rattle.ladder.specs.Remarks.{IsAwaitedBehind, IsFirstLine, IsOfTheLine, IsRemark, IsSameLine}
-use Rattle.ladder.specs.Rungs.{received_line, received_remark}
+use Rattle.ladder.specs.Described.{Listens}
+use Rattle.ladder.specs.Remarks.{IsAwaitedBehind, IsFirstLine, IsOfTheLine, IsRemark, IsSaid}
+use Rattle.ladder.specs.Remarks.{IsSameLine}
+use Rattle.ladder.specs.Rungs.{received_line, received_remark, received_words}
 use Rattle.ladder.specs.declared.rungs.Style.{Style}
+use Rattle.show.specs.declared.sizes.LineSizes.{LineSizes}
 use Rattle.ladder.proofs.laws.remarks_are_as_written.Goals as goal
 
 remark_is : (is_awaited : Bool) (arrived : Received)
@@ -29,6 +34,27 @@ awaited_behind before More = refl
 awaited_behind before (Never place why) = refl
 awaited_behind before Deaf = refl
 
+said : (s : LineSizes) (n : ℕ) (arrived : Received)
+    → IsSaid s n arrived (received_words s n arrived)
+unfolding received_words
+said s n (Frame frame) = refl
+said s n More = refl
+said s n (Never place why) = refl
+said s n Deaf = refl
+
+heard_from : (size : LinkSize) (line : Option (List ℕ)) (so_far piece : List ℕ) (n : ℕ)
+    (arrived : Received) (later : Option (List ℕ)) → Listens size line piece n arrived later
+    → line ≡ Some so_far → Receives size so_far piece n arrived later
+heard_from size line so_far piece n arrived later h is =
+    subst (λ (o : Option (List ℕ)). Listens size o piece n arrived later) is h
+
+deaf_from : (size : LinkSize) (line : Option (List ℕ)) (piece : List ℕ) (n : ℕ)
+    (arrived : Received) (later : Option (List ℕ)) → Listens size line piece n arrived later
+    → line ≡ None → (arrived ≡ Deaf) × (n ≡ length piece) × (later ≡ None)
+deaf_from size line piece n arrived later h is =
+    let d = subst (λ (o : Option (List ℕ)). Listens size o piece n arrived later) is h in
+    (d.1, d.0, d.2)
+
 first_line : (style : Style) (now : ℕ) (before after : Remembered) (first : ℕ)
     (octets lines : List ℕ) → AreFramesReceived style now before (first ∷ octets) after lines
     → IsFirstLine style now before (first ∷ octets) after lines
@@ -37,15 +63,19 @@ first_line style now before after first octets lines
     (one_more mind last all rest n arrived later some listens more) = record {
       n = n;
       arrived = arrived;
-      listens = (later, listens);
+      later = later;
+      heard = λ so_far is. heard_from mind.size mind.line so_far all n arrived later listens is;
+      deaf = λ is. deaf_from mind.size mind.line all n arrived later listens is;
       remark = received_remark (not before.is_awaited) arrived;
       is_remark = remark_is before.is_awaited arrived;
+      words = received_words style.sizes n arrived;
+      is_said = said style.sizes n arrived;
       between = record before {
         line = later;
         is_awaited = still_awaited before.is_awaited arrived;
       };
       awaited = awaited_behind before.is_awaited arrived;
-      request = refl;
+      kept = refl;
       rest = rest;
       line = refl;
       others = more;
