@@ -1,2 +1,3 @@
 pub mod StationLemmas
 pub mod TwinLemmas
+pub mod HintLaws
