@@ -1,7 +1,7 @@
 -- What hints mean: the station, the key and the taken place.
-use Rattle.std.proofs.Common.{◌≡◌, ◌≢◌, ℕ, ℤ, ◌+◌, ◌<◌, ◌==◌, ◌⊎◌, inl, inr, Bool, true, false, not}
+use Rattle.std.proofs.Common.{◌≡◌, ◌≢◌, ℕ, ℤ, ◌+◌, ◌<◌, ◌==◌, ◌⊎◌, inl, inr, Bool, true, false}
 use Rattle.std.proofs.Common.{List, [], ◌∷◌, ◌++◌, codes, length, take, drop, Option, Some, None}
-use Rattle.std.proofs.Common.{Bor, refl, ap, sym, ◌∙◌, subst, arith, length-append}
+use Rattle.std.proofs.Common.{Bor, refl, ap, sym, ◌∙◌, arith, length-append}
 use Rattle.std.proofs.Math.Seq.{drop-append-add, take-append_seam}
 use Rattle.std.specs.Prelude.{IsTrue, option_and_then, option_map}
 use Rattle.std.specs.List.{position_or_len}
@@ -11,8 +11,8 @@ use Rattle.toml_places.specs.declared.changes.Spot.{Spot}
 use Rattle.hints.specs.Explained.{HasNoDot, IsItemOf, IsKeyOf, IsSpotOf, front_of, is_scalar}
 use Rattle.hints.specs.Explained.{is_single, names_station, rest_of}
 use Rattle.hints.specs.Law.{HasNone, number_at}
-use Rattle.hints.specs.Stations.{AreSame, HasKeyAt, IsFirst, IsPathOfKeyAt, IsStationOf, IsTaken}
-use Rattle.hints.specs.Stations.{IsTakenBy, has_key, number_of, stations_in}
+use Rattle.hints.specs.Stations.{IsPathOfKeyAt, IsStationOf, IsTaken}
+use Rattle.hints.specs.Stations.{IsTakenBy, number_of, stations_in}
 use Rattle.hints.specs.declared.file.File.{File}
 
 -- ---- Paths

@@ -4,11 +4,11 @@ ghost use Rattle.std.specs.Prelude.{Option, Some, codes, count_by, false, option
 ghost use Rattle.std.specs.Prelude.{string_bytes, take, true};
 ghost use Rattle.std.specs.Borrow.{Bor};
 ghost use Rattle.std.specs.Fmt.{decimal};
-ghost use Rattle.settings.specs.Settings as settings;
+ghost use Rattle.settings.specs.FirstWrong as of_settings;
 ghost use Rattle.settings.specs.Settings.{IsDocument};
 ghost use Rattle.settings.specs.Wanted.{wanted_values};
 ghost use Rattle.settings.specs.declared.fault.ConfigFault.TheVariants.{Key, Unknown};
-ghost use Rattle.sitefile.specs.Names as sites;
+ghost use Rattle.sitefile.specs.FirstWrong as of_site;
 ghost use Rattle.sitefile.specs.Wanted.{site_values};
 ghost use Rattle.sitefile.specs.declared.fault.SiteFault.TheVariants as site;
 ghost use Rattle.toml.specs.Data.{Data, Items, Members, array, as_array, as_table, get, get_item};
@@ -24,18 +24,17 @@ ghost use Rattle.hints.specs.declared.file.File.{File};
 ghost use Rattle.hints.specs.declared.file.File.TheVariants.{Settings, Site};
 ghost use Rattle.hints.specs.declared.finding.KeyPlace.TheVariants.{Gap, Value};
 
-/// Which station a fault means, of every file. Where a number of a station is wrong, a name or a
-/// flag, it is the first station that is wrong. Of any other key of a station it is the first one
-/// that has the key, counted from 0, and none where none has it. A key of another table means none.
+/// Which station a fault means, of every file. Whatever key of a station is refused, it is the
+/// station that has this very fault, and that is the first that isn't right. Of any other key of a
+/// station it is the first one that has the key, counted from 0, and none where none has it. A key
+/// of another table means none.
 pub fn the_first_station_with_the_fault_is_meant()
-    ensures settings { (root : Members) (item : Option ℕ) →
-        (IsItemOf Settings (codes "station.address") root item → item ≡ settings.wrong_station root)
-        × (IsItemOf Settings (codes "station.ca") root item → item ≡ settings.wrong_station root)
-        × (IsItemOf Settings (codes "station.select") root item →
-        item ≡ settings.wrong_station root) }
-    ensures sites { (root : Members) (item : Option ℕ) →
-        (IsItemOf Site (codes "station.link") root item → item ≡ sites.wrong_station root)
-        × (IsItemOf Site (codes "station.name") root item → item ≡ sites.wrong_station root) }
+    ensures settings { (root : Members) (path : List ℕ) (item : Option ℕ)
+        (wrong : of_settings.IsStationWrong root path) → IsItemOf Settings path root item →
+        item ≡ Some wrong.place }
+    ensures sites { (root : Members) (path : List ℕ) (item : Option ℕ)
+        (wrong : of_site.IsStationWrong root path) → IsItemOf Site path root item →
+        item ≡ Some wrong.place }
     ensures has { (file : File) (key : List ℕ) (root : Members) (stations : Items) (place : ℕ)
         (station : Data) → names_station file (codes "station." ++ key) ≡ false →
         IsItemOf file (codes "station." ++ key) root (Some place) →

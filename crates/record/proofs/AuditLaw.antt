@@ -1,12 +1,12 @@
 -- What an audit says of the lines of a record.
-use Rattle.std.proofs.Common.{◌≡◌, ℕ, ◌+◌, ◌||◌, ◌⊎◌, inl, inr, Bool, true, false, List, [], ◌∷◌}
-use Rattle.std.proofs.Common.{◌++◌, length, map, Some, None, Ok, Err, refl, ap, sym, ◌∙◌, subst}
-use Rattle.std.proofs.Common.{if◌then◌else◌, arith}
+use Rattle.std.proofs.Common.{◌≡◌, ℕ, ◌+◌, ◌||◌, inl, inr, Bool, true, false, List, [], ◌∷◌}
+use Rattle.std.proofs.Common.{◌++◌, length, Some, None, refl, ap, sym, ◌∙◌, subst}
+use Rattle.std.proofs.Common.{if◌then◌else◌}
 use Rattle.std.proofs.lemmas.List.{length-map}
 use Rattle.std.specs.List.{AllByRecursion}
 use Rattle.gateway.specs.Config.{Settings}
 use Rattle.gateway.specs.Log.{Log, LogEntry, events_of}
-use Rattle.traces.specs.LineByLine.{AreSaid, IsFirstWrong, IsGood, IsPassedOver}
+use Rattle.traces.specs.LineByLine.{AreSaid, IsFirstWrong, IsGood}
 use Rattle.traces.specs.Printed.{lines_of_log}
 use Rattle.traces.specs.Progress.{events_in}
 use Rattle.traces.specs.Trace.{first_wrong}

@@ -1,8 +1,8 @@
 -- Where a value that is found begins and ends.
 use Rattle.std.proofs.Common.{◌≡◌, ℕ, ◌+◌, ◌-◌, ◌==◌, ◌<◌, rules, ◌&&◌, ◌||◌, ◌⊎◌, inl, inr, Bool}
 use Rattle.std.proofs.Common.{true, false, suc}
-use Rattle.std.proofs.Common.{not, cond, List, [], ◌∷◌, ◌++◌, length, take, drop, get_or, Option}
-use Rattle.std.proofs.Common.{Some, None, refl, ap, sym, ◌∙◌, subst, append_assoc, arith}
+use Rattle.std.proofs.Common.{not, List, [], ◌∷◌, ◌++◌, length, take, drop, get_or}
+use Rattle.std.proofs.Common.{Some, None, refl, ap, sym, ◌∙◌, append_assoc, arith}
 use Rattle.std.proofs.Common.{length-append, length-drop}
 use Rattle.std.proofs.Math.Seq.{drop-append_seam, take-append_seam}
 use Rattle.std.proofs.lemmas.Bool.{cond-true, lt-ltb, or_parts}
@@ -11,11 +11,10 @@ use Rattle.std.proofs.lemmas.Slice.Eq.{bytes_eq-Decides}
 use Rattle.std.specs.Prelude.{nat_eq, position, slice_index}
 use Rattle.std.specs.List.{AllByRecursion, prefix_len, starts_with}
 use Rattle.std.specs.Str.{bytes_eq}
-use Rattle.toml_places.specs.Law.{AreBlanks, AreTold, HasNone, IsBare, IsEnded, IsEquals, IsTold}
+use Rattle.toml_places.specs.Law.{AreBlanks, AreTold, HasNone, IsBare, IsEnded, IsTold}
 use Rattle.toml_places.specs.Law.{encloses_value, ends_value, span_behind}
-use Rattle.toml_places.specs.Spans.{behind_blanks, behind_quote, closing, enclosed_end, equals_at}
-use Rattle.toml_places.specs.Spans.{is_blank, is_plain, value_at, value_behind, value_end}
-use Rattle.toml_places.specs.declared.spans.Span.{Span}
+use Rattle.toml_places.specs.Spans.{behind_blanks, behind_quote, closing, equals_at}
+use Rattle.toml_places.specs.Spans.{is_blank, is_plain, value_at, value_end}
 
 -- ---- A text from a place on
 

@@ -1,6 +1,6 @@
 -- Words of the laws on places, values and headers of a text.
 use Rattle.std.specs.Prelude.{◌≡◌, ◌<◌, ◌⊎◌, ◌||◌, ℕ, nat_lt, ◌==◌, ◌+◌, Bool, true, false, codes}
-use Rattle.std.specs.Prelude.{List, [], ◌∷◌, ◌++◌, length, fold, Option, Some}
+use Rattle.std.specs.Prelude.{List, [], ◌∷◌, ◌++◌, length, fold, Some}
 use Rattle.std.specs.List.{AllByRecursion, list_any}
 use Rattle.toml_places.specs.Lines.{first_place, next_place}
 use Rattle.toml_places.specs.Spans.{value_at}
