@@ -7,9 +7,11 @@ use Rattle.std.specs.Prelude.{IsTrue, option_and_then, option_map}
 use Rattle.std.specs.List.{position_or_len}
 use Rattle.toml.specs.Data.{Data, Items, Members, array, as_array, as_integer, as_table, boolean}
 use Rattle.toml.specs.Data.{datetime, float, get, get_item, get_member, integer, string, table}
+use Rattle.toml_places.specs.Changes.{IsValueFound}
 use Rattle.toml_places.specs.declared.changes.Spot.{Spot}
+use Rattle.toml_places.specs.declared.spans.Span.{Span}
 use Rattle.hints.specs.Explained.{HasNoDot, IsItemOf, IsKeyOf, IsSpotOf, front_of, is_scalar}
-use Rattle.hints.specs.Explained.{is_single, names_station, rest_of}
+use Rattle.hints.specs.Explained.{IsTwin, IsTwinFound, is_single, names_station, rest_of}
 use Rattle.hints.specs.Law.{HasNone, number_at}
 use Rattle.hints.specs.Stations.{IsPathOfKeyAt, IsStationOf, IsTaken}
 use Rattle.hints.specs.Stations.{IsTakenBy, number_of, stations_in}
@@ -147,6 +149,23 @@ pub none_taken : (stations : Items) (item before : ℕ) (key : List ℕ) (n : �
     → number_at stations item key ≡ Some n → number_at stations before key ≢ Some n
 none_taken stations item before key n taken lt own same =
     taken before (taken_by stations item before key n lt own same)
+
+pub taken_place : (root : Members) (spot : Spot) (text : List ℕ) (s : Span)
+    → IsTwin root spot text (Some s)
+    → (item : ℕ) × (other : ℕ) × (spot.item ≡ Some item)
+    × IsTakenBy (stations_in root) (Some item) spot.key.now (Some other)
+    × IsValueFound (record spot { item = Some other }) text (Some s)
+taken_place root spot text s twin = by spot.item twin.other refl twin.taken twin.found
+  where
+    by : (own other : Option ℕ) → spot.item ≡ own
+        → IsTakenBy (stations_in root) own spot.key.now other
+        → IsTwinFound spot other text (Some s)
+        → (item : ℕ) × (other : ℕ) × (spot.item ≡ Some item)
+        × IsTakenBy (stations_in root) (Some item) spot.key.now (Some other)
+        × IsValueFound (record spot { item = Some other }) text (Some s)
+    by own None is taken found = cc
+    by None (Some other) is taken found = cc
+    by (Some own) (Some other) is taken found = (own, other, is, taken, found)
 
 false_no : (b : Bool) → b ≡ false → IsTrue b → ⊥
 false_no true is h = cc

@@ -13,10 +13,12 @@ ghost use Rattle.sitefile.specs.Wanted.{site_values};
 ghost use Rattle.sitefile.specs.declared.fault.SiteFault.TheVariants as site;
 ghost use Rattle.toml.specs.Data.{Data, Items, Members, array, as_array, as_table, get, get_item};
 ghost use Rattle.toml.specs.Data.{get_member};
+ghost use Rattle.toml_places.specs.Changes.{IsValueFound};
 ghost use Rattle.toml_places.specs.declared.changes.Spot.{Spot};
 ghost use Rattle.toml_places.specs.declared.spans.Span.{Span};
 ghost use Rattle.hints.specs.Explained.{AreKeyLines, IsExplained, IsItemOf, IsSiteExplained};
-ghost use Rattle.hints.specs.Explained.{IsSpotOf, found_line, names_station, place_of, twin_line};
+ghost use Rattle.hints.specs.Explained.{IsPlace, IsSpotOf, IsTwin, found_line, names_station};
+ghost use Rattle.hints.specs.Explained.{place_of, twin_line};
 ghost use Rattle.hints.specs.Explained.{wanted_line};
 ghost use Rattle.hints.specs.Law.{HasNone, number_at};
 ghost use Rattle.hints.specs.Stations.{IsTakenBy, stations_in};
@@ -56,7 +58,8 @@ pub fn the_first_station_with_the_fault_is_meant()
 {}
 
 /// The place that is said to be taken is that of an earlier station, the first that has the same
-/// number under the same key. None is said only if no earlier station has it.
+/// number under the same key, and the octets told are those of its value. No station is meant only
+/// if no earlier one has the number.
 pub fn a_taken_number_is_that_of_the_first_station_that_has_it()
     ensures earlier { (stations : Items) (item other : ℕ) (key : List ℕ) →
         IsTakenBy stations (Some item) key (Some other) → other < item }
@@ -67,6 +70,11 @@ pub fn a_taken_number_is_that_of_the_first_station_that_has_it()
     ensures first { (stations : Items) (item other before : ℕ) (key : List ℕ) (number : ℤ) →
         IsTakenBy stations (Some item) key (Some other) → before < other →
         number_at stations item key ≡ Some number → number_at stations before key ≢ Some number }
+    ensures place { (root : Members) (spot : Spot) (text : List ℕ) (s : Span) →
+        IsTwin root spot text (Some s) →
+        (item : ℕ) × (other : ℕ) × (spot.item ≡ Some item)
+        × IsTakenBy (stations_in root) (Some item) spot.key.now (Some other)
+        × IsValueFound (record spot { item = Some other }) text (Some s) }
     ensures none { (stations : Items) (item before : ℕ) (key : List ℕ) (number : ℤ) →
         IsTakenBy stations (Some item) key None → before < item →
         number_at stations item key ≡ Some number → number_at stations before key ≢ Some number }
@@ -99,6 +107,12 @@ pub fn a_fault_is_told_with_its_place()
         IsDocument text root →
         (IsExplained text (Key path) lines → AreKeyLines Settings text path.now lines)
         × (IsSiteExplained text (site.Key path) lines → AreKeyLines Site text path.now lines) }
+    ensures order { (file : File) (text path lines : List ℕ)
+        (are : AreKeyLines file text path lines) → lines
+        ≡ found_line text are.found ++ wanted_line file path ++ twin_line text are.twin }
+    ensures stands { (spot : Spot) (text : List ℕ) (s : Span) →
+        (IsPlace spot text (Value s) → IsValueFound spot text (Some s))
+        × (IsPlace spot text (Gap s) → IsValueFound spot text None) }
     ensures place { (text : List ℕ) (s : Span) → found_line text (Value s)
         ≡ codes "line " ++ decimal (count_by (λ b. b == 10) (take s.from text) + 1)
         ++ codes ", column " ++ decimal (place_of text s.from).column ++ codes ": "
