@@ -2,7 +2,9 @@
 ghost use Rattle.std.specs.Prelude.{◌≡◌, ◌≢◌, ◌+◌, ◌<◌, ◌==◌, ◌⊎◌, ℕ, ℤ, List, [], ◌∷◌, ◌++◌, None};
 ghost use Rattle.std.specs.Prelude.{Option, Some, codes, count_by, false, option_map, slice_range};
 ghost use Rattle.std.specs.Prelude.{string_bytes, take, true};
+ghost use Rattle.std.specs.Prelude.{String};
 ghost use Rattle.std.specs.Borrow.{Bor};
+ghost use Rattle.std.specs.declared.alloc.Global.{Global};
 ghost use Rattle.std.specs.Fmt.{decimal};
 ghost use Rattle.settings.specs.FirstWrong as of_settings;
 ghost use Rattle.settings.specs.Settings.{IsDocument};
@@ -107,6 +109,12 @@ pub fn a_fault_is_told_with_its_place()
         IsDocument text root →
         (IsExplained text (Key path) lines → AreKeyLines Settings text path.now lines)
         × (IsSiteExplained text (site.Key path) lines → AreKeyLines Site text path.now lines) }
+    ensures unknown_keys { (text lines : List ℕ) (path : String Global) (root : Members) →
+        IsDocument text root →
+        (IsExplained text (Unknown path) lines →
+        AreKeyLines Settings text (string_bytes path) lines)
+        × (IsSiteExplained text (site.Unknown path) lines →
+        AreKeyLines Site text (string_bytes path) lines) }
     ensures order { (file : File) (text path lines : List ℕ)
         (are : AreKeyLines file text path lines) → lines
         ≡ found_line text are.found ++ wanted_line file path ++ twin_line text are.twin }
