@@ -99,6 +99,11 @@ pub fn each_station_has_its_line()
         awaits_command p station ≡ false → s.session.has_gap ≡ true → station_line p station s
         ≡ line (codes "station " ++ decimal s.address ++ link_words (link_left p station s)
         ++ codes ", session " ++ decimal s.session.number ++ codes ", gap if it is reset") }
+    ensures both { (p : Primary) (station : ℕ) (s : StationState) →
+        awaits_command p station ≡ true → s.session.has_gap ≡ true → station_line p station s
+        ≡ line (codes "station " ++ decimal s.address ++ link_words (link_left p station s)
+        ++ codes ", given up at a start, session " ++ decimal s.session.number
+        ++ codes ", gap if it is reset") }
     ensures idle { (p : Primary) (station : ℕ) (s : StationState) → p.outstanding ≡ None →
         link_left p station s ≡ s.link }
     ensures others { (p : Primary) (station : ℕ) (s : StationState) → p.turn ≢ station →
@@ -107,9 +112,15 @@ pub fn each_station_has_its_line()
         p.outstanding ≡ Some o →
         (o.request ≡ Status → link_words (link_left p p.turn s) ≡ codes " down")
         × (o.request ≡ Reset → link_words (link_left p p.turn s) ≡ codes " down")
+        × ((fcb : Bool) → o.request ≡ Counted fcb Class1 →
+        link_words (link_left p p.turn s) ≡ link_words (Next fcb)
+        ++ codes ", poll of class 1 without an answer")
         × ((fcb : Bool) → o.request ≡ Counted fcb Class2 →
         link_words (link_left p p.turn s) ≡ link_words (Next fcb)
-        ++ codes ", poll of class 2 without an answer") }
+        ++ codes ", poll of class 2 without an answer")
+        × ((fcb : Bool) (asdu : List ℕ) → o.request ≡ Counted fcb (Command asdu) →
+        link_words (link_left p p.turn s) ≡ link_words (Next fcb)
+        ++ codes ", command without an answer") }
     ensures words { (asdu : List ℕ) (missed : ℕ) →
         (link_words Down ≡ codes " down")
         × (link_words Available ≡ codes " down, its status is known")
