@@ -80,9 +80,7 @@ pub fn a_log_is_told_whole()
 {}
 
 /// Each station has a line of its own, in their order, whatever is on the line: its address, its
-/// link, its session, and whether a start gives up a command to it, or a reset leaves a gap. Its
-/// link is the one that it has, but for the station whose answer is awaited. That one is down if
-/// its status or a reset is awaited, and else its service has no answer so far.
+/// link, its session, and whether a start gives up a command to it, or a reset leaves a gap.
 pub fn each_station_has_its_line()
     ensures lines { (p : Primary) (before behind : List StationState) (s : StationState) →
         station_lines p 0 (before ++ s ∷ behind) ≡ station_lines p 0 before
@@ -104,6 +102,12 @@ pub fn each_station_has_its_line()
         ≡ line (codes "station " ++ decimal s.address ++ link_words (link_left p station s)
         ++ codes ", given up at a start, session " ++ decimal s.session.number
         ++ codes ", gap if it is reset") }
+{}
+
+/// The link in a station's line is the one that it has, but for the station whose answer is
+/// awaited. That one is down if its status or a reset is awaited, and else its service has no
+/// answer so far. The words tell each link from the others.
+pub fn links_are_told_as_they_stand()
     ensures idle { (p : Primary) (station : ℕ) (s : StationState) → p.outstanding ≡ None →
         link_left p station s ≡ s.link }
     ensures others { (p : Primary) (station : ℕ) (s : StationState) → p.turn ≢ station →
