@@ -480,8 +480,8 @@ def looks(count, program, folder):
     for size, told in (
         (1, b""),
         (part - 4096, b""),
-        (part + part // 100, b"\r99 %\r    \r"),
-        (2 * part + part // 2, b"\r39 %\r79 %\r    \r"),
+        (part + part // 100, b"\r99 %\r     \r"),
+        (2 * part + part // 2, b"\r39 %\r79 %\r     \r"),
     ):
         with open(os.path.join(folder, "long.trace"), "w") as file:
             file.write(comment * (size // 1024))
@@ -500,7 +500,7 @@ def looks(count, program, folder):
     with open(os.path.join(folder, "long.script"), "w") as file:
         file.write(f"turns {part + 9}\n")
     seen, done = looked_at(program, "sim good.toml long.script", folder)
-    is_right = (done.returncode, seen) == (0, b"\r99 %\r    \r") and text(done.stdout).startswith("1 > S 1049014A16\n")
+    is_right = (done.returncode, seen) == (0, b"\r99 %\r     \r") and text(done.stdout).startswith("1 > S 1049014A16\n")
     count.judge(f"{part + 9} calls looked at", is_right, (done.returncode, seen))
     done = ran([program, *"sim good.toml long.script".split()], folder)
     count.judge(f"{part + 9} calls, nobody looks", (done.returncode, done.stderr) == (0, b""), (done.returncode, done.stderr))

@@ -1,2 +1,4 @@
 pub mod StationLemmas
 pub mod TwinLemmas
+pub mod HintLaws
+pub mod RefusedLaws

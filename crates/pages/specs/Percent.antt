@@ -12,4 +12,4 @@ percent_text percent = 13 ∷ decimal percent ++ codes " %"
 
 -- the line is blank, and what comes next stands at its beginning
 abbrev pub blank_text : List ℕ
-blank_text = 13 ∷ codes "    " ++ 13 ∷ []
+blank_text = 13 ∷ codes "     " ++ 13 ∷ []

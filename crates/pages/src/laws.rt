@@ -1,6 +1,8 @@
 //! What the percent mean that a long run shows.
-ghost use Rattle.std.specs.Prelude.{◌≡◌, ◌+◌, ◌*◌, ◌<◌, ◌≤◌, ℕ};
-ghost use Rattle.pages.specs.Percent.{percent_of};
+ghost use Rattle.std.specs.Prelude.{◌≡◌, ◌+◌, ◌*◌, ◌<◌, ◌≤◌, ℕ, List, [], ◌∷◌, ◌++◌, length, Some};
+ghost use Rattle.std.specs.Prelude.{codes, true, false};
+ghost use Rattle.pages.specs.Percent.{blank_text, percent_of, percent_text};
+ghost use Rattle.pages.specs.Pouring.{IsPoured};
 
 /// So many whole percent are done, and not one more, of all numbers. While a run goes on they never
 /// fall, and there are 100 only once all is done.
@@ -11,4 +13,23 @@ pub fn percents_are_whole()
         percent_of done all ≤ percent_of later all }
     ensures below { (done all : ℕ) → done < all → percent_of done all < 100 }
     ensures whole { (all : ℕ) → 0 < all → percent_of all all ≡ 100 }
+{}
+
+/// Each percent that is shown stands at the beginning of its line, in five columns at most. At the
+/// end these five are blank, so that nothing of it is left there.
+pub fn what_is_shown_is_blanked()
+    ensures shown { (done all : ℕ) → 0 < all → done ≤ all →
+        (shown : List ℕ) × (percent_text (percent_of done all) ≡ 13 ∷ shown)
+        × (length shown ≤ 5) }
+    ensures blanked { blank_text ≡ 13 ∷ codes "     " ++ 13 ∷ [] }
+{}
+
+/// An output that has taken all has the text behind what it had before, and nothing else. One that
+/// has failed has a beginning of it there.
+pub fn outputs_have_the_text_or_its_beginning()
+    ensures whole { (before after text : List ℕ) →
+        IsPoured true (Some before) (Some after) text → after ≡ before ++ text }
+    ensures begun { (before after text : List ℕ) →
+        IsPoured false (Some before) (Some after) text →
+        (some : List ℕ) × ((rest : List ℕ) × (some ++ rest ≡ text)) × (after ≡ before ++ some) }
 {}

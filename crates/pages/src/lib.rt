@@ -19,7 +19,9 @@ mod printing;
 mod progress;
 
 pub use driving::drive_printed;
-pub use laws::percents_are_whole;
+pub use laws::{
+    outputs_have_the_text_or_its_beginning, percents_are_whole, what_is_shown_is_blanked,
+};
 pub use paged::Paged;
 pub use printing::{print, print_behind};
 pub use progress::{blank_if, show_percent};

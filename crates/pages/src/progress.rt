@@ -39,5 +39,5 @@ fn percent(done: u64, all: u64) -> u8
 fn blank<E: Write>(err: &mut E) -> io::Result<()>
     ensures { OnOk result (Appends (E.contents err.old) (E.contents err.new) blank_text) }
 {
-    write!(err, "\r    \r")
+    write!(err, "\r     \r")
 }

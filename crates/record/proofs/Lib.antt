@@ -8,3 +8,4 @@ pub mod DifferenceLaw
 pub mod RunLemmas
 pub mod BlockLemmas
 pub mod Telling
+pub mod AuditLaw

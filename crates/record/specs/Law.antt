@@ -1,7 +1,14 @@
 -- Words of the laws of a record (this gateway's own profile).
-use Rattle.std.specs.Prelude.{◌≡◌, ◌≢◌, ℕ, ◌+◌, ◌==◌, Bool, true, false, List, [], ◌∷◌, ◌++◌}
-use Rattle.std.specs.Prelude.{All, if◌then◌else◌, length}
-use Rattle.record.specs.Lines.{is_cut}
+use Rattle.std.specs.Prelude.{◌≡◌, ◌≢◌, ◌⊎◌, ℕ, ◌+◌, ◌==◌, ◌||◌, Bool, true, false, List, [], ◌∷◌}
+use Rattle.std.specs.Prelude.{◌++◌, All, if◌then◌else◌, length, count_by}
+use Rattle.std.specs.List.{AllByRecursion}
+use Rattle.gateway.specs.Config.{Settings}
+use Rattle.gateway.specs.Log.{Log, events_of}
+use Rattle.gateway.specs.Setups.{setup_of}
+use Rattle.gateway.specs.Traffic.{IsFaithful}
+use Rattle.traces.specs.LineByLine.{AreSaid, IsGood}
+use Rattle.traces.specs.Printed.{lines_of_log}
+use Rattle.record.specs.Lines.{is_action, is_cut, whole_lines}
 use Rattle.record.specs.Recording.{Recording, text_of, added}
 
 -- Where the record goes on its text is the one before and this behind it; where it is over, the one
@@ -35,3 +42,47 @@ pub record IsFirstOff (n : ℕ) (lines run : List (List ℕ)) (number : ℕ) : T
   pub rest : List (List ℕ)
   pub same : uncut before ++ rest ≡ run
   pub differs : (more : List (List ℕ)) → rest ≢ line ∷ more
+
+-- ---- What an audit says
+
+-- the lines of a record that are no actions and weren't cut short
+abbrev pub said_lines : List (List ℕ) → List (List ℕ)
+said_lines [] = []
+said_lines (line ∷ lines) =
+    if is_cut line || is_action line then said_lines lines else line ∷ said_lines lines
+
+-- A run that keeps every promise, of the events that the lines of a record say, each its own, in
+-- their order.
+pub record IsRunOf (settings : Settings) (lines : List (List ℕ)) (log : Log) : Type 0 where
+  pub faithful : IsFaithful (setup_of settings) log
+  pub said : AreSaid (said_lines lines) (events_of log)
+
+-- Such a run begins with the lines, but for those that were cut short, and so many of its events
+-- and actions stand in them.
+pub record IsSameRun (settings : Settings) (lines : List (List ℕ)) (events actions : ℕ)
+    : Type 0 where
+  pub log : Log
+  pub run : IsRunOf settings lines log
+  pub begins : BeginsWith (uncut lines) (whole_lines (lines_of_log log))
+  pub came : events ≡ length (events_of log)
+  pub went : actions ≡ count_by is_action lines
+
+-- Such a run differs first from the lines at the one of this number, counted from 1.
+pub record IsOtherRun (settings : Settings) (lines : List (List ℕ)) (number : ℕ) : Type 0 where
+  pub log : Log
+  pub run : IsRunOf settings lines log
+  pub differs : IsFirstOff 1 lines (whole_lines (lines_of_log log)) number
+
+-- a line that was cut short, is an action or an event, or is passed over
+abbrev pub IsKnown : (line : List ℕ) → Type 0
+IsKnown line = (is_cut line ≡ true) ⊎ ((is_action line ≡ true) ⊎ IsGood line)
+
+-- The line of this number, counted from 1, is the first that is none of these.
+pub record IsFirstUnknown (lines : List (List ℕ)) (number : ℕ) : Type 0 where
+  pub before : List (List ℕ)
+  pub line : List ℕ
+  pub behind : List (List ℕ)
+  pub parted : lines ≡ before ++ line ∷ behind
+  pub counted : number ≡ 1 + length before
+  pub known : AllByRecursion IsKnown before
+  pub unknown : IsKnown line → ⊥

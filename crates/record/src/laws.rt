@@ -1,15 +1,20 @@
 //! What holds of every record.
 ghost use Rattle.std.specs.Prelude.{◌≡◌, ◌≢◌, ◌==◌, ◌++◌, ◌∷◌, [], ℕ, List, None, Some, true};
-ghost use Rattle.std.specs.Prelude.{false, codes};
+ghost use Rattle.std.specs.Prelude.{false, codes, Err, Ok};
 ghost use Rattle.std.specs.List.{AllByRecursion, flat_map, slice_split};
+ghost use Rattle.gateway.specs.Config.{Settings};
 ghost use Rattle.gateway.specs.Log.{Log};
 ghost use Rattle.gateway.specs.Ports.{logged_by};
 ghost use Rattle.gateway.specs.declared.ports.Next.{Next};
+ghost use Rattle.record.specs.Audit.{IsAudited};
 ghost use Rattle.record.specs.Examples.{line};
-ghost use Rattle.record.specs.Law.{BeginsWith, HasNone, IsFirstOff, grows_by, uncut};
+ghost use Rattle.record.specs.Law.{BeginsWith, HasNone, IsFirstOff, IsFirstUnknown, IsOtherRun};
+ghost use Rattle.record.specs.Law.{IsSameRun, grows_by, uncut};
 ghost use Rattle.record.specs.Lines.{event_line, first_difference, is_action, is_cut, whole_lines};
 ghost use Rattle.record.specs.Recording.{Recording, Gives, Receives, Notes, Puts, added, passed};
 ghost use Rattle.record.specs.Recording.{text_of};
+ghost use Rattle.record.specs.declared.audit.Comparison.TheVariants.{Differs, Same};
+ghost use Rattle.record.specs.declared.audit.RecordFault.TheVariants.{Line};
 ghost use Rattle.traces.specs.Printed.{lines_of_log};
 
 /// The text of a record grows by the line of what passed, and by nothing else. Once the record is
@@ -66,4 +71,22 @@ pub fn comparisons_find_the_first_difference()
         BeginsWith (uncut lines) run }
     ensures differs { (n : ℕ) (lines run : List (List ℕ)) (number : ℕ) →
         first_difference n lines run ≡ Some number → IsFirstOff n lines run number }
+{}
+
+/// What an audit says, of every record whose text its reader gives. The run that it speaks of keeps
+/// every promise. Its events are those that the record's lines say, in their order. Where it says
+/// 'the same', the run begins with the record's lines, but for those that were cut short. It has so
+/// many events, and so many of the lines are actions. Else the run differs first at the line that
+/// is told, counted from 1. A wrong line that is told is the first that was not cut short and is
+/// neither an action, nor an event, nor passed over.
+pub fn audits_say_what_a_record_has()
+    ensures same { (settings : Settings) (text : List ℕ) (events actions : ℕ) →
+        IsAudited settings (Some text) (Ok (Same events actions)) →
+        IsSameRun settings (whole_lines text) events actions }
+    ensures differs { (settings : Settings) (text : List ℕ) (number : ℕ) →
+        IsAudited settings (Some text) (Ok (Differs number)) →
+        IsOtherRun settings (whole_lines text) number }
+    ensures wrong { (settings : Settings) (text : List ℕ) (number : ℕ) →
+        IsAudited settings (Some text) (Err (Line number)) →
+        IsFirstUnknown (whole_lines text) number }
 {}

@@ -27,8 +27,8 @@ pub use audit::passing::{event_line, is_action, is_cut, part_of};
 pub use audit::{Comparison, RecordFault, audit_text};
 pub use examples::{records_by_example, texts_are_read_by_example};
 pub use laws::{
-    a_record_is_the_text_of_what_passed, comparisons_find_the_first_difference,
-    lines_of_a_record_are_told_apart,
+    a_record_is_the_text_of_what_passed, audits_say_what_a_record_has,
+    comparisons_find_the_first_difference, lines_of_a_record_are_told_apart,
 };
 pub use pen::Pen;
 pub use record_sheet::{RecordSheet, StandardOutput};

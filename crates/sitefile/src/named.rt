@@ -1,9 +1,11 @@
 //! Each value of a site has one key.
-ghost use Rattle.std.specs.Prelude.{◌≡◌, ℕ, List, Ok, Err, Result};
+ghost use Rattle.std.specs.Prelude.{◌≡◌, ℕ, List, Ok, Err, Result, Some};
+ghost use Rattle.toml.specs.Data.{no_members};
+ghost use Rattle.toml.specs.Parse.{parse_document};
 ghost use Rattle.sitefile.specs.FirstWrong.{AreWordsRight, IsFaultNamed};
 ghost use Rattle.sitefile.specs.Known.{HasNoOtherKeys};
 ghost use Rattle.sitefile.specs.Named.{IsFileOf, IsReadOrNoMemory};
-ghost use Rattle.sitefile.specs.Site.{IsSiteOf, IsSiteRead};
+ghost use Rattle.sitefile.specs.Site.{IsSiteOf, IsSiteRead, empty_site, site_of};
 ghost use Rattle.sitefile.specs.declared.fault.SiteFault.{SiteFault};
 ghost use Rattle.sitefile.specs.declared.site.Site.{Site};
 
@@ -43,4 +45,11 @@ pub fn site_faults_name_the_first_wrong_key()
 /// The words that say what is wanted of a key are those of what it may have.
 pub fn site_words_are_those_of_the_rows()
     ensures { AreWordsRight }
+{}
+
+/// A run without a file of a site is wished nothing else than one with a file that has no key. What
+/// is read of that one is, by [`sites_are_named`], no flag, no place and no name.
+pub fn no_file_says_what_an_empty_one_says()
+    ensures { (text : List ℕ) (site : Site) → parse_document text ≡ Some no_members →
+        IsSiteOf text site → site_of site ≡ empty_site }
 {}

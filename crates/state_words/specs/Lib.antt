@@ -1,3 +1,4 @@
 pub mod Notes
 pub mod Stations
 pub mod Text
+pub mod Law

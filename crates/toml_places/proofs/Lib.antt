@@ -1,1 +1,3 @@
 pub mod ChangesLemmas
+pub mod PlaceLaws
+pub mod ValueLaws

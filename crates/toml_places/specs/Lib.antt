@@ -1,3 +1,4 @@
 pub mod Lines
 pub mod Spans
 pub mod Changes
+pub mod Law
