@@ -1,5 +1,5 @@
 -- Behind a poll of class 2 come as many polls of class 1 as a burst has.
-use Rattle.std.proofs.Common.{◌≡◌, ℕ, zero, suc, ◌+◌, ◌<◌, ◌==◌, Bool, true, false, List, [], ◌∷◌}
+use Rattle.std.proofs.Common.{◌≡◌, ℕ, zero, suc, ◌+◌, Bool, true, false, List, [], ◌∷◌}
 use Rattle.std.proofs.Common.{◌++◌, take, Option, Some, None, refl, sym, ap, subst, ◌∙◌, arith}
 use Rattle.std.proofs.Common.{if◌then◌else◌}
 use Rattle.std.specs.List.{AllByRecursion}
@@ -16,8 +16,8 @@ use Rattle.link.specs.Primary.{asked_from, received_from, received_after, with_o
 use Rattle.link.specs.Primary.{said_by, start}
 use Rattle.link.specs.Primary.{open_octets, answer_at, due_from, is_late}
 use Rattle.link.specs.Runs.{Call, Next, Octets, Due, GivesUp, called, called_all}
-use Rattle.link.specs.Sent.{Sent, sent_by, sent}
-use Rattle.link.specs.Bursts.{Row, Polls, Other, one_more, row_by, row_by_request, row_out}
+use Rattle.link.specs.Sent.{sent_by, sent}
+use Rattle.link.specs.Bursts.{Row, Polls, Other, row_by, row_by_request, row_out}
 use Rattle.link.specs.Bursts.{row_after, is_answered, BurstsGoOn, HasMore, AlwaysHasMore}
 use Rattle.link.specs.Bursts.{IsClass1Of}
 use Rattle.link.proofs.Bursting.{all_go_on}
