@@ -62,6 +62,7 @@ pub mod Preceding
 pub mod FewPolls
 pub mod Tabled
 pub mod Bursting
+pub mod BurstLength
 pub mod Following
 pub mod Repeating
 pub mod GivenUp

@@ -89,7 +89,7 @@ pub use laws::at_once::{
     repeats_are_as_many_as_set, repeats_come_at_once, turns_go_on_behind_held_services,
 };
 pub use laws::beginnings::{new_settings_keep_the_procedures, turns_begin_by_the_link};
-pub use laws::bursts::polls_go_on;
+pub use laws::bursts::{bursts_are_as_long_as_set, polls_go_on};
 pub use laws::carrying::{
     frame_count_bits_go_on, giving_up_is_for_one_station, giving_up_is_logged,
     seats_have_their_addresses, sessions_go_on, the_latest_exchange_is_marked,
