@@ -19,6 +19,7 @@ ghost use Rattle.gateway.specs.Frames.{Connection, monitor_objects_sent};
 ghost use Rattle.gateway.specs.declared.settings.StationSettings.{StationSettings};
 ghost use Rattle.gateway.specs.Config.{Settings, AreDistinct};
 ghost use Rattle.gateway.specs.Log.{Log, Input, Came, Went, LineIn, Opened, TcpIn, CutOff, Ticked};
+ghost use Rattle.gateway.specs.Log.{Output};
 ghost use Rattle.gateway.specs.Log.{WallIs, LineOut, TcpOut, Closed, events_of, last_moment};
 ghost use Rattle.gateway.specs.Log.{latest};
 ghost use Rattle.gateway.specs.Reports.{Setup, exchanges_of};
@@ -168,6 +169,26 @@ pub fn calls_give_the_first_that_applies()
         event ≡ event_at plan.directives (suc (length (events_of log))) (centre_of log)
         (waiting_in plan log answers) }
     ensures count { (log : Log) → calls_in log ≡ length (events_of log) }
+{}
+
+/// What holds of a run held at each entry of it: without its latest entry it is a run, too, in which
+/// the stations gave the same answers. So what these laws say of the latest event they say of each
+/// event of a run.
+pub fn each_beginning_of_a_run_is_a_run()
+    ensures came { (plan : Plan) (log : Log) (answers : List (Option Frame))
+        (stations : List Secondary) (now : ℕ) (event : Input) →
+        IsPlayed plan (Came now event ∷ log) answers stations →
+        IsPlayed plan log answers stations }
+    ensures went { (plan : Plan) (log : Log) (answers : List (Option Frame))
+        (stations : List Secondary) (now : ℕ) (action : Output) →
+        ((octets : List ℕ) → action ≢ LineOut octets) →
+        IsPlayed plan (Went now action ∷ log) answers stations →
+        IsPlayed plan log answers stations }
+    ensures asked { (plan : Plan) (log : Log) (answers : List (Option Frame))
+        (stations : List Secondary) (now : ℕ) (octets : List ℕ) →
+        IsPlayed plan (Went now (LineOut octets) ∷ log) answers stations →
+        (answer : Option Frame) × (earlier : List (Option Frame)) × (before : List Secondary)
+        × (answers ≡ answer ∷ earlier) × IsPlayed plan log earlier before }
 {}
 
 /// A run has moments of its own, whatever its script says: each event but a tick comes a
