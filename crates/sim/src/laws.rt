@@ -171,9 +171,9 @@ pub fn calls_give_the_first_that_applies()
     ensures count { (log : Log) → calls_in log ≡ length (events_of log) }
 {}
 
-/// What holds of a run held at each entry of it: without its latest entry it is a run, too, in which
-/// the stations gave the same answers. So what these laws say of the latest event they say of each
-/// event of a run.
+/// What holds of a run held at each entry of it: without its latest entry it is a run, too, in
+/// which the stations gave the same answers. So what these laws say of the latest event they say of
+/// each event of a run.
 pub fn each_beginning_of_a_run_is_a_run()
     ensures came { (plan : Plan) (log : Log) (answers : List (Option Frame))
         (stations : List Secondary) (now : ℕ) (event : Input) →

@@ -177,7 +177,8 @@ answer_fair : (h : StreamHistory) (answer : Option (List ℕ)) (is_taken : Bool)
     → (is_none answer || is_taken) ≡ true → HasNoCause h
     → HasNoCause (answer_written h answer is_taken)
 answer_fair h None is_taken taken fair = fair
-answer_fair h (Some octets) true taken fair = noted_fair h (Wrote octets true) (λ before cause. cause)
+answer_fair h (Some octets) true taken fair =
+    noted_fair h (Wrote octets true) (λ before cause. cause)
 answer_fair h (Some octets) false taken fair = absurd (let no : ⊥ = cc in no)
 
 written_fair : (h : StreamHistory) (xs : List RequestExchange) → list_all took xs ≡ true

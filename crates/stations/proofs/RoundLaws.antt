@@ -1,6 +1,7 @@
 -- What each round of a play changes.
 use Rattle.std.proofs.Common.{◌≡◌, ℕ, zero, suc, Bool, true, false, List, [], ◌∷◌, ◌++◌, length}
-use Rattle.std.proofs.Common.{Option, Some, None, refl, sym, ap, subst, ◌∙◌, ◌≢◌, ◌≤◌, arith, inl, inr}
+use Rattle.std.proofs.Common.{Option, Some, None, refl, sym, ap, subst, ◌∙◌, ◌≢◌, ◌≤◌, arith, inl}
+use Rattle.std.proofs.Common.{inr}
 use Rattle.std.proofs.lemmas.Bool.{ltb-false, ltb-true}
 use Rattle.std.specs.Prelude.{◌⊎◌, is_some, nat_lt, slice_get}
 use Rattle.live.specs.OctetStreams.{IsNew, StreamHistory, attempted}

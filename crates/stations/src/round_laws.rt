@@ -7,7 +7,8 @@ ghost use Rattle.sim.specs.Lives.{begun_from};
 ghost use Rattle.stations.specs.Exchanges.{first_standing, next_number};
 ghost use Rattle.stations.specs.Late.{late_after, late_now};
 ghost use Rattle.stations.specs.Places.{GivesLate, LooksOnce, OutstationServer, after_accept};
-ghost use Rattle.stations.specs.TimedServers.{IsRound, PlaysOn, RoundsAt, TimedServer, first_server};
+ghost use Rattle.stations.specs.TimedServers.{IsRound, PlaysOn, RoundsAt, TimedServer};
+ghost use Rattle.stations.specs.TimedServers.{first_server};
 ghost use Rattle.stations.specs.declared.scenario.Scenario.{Scenario};
 
 /// A play begins with all that its text says: each line of either kind, and the stations of the

@@ -1,7 +1,8 @@
 //! What holds of what waits at outstations: reports that are due, replies, and late answers; and of
 //! the requests that they count.
 ghost use Rattle.std.specs.Prelude.{◌≡◌, ◌≢◌, ◌-◌, ◌+◌, ◌*◌, ◌/◌, ◌^◌, ◌<◌, ◌≤◌, ◌++◌, ℕ, List};
-ghost use Rattle.std.specs.Prelude.{[], Bool, true, false, suc, length, slice_get, Option, Some, None};
+ghost use Rattle.std.specs.Prelude.{[], Bool, true, false, suc, length, slice_get, Option, Some};
+ghost use Rattle.std.specs.Prelude.{None};
 ghost use Rattle.std.specs.List.{flat_map};
 ghost use Rattle.ft12.specs.Reading.{IsFront};
 ghost use Rattle.ft12.specs.Spelling.{spelling};
