@@ -13,7 +13,7 @@ use Rattle.stations.specs.Exchanges.{OutstationsState}
 use Rattle.stations.specs.Late.{late_after, late_now}
 use Rattle.stations.specs.Places.{GivesLate, IsAnsweredAt, IsGiven, IsGivenIfAny, IsNewStream}
 use Rattle.stations.specs.Places.{IsReceivedAt}
-use Rattle.stations.specs.Places.{LooksOnce, OutstationServer, after_accept, after_writing}
+use Rattle.stations.specs.Places.{LooksOnce, OutstationServer, after_accept}
 use Rattle.stations.specs.Places.{without_late}
 use Rattle.stations.specs.Replying.{GivesReply, Replies, RepliesBy, RepliesEach, RepliesFrom}
 use Rattle.stations.specs.Progress.{next_step}
