@@ -37,3 +37,4 @@ pub mod ClosingTexts
 pub mod WrittenLines
 pub mod WrongLines
 pub mod Beginnings
+pub mod PrintedRuns
