@@ -36,3 +36,5 @@ pub mod Reported
 pub mod ClosingTexts
 pub mod WrittenLines
 pub mod WrongLines
+pub mod Beginnings
+pub mod PrintedRuns

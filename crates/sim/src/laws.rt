@@ -1,7 +1,7 @@
 //! What holds of every run over a simulated line.
 ghost use Rattle.std.specs.Prelude.{◌≡◌, ◌≢◌, ◌<◌, ◌≤◌, ◌+◌, ◌-◌, ◌%◌, ◌^◌, ◌==◌, ◌++◌, ◌∷◌, []};
 ghost use Rattle.std.specs.Prelude.{ℕ, suc, min, true, false, List, length, count_by};
-ghost use Rattle.std.specs.Prelude.{Contains, Option, Some, None, codes};
+ghost use Rattle.std.specs.Prelude.{Contains, Option, Some, None, Ok, Err, codes};
 ghost use Rattle.std.specs.Fmt.{decimal};
 ghost use Rattle.std.specs.List.{AllByRecursion, flat_map, slice_split};
 ghost use Rattle.apci.specs.Spelling.{spelling};
@@ -19,12 +19,14 @@ ghost use Rattle.gateway.specs.Frames.{Connection, monitor_objects_sent};
 ghost use Rattle.gateway.specs.declared.settings.StationSettings.{StationSettings};
 ghost use Rattle.gateway.specs.Config.{Settings, AreDistinct};
 ghost use Rattle.gateway.specs.Log.{Log, Input, Came, Went, LineIn, Opened, TcpIn, CutOff, Ticked};
+ghost use Rattle.gateway.specs.Log.{Output};
 ghost use Rattle.gateway.specs.Log.{WallIs, LineOut, TcpOut, Closed, events_of, last_moment};
 ghost use Rattle.gateway.specs.Log.{latest};
 ghost use Rattle.gateway.specs.Reports.{Setup, exchanges_of};
 ghost use Rattle.gateway.specs.Setups.{setup_of};
 ghost use Rattle.gateway.specs.Traffic.{IsFaithful};
 ghost use Rattle.delivery.specs.Delivery.{Delivers};
+ghost use Rattle.traces.specs.Actions.{lines_of_actions};
 ghost use Rattle.sim.specs.declared.centre.Centre.{Centre};
 ghost use Rattle.sim.specs.declared.directive.Directive.{Directive};
 ghost use Rattle.sim.specs.declared.directive.Directive.TheVariants.{LoseRequest, LoseAnswer};
@@ -45,8 +47,12 @@ ghost use Rattle.sim.specs.Firsts.{StaysOpen, Runs, IsQuiet};
 ghost use Rattle.sim.specs.Lives.{Plan, AreLived, ReceivedByAll, begun_from, plan_of, requests_in};
 ghost use Rattle.sim.specs.Lives.{waiting_in};
 ghost use Rattle.sim.specs.Losses.{fate_of, ack_of, wall_at, is_cut_at, sent_at, report_said};
+ghost use Rattle.sim.specs.Losses.{turns_of};
 ghost use Rattle.sim.specs.Played.{IsPlayed};
 ghost use Rattle.sim.specs.Outstations.{HaveServed};
+ghost use Rattle.sim.specs.Runs.{IsRun};
+ghost use Rattle.sim.specs.Simulations.{IsSimulation};
+ghost use Rattle.sim.specs.declared.fault.SimFault.TheVariants.{NoMemory, Write};
 ghost use Rattle.sim.specs.Texts.{reports_for, station_line, station_lines, connection_line};
 ghost use Rattle.sim.specs.Texts.{connection_lines, session_line, session_lines, closing_lines};
 ghost use Rattle.sim.specs.Closing.{connections_in, lines_of_connections};
@@ -168,6 +174,26 @@ pub fn calls_give_the_first_that_applies()
         event ≡ event_at plan.directives (suc (length (events_of log))) (centre_of log)
         (waiting_in plan log answers) }
     ensures count { (log : Log) → calls_in log ≡ length (events_of log) }
+{}
+
+/// What holds of a run held at each entry of it: without its latest entry it is a run, too, in
+/// which the stations gave the same answers. So what these laws say of the latest event they say of
+/// each event of a run.
+pub fn each_beginning_of_a_run_is_a_run()
+    ensures came { (plan : Plan) (log : Log) (answers : List (Option Frame))
+        (stations : List Secondary) (now : ℕ) (event : Input) →
+        IsPlayed plan (Came now event ∷ log) answers stations →
+        IsPlayed plan log answers stations }
+    ensures went { (plan : Plan) (log : Log) (answers : List (Option Frame))
+        (stations : List Secondary) (now : ℕ) (action : Output) →
+        ((octets : List ℕ) → action ≢ LineOut octets) →
+        IsPlayed plan (Went now action ∷ log) answers stations →
+        IsPlayed plan log answers stations }
+    ensures asked { (plan : Plan) (log : Log) (answers : List (Option Frame))
+        (stations : List Secondary) (now : ℕ) (octets : List ℕ) →
+        IsPlayed plan (Went now (LineOut octets) ∷ log) answers stations →
+        (answer : Option Frame) × (earlier : List (Option Frame)) × (before : List Secondary)
+        × (answers ≡ answer ∷ earlier) × IsPlayed plan log earlier before }
 {}
 
 /// A run has moments of its own, whatever its script says: each event but a tick comes a
@@ -326,4 +352,31 @@ pub fn closing_lines_tell_of_all()
         (present log).is_open ≡ true → connections_in log here earlier ≡ here ∷ earlier }
     ensures over { (log : Log) (here : Connection) (earlier : List Connection) →
         (present log).is_open ≡ false → connections_in log here earlier ≡ earlier }
+{}
+
+/// What is printed of a run are the lines of its actions and, behind them, its closing lines, each
+/// once and nothing else. Where the output fails it is a beginning of these. Where memory is
+/// refused it is nothing, or a beginning of the lines of actions. The closing lines of a run, which
+/// has as many calls as its script says, are those of its stations, connections and sessions.
+pub fn runs_are_printed_to_their_end()
+    ensures whole { (c : Settings) (ds : List Directive) (before : List ℕ)
+        (after : Option (List ℕ)) (done : Unit {0}) →
+        IsSimulation c ds (Some before) after (Ok done) →
+        (log : Log) × (closing : List ℕ) × IsRun c ds log closing
+        × (after ≡ Some (before ++ (lines_of_actions log ++ closing))) }
+    ensures failed { (c : Settings) (ds : List Directive) (before : List ℕ)
+        (after : Option (List ℕ)) → IsSimulation c ds (Some before) after (Err Write) →
+        (log : Log) × (closing : List ℕ) × (some : List ℕ) × (rest : List ℕ)
+        × IsRun c ds log closing × (some ++ rest ≡ lines_of_actions log ++ closing)
+        × (after ≡ Some (before ++ some)) }
+    ensures refused { (c : Settings) (ds : List Directive) (before : List ℕ)
+        (after : Option (List ℕ)) → IsSimulation c ds (Some before) after (Err NoMemory) →
+        (log : Log) × (some : List ℕ) × (rest : List ℕ)
+        × (some ++ rest ≡ lines_of_actions log) × (after ≡ Some (before ++ some)) }
+    ensures closing { (c : Settings) (ds : List Directive) (log : Log) (closing : List ℕ)
+        (run : IsRun c ds log closing) →
+        (closing ≡ station_lines ds 0 run.stations
+        ++ lines_of_connections (connections_in log (here_of run.delivers.course)
+        run.delivers.course.earlier) ++ session_lines 0 run.tallies)
+        × HaveServed c ds log 0 run.stations run.tallies × (calls_in log ≡ turns_of ds) }
 {}

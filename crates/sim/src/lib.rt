@@ -37,7 +37,9 @@
 //! what its lines say ([`reports_are_those_of_their_lines`]). Scripts are read field by field
 //! ([`lines_say_what_they_write`]) and line by line ([`texts_are_read_line_by_line`]). What one
 //! says once holds ([`what_is_said_once_holds`]), and the closing lines tell of each station
-//! ([`closing_lines_tell_of_all`]).
+//! ([`closing_lines_tell_of_all`]). What holds of a run's latest event holds of each
+//! ([`each_beginning_of_a_run_is_a_run`]), and a run is printed to its end
+//! ([`runs_are_printed_to_their_end`]).
 //!
 //! Worked examples have literal texts and octets: of scripts ([`scripts_by_example`]), of what they
 //! do to requests and answers ([`losses_by_example`]), of what stations receive
@@ -79,9 +81,10 @@ pub use examples::{
 pub use fault::SimFault;
 pub use laws::{
     answers_wait_until_they_are_given, calls_give_the_first_that_applies,
-    closing_lines_tell_of_all, connections_are_counted, each_line_is_about_its_number,
-    each_request_fares_by_its_lines, events_have_their_moments, reports_are_those_of_their_lines,
-    stations_are_honest, the_centre_counts_the_frames_of_its_connection,
+    closing_lines_tell_of_all, connections_are_counted, each_beginning_of_a_run_is_a_run,
+    each_line_is_about_its_number, each_request_fares_by_its_lines, events_have_their_moments,
+    reports_are_those_of_their_lines, runs_are_printed_to_their_end, stations_are_honest,
+    the_centre_counts_the_frames_of_its_connection,
 };
 pub use line::read_line;
 pub use reading::read_script;

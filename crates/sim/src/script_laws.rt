@@ -1,18 +1,20 @@
 //! What holds of every script, and of every text of one.
 ghost use Rattle.std.specs.Prelude.{◌≡◌, ◌⊎◌, ◌<◌, ◌==◌, ◌++◌, ◌∷◌, [], ℕ, true, false, List};
 ghost use Rattle.std.specs.Prelude.{length};
-ghost use Rattle.std.specs.Prelude.{Contains, Some, None};
+ghost use Rattle.std.specs.Prelude.{Contains, Some, None, Ok, Err};
 ghost use Rattle.std.specs.List.{AllByRecursion, flat_map, slice_split};
 ghost use Rattle.ft12.specs.declared.frame.LinkSize.{LinkSize};
+ghost use Rattle.gateway.specs.Config.{Settings};
 ghost use Rattle.sim.specs.declared.directive.Directive.{Directive};
 ghost use Rattle.sim.specs.declared.directive.Directive.TheVariants.{Turns, Ack, Wall};
 ghost use Rattle.sim.specs.Directives.{directive_in};
 ghost use Rattle.sim.specs.Examples.{line};
 ghost use Rattle.sim.specs.Losses.{turns_of, ack_of, wall_at};
-ghost use Rattle.sim.specs.Scripts.{IsScript, AreSaidBy, first_wrong, lines_of};
+ghost use Rattle.sim.specs.Scripts.{IsScript, IsScriptOf, AreSaidBy, first_wrong, lines_of};
 ghost use Rattle.sim.specs.Written.{IsWritten, Collide, HasNoFeed, HasTurns, AreRight, said_by};
 ghost use Rattle.sim.specs.Written.{IsFirstWrong, LacksTurns};
 ghost use Rattle.traces.specs.Trace.{is_skipped};
+ghost use Rattle.traces.specs.declared.reading.TextFault.TheVariants.{Line};
 
 /// A line of a script says what its fields write, each behind one space: its words, then numbers of
 /// 1 to 9 decimal digits (15 for a wall clock) and octets in hexadecimal. A line with other fields
@@ -28,9 +30,9 @@ pub fn lines_say_what_they_write()
 
 /// A text that is read has lines that line feeds end, and what follows the last. None of them is
 /// wrong, and the script is what they say in their order, but for empty lines and comments, which
-/// begin with `#`. Of a
-/// text that is refused the first wrong line is named, or the line behind the last where none says
-/// how many calls there are.
+/// begin with `#`. Of a text that is refused the first wrong line is named, or the line behind the
+/// last where none says how many calls there are. This holds of whole texts, for the stations and
+/// the link addresses of the settings.
 pub fn texts_are_read_line_by_line()
     ensures lines { (ls : List (List ℕ)) → AllByRecursion HasNoFeed ls →
         lines_of (flat_map line ls) ≡ ls }
@@ -42,6 +44,14 @@ pub fn texts_are_read_line_by_line()
     ensures fault { (size : LinkSize) (stations : ℕ) (lines : List (List ℕ)) (number : ℕ) →
         first_wrong size stations [] 1 lines ≡ Some number →
         IsFirstWrong size stations lines number ⊎ LacksTurns size stations lines number }
+    ensures read { (c : Settings) (text : List ℕ) (directives : List Directive) →
+        IsScriptOf c text (Ok directives) →
+        AreRight c.line.link (length c.stations) [] (lines_of text)
+        × (directives ≡ said_by c.line.link (length c.stations) (lines_of text)) }
+    ensures refused { (c : Settings) (text : List ℕ) (number : ℕ) →
+        IsScriptOf c text (Err (Line number)) →
+        IsFirstWrong c.line.link (length c.stations) (lines_of text) number
+        ⊎ LacksTurns c.line.link (length c.stations) (lines_of text) number }
     ensures empty { is_skipped [] ≡ true }
     ensures comments { (octet : ℕ) (octets : List ℕ) →
         is_skipped (octet ∷ octets) ≡ (octet == 35) }

@@ -1,9 +1,10 @@
 -- A gateway is let go for a cause.
 use Rattle.std.proofs.Common.{◌≡◌, ◌≢◌, ◌&&◌, ◌||◌, Bool, true, false, List, [], ◌∷◌, ℕ}
-use Rattle.std.proofs.Common.{Option, Some, None, refl, sym, subst, ◌∙◌}
+use Rattle.std.proofs.Common.{Option, Some, None, refl, sym, ap, subst, ◌∙◌}
+use Rattle.std.proofs.lemmas.Bool.{and_parts}
 use Rattle.std.specs.List.{list_all}
 use Rattle.std.specs.Option.{is_none}
-use Rattle.live.specs.OctetStreams.{StreamHistory, Wrote, looked, noted}
+use Rattle.live.specs.OctetStreams.{Happening, StreamHistory, Wrote, looked, noted}
 use Rattle.live.specs.declared.ends.Got.{Got}
 use Rattle.live.specs.declared.ends.Got.TheVariants.{Octets, Quiet, Gone}
 use Rattle.stations.specs.Exchanges.{RequestExchange, StopsAtUntaken, answer_written, took, written}
@@ -111,7 +112,7 @@ unfolding IsFair
 replied_fair old new h fair =
     same_fair (record old { standing = new.standing }) new h.new_is fair
 
-pub let_go_for_cause : (now : ℕ) (old new : TimedServer) (round : IsRound now old new)
+let_go_for_cause : (now : ℕ) (old new : TimedServer) (round : IsRound now old new)
     → (after_accept old.place round.looks.accepted).stream ≢ None → new.place.stream ≡ None
     → IsLetGoForCause new.place.let_go
 unfolding IsFair
@@ -121,3 +122,135 @@ let_go_for_cause now old new round here =
     (late_fair now round.looked round.sent round.gives
     (received_fair (after_accept old.place round.looks.accepted).stream
     (after_accept old.place round.looks.accepted) round.looked round.looks.received here)))
+
+pub stays_or_cause : (now : ℕ) (old new : TimedServer) → IsRound now old new
+    → old.place.stream ≢ None → new.place.stream ≡ None → IsLetGoForCause new.place.let_go
+stays_or_cause now old new round here gone =
+    let_go_for_cause now old new round (by round.looks.accepted) gone
+  where
+    by : (accepted : Option StreamHistory) → (after_accept old.place accepted).stream ≢ None
+    by None = here
+    by (Some stream) = λ e. cc e
+
+pub comes_or_cause : (now : ℕ) (old new : TimedServer) (round : IsRound now old new)
+    → round.looks.accepted ≢ None → new.place.stream ≡ None → IsLetGoForCause new.place.let_go
+comes_or_cause now old new round came gone =
+    let_go_for_cause now old new round (by round.looks.accepted came) gone
+  where
+    by : (accepted : Option StreamHistory) → accepted ≢ None
+        → (after_accept old.place accepted).stream ≢ None
+    by None some = absurd (some refl)
+    by (Some stream) some = λ e. cc e
+
+-- ---- Who has cause to go doesn't stay
+
+-- nothing says that it is to go
+HasNoCause : StreamHistory → Type 0
+HasNoCause h = (happenings : List Happening) → h ≡ Some happenings → IsCause (Some happenings) → ⊥
+
+-- nor of the gateway that is connected
+MayStay : OutstationServer → Type 0
+MayStay p = (happenings : List Happening) → p.stream ≡ Some (Some happenings)
+    → IsCause (Some happenings) → ⊥
+
+same_stays : (old new : OutstationServer) → new ≡ old → MayStay old → MayStay new
+same_stays old new e stays = subst MayStay (sym e) stays
+
+nobody_stays : (p : OutstationServer) → p.stream ≡ None → MayStay p
+unfolding MayStay
+nobody_stays p none happenings some = absurd (let no : ⊥ = cc in no)
+
+somebody_stays : (p : OutstationServer) (h : StreamHistory) → p.stream ≡ Some h → HasNoCause h
+    → MayStay p
+unfolding MayStay HasNoCause
+somebody_stays p h is fair happenings some = fair happenings (let e : h ≡ Some happenings = cc in e)
+
+noted_fair : (h : StreamHistory) (one : Happening)
+    → ((before : List Happening) → IsCause (Some (one ∷ before)) → ⊥) → HasNoCause (noted h one)
+unfolding HasNoCause
+noted_fair None one fair happenings is = absurd (let no : ⊥ = cc in no)
+noted_fair (Some before) one fair happenings is =
+    let same : happenings ≡ one ∷ before = cc in
+    λ cause. fair before (subst (λ (hs : List Happening). IsCause (Some hs)) same cause)
+
+answer_fair : (h : StreamHistory) (answer : Option (List ℕ)) (is_taken : Bool)
+    → (is_none answer || is_taken) ≡ true → HasNoCause h
+    → HasNoCause (answer_written h answer is_taken)
+answer_fair h None is_taken taken fair = fair
+answer_fair h (Some octets) true taken fair =
+    noted_fair h (Wrote octets true) (λ before cause. cause)
+answer_fair h (Some octets) false taken fair = absurd (let no : ⊥ = cc in no)
+
+written_fair : (h : StreamHistory) (xs : List RequestExchange) → list_all took xs ≡ true
+    → HasNoCause h → HasNoCause (written h xs)
+written_fair h [] all fair = fair
+written_fair h (x ∷ xs) all fair =
+    let both = and_parts (took x) (list_all took xs) all in
+    written_fair (answer_written h x.answer x.is_taken) xs both.1
+    (answer_fair h x.answer x.is_taken both.0 fair)
+
+looked_stays : (before : StreamHistory) (old : OutstationServer) (got : Got) (buf : List ℕ)
+    (new : OutstationServer) → IsAnsweredAt before old got buf new → MayStay new
+looked_stays before old (Octets len) buf new (true, after, h, e) =
+    somebody_stays new after (ap (λ (p : OutstationServer). p.stream) e)
+    (subst HasNoCause (sym h.wrote)
+    (written_fair (noted before (looked (Octets len) buf)) h.exchanges (sym h.taken)
+    (noted_fair before (looked (Octets len) buf) (λ earlier cause. cause))))
+looked_stays before old (Octets len) buf new (false, after, h, e) =
+    nobody_stays new (ap (λ (p : OutstationServer). p.stream) e)
+looked_stays before old Quiet buf new e =
+    somebody_stays new (noted before (looked Quiet buf)) (ap (λ (p : OutstationServer). p.stream) e)
+    (noted_fair before (looked Quiet buf) (λ earlier cause. cause))
+looked_stays before old Gone buf new e =
+    nobody_stays new (ap (λ (p : OutstationServer). p.stream) e)
+
+received_stays : (stream : Option StreamHistory) (old new : OutstationServer)
+    → old.stream ≡ stream → IsReceivedAt stream old new → MayStay new
+received_stays None old new is h = same_stays old new h (nobody_stays old is)
+received_stays (Some before) old new is (got, buf, h) = looked_stays before old got buf new h
+
+late_stays : (now : ℕ) (old new : OutstationServer) → GivesLate now old new → MayStay old
+    → MayStay new
+unfolding MayStay
+late_stays now old new gives stays = by (late_now now old.standing.late) gives
+  where
+    same : MayStay (without_late now old)
+    same = stays
+
+    by_stream : (octets : List ℕ) (s : Option StreamHistory)
+        → IsGiven octets s (without_late now old) new → MayStay new
+    by_stream octets None e = same_stays (without_late now old) new e same
+    by_stream octets (Some before) (true, e) =
+        somebody_stays new (noted before (Wrote octets true))
+        (ap (λ (p : OutstationServer). p.stream) e)
+        (noted_fair before (Wrote octets true) (λ earlier cause. cause))
+    by_stream octets (Some before) (false, e) =
+        nobody_stays new (ap (λ (p : OutstationServer). p.stream) e)
+
+    by : (octets : Option (List ℕ)) → IsGivenIfAny octets (without_late now old) new → MayStay new
+    by None e = same_stays (without_late now old) new e same
+    by (Some octets) e = by_stream octets old.stream e
+
+reported_stays : (now : ℕ) (start : Option ℕ) (old new : OutstationServer)
+    → ReportsSince now start old new → MayStay old → MayStay new
+unfolding MayStay
+reported_stays now None old new h stays = same_stays old new h stays
+reported_stays now (Some start) old new h stays =
+    same_stays (record old { standing = new.standing }) new h.new_is stays
+
+replied_stays : (old new : OutstationServer) → RepliesAll old new → MayStay old → MayStay new
+unfolding MayStay
+replied_stays old new h stays =
+    same_stays (record old { standing = new.standing }) new h.new_is stays
+
+pub none_stays : (now : ℕ) (old new : TimedServer) (happenings : List Happening)
+    → IsRound now old new → new.place.stream ≡ Some (Some happenings)
+    → IsCause (Some happenings) → ⊥
+unfolding MayStay
+none_stays now old new happenings round =
+    replied_stays round.reported new.place round.replies
+    (reported_stays now new.start round.sent round.reported round.reports
+    (late_stays now round.looked round.sent round.gives
+    (received_stays (after_accept old.place round.looks.accepted).stream
+    (after_accept old.place round.looks.accepted) round.looked refl round.looks.received)))
+    happenings

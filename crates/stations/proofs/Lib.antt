@@ -23,3 +23,4 @@ pub mod CueTexts
 mod CueFaults
 mod Counting
 pub mod Waits
+pub mod RoundLaws

@@ -180,16 +180,12 @@ one_more_there : (class : Class) (report : List ℕ) (s : Secondary)
 one_more_there One report s = record {
   behind = refl;
   other = refl;
-  address = refl;
-  accepted =
-      refl;
+  rest = refl;
 }
 one_more_there Two report s = record {
   behind = refl;
   other = refl;
-  address = refl;
-  accepted =
-      refl;
+  rest = refl;
 }
 
 pub report_here : (i : ℕ) (class : Class) (report : List ℕ) (old new : OutstationsState)

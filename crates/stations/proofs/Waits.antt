@@ -13,7 +13,8 @@ use Rattle.ft12.specs.Reading.{IsFront}
 use Rattle.ft12.specs.Spelling.{spelling}
 use Rattle.ft12.specs.declared.frame.Frame.{Frame}
 use Rattle.ft12.specs.declared.frame.Front.{Front}
-use Rattle.ft12.specs.declared.frame.Front.TheVariants.{More, Never}
+use Rattle.ft12.specs.declared.frame.Front.TheVariants.{More, Never, Whole}
+use Rattle.ft12.specs.declared.frame.Why.{Why}
 use Rattle.ft12.specs.declared.frame.LinkSize.{LinkSize}
 use Rattle.ft12.specs.declared.frame.LinkSize.TheVariants as sizes
 use Rattle.gateway.specs.Config.{Settings}
@@ -331,6 +332,14 @@ next_counted old new request back h few = (
     one : next_number old ≡ old.requests + 1
     one = let e : min (old.requests + 1) (2 ^ 64 - 1) ≡ old.requests + 1 = omega arith in e
 
+    alone : (stations : List Secondary) (requests : ℕ)
+        → new ≡ record old { stations = stations; requests = requests }
+        → record old { stations = stations; requests = requests }
+        ≡ record old { stations = new.stations; requests = new.requests }
+    alone stations requests is =
+        ap (λ (s : OutstationsState). record old { stations = s.stations; requests = s.requests })
+        (sym is)
+
     after : h.stations ≡ new.stations
     after = sym (ap (λ (s : OutstationsState). s.stations) h.new_is)
 
@@ -341,6 +350,7 @@ next_counted old new request back h few = (
           IsPutOut (fate_of old.directives (next_number old)) (spelling old.size request)
           old.stations h.reply ss) after h.received;
       answered = h.answered;
+      rest = h.new_is ∙ alone h.stations (next_number old) h.new_is;
     }
 
 answered_one : (old mid : OutstationsState) (request : Frame) (answer : Option (List ℕ))
@@ -369,6 +379,29 @@ beginning_kept one size last left kept (NoneLeft none) more =
 beginning_kept one size last left kept (Begun is) more = refl
 beginning_kept one size last left kept (Spoilt place why is) more =
     let no : More ≡ Never place why = one size (last ++ left) More (Never place why) more is in cc
+
+pub spoilt_dropped : ((size : LinkSize) (octets : List ℕ) (one other : Front)
+    → IsFront size octets one → IsFront size octets other → one ≡ other)
+    → (size : LinkSize) (last left kept : List ℕ) (place : ℕ) (why : Why)
+    → IsKeptRest size last left kept → left ≢ [] → IsFront size (last ++ left) (Never place why)
+    → kept ≡ []
+spoilt_dropped one size last left kept place why (NoneLeft none) some spoilt =
+    absurd (some none)
+spoilt_dropped one size last left kept place why (Begun is) some spoilt =
+    let no : More ≡ Never place why = one size (last ++ left) More (Never place why) is spoilt in cc
+spoilt_dropped one size last left kept place why (Spoilt other because is) some spoilt = refl
+
+pub no_request_left : ((size : LinkSize) (octets : List ℕ) (one other : Front)
+    → IsFront size octets one → IsFront size octets other → one ≡ other)
+    → (size : LinkSize) (last left kept : List ℕ) (request : Frame) (n : ℕ)
+    → IsKeptRest size last left kept → left ≢ [] → IsFront size (last ++ left) (Whole request n)
+    → ⊥
+no_request_left one size last left kept request n (NoneLeft none) some whole = some none
+no_request_left one size last left kept request n (Begun is) some whole =
+    let no : More ≡ Whole request n = one size (last ++ left) More (Whole request n) is whole in cc
+no_request_left one size last left kept request n (Spoilt place why is) some whole =
+    let no : Never place why ≡ Whole request n =
+    one size (last ++ left) (Never place why) (Whole request n) is whole in cc
 
 answer_went : (before : List Happening) (answer : Option (List ℕ)) (is_taken : Bool)
     → (after : List Happening) × (answer_written (Some before) answer is_taken ≡ Some after)

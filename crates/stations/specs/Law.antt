@@ -1,5 +1,5 @@
 -- Words of the laws of outstations that are played (IEC 60870-5-101, 7.2.3 and 7.3.2).
-use Rattle.std.specs.Prelude.{◌≡◌, ◌≢◌, ℕ, ◌+◌, ◌%◌, ◌<◌, ◌≤◌, Bool, true, false, List, []}
+use Rattle.std.specs.Prelude.{◌≡◌, ◌≢◌, ◌⊎◌, ℕ, ◌+◌, ◌%◌, ◌<◌, ◌≤◌, Bool, true, false, List, []}
 use Rattle.std.specs.Prelude.{◌∷◌, ◌++◌, length, slice_index, Option, Some, None}
 use Rattle.asdu.specs.Asdu.{AsduValue}
 use Rattle.ft12.specs.Spelling.{spelling}
@@ -14,7 +14,7 @@ use Rattle.stations.specs.Exchanges.{Exchanged, OutstationsState, RequestExchang
 use Rattle.stations.specs.Cues.{given_at}
 use Rattle.stations.specs.Late.{LateAnswer}
 use Rattle.stations.specs.Places.{OutstationServer}
-use Rattle.stations.specs.Replies.{is_select}
+use Rattle.stations.specs.Replies.{is_command, is_select}
 use Rattle.stations.specs.Replying.{Replies, RepliesEach, advanced}
 use Rattle.stations.specs.Reporting.{IsReported, LineReports, LinesReport, changed_at}
 use Rattle.stations.specs.declared.cue.DueReport.{DueReport}
@@ -28,28 +28,29 @@ abbrev pub other_class : Class → Class
 other_class One = Two
 other_class Two = One
 
--- a station has one report more, behind those of its class
+-- a station has one report more, behind those of its class, and is else as it was
 pub record HasOneMore (class : Class) (report : List ℕ) (old new : Secondary) : Type 0 where
   pub behind : waiting_in class new ≡ waiting_in class old ++ report ∷ []
   pub other : waiting_in (other_class class) new ≡ waiting_in (other_class class) old
-  pub address : new.address ≡ old.address
-  pub accepted : new.accepted ≡ old.accepted
+  pub rest : new ≡ record old { class1 = new.class1; class2 = new.class2 }
 
 -- The cause of a reply beside that of its command. The confirmation of an activation (6) has cause
--- 7, that of a deactivation (8) has 9, and the termination has 10. P/N is bit 6 of the octet, and T
--- is bit 7.
+-- 7, that of a deactivation (8) has 9, and the termination has 10. No other cause is confirmed. P/N
+-- is bit 6 of the octet, and T is bit 7.
 pub record IsAnsweringCause (refuses is_confirmed : Bool) (command reply : ℕ) : Type 0 where
   pub activates : is_confirmed ≡ true → command % 64 ≡ 6
   pub terminates : is_confirmed ≡ true → reply % 64 ≡ 10
+  pub asks : is_confirmed ≡ false → (command % 64 ≡ 6) ⊎ (command % 64 ≡ 8)
   pub confirms : is_confirmed ≡ false → reply % 64 ≡ command % 64 + 1
   pub negative : is_confirmed ≡ false → refuses ≡ true → 64 ≤ reply % 128
   pub positive : refuses ≡ false → reply % 128 < 64
   pub test : 128 ≤ command → 128 ≤ reply
   pub no_test : command < 128 → reply < 128
 
--- A reply has the octets of its command but for the cause.
+-- What is replied to is a command. A reply has its octets but for the cause.
 pub record IsAnswering (refuses is_confirmed : Bool) (v : AsduValue) (command reply : List ℕ)
     : Type 0 where
+  pub asked : is_command v.kind ≡ true
   pub long : length reply ≡ length command
   pub same : (i : ℕ) → i ≢ 2 → slice_index reply i ≡ slice_index command i
   pub cause : IsAnsweringCause refuses is_confirmed v.cause (slice_index reply 2)
@@ -113,10 +114,11 @@ pub record IsGivenLate (octets : List ℕ) (stream : StreamHistory) (new : Outst
       → (new.stream ≡ None) × (new.let_go ≡ Some (noted stream (Wrote octets false)))
 
 -- The request with this number was put out to the stations as the lines of the script with its
--- number say, and so came back what is left of the answer.
+-- number say, and so came back what is left of the answer. Nothing else changed.
 pub record IsPutOutByNumber (number : ℕ) (old : OutstationsState) (request : Frame)
     (back : Option (List ℕ)) (new : OutstationsState) : Type 0 where
   pub reply : Option Frame
   pub received : IsPutOut (fate_of old.directives number) (spelling old.size request) old.stations
       reply new.stations
   pub answered : back ≡ arriving old.size (fate_of old.directives number) reply
+  pub rest : new ≡ record old { stations = new.stations; requests = new.requests }

@@ -1,14 +1,14 @@
 //! What holds of lines for the outstations alone, and of the replies that they have stations give.
 ghost use Rattle.std.specs.Prelude.{◌≡◌, ◌==◌, ◌&&◌, ◌<◌, ◌+◌, ◌^◌, ◌++◌, ◌∷◌, [], ℕ, nat_le};
-ghost use Rattle.std.specs.Prelude.{Bool, true, false, List, Contains, Some, None, Err, codes};
-ghost use Rattle.std.specs.Prelude.{length};
+ghost use Rattle.std.specs.Prelude.{Bool, true, false, List, Contains, Some, None, Ok, Err, codes};
+ghost use Rattle.std.specs.Prelude.{length, map};
 ghost use Rattle.std.specs.List.{list_any, slice_split};
 ghost use Rattle.std.specs.Str.{bytes_eq};
 ghost use Rattle.asdu.specs.Asdu.{AsduValue, Info};
 ghost use Rattle.elements.specs.declared.types.TypeId.{TypeId};
 ghost use Rattle.ft12.specs.declared.frame.LinkSize.{LinkSize};
 ghost use Rattle.gateway.specs.Config.{Settings};
-ghost use Rattle.sim.specs.Scripts.{lines_of};
+ghost use Rattle.sim.specs.Scripts.{AreSaidBy, lines_of};
 ghost use Rattle.stations.specs.CueLines.{cue_in, is_cue_line};
 ghost use Rattle.stations.specs.CueTexts.{AreRight, IsFirstOfText, IsFirstWrongLine, said_by};
 ghost use Rattle.stations.specs.CuesWritten.{IsCueWritten};
@@ -21,6 +21,7 @@ ghost use Rattle.stations.specs.SpokenOf.{habit, is_one_of};
 ghost use Rattle.stations.specs.declared.cue.Cue.{Cue};
 ghost use Rattle.stations.specs.declared.cue.Cue.TheVariants.{Delayed};
 ghost use Rattle.stations.specs.declared.outstations.replying.ReplyProgress.{ReplyProgress};
+ghost use Rattle.stations.specs.declared.scenario.Scenario.{Scenario};
 ghost use Rattle.traces.specs.declared.reading.TextFault.TheVariants.{Line};
 
 /// A line for the outstations alone says what its fields write, each behind one space: its words,
@@ -45,11 +46,17 @@ pub fn lines_for_outstations_say_what_they_write()
 
 /// Of a text that is read the lines for the outstations alone say what was read, in their order.
 /// Each of them says something, and no two of them speak of one station's replies, or of the answer
-/// to one request; there are a thousand at most.
+/// to one request; there are a thousand at most. The script is said by all lines of the text, in
+/// which these are comments.
 pub fn lines_for_outstations_stand_together()
-    ensures { (size : LinkSize) (stations : ℕ) (lines : List (List ℕ)) (cues : List Cue) →
-        AreCuesOf size stations lines cues →
+    ensures lines { (size : LinkSize) (stations : ℕ) (lines : List (List ℕ))
+        (cues : List Cue) → AreCuesOf size stations lines cues →
         AreRight size stations [] lines × (cues ≡ said_by size stations lines) }
+    ensures text { (c : Settings) (text : List ℕ) (s : Scenario) →
+        IsScenarioOf c text (Ok s) →
+        AreRight c.line.link (length c.stations) [] (lines_of text)
+        × (s.cues.items ≡ said_by c.line.link (length c.stations) (lines_of text))
+        × AreSaidBy c.line.link (length c.stations) (map commented (lines_of text)) s.script }
 {}
 
 /// Of a text that is refused the first wrong line is named, counted from 1 over all lines: none of

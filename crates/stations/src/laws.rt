@@ -1,8 +1,8 @@
 //! What holds of all outstations at a line.
 ghost use Rattle.std.specs.Prelude.{◌≡◌, ◌≢◌, ◌-◌, ◌<◌, ◌≤◌, ◌++◌, [], List, ℕ, Bool, Option};
-ghost use Rattle.std.specs.Prelude.{◌+◌, ◌^◌, min};
+ghost use Rattle.std.specs.Prelude.{◌⊎◌, ◌+◌, ◌^◌, min};
 ghost use Rattle.std.specs.Prelude.{◌%◌, None, Some, IsSome, false, true, length, map, slice_get};
-ghost use Rattle.asdu.specs.Asdu.{AsduValue, IsAsdu};
+ghost use Rattle.asdu.specs.Asdu.{AsduValue, IsAsdu, IsNoAsdu};
 ghost use Rattle.asdu.specs.declared.sizes.Sizes.{Sizes};
 ghost use Rattle.ft12.specs.Spelling.{spelling};
 ghost use Rattle.ft12.specs.declared.frame.Frame.{Frame};
@@ -21,13 +21,16 @@ ghost use Rattle.stations.specs.Given.{ReceivesWhatCame};
 ghost use Rattle.stations.specs.Late.{LateAnswer, delay_of, late_now};
 ghost use Rattle.stations.specs.Law.{BringsRequests, CouldReply, HadItsTurn, HasOneMore};
 ghost use Rattle.stations.specs.Law.{IsAnswering, WaitsBehind};
-ghost use Rattle.stations.specs.Places.{IsLetGoForCause, LooksOn, LooksOnce, OutstationServer};
+ghost use Rattle.stations.specs.Places.{IsCause, IsLetGoForCause, LooksOn, LooksOnce};
+ghost use Rattle.stations.specs.Places.{OutstationServer};
 ghost use Rattle.stations.specs.Places.{after_accept};
+ghost use Rattle.stations.specs.Progress.{next_step};
 ghost use Rattle.stations.specs.Replies.{IsReply, fits_line, is_command, is_select};
 ghost use Rattle.stations.specs.Replying.{Replies};
 ghost use Rattle.stations.specs.Reporting.{IsReported};
 ghost use Rattle.stations.specs.TimedServers.{IsRound, RoundsAt, TimedServer, WasHeld};
 ghost use Rattle.stations.specs.declared.cue.Timer.{Timer};
+ghost use Rattle.stations.specs.declared.outstations.replying.ReplyProgress.{ReplyProgress};
 ghost use Rattle.stations.specs.declared.scenario.Scenario.{Scenario};
 
 use ft12::spellings_cancel;
@@ -118,20 +121,27 @@ pub fn a_look_brings_requests_alone()
 {}
 
 /// What the outstations receive at a look is what the stream of the gateway gave at it: each octet
-/// of it, behind those that they had so far. This holds if the gateway stays, and if it is let go.
+/// of it, behind those that they had so far. What goes out on it are their answers, and nothing
+/// else. This holds if the gateway stays, and if it is let go. Of a gateway that stays they keep
+/// what is left behind the last request.
 pub fn what_a_stream_gives_is_received()
     ensures { (old new : OutstationServer) (look : LooksOnce old new) (before : List Happening) →
         (after_accept old look.accepted).stream ≡ Some (Some before) →
         ReceivesWhatCame before (after_accept old look.accepted).standing new }
 {}
 
-/// A gateway that is connected when a round looks at it is connected behind the round too, unless
-/// there is a cause: its stream said that it was gone, or didn't take octets. That is the last that
-/// happened there.
+/// A gateway that is connected before a round, or comes in it, is connected behind the round too,
+/// unless another takes its place or there is a cause: its stream said that it was gone, or didn't
+/// take octets. That is the last that happened there, and no gateway with such a cause stays.
 pub fn gateways_are_let_go_for_a_cause()
-    ensures { (now : ℕ) (old new : TimedServer) (round : IsRound now old new) →
-        (after_accept old.place round.looks.accepted).stream ≢ None → new.place.stream ≡ None →
+    ensures stays { (now : ℕ) (old new : TimedServer) → IsRound now old new →
+        old.place.stream ≢ None → new.place.stream ≡ None → IsLetGoForCause new.place.let_go }
+    ensures came { (now : ℕ) (old new : TimedServer) (round : IsRound now old new) →
+        round.looks.accepted ≢ None → new.place.stream ≡ None →
         IsLetGoForCause new.place.let_go }
+    ensures goes { (now : ℕ) (old new : TimedServer) (happenings : List Happening) →
+        IsRound now old new → new.place.stream ≡ Some (Some happenings) →
+        IsCause (Some happenings) → ⊥ }
 {}
 
 /// The time of a play begins in the first round in which a gateway is there, at that round's
@@ -147,18 +157,23 @@ pub fn time_begins_with_a_gateway()
 {}
 
 /// In a round each line has its turn, at so many ms as have passed since the start, and then each
-/// station has its turn to reply.
+/// station has its turn to reply. It gives one reply at most.
 pub fn all_have_a_turn_in_each_round()
     ensures lines { (now start i : ℕ) (old new : TimedServer) (round : IsRound now old new) →
         new.start ≡ Some start → now - start ≤ 999999999999999 →
         i < length round.sent.standing.cues → HadItsTurn (now - start) i round.sent.standing }
     ensures stations { (now i : ℕ) (old new : TimedServer) (round : IsRound now old new) →
         i < length round.reported.standing.stations → CouldReply i round.reported.standing }
+    ensures once { (now i : ℕ) (p : ReplyProgress) (old new : TimedServer)
+        (round : IsRound now old new) →
+        slice_get round.reported.standing.progress i ≡ Some p →
+        (slice_get new.place.standing.progress i ≡ Some p)
+        ⊎ (slice_get new.place.standing.progress i ≡ Some (next_step p)) }
 {}
 
 /// A report that a station takes stands behind those of its class, of which at most 64 waited less
-/// one; no other class and no other station has anything more. One that it doesn't take changes
-/// nothing.
+/// one; no other class and no other station has anything more, and nothing else changes at the
+/// station or of its line. One that it doesn't take changes nothing.
 pub fn reports_stand_behind_those_of_their_class()
     ensures here { (i : ℕ) (class : Class) (report : List ℕ) (old new : OutstationsState)
         (s : Secondary) → IsReported i class report old true new →
@@ -172,6 +187,9 @@ pub fn reports_stand_behind_those_of_their_class()
         slice_get old.had i ≡ Some n → slice_get old.stations i ≡ Some s → n - s.given < 64 }
     ensures left { (i : ℕ) (class : Class) (report : List ℕ) (old new : OutstationsState) →
         IsReported i class report old false new → new ≡ old }
+    ensures alone { (i : ℕ) (class : Class) (report : List ℕ) (old new : OutstationsState)
+        (is_taken : Bool) → IsReported i class report old is_taken new →
+        new ≡ record old { stations = new.stations; had = new.had } }
 {}
 
 /// The reports of each station are counted, by which at most 64 wait: at the start it had those
@@ -192,8 +210,9 @@ pub fn reports_are_counted()
 
 /// A reply to a command has its octets but for the cause (IEC 60870-5-101, 7.2.3): the cause of the
 /// confirmation, which is negative if the station refuses, or of the termination. T stays as it is.
-/// An activation is confirmed, and then terminated, unless it is refused or selects. Replies are
-/// reports of class 1.
+/// An activation is confirmed, and then terminated, unless it is refused or selects. A deactivation
+/// is confirmed. To any other cause, to another type and to octets that are no ASDU nothing is
+/// replied. Replies are reports of class 1.
 pub fn replies_answer_their_commands()
     ensures replies { (size : LinkSize) (sizes : Sizes) (refuses is_confirmed : Bool)
         (command reply : List ℕ) (v : AsduValue) → IsAsdu sizes v command →
@@ -203,11 +222,18 @@ pub fn replies_answer_their_commands()
         (reply : Option (List ℕ)) (v : AsduValue) → IsAsdu sizes v command →
         is_command v.kind ≡ true → v.cause % 64 ≡ 6 → fits_line size command ≡ true →
         IsReply size sizes refuses false command reply → IsSome reply }
+    ensures deactivated { (size : LinkSize) (sizes : Sizes) (refuses : Bool) (command : List ℕ)
+        (reply : Option (List ℕ)) (v : AsduValue) → IsAsdu sizes v command →
+        is_command v.kind ≡ true → v.cause % 64 ≡ 8 → fits_line size command ≡ true →
+        IsReply size sizes refuses false command reply → IsSome reply }
     ensures terminated { (size : LinkSize) (sizes : Sizes) (command : List ℕ)
         (reply : Option (List ℕ)) (v : AsduValue) → IsAsdu sizes v command →
         is_command v.kind ≡ true → v.cause % 64 ≡ 6 → is_select v ≡ false →
         fits_line size command ≡ true →
         IsReply size sizes false true command reply → IsSome reply }
+    ensures unread { (size : LinkSize) (sizes : Sizes) (refuses is_confirmed : Bool)
+        (command : List ℕ) (reply : Option (List ℕ)) → IsNoAsdu sizes command →
+        IsReply size sizes refuses is_confirmed command reply → reply ≡ None }
     ensures fits { (size : LinkSize) (command : List ℕ) → 3 ≤ length command →
         length command ≤ 252 → fits_line size command ≡ true }
     ensures urgent { (i : ℕ) (old new : OutstationsState) → Replies i old new →

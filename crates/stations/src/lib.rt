@@ -15,6 +15,7 @@ mod place;
 mod playing;
 mod reading;
 mod replies;
+mod round_laws;
 mod scenario;
 mod timed_server;
 mod waiting_laws;
@@ -38,6 +39,10 @@ pub use outstations::Outstations;
 pub use place::OutstationServer;
 pub use playing::{play, serve};
 pub use reading::read_scenario;
+pub use round_laws::{
+    a_play_begins_with_its_text, a_round_changes_what_is_due_alone,
+    each_round_has_its_reading_of_the_clock, the_gateway_is_who_came_last,
+};
 pub use scenario::Scenario;
 pub use timed_server::TimedServer;
 pub use waiting_laws::{

@@ -1,12 +1,14 @@
 //! What holds of what waits at outstations: reports that are due, replies, and late answers; and of
 //! the requests that they count.
 ghost use Rattle.std.specs.Prelude.{◌≡◌, ◌≢◌, ◌-◌, ◌+◌, ◌*◌, ◌/◌, ◌^◌, ◌<◌, ◌≤◌, ◌++◌, ℕ, List};
-ghost use Rattle.std.specs.Prelude.{Bool, true, false, suc, length, slice_get, Option, Some, None};
+ghost use Rattle.std.specs.Prelude.{[], Bool, true, false, suc, length, slice_get, Option, Some};
+ghost use Rattle.std.specs.Prelude.{None};
 ghost use Rattle.std.specs.List.{flat_map};
 ghost use Rattle.ft12.specs.Reading.{IsFront};
 ghost use Rattle.ft12.specs.Spelling.{spelling};
 ghost use Rattle.ft12.specs.declared.frame.Frame.{Frame};
-ghost use Rattle.ft12.specs.declared.frame.Front.TheVariants.{More};
+ghost use Rattle.ft12.specs.declared.frame.Front.TheVariants.{More, Never, Whole};
+ghost use Rattle.ft12.specs.declared.frame.Why.{Why};
 ghost use Rattle.ft12.specs.declared.frame.LinkSize.{LinkSize};
 ghost use Rattle.gateway.specs.Config.{Settings};
 ghost use Rattle.link.specs.Secondary.{Secondary};
@@ -118,8 +120,10 @@ pub fn late_answers_wait_until_they_are_due()
 {}
 
 /// The requests are counted on, one by one: what becomes of each, and of its answer, is what the
-/// lines of the script with its number say. The beginning of a request waits for the rest of it,
-/// however long it is. The answers go out whole, each once, in their order.
+/// lines of the script with its number say, and nothing but the stations changes. The beginning of
+/// a request waits for the rest of it, however long it is. Octets that begin none are dropped with
+/// those behind them, and no whole request is left. The answers go out whole, each once, in their
+/// order.
 pub fn requests_are_counted_on()
     ensures one { (old new : OutstationsState) (request : Frame) (back : Option (List ℕ)) →
         ComesBack old request back new → old.requests + 1 < 2 ^ 64 →
@@ -130,6 +134,12 @@ pub fn requests_are_counted_on()
         new.requests ≡ old.requests + length exchanges }
     ensures begun { (size : LinkSize) (last left kept : List ℕ) →
         IsKeptRest size last left kept → IsFront size (last ++ left) More → kept ≡ last ++ left }
+    ensures spoilt { (size : LinkSize) (last left kept : List ℕ) (place : ℕ) (why : Why) →
+        IsKeptRest size last left kept → left ≢ [] →
+        IsFront size (last ++ left) (Never place why) → kept ≡ [] }
+    ensures whole { (size : LinkSize) (last left kept : List ℕ) (request : Frame) (n : ℕ) →
+        IsKeptRest size last left kept → left ≢ [] →
+        IsFront size (last ++ left) (Whole request n) → ⊥ }
     ensures answers { (before : List Happening) (exchanges : List RequestExchange) →
         (after : List Happening) × (written (Some before) exchanges ≡ Some after)
         × (went_on after ≡ went_on before ++ flat_map answer_octets exchanges) }
