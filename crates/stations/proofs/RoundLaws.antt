@@ -207,14 +207,8 @@ since_due now (Some start) old new h =
     (h.new_is, lines_due _ _ old.standing new.standing h.reported)
 
 pub due_alone : (now : ℕ) (old new : TimedServer) (round : IsRound now old new)
-    → new.place ≡ record round.sent {
-      standing = record round.sent.standing {
-        cues = new.place.standing.cues;
-        stations = new.place.standing.stations;
-        had = new.place.standing.had;
-        progress = new.place.standing.progress;
-      };
-    }
+    → new.place
+    ≡ record round.sent { standing = with_due round.sent.standing new.place.standing }
 unfolding IsDueAlone
 due_alone now old new round =
     let since = since_due now new.start round.sent round.reported round.reports in
