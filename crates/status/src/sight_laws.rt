@@ -49,8 +49,8 @@ pub fn stations_stand_in_their_order()
 {}
 
 /// The numbers of the last hour are drawn in their order, the oldest first, each one step to the
-/// right (SVG, 9.3). An empty queue stands at the bottom, and a full one at the top; where the queue
-/// has no places that is the bottom, too.
+/// right (SVG, 9.3). An empty queue stands at the bottom, and a full one at the top. Where the
+/// queue has no places, that is the bottom.
 pub fn the_last_hour_is_drawn_to_scale()
     ensures drawn { (s : Snapshot) → IsDrawn s }
     ensures step { (places taken : ℕ) → text_of_step places taken
