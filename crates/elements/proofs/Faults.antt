@@ -9,7 +9,7 @@ use Rattle.elements.specs.declared.tag.Verdict.TheVariants.{Good, MarkedInvalid,
 use Rattle.elements.specs.declared.tag.Verdict.TheVariants.{NoSuchDay, WrongWeekday}
 use Rattle.elements.specs.TimeTag.{fields_of, is_out_of_range, day_exists, is_weekday_wrong}
 use Rattle.elements.specs.TimeTag.{verdict_of_fields, verdict_of}
-use Rattle.elements.specs.Moments.{Moment, days, Exists, instant, Names, IsOverRange}
+use Rattle.elements.specs.Moments.{Moment, days, instant, Names, IsOverRange}
 use Rattle.elements.specs.Moments.{IsWithinRange, month_days}
 use Rattle.elements.proofs.Moments.{fields_by, right_day, not_over, not_none}
 
@@ -79,17 +79,6 @@ wrong m mark some other =
     let b : (m.weekday == weekday_number (days m) + 1) ≡ false = ne_eqb _ _ other in
     rw (a, b) refl
 
-of_existing : (m : Moment) → Exists m → IsWithinRange m
-of_existing m is = record {
-  millisecond = is.millisecond;
-  minute = is.minute;
-  hour = is.hour;
-  first_day = is.first_day;
-  first_month = is.first_month;
-  last_month = is.last_month;
-  year = is.year;
-}
-
 pub range : (octets : List ℕ) (m : Moment) → Names m octets → IsOverRange m
     → verdict_of octets ≡ OutOfRange
 range octets m n one =
@@ -116,26 +105,29 @@ weekday octets m n is le some other =
     let no = wrong m mark some other in
     rw (out, yes, no) refl)
 
--- the verdict on a tag of a moment, by IV alone
-of_moment : (octets : List ℕ) (m : Moment) → Names m octets → Exists m
+-- where nothing else applies, the verdict by IV alone
+by_mark : (octets : List ℕ) (m : Moment) → Names m octets → IsWithinRange m → m.day ≤ month_days m
+    → (m.weekday ≡ 0) ⊎ (m.weekday ≡ weekday_number (days m) + 1)
     → verdict_of octets
     ≡ (if nat_le 128 (slice_index octets 2) then MarkedInvalid else Good (instant m))
-of_moment octets m n is =
+by_mark octets m n is le name =
     let mark = nat_le 128 (slice_index octets 2) in
     ap verdict_of_fields (named octets m n)
-    ∙ (let out = within m mark (of_existing m is) in
-    let yes = there m mark is.last_day in
-    let right = right_day m is.weekday in
+    ∙ (let out = within m mark is in
+    let yes = there m mark le in
+    let right = right_day m name in
     rw (out, yes, right) refl)
 
-pub marked : (octets : List ℕ) (m : Moment) → Names m octets → Exists m
+pub marked : (octets : List ℕ) (m : Moment) → Names m octets → IsWithinRange m
+    → m.day ≤ month_days m → (m.weekday ≡ 0) ⊎ (m.weekday ≡ weekday_number (days m) + 1)
     → 128 ≤ slice_index octets 2 → verdict_of octets ≡ MarkedInvalid
-marked octets m n is iv =
+marked octets m n is le name iv =
     let mark : nat_le 128 (slice_index octets 2) ≡ true = grind arith in
-    of_moment octets m n is ∙ rw mark refl
+    by_mark octets m n is le name ∙ rw mark refl
 
-pub good : (octets : List ℕ) (m : Moment) → Names m octets → Exists m
+pub good : (octets : List ℕ) (m : Moment) → Names m octets → IsWithinRange m
+    → m.day ≤ month_days m → (m.weekday ≡ 0) ⊎ (m.weekday ≡ weekday_number (days m) + 1)
     → slice_index octets 2 < 128 → verdict_of octets ≡ Good (instant m)
-good octets m n is iv =
+good octets m n is le name iv =
     let mark : nat_le 128 (slice_index octets 2) ≡ false = grind arith in
-    of_moment octets m n is ∙ rw mark refl
+    by_mark octets m n is le name ∙ rw mark refl

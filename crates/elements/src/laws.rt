@@ -1,5 +1,5 @@
 //! What the standard says of types, elements and time tags, each law called for its contract.
-ghost use Rattle.std.specs.Prelude.{◌≡◌, ◌≢◌, ◌≤◌, ◌<◌, ◌+◌, ◌*◌, ℕ, List, [], ◌∷◌, slice_index};
+ghost use Rattle.std.specs.Prelude.{◌≡◌, ◌≢◌, ◌⊎◌, ◌≤◌, ◌<◌, ◌+◌, ◌*◌, ℕ, List, [], ◌∷◌, slice_index};
 ghost use Rattle.std.specs.List.{AllByRecursion};
 ghost use Rattle.jiff_core.specs.Calendar.{weekday_number};
 ghost use Rattle.elements.specs.declared.commands.Dco.{Dco};
@@ -106,8 +106,8 @@ pub fn good_tags_name_moments()
 
 /// What a tag is worth, by the numbers that stand in its bits, for each of the tags that there are.
 /// First comes a number over its range, whatever the mark of invalidity and the day of the week.
-/// Then a day that the month of that year doesn't have, then another day's name in the week. Of a
-/// moment that there is, the mark of invalidity (IV, bit 7 of the octet of the minute) decides.
+/// Then a day that the month of that year doesn't have, then another day's name in the week. Where
+/// none of these applies, the mark of invalidity (IV, bit 7 of the octet of the minute) decides.
 pub fn faults_are_told_apart()
     ensures range { (octets : List ℕ) (m : Moment) → Names m octets → IsOverRange m →
         verdict_of octets ≡ OutOfRange }
@@ -116,8 +116,10 @@ pub fn faults_are_told_apart()
     ensures weekday { (octets : List ℕ) (m : Moment) → Names m octets → IsWithinRange m →
         m.day ≤ month_days m → m.weekday ≢ 0 → m.weekday ≢ weekday_number (days m) + 1 →
         verdict_of octets ≡ WrongWeekday }
-    ensures marked { (octets : List ℕ) (m : Moment) → Names m octets → Exists m →
+    ensures marked { (octets : List ℕ) (m : Moment) → Names m octets → IsWithinRange m →
+        m.day ≤ month_days m → (m.weekday ≡ 0) ⊎ (m.weekday ≡ weekday_number (days m) + 1) →
         128 ≤ slice_index octets 2 → verdict_of octets ≡ MarkedInvalid }
-    ensures good { (octets : List ℕ) (m : Moment) → Names m octets → Exists m →
+    ensures good { (octets : List ℕ) (m : Moment) → Names m octets → IsWithinRange m →
+        m.day ≤ month_days m → (m.weekday ≡ 0) ⊎ (m.weekday ≡ weekday_number (days m) + 1) →
         slice_index octets 2 < 128 → verdict_of octets ≡ Good (instant m) }
 {}
