@@ -1,8 +1,11 @@
-use Rattle.std.proofs.Common.{◌≡◌, ℕ, ◌+◌, ◌*◌, ◌/◌, ◌%◌, refl, arith}
+use Rattle.std.proofs.Common.{◌≡◌, ℕ, ◌*◌, ◌/◌, ◌%◌, [], ◌∷◌, refl, arith}
 use Rattle.apci.proofs.laws.fields_have_places.Goals as goal
 
-shifted : (n : ℕ) → n % 128 * 2 + 256 * (n / 128) ≡ 2 * n
-shifted n = omega arith
+shifted : (n : ℕ) → n % 128 * 2 ∷ n / 128 ∷ [] ≡ 2 * n % 256 ∷ 2 * n / 256 ∷ []
+shifted n =
+    let low : n % 128 * 2 ≡ 2 * n % 256 = omega arith in
+    let high : n / 128 ≡ 2 * n / 256 = omega arith in
+    rw (low, high) refl
 
 pub returns : goal.returns
 returns c = record {
