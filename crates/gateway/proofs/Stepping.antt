@@ -7,13 +7,14 @@ use Rattle.apci.specs.declared.apdu.Apdu.TheVariants.{I, S, U}
 use Rattle.apci.specs.Spelling.{spelling}
 use Rattle.session.specs.declared.kinds.Close.TheVariants.{Timeout}
 use Rattle.session.specs.History.{confirmation_of}
-use Rattle.gateway.specs.Log.{Log, Went, Closed}
+use Rattle.gateway.specs.Log.{Log, Went, Closed, latest}
 use Rattle.gateway.specs.Walls.{wall_on}
 use Rattle.gateway.specs.Connections.{present}
 use Rattle.gateway.specs.Reports.{Setup}
 use Rattle.gateway.specs.Course.{Course, with_frames, IsFlushed, IsUntouched}
 use Rattle.gateway.specs.Course.{NoFrameDue, MayTake, AreTaken, TakesFrames, IsNext, HandsOver}
-use Rattle.gateway.specs.Course.{HasBegun, HasNothingDue, HasTakenAll, IsLate, Runs}
+use Rattle.gateway.specs.Course.{HasAnswered, HasBegun, HasNothingDue, HasTakenAll, IsLate}
+use Rattle.gateway.specs.Course.{SendsNext, Runs}
 use Rattle.gateway.specs.Traffic.{IsFaithful}
 use Rattle.gateway.specs.Stepping.{NoDataMayGo, IsAllOut, HasTakenOne, bears_asdu, GoesLast}
 use Rattle.gateway.specs.Stepping.{IsLateBehindAll}
@@ -88,18 +89,27 @@ answered_first p log now before after frame newer older t e one =
     (taken_one p log now before frame older newer
     (subst (λ (fs : List Apdu). AreTaken p log now fs before) e t.each)) one
 
--- Late answers
+-- What comes behind all frames of the event
+
+answered_all : (p : Setup) (log : Log) (c : Course) → HasTakenOne log c → HasAnswered p log c
+    → IsAllOut p log (latest log) c
+answered_all p log c one answered =
+    let due = touched log c (HasNothingDue p log c) one answered in
+    record {
+      confirmed = due.confirmed;
+      flushed = no_data p log c due.flushed;
+      short = due.undue;
+    }
+
+pub asked_behind : (p : Setup) (log : Log) (octets : List ℕ) (before after : Course)
+    → SendsNext p log octets before after → HasTakenOne log before
+    → IsAllOut p log (latest log) before
+asked_behind p log octets before after h one = answered_all p log before one h.answered
 
 late_behind : (p : Setup) (log : Log) (c : Course) → IsLate p log c → IsLateBehindAll p log c
 late_behind p log c h = record {
   all = h.all;
-  out = λ one.
-      let due = touched log c (HasNothingDue p log c) one h.answered in
-      record {
-        confirmed = due.confirmed;
-        flushed = no_data p log c due.flushed;
-        short = due.undue;
-      };
+  out = λ one. answered_all p log c one h.answered;
   reported = h.logged;
   late = h.late;
 }

@@ -32,15 +32,18 @@ pub fn s_frames_and_tests_go_last()
     spellings_cancel();
 }
 
-/// Each frame is answered before the next one of its step is taken: what it has made due has gone
-/// out then, confirmations, data, S frames and tests. So each frame of a piece is taken as it would
-/// be if it came alone.
+/// Each frame is answered before the next one of its step is taken, and before the step's request
+/// goes to the line: what it has made due has gone out then, confirmations, data, S frames and
+/// tests. So each frame of a piece is taken as it would be if it came alone.
 pub fn each_frame_is_answered_before_the_next()
-    ensures { (p : Setup) (log : Log) (now : ℕ) (before after : Course) (frame : Apdu)
+    ensures next { (p : Setup) (log : Log) (now : ℕ) (before after : Course) (frame : Apdu)
         (newer older : List Apdu) (t : TakesFrames p log now before after) →
         t.frames ≡ newer ++ frame ∷ older →
         HasTakenOne log (with_frames p older now (wall_on log now) before) →
         IsAllOut p log now (with_frames p older now (wall_on log now) before) }
+    ensures request { (p : Setup) (log : Log) (octets : List ℕ) (before after : Course) →
+        SendsNext p log octets before after → HasTakenOne log before →
+        IsAllOut p log (latest log) before }
 {}
 
 /// Where an answer is late all that came is taken before the connection is closed: the answer isn't
