@@ -117,13 +117,3 @@ Steps size octets kept (step.Never place why) = IsFront size octets (front.Never
 abbrev pub is_end : DueOctet → Bool
 is_end (stage.End s) = true
 is_end stage = false
-
--- No frame can end at this octet: the end octet isn't due, and it isn't the single character.
-abbrev pub IsInner : DueOctet → (octet : ℕ) → Type 0
-IsInner stage.Start octet = octet ≡ 0xE5 → ⊥
-IsInner (stage.End s) octet = ⊥
-IsInner stage octet = Unit {0}
-
-abbrev pub EndsNoFrame : NextStage → Type 0
-EndsNoFrame (step.Whole f) = ⊥
-EndsNoFrame step = Unit {0}

@@ -5,8 +5,7 @@ ghost use Rattle.std.specs.Prelude.{◌/◌, ◌%◌, OnOk};
 ghost use Rattle.ft12.specs.declared.frame.LinkSize.{LinkSize};
 ghost use Rattle.ft12.specs.Spelling.{address_len, user};
 ghost use Rattle.ft12.specs.DueOctet.{fields_octets, IsFields, head, IsStage, so_far, Steps};
-ghost use Rattle.ft12.specs.DueOctet.{is_end};
-ghost use Rattle.ft12.specs.DueOctet.{IsInner, EndsNoFrame, summed_octets};
+ghost use Rattle.ft12.specs.DueOctet.{is_end, summed_octets};
 
 use crate::frame::{Frame, LinkSize, Why};
 use crate::writing::{END, SINGLE, START_DATA, START_FIXED};
@@ -235,9 +234,8 @@ impl Summed {
 
     /// What the octet after those summed gives.
     fn at_sum(self, octet: u8) -> NextStage
-        ensures steps { (size : LinkSize) (kept : List ℕ) → IsSummed size self kept →
+        ensures { (size : LinkSize) (kept : List ℕ) → IsSummed size self kept →
             Steps size (summed_octets size self kept ++ octet ∷ []) kept result }
-        ensures inner { EndsNoFrame result }
     {
         if octet == self.sum {
             NextStage::More(DueOctet::End(self))
@@ -275,9 +273,8 @@ impl DueOctet {
     #[inline(always)]
     pub(crate) fn with_octet(self, size: LinkSize, kept: &mut Data, octet: u8) -> NextStage
         requires { IsStage size self kept.old.items }
-        ensures steps { Steps size (so_far size self kept.old.items ++ octet ∷ [])
+        ensures { Steps size (so_far size self kept.old.items ++ octet ∷ [])
             kept.new.items result }
-        ensures inner { IsInner self octet → EndsNoFrame result }
     {
         match self {
             DueOctet::Start => at_start(size, octet),
@@ -292,8 +289,7 @@ impl DueOctet {
 }
 
 fn at_start(size: LinkSize, octet: u8) -> NextStage
-    ensures steps { Steps size (octet ∷ []) [] result }
-    ensures inner { (octet ≡ 0xE5 → ⊥) → EndsNoFrame result }
+    ensures { Steps size (octet ∷ []) [] result }
 {
     match octet {
         SINGLE => NextStage::Whole(BareFrame::Single),
@@ -310,8 +306,7 @@ fn at_start(size: LinkSize, octet: u8) -> NextStage
 }
 
 fn at_length(size: LinkSize, octet: u8) -> NextStage
-    ensures steps { Steps size (0x68 ∷ octet ∷ []) [] result }
-    ensures inner { EndsNoFrame result }
+    ensures { Steps size (0x68 ∷ octet ∷ []) [] result }
 {
     if usize::from(octet) < 1 + size.octets() {
         NextStage::Never(1, Why::LengthSmall)
@@ -321,9 +316,8 @@ fn at_length(size: LinkSize, octet: u8) -> NextStage
 }
 
 fn at_length_again(len: u8, octet: u8) -> NextStage
-    ensures steps { (size : LinkSize) → 1 + address_len size ≤ len →
+    ensures { (size : LinkSize) → 1 + address_len size ≤ len →
         Steps size (0x68 ∷ len ∷ octet ∷ []) [] result }
-    ensures inner { EndsNoFrame result }
 {
     if octet == len {
         NextStage::More(DueOctet::SecondStart { len })
@@ -333,9 +327,8 @@ fn at_length_again(len: u8, octet: u8) -> NextStage
 }
 
 fn at_second_start(len: u8, octet: u8) -> NextStage
-    ensures steps { (size : LinkSize) → 1 + address_len size ≤ len →
+    ensures { (size : LinkSize) → 1 + address_len size ≤ len →
         Steps size (0x68 ∷ len ∷ len ∷ octet ∷ []) [] result }
-    ensures inner { EndsNoFrame result }
 {
     if octet == START_DATA {
         // From 0, since neither start octets nor lengths are in the sum (IEC 60870-5-1, 6.2.4.2).

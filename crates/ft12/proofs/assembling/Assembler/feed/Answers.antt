@@ -18,7 +18,7 @@ returns-in-Whole-clause-listening c =
     (Whole c.with_data.result (length (now ++ c.look-octet.result ∷ []))) =
     subst (λ f. IsFront size (now ++ c.look-octet.result ∷ [])
     (Whole f (length (now ++ c.look-octet.result ∷ []))))
-    (sym c.with_data.ensures.frame) c.in-Whole.ensures.steps.0 in
+    (sym c.with_data.ensures.frame) c.in-Whole.ensures.0 in
     let arrived = received_frame size before c.args.piece.now now _ c.loop-i.i c.with_data.result _
     c.loop-i.invariant.joined c.loop-i-test.true
     (stage_more size c.loop-i.stage c.loop-i.self-inside.kept.items c.loop-i.invariant.is_stage)
@@ -39,7 +39,7 @@ returns-in-Never-clause-listening c =
     let arrived = received_never size before c.args.piece.now now _ c.loop-i.i c.in-Never.place
     c.in-Never.why
     c.loop-i.invariant.joined c.loop-i-test.true
-    (ap (λ (o : ℕ). now ++ o ∷ []) c.look-octet.ensures.value) c.in-Never.ensures.steps in
+    (ap (λ (o : ℕ). now ++ o ∷ []) c.look-octet.ensures.value) c.in-Never.ensures in
     rw (← c.self.view_is, c.in-Some.is) (
       subst (λ s. IsFront s (before ++ c.args.piece.now) (Never c.in-Never.place c.in-Never.why))
           c.loop-i.invariant.size arrived,
@@ -57,7 +57,7 @@ returns-in-Never-clause-counted c =
     c.in-Never.place c.in-Never.why _
     _ _ c.loop-i.invariant.joined c.loop-i-test.true
     (stage_more size c.loop-i.stage c.loop-i.self-inside.kept.items c.loop-i.invariant.is_stage)
-    c.in-Never.ensures.steps c.loop-i.invariant.looked c.look-octet.ensures.counted)
+    c.in-Never.ensures c.loop-i.invariant.looked c.look-octet.ensures.counted)
 
 -- all octets of the piece are kept
 pub returns-clause-listening : goal.returns-clause-listening

@@ -32,12 +32,12 @@ returns-in-Never-clause-listening c =
     let arrived = received_never size before c.args.piece.now now _ c.loop-i.i c.in-Never.field-0
     c.in-Never.field-1
     c.loop-i.invariant.joined c.loop-i-test.true
-    (ap (λ (o : ℕ). now ++ o ∷ []) c.look-octet.ensures.value) c.in-Never.ensures.steps in
+    (ap (λ (o : ℕ). now ++ o ∷ []) c.look-octet.ensures.value) c.in-Never.ensures in
     let counted = counted_refusal size before c.args.piece.now now c.loop-i.i c.look-octet.result
     c.in-Never.field-0
     c.in-Never.field-1 _ _ _ c.loop-i.invariant.joined c.loop-i-test.true
     (stage_more size c.loop-i.stage c.loop-i.self-inside.kept.items c.loop-i.invariant.is_stage)
-    c.in-Never.ensures.steps c.loop-i.invariant.looked c.look-octet.ensures.counted in
+    c.in-Never.ensures c.loop-i.invariant.looked c.look-octet.ensures.counted in
     rw (← c.self.view_is, c.in-Some.is) (
       c.in-Never.field-0,
       c.in-Never.field-1,
