@@ -1,7 +1,7 @@
 -- Whom the looks at the listener refuse. Those of a run are those of its looks, one after another.
-use Rattle.std.proofs.Common.{◌≡◌, ℕ, ◌+◌, ◌-◌, ◌^◌, arith, true, false, Bool, List, [], ◌∷◌, ◌++◌}
-use Rattle.std.proofs.Common.{length, Option, Some, None, refl, sym, ap, subst, ◌∙◌, inl, inr}
-use Rattle.std.specs.Prelude.{◌↔◌, IsTrue, min, option_map}
+use Rattle.std.proofs.Common.{◌≡◌, ℕ, true, false, Bool, List, [], ◌∷◌, ◌++◌}
+use Rattle.std.proofs.Common.{Option, Some, None, refl, sym, ap, subst, ◌∙◌, inl, inr}
+use Rattle.std.specs.Prelude.{◌↔◌, IsTrue, option_map}
 use Rattle.std.proofs.lemmas.List.{append-nil, append_assoc}
 use Rattle.std.proofs.lemmas.List.Elements.{All-append, All-cons}
 use Rattle.gateway.specs.Log.{Output}
@@ -254,17 +254,6 @@ run_since start _ (Put before end moment action run l) =
     let P : Refusals → Type 0 = λ r. RefusesStrangers start.allow_list start.refusals r in
     subst P (sym (action_still before end moment action l)) (run_since start before run)
 
--- how many they are
-capped : (peer : IpAddr) (before : List IpAddr) (count : ℕ)
-    → count ≡ min (length before) (2 ^ 64 - 1)
-    → min (count + 1) (2 ^ 64 - 1) ≡ min (length (peer ∷ before)) (2 ^ 64 - 1)
-capped peer before count is = omega (arith, is)
-
-count_of : (peers : List IpAddr)
-    → (counted peers nobody).count ≡ min (length peers) (2 ^ 64 - 1)
-count_of [] = refl
-count_of (peer ∷ before) = capped peer before (counted before nobody).count (count_of before)
-
 -- what is noted of them
 noted_by : (r : Refusals) (peers : List IpAddr) → r ≡ refusing peers (record {
   peers = Some [];
@@ -275,29 +264,11 @@ noted_by r peers is all noted =
     let whole : peers ≡ all = sym (append-nil peers) ∙ cc in
     ap (λ (x : Refusals). x.said) is ∙ ap (λ p. counted p nobody) whole
 
-said_of_run : (start end : LiveEnds) (sight : EndsSight) (all : List IpAddr)
-    → start.refusals ≡ record { peers = Some []; said = record { count = 0; last = None } }
+pub said_of_run : (start end : LiveEnds) (sight : EndsSight) (all : List IpAddr)
+    → start.refusals ≡ record { peers = Some []; said = nobody }
     → LiveRun start end → ShowsEnds end sight → end.refusals.peers ≡ Some all
     → sight.refused ≡ counted all nobody
 said_of_run start end sight all none run shows noted =
     let s = run_since start end run in
     shows.refused
     ∙ noted_by end.refusals s.refused (s.ends ∙ ap (refusing s.refused) none) all noted
-
-pub nobody_said : (start end : LiveEnds) (sight : EndsSight)
-    → start.refusals ≡ record { peers = Some []; said = record { count = 0; last = None } }
-    → LiveRun start end → ShowsEnds end sight → end.refusals.peers ≡ Some []
-    → sight.refused ≡ record { count = 0; last = None }
-nobody_said start end sight none run shows noted =
-    said_of_run start end sight [] none run shows noted
-
-pub peers_said : (start end : LiveEnds) (sight : EndsSight) (peer : IpAddr) (before : List IpAddr)
-    → start.refusals ≡ record { peers = Some []; said = record { count = 0; last = None } }
-    → LiveRun start end → ShowsEnds end sight → end.refusals.peers ≡ Some (peer ∷ before)
-    → (sight.refused.count ≡ min (length (peer ∷ before)) (2 ^ 64 - 1))
-    × (sight.refused.last ≡ Some peer)
-peers_said start end sight peer before none run shows noted =
-    let said = said_of_run start end sight (peer ∷ before) none run shows noted in (
-      ap (λ (r : RefusedPeers). r.count) said ∙ count_of (peer ∷ before),
-      ap (λ (r : RefusedPeers). r.last) said,
-    )

@@ -1,7 +1,8 @@
-//! What the sum of octets shows.
-ghost use Rattle.std.specs.Prelude.{◌≡◌, ◌≢◌, ℕ, ◌<◌, List, ◌∷◌, ◌++◌};
+//! What the sum of octets shows, and what a line of numbers is read from.
+ghost use Rattle.std.specs.Prelude.{◌≡◌, ◌≢◌, ℕ, ◌<◌, List, ◌∷◌, ◌++◌, Some};
 ghost use Rattle.std.specs.List.{AllByRecursion};
 ghost use Rattle.statetext.specs.Sum.{sum_of};
+ghost use Rattle.statetext.specs.Text.{line_in, text_of_numbers};
 
 /// No sum hides an octet that has rotted: wherever it stands, and whatever stands before and behind
 /// it, octets that differ in it alone have other sums.
@@ -10,4 +11,11 @@ pub fn no_sum_hides_a_rotten_octet()
         AllByRecursion (λ c. c < 256) front → AllByRecursion (λ c. c < 256) behind →
         octet < 256 → rotten < 256 → rotten ≢ octet →
         sum_of (front ++ rotten ∷ behind) ≢ sum_of (front ++ octet ∷ behind) }
+{}
+
+/// A line of numbers has one text: what is read as one is what is put for them, octet by octet. (A
+/// line that begins with an `x`, 120, is one of octets.) So no other spelling of a number is read.
+pub fn a_line_of_numbers_has_one_text()
+    ensures { (text numbers : List ℕ) → line_in text ≡ Some numbers →
+        ((rest : List ℕ) → text ≡ 120 ∷ rest → ⊥) → text ≡ text_of_numbers numbers }
 {}

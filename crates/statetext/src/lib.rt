@@ -2,8 +2,9 @@
 //!
 //! A line of numbers is these in decimal with one space between two; a line of octets is `x` and
 //! these in hexadecimal. Each line ends in a line feed. Proved: the lines that are read of a text
-//! are those that were put, whatever stands behind it ([`TextSheet::is_read_back`]). A text in
-//! which one octet has rotted has another sum ([`no_sum_hides_a_rotten_octet`]).
+//! are those that were put, whatever stands behind it ([`TextSheet::is_read_back`]). No other text
+//! is read as a line of numbers ([`a_line_of_numbers_has_one_text`]). A text in which one octet has
+//! rotted has another sum ([`no_sum_hides_a_rotten_octet`]).
 #![tactic(auto)]
 
 mod laws;
@@ -11,7 +12,7 @@ mod lines;
 mod sheet;
 mod sum;
 
-pub use laws::no_sum_hides_a_rotten_octet;
+pub use laws::{a_line_of_numbers_has_one_text, no_sum_hides_a_rotten_octet};
 pub use lines::TextLines;
 pub use sheet::{Octets, TextSheet, put_hexadecimal};
 pub use sum::Sum;

@@ -8,7 +8,7 @@ ghost use Rattle.gateway.specs.declared.ports.Next.{Next};
 ghost use Rattle.live.specs.Ends.{LiveEnds, LogsTurn, LogsPut};
 ghost use Rattle.live.specs.Law.{KeepsOut, peer_of};
 ghost use Rattle.live.specs.Cuts.{shuts_nothing};
-ghost use Rattle.live.specs.AllowLists.{Allows, IsPlain, RefusesStrangers};
+ghost use Rattle.live.specs.AllowLists.{Allows, IsPlain, RefusesStrangers, nobody};
 ghost use Rattle.live.specs.Arrivals.{AcceptsNewest, Arrival, Arrivals, Comer, GoesOn, IsPeerOf};
 ghost use Rattle.live.specs.Arrivals.{Sorts, TakesWaiting};
 ghost use Rattle.live.specs.declared.ends.RefusedPeers.{RefusedPeers};
@@ -56,15 +56,16 @@ pub fn only_strangers_are_refused()
 {}
 
 /// What is shown of those who were refused in a run, where the listener notes them: how many they
-/// are, as far as 64 bits count, and which of them came last.
+/// are, as far as 64 bits count, and which of them came last. A new listener says that
+/// nobody was: none is counted, and no address stands there.
 pub fn who_was_refused_is_shown()
     ensures nobody { (start end : LiveEnds) (sight : EndsSight) →
-        start.refusals ≡ record { peers = Some []; said = record { count = 0; last = None } } →
+        start.refusals ≡ record { peers = Some []; said = nobody } →
         LiveRun start end → ShowsEnds end sight → end.refusals.peers ≡ Some [] →
         sight.refused ≡ record { count = 0; last = None } }
     ensures peers { (start end : LiveEnds) (sight : EndsSight) (peer : IpAddr)
         (before : List IpAddr) →
-        start.refusals ≡ record { peers = Some []; said = record { count = 0; last = None } } →
+        start.refusals ≡ record { peers = Some []; said = nobody } →
         LiveRun start end → ShowsEnds end sight → end.refusals.peers ≡ Some (peer ∷ before) →
         (sight.refused.count ≡ min (length (peer ∷ before)) (2 ^ 64 - 1))
         × (sight.refused.last ≡ Some peer) }

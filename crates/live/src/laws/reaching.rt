@@ -1,6 +1,6 @@
 //! Laws of how a line is reached, how streams are set, and how a clock begins.
 ghost use Rattle.std.specs.Prelude.{◌≡◌, ◌⊎◌, ◌↔◌, ℕ, ◌+◌, ◌*◌, ◌-◌, ◌^◌, ◌<◌, ◌≤◌, List, [], ◌∷◌};
-ghost use Rattle.std.specs.Prelude.{◌++◌};
+ghost use Rattle.std.specs.Prelude.{◌++◌, ◌≢◌, length};
 ghost use Rattle.std.specs.Prelude.{Option, Some, None, Result, Ok, Err, true, false};
 ghost use Rattle.std.specs.Result.{is_ok};
 ghost use Rattle.std.specs.Time.{instant_nanos};
@@ -9,8 +9,8 @@ ghost use Rattle.std.specs.declared.net.socket_addr.SocketAddr.{SocketAddr};
 ghost use Rattle.std.specs.declared.time.Instant.{Instant};
 ghost use Rattle.live.specs.Clocks.{BeginsAt, StartsNow, moment_by};
 ghost use Rattle.live.specs.OctetStreams.{StreamHistory};
-ghost use Rattle.live.specs.Reaching.{AsksOn, AtPath, Began, Came, DialsAt, DialsHost, LookedUp};
-ghost use Rattle.live.specs.Reaching.{Opened, ReachStep, TriesEach};
+ghost use Rattle.live.specs.Reaching.{AsksOn, AtPath, Began, Came, DialsAt, DialsHost};
+ghost use Rattle.live.specs.Reaching.{IsExhausted, LookedUp, Opened, ReachStep, TriesEach, came_in};
 ghost use Rattle.live.specs.Reaching.{ReachesAt, ReachesHost, Showed, Stood, Waited, WaitedAt};
 ghost use Rattle.live.specs.Reaching.{WaitsForEach};
 ghost use Rattle.live.specs.Reaching.{is_in_time};
@@ -52,7 +52,8 @@ pub fn a_try_ends_as_its_connect_does()
 /// The addresses of a host are tried in turn: a connect is begun to each that comes, until one goes
 /// on. A try ends without a line only where none comes any more, where 32 have come, or where the
 /// stream of a connect that came through can't be used. The connect that goes on is to the address
-/// that came last, since the clock was read behind its beginning.
+/// that came last, since the clock was read behind its beginning. Unless 32
+/// have come addresses are exhausted only where none comes any more.
 pub fn the_addresses_of_a_host_are_tried_in_turn()
     ensures dialled { (host : List ℕ) (steps after : List ReachStep)
         (answer : Dialled StreamHistory) (old new : Option Connecting) →
@@ -73,6 +74,8 @@ pub fn the_addresses_of_a_host_are_tried_in_turn()
         × (new ≡ Some connecting)
         × (after ≡ Showed (Ok connecting.since) ∷ (Began address (Ok connecting.stream)
         ∷ (Came (Some address) ∷ before))) }
+    ensures exhausted { (tried : List ReachStep) → IsExhausted tried →
+        length (came_in tried) ≢ 32 → (rest : List ReachStep) × (tried ≡ Came None ∷ rest) }
 {}
 
 /// A line that is reached before a run is one at its place. It stands at the socket of the path, or
