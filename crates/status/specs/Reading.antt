@@ -59,8 +59,9 @@ HasMember text name value =
 abbrev pub quoted : List ℕ → List ℕ
 quoted text = codes "\"" ++ (text ++ codes "\"")
 
--- each number of a station under its name, in JSON
+-- each number of a station under its name, in an object of JSON
 pub record HasStation (s : StationView) (text : List ℕ) : Type 0 where
+  pub begins : (rest : List ℕ) × (text ≡ codes "{" ++ rest)
   pub name : HasMember text (codes "name") (quoted (escaped marks.Json s.name.now))
   pub address : HasMember text (codes "address") (decimal s.address)
   pub common_address : HasMember text (codes "common_address") (decimal s.common_address)
