@@ -11,10 +11,11 @@ use Rattle.gateway.specs.State.{State}
 use Rattle.live.specs.declared.ends.Presence.{Presence}
 use Rattle.live.specs.declared.ends.Presence.TheVariants as presence
 use Rattle.live.specs.declared.ends.RefusedPeers.{RefusedPeers}
-use Rattle.runlog.specs.Ends.{changed, is_away, is_there, line_change, line_changed, line_logged}
+use Rattle.runlog.specs.Ends.{changed, is_away, is_receiving, is_there, line_change, line_changed, line_logged}
 use Rattle.runlog.specs.Ends.{line_seen, line_seen_so, listener_logged, listener_seen}
 use Rattle.runlog.specs.Ends.{listener_tried, presence_noted, seen_as}
 use Rattle.runlog.specs.Inbox.{Inbox, all_noted, judged}
+use Rattle.runlog.specs.LineLines.{logged_at}
 use Rattle.runlog.specs.Limits.{IsSecondAfter, is_minute_after}
 use Rattle.runlog.specs.Passing.{Went, passed}
 use Rattle.runlog.specs.Watching.{Watching, is_full, queue_by, queue_logged, queue_seen}
@@ -46,6 +47,7 @@ pub queue_fills : (w : QueueWatch) (taken places now : ℕ) → w.is_full ≡ fa
     → ((queue_seen taken places now w).1
     ≡ Some (record { moment = now; note = note.QueueFull; left_out = w.full.left_out }))
     × ((queue_seen taken places now w).0.is_full ≡ true)
+    × ((queue_seen taken places now w).0.full ≡ logged_at now)
 queue_fills w taken places now was few second =
     let look = queue_look false true taken places now w was (few_free taken places few) in
     let full = ap (λ b. queue_logged true (line_asked b note.QueueFull w.full now).1
@@ -53,6 +55,7 @@ queue_fills w taken places now was few second =
     (free_after w.full.logged now second) in (
       ap (λ x. x.1) look ∙ ap (λ x. x.1) full,
       ap (λ x. x.0.is_full) look ∙ ap (λ x. x.0.is_full) full,
+      ap (λ x. x.0.full) look ∙ ap (λ x. x.0.full) full,
     )
 
 pub queue_frees : (w : QueueWatch) (taken places now : ℕ) → w.is_full ≡ true
@@ -60,12 +63,16 @@ pub queue_frees : (w : QueueWatch) (taken places now : ℕ) → w.is_full ≡ tr
     → ((queue_seen taken places now w).1
     ≡ Some (record { moment = now; note = note.QueueFree; left_out = w.free.left_out }))
     × ((queue_seen taken places now w).0.is_full ≡ false)
+    × ((queue_seen taken places now w).0.free ≡ logged_at now)
 queue_frees w taken places now was free second =
     let look = queue_look true false taken places now w was (three_free taken places free) in
     let all = ap (λ b. queue_logged false (line_asked b note.QueueFree w.free now).1
     (record w { free = (line_asked b note.QueueFree w.free now).0 }))
-    (free_after w.free.logged now second) in
-    (ap (λ x. x.1) look ∙ ap (λ x. x.1) all, ap (λ x. x.0.is_full) look ∙ ap (λ x. x.0.is_full) all)
+    (free_after w.free.logged now second) in (
+      ap (λ x. x.1) look ∙ ap (λ x. x.1) all,
+      ap (λ x. x.0.is_full) look ∙ ap (λ x. x.0.is_full) all,
+      ap (λ x. x.0.free) look ∙ ap (λ x. x.0.free) all,
+    )
 
 pub still_full : (w : QueueWatch) (taken places now : ℕ) → w.is_full ≡ true
     → places - taken < 3 → queue_seen taken places now w ≡ (w, None)
@@ -95,13 +102,17 @@ pub refused_so : (s : RefusedPeers) (w : ListenerWatch) (now : ℕ) → w.logged
       note = note.RefusedPeers (s.count - w.logged) s.last;
       left_out = w.limit.left_out;
     })) × ((listener_seen s now w).0.logged ≡ s.count)
+    × ((listener_seen s now w).0.limit ≡ logged_at now)
 refused_so s w now more second =
     let what : Note = note.RefusedPeers (s.count - w.logged) s.last in
     let look = ap (λ b. listener_by b s now w) (more_came s.count w.logged more) in
     let all = ap (λ b. listener_logged s.count (line_asked b what w.limit now).1
     (record w { limit = (line_asked b what w.limit now).0 }))
-    (free_after w.limit.logged now second) in
-    (ap (λ x. x.1) look ∙ ap (λ x. x.1) all, ap (λ x. x.0.logged) look ∙ ap (λ x. x.0.logged) all)
+    (free_after w.limit.logged now second) in (
+      ap (λ x. x.1) look ∙ ap (λ x. x.1) all,
+      ap (λ x. x.0.logged) look ∙ ap (λ x. x.0.logged) all,
+      ap (λ x. x.0.limit) look ∙ ap (λ x. x.0.limit) all,
+    )
 
 pub nobody_so : (s : RefusedPeers) (w : ListenerWatch) (now : ℕ) → s.count ≤ w.logged
     → listener_seen s now w ≡ (w, None)
@@ -142,6 +153,32 @@ pub away_since : (was : Presence) (w : LineWatch) (now : ℕ) → w.presence ≡
     → (line_seen presence.Away now w).0.since ≡ since_by presence.Away was now w
 away_since was w now before =
     seen_since presence.Away presence.Away was now w (away_so w.is_receiving) before
+
+logged_so : (l : LineLogged) (line : Option LogLine) (w : LineWatch)
+    → ((line_logged l line w).0.presence ≡ w.presence)
+    × ((line_logged l line w).0.is_receiving ≡ w.is_receiving)
+logged_so l None w = (refl, refl)
+logged_so l (Some line) w = (refl, refl)
+
+kept_so : (c : Option (LineLogged × Note)) (is_away : Bool) (now : ℕ) (w : LineWatch)
+    → ((line_changed c is_away now w).0.presence ≡ w.presence)
+    × ((line_changed c is_away now w).0.is_receiving ≡ w.is_receiving)
+kept_so None is_away now w = (refl, refl)
+kept_so (Some (l, what)) true now w = logged_so l (changed what w.away now).1
+    (record w { away = (changed what w.away now).0 })
+kept_so (Some (l, what)) false now w = logged_so l (changed what w.there now).1
+    (record w { there = (changed what w.there now).0 })
+
+-- how a look finds the line is known from then on
+pub found_so : (p is : Presence) (now : ℕ) (w : LineWatch) → seen_as w.is_receiving p ≡ is
+    → ((line_seen p now w).0.presence ≡ is)
+    × ((line_seen p now w).0.is_receiving ≡ is_receiving is)
+found_so p is now w so =
+    let kept = kept_so (line_change w.logged is (is_minute_after w.away.logged now)) (is_away is)
+    now (presence_noted is now w) in (
+      ap (λ x. (line_seen_so x now w).0.presence) so ∙ kept.0,
+      ap (λ x. (line_seen_so x now w).0.is_receiving) so ∙ kept.1,
+    )
 
 -- ---- Octets of a connection
 

@@ -14,6 +14,7 @@ ghost use Rattle.live.specs.declared.ends.RefusedPeers.{RefusedPeers};
 ghost use Rattle.live.specs.declared.watched.EndsSight.{EndsSight};
 ghost use Rattle.runlog.specs.Ends.{line_seen, listener_seen};
 ghost use Rattle.runlog.specs.Inbox.{Inbox, judged};
+ghost use Rattle.runlog.specs.LineLines.{logged_at};
 ghost use Rattle.runlog.specs.Limits.{IsSecondAfter};
 ghost use Rattle.runlog.specs.Logging.{looked_if_due, taken_in};
 ghost use Rattle.runlog.specs.Passing.{Came, Went, passed};
@@ -26,17 +27,20 @@ ghost use Rattle.runlog.specs.declared.queue.QueueWatch.{QueueWatch};
 
 /// That the queue is full is logged at the look at which fewer than three of its places are free,
 /// and that it is free again at the one at which three are. Nothing is logged while it stays so.
+/// Lines of either kind are a second apart.
 pub fn the_queue_is_logged_where_it_fills_and_where_it_is_free_again()
     ensures full { (w : QueueWatch) (taken places now : ℕ) → w.is_full ≡ false →
         places - taken < 3 → IsSecondAfter w.full.logged now →
         ((queue_seen taken places now w).1
         ≡ Some (record { moment = now; note = note.QueueFull; left_out = w.full.left_out }))
-        × ((queue_seen taken places now w).0.is_full ≡ true) }
+        × ((queue_seen taken places now w).0.is_full ≡ true)
+        × ((queue_seen taken places now w).0.full ≡ logged_at now) }
     ensures free { (w : QueueWatch) (taken places now : ℕ) → w.is_full ≡ true →
         3 ≤ places - taken → IsSecondAfter w.free.logged now →
         ((queue_seen taken places now w).1
         ≡ Some (record { moment = now; note = note.QueueFree; left_out = w.free.left_out }))
-        × ((queue_seen taken places now w).0.is_full ≡ false) }
+        × ((queue_seen taken places now w).0.is_full ≡ false)
+        × ((queue_seen taken places now w).0.free ≡ logged_at now) }
     ensures still_full { (w : QueueWatch) (taken places now : ℕ) → w.is_full ≡ true →
         places - taken < 3 → queue_seen taken places now w ≡ (w, None) }
     ensures still_free { (w : QueueWatch) (taken places now : ℕ) → w.is_full ≡ false →
@@ -44,20 +48,22 @@ pub fn the_queue_is_logged_where_it_fills_and_where_it_is_free_again()
 {}
 
 /// Those who were refused are logged where some came since the line before: how many, and the
-/// address of the last. Nothing is logged where nobody came.
+/// address of the last. Nothing is logged where nobody came. These lines are a second apart.
 pub fn who_was_refused_is_logged()
     ensures some { (s : RefusedPeers) (w : ListenerWatch) (now : ℕ) → w.logged < s.count →
         IsSecondAfter w.limit.logged now → ((listener_seen s now w).1 ≡ Some (record {
           moment = now;
           note = note.RefusedPeers (s.count - w.logged) s.last;
           left_out = w.limit.left_out;
-        })) × ((listener_seen s now w).0.logged ≡ s.count) }
+        })) × ((listener_seen s now w).0.logged ≡ s.count)
+        × ((listener_seen s now w).0.limit ≡ logged_at now) }
     ensures none { (s : RefusedPeers) (w : ListenerWatch) (now : ℕ) → s.count ≤ w.logged →
         listener_seen s now w ≡ (w, None) }
 {}
 
 /// A line is there since the look at which it was there first, and away since the one at which it
-/// was away first. It is away, too, before it was tried.
+/// was away first. It is away, too, before it was tried. How a look finds it is known until the
+/// next one, and whether octets had come.
 pub fn a_line_stands_so_since_the_look_that_found_it_so()
     ensures came { (w : LineWatch) (now : ℕ) → w.presence ≡ presence.Away →
         (line_seen presence.Receiving now w).0.since ≡ now }
@@ -75,6 +81,15 @@ pub fn a_line_stands_so_since_the_look_that_found_it_so()
         (line_seen presence.Away now w).0.since ≡ w.since }
     ensures untried { (w : LineWatch) (now : ℕ) → w.presence ≡ presence.Untried →
         (line_seen presence.Away now w).0.since ≡ w.since }
+    ensures receives { (w : LineWatch) (now : ℕ) →
+        ((line_seen presence.Receiving now w).0.presence ≡ presence.Receiving)
+        × ((line_seen presence.Receiving now w).0.is_receiving ≡ true) }
+    ensures goes { (w : LineWatch) (now : ℕ) →
+        ((line_seen presence.Away now w).0.presence ≡ presence.Away)
+        × ((line_seen presence.Away now w).0.is_receiving ≡ false) }
+    ensures quiet { (w : LineWatch) (now : ℕ) → w.is_receiving ≡ false →
+        ((line_seen presence.There now w).0.presence ≡ presence.There)
+        × ((line_seen presence.There now w).0.is_receiving ≡ false) }
 {}
 
 /// Half an APDU of one connection is no beginning of one on the next: nothing has come yet where

@@ -1,7 +1,8 @@
 //! Laws of what is logged, over any calls.
 ghost use Rattle.std.specs.Prelude.{◌≡◌, ℕ, ◌+◌, ◌^◌, ◌<◌, List, ◌∷◌, length, Bool};
 ghost use Rattle.runlog.specs.Limits.{AreSecondsApart, left_in, logged_in, logged_of};
-ghost use Rattle.std.specs.Prelude.{true, false, Option, Some, option_map, map, ◌++◌, codes};
+ghost use Rattle.std.specs.Prelude.{true, false, Option, Some, option_map, map, suc, ◌++◌, codes};
+ghost use Rattle.std.specs.Fmt.{decimal};
 ghost use Rattle.std.specs.declared.net.ip_addr.IpAddr.{IpAddr};
 ghost use Rattle.command.specs.Refusals.{refusal_of, glance_of};
 ghost use Rattle.command.specs.Restored.{HasSettings};
@@ -10,7 +11,7 @@ ghost use Rattle.command.specs.State.{State};
 ghost use Rattle.command.specs.declared.refusal.Refusal.{Refusal};
 ghost use Rattle.gateway.specs.State.{State as Gateway, wall_now};
 ghost use Rattle.runlog.specs.Inbox.{Orders, order_noted};
-ghost use Rattle.runlog.specs.Notes.{words, peer_words};
+ghost use Rattle.runlog.specs.Notes.{line_text, words, peer_words};
 ghost use Rattle.runlog.specs.OrderWords.{rule_words, order_words};
 ghost use Rattle.runlog.specs.Wordings.{wordings, first_words, age_of, in_seconds};
 ghost use Rattle.runlog.specs.declared.order.Order.{Order};
@@ -35,6 +36,18 @@ pub fn lines_of_a_kind_are_a_second_apart()
         limit.left_out + length moments < 2 ^ 64 →
         logged_of (logged_in limit moments) + left_in limit moments
         ≡ limit.left_out + length moments }
+{}
+
+/// A line says its moment and its words. Where others of its kind were left out before it, it says
+/// behind them how many, however many they are.
+pub fn lines_say_how_many_were_left_out()
+    ensures none { (moment : ℕ) (what : Note) →
+        line_text (record { moment = moment; note = what; left_out = 0 })
+        ≡ decimal moment ++ codes " " ++ words what }
+    ensures some { (moment n : ℕ) (what : Note) →
+        line_text (record { moment = moment; note = what; left_out = suc n })
+        ≡ (decimal moment ++ codes " " ++ words what)
+        ++ (codes " (" ++ decimal (suc n) ++ codes " left out)") }
 {}
 
 /// Of what is gathered nothing is left out silently: each that came is logged, or counted by the

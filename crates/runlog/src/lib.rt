@@ -104,8 +104,8 @@ pub use fate_laws::{
 };
 pub use laws::{
     each_line_has_the_severity_of_its_row, lines_are_handed_over_until_one_is_not_taken,
-    lines_of_a_kind_are_a_second_apart, refusals_are_logged_by_their_rules,
-    what_is_gathered_is_logged_or_counted,
+    lines_of_a_kind_are_a_second_apart, lines_say_how_many_were_left_out,
+    refusals_are_logged_by_their_rules, what_is_gathered_is_logged_or_counted,
 };
 pub use logger::{Logger, taken_places};
 pub use name_laws::lines_end_with_the_name_of_what_they_are_about;

@@ -1,6 +1,6 @@
 -- What the lines of a script that have a request's number say of it.
 use Rattle.std.specs.Prelude.{◌==◌, ◌&&◌, ◌||◌, codes}
-use Rattle.std.proofs.Common.{◌≡◌, ◌≢◌, ℕ, suc, ◌+◌, ◌*◌, ◌-◌, ◌<◌, ◌%◌, nat_le, Bool, true}
+use Rattle.std.proofs.Common.{◌≡◌, ◌≢◌, ℕ, suc, ◌+◌, ◌*◌, ◌-◌, nat_le, Bool, true}
 use Rattle.std.proofs.Common.{false, List, []}
 use Rattle.std.proofs.Common.{◌∷◌, ◌++◌, length, All, Option, Some, None, refl, sym, ap, subst, ◌∙◌}
 use Rattle.std.proofs.Common.{arith, inl, inr, ◌⊎◌, if◌then◌else◌}
@@ -14,9 +14,8 @@ use Rattle.ft12.specs.declared.frame.Frame.{Frame}
 use Rattle.ft12.specs.declared.frame.LinkSize.{LinkSize}
 use Rattle.ft12.specs.Spelling.{spelling}
 use Rattle.link.specs.Secondary.{Secondary}
-use Rattle.gateway.specs.Log.{Log, LogEntry, Came, Went, LineOut, TcpOut, Closed, GapOut}
-use Rattle.traces.specs.Fields.{decimal_of, digits_after}
-use Rattle.sim.specs.declared.directive.Class.{Class}
+use Rattle.gateway.specs.Log.{Log, Came, Went, LineOut, TcpOut, Closed, GapOut}
+use Rattle.traces.specs.Fields.{digits_after}
 use Rattle.sim.specs.declared.directive.Directive.{Directive}
 use Rattle.sim.specs.declared.directive.Directive.TheVariants.{Turns, Ack, Wall, Report}
 use Rattle.sim.specs.declared.directive.Directive.TheVariants.{LoseRequest, LoseAnswer, SpoilAnswer}
@@ -225,6 +224,16 @@ fate_is ds n =
     go false true m f g h = (unreceived.1 f, lost.0 g)
     go false false None f g h = (unreceived.1 f, lost.1 g, spoilt_there.1 h)
     go false false (Some place) f g h = (unreceived.1 f, lost.1 g, spoilt_there.0 place h)
+
+pub lost_first : (ds : List Directive) (n : ℕ) → (Contains ds (LoseRequest n) → ⊥)
+    → Contains ds (LoseAnswer n) → fate_of ds n ≡ AnswerLost
+lost_first ds n received has = go (fate_of ds n) (fate_is ds n)
+  where
+    go : (f : RequestFate) → IsFate ds n f → f ≡ AnswerLost
+    go RequestLost is = absurd (received is)
+    go AnswerLost is = refl
+    go (AnswerSpoilt place) (came, kept, is) = absurd (kept has)
+    go Answered (came, kept, is) = absurd (kept has)
 
 pub cut_is : (ds : List Directive) (call : ℕ)
     → (is_cut_at ds call ≡ true → Contains ds (Cut call))

@@ -32,6 +32,7 @@ ghost use Rattle.sim.specs.declared.directive.Directive.{Directive};
 ghost use Rattle.sim.specs.declared.directive.Directive.TheVariants.{LoseRequest, LoseAnswer};
 ghost use Rattle.sim.specs.declared.directive.Directive.TheVariants.{SpoilAnswer, Cut, Send};
 ghost use Rattle.sim.specs.declared.directive.Directive.TheVariants.{Report};
+ghost use Rattle.sim.specs.declared.directive.RequestFate.TheVariants.{AnswerLost};
 ghost use Rattle.sim.specs.declared.directive.Class.{Class};
 ghost use Rattle.sim.specs.declared.directive.Class.TheVariants.{One, Two};
 ghost use Rattle.sim.specs.declared.tally.StationTally.{StationTally};
@@ -100,12 +101,15 @@ pub fn connections_are_counted()
 /// A line of a script is about the one request, or the one call, whose number it has, whatever
 /// other lines there are. So a script that loses request n loses no other: a request isn't received
 /// if and only if a line `lose request` has its number, and what becomes of its answer depends on
-/// the lines with its number alone. The connection is cut at the calls of the lines `cut`, and what
-/// is sent at a call is of a line `send` with its number. The number is that which the line's
-/// digits write.
+/// the lines with its number alone. An answer that a line loses is lost, though another line spoils
+/// it. The connection is cut at the calls of the lines `cut`, and what is sent at a call is of a
+/// line `send` with its number. The number is that which the line's digits write.
 pub fn each_line_is_about_its_number()
     ensures fates { (ds : List Directive) (request : ℕ) →
         IsFate ds request (fate_of ds request) }
+    ensures lost { (ds : List Directive) (request : ℕ) →
+        (Contains ds (LoseRequest request) → ⊥) → Contains ds (LoseAnswer request) →
+        fate_of ds request ≡ AnswerLost }
     ensures cuts { (ds : List Directive) (call : ℕ) →
         (is_cut_at ds call ≡ true → Contains ds (Cut call))
         × (is_cut_at ds call ≡ false → Contains ds (Cut call) → ⊥) }

@@ -370,6 +370,15 @@ all_counted old new (x ∷ xs) (mid, one, rest) few =
     let others = all_counted mid new xs rest (omega (arith, first)) in
     omega (arith, first, others)
 
+pub in_their_order : (old new : OutstationsState) (before behind : List RequestExchange)
+    (x : RequestExchange) → Exchanged old (before ++ x ∷ behind) new
+    → (mid : OutstationsState) × (later : OutstationsState) × Exchanged old before mid
+    × IsRequestAnswered mid x.request x.answer later × Exchanged later behind new
+in_their_order old new [] behind x (mid, one, rest) = (old, mid, refl, one, rest)
+in_their_order old new (b ∷ bs) behind x (first, one, rest) =
+    let (mid, later, before, this, after) = in_their_order first new bs behind x rest in
+    (mid, later, (first, one, before), this, after)
+
 pub beginning_kept : ((size : LinkSize) (octets : List ℕ) (one other : Front)
     → IsFront size octets one → IsFront size octets other → one ≡ other)
     → (size : LinkSize) (last left kept : List ℕ) → IsKeptRest size last left kept

@@ -1,6 +1,6 @@
 //! What holds of what waits at outstations: reports that are due, replies, and late answers; and of
 //! the requests that they count.
-ghost use Rattle.std.specs.Prelude.{◌≡◌, ◌≢◌, ◌-◌, ◌+◌, ◌*◌, ◌/◌, ◌^◌, ◌<◌, ◌≤◌, ◌++◌, ℕ, List};
+ghost use Rattle.std.specs.Prelude.{◌≡◌, ◌≢◌, ◌-◌, ◌+◌, ◌*◌, ◌/◌, ◌^◌, ◌<◌, ◌≤◌, ◌++◌, ◌∷◌, ℕ, List};
 ghost use Rattle.std.specs.Prelude.{[], Bool, true, false, suc, length, slice_get, Option, Some};
 ghost use Rattle.std.specs.Prelude.{None};
 ghost use Rattle.std.specs.List.{flat_map};
@@ -18,8 +18,9 @@ ghost use Rattle.sim.specs.Losses.{fate_of};
 ghost use Rattle.sim.specs.declared.directive.Class.{Class};
 ghost use Rattle.sim.specs.declared.directive.Class.TheVariants.{One};
 ghost use Rattle.stations.specs.Cues.{given_at};
-ghost use Rattle.stations.specs.Exchanges.{ComesBack, Exchanged, IsKeptRest, OutstationsState};
-ghost use Rattle.stations.specs.Exchanges.{RequestExchange, first_standing, written};
+ghost use Rattle.stations.specs.Exchanges.{ComesBack, Exchanged, IsKeptRest, IsRequestAnswered};
+ghost use Rattle.stations.specs.Exchanges.{OutstationsState, RequestExchange, first_standing};
+ghost use Rattle.stations.specs.Exchanges.{written};
 ghost use Rattle.stations.specs.Given.{answer_octets, went_on};
 ghost use Rattle.stations.specs.Late.{LateAnswer, late_after, late_now};
 ghost use Rattle.stations.specs.Law.{IsGivenLate, IsPutOutByNumber, IsReportTaken, IsReplyTaken};
@@ -119,8 +120,9 @@ pub fn late_answers_wait_until_they_are_due()
         old.stream ≡ Some stream → GivesLate now old new → IsGivenLate octets stream new }
 {}
 
-/// The requests are counted on, one by one: what becomes of each, and of its answer, is what the
-/// lines of the script with its number say, and nothing but the stations changes. The beginning of
+/// The requests are counted on, one by one, in their order. What becomes of each, and of its answer,
+/// is what the lines of the script with its number say, and nothing but the stations changes. The
+/// stations receive it as those before it have left them. The beginning of
 /// a request waits for the rest of it, however long it is. Octets that begin none are dropped with
 /// those behind them, and no whole request is left. The answers go out whole, each once, in their
 /// order.
@@ -132,6 +134,10 @@ pub fn requests_are_counted_on()
     ensures all { (old new : OutstationsState) (exchanges : List RequestExchange) →
         Exchanged old exchanges new → old.requests + length exchanges < 2 ^ 64 →
         new.requests ≡ old.requests + length exchanges }
+    ensures order { (old new : OutstationsState) (before behind : List RequestExchange)
+        (x : RequestExchange) → Exchanged old (before ++ x ∷ behind) new →
+        (mid : OutstationsState) × (later : OutstationsState) × Exchanged old before mid
+        × IsRequestAnswered mid x.request x.answer later × Exchanged later behind new }
     ensures begun { (size : LinkSize) (last left kept : List ℕ) →
         IsKeptRest size last left kept → IsFront size (last ++ left) More → kept ≡ last ++ left }
     ensures spoilt { (size : LinkSize) (last left kept : List ℕ) (place : ℕ) (why : Why) →

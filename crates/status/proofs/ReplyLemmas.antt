@@ -27,7 +27,7 @@ use Rattle.status.specs.declared.snapshot.LinkState.TheVariants as stands
 use Rattle.status.specs.Request.{asked_by, view_of}
 use Rattle.status.specs.Table as table
 use Rattle.status.specs.Table.{table_of, table_parts}
-use Rattle.status.specs.Texts.{age_text, comma_behind, summary}
+use Rattle.status.specs.Texts.{age_or, age_text, comma_behind, summary}
 use Rattle.status.specs.Words.{escaped, escaped_or, joined, number_or, right, rows}
 use Rattle.status.specs.declared.request.Inquiry.TheVariants.{Forbidden}
 use Rattle.status.specs.declared.request.View.TheVariants as view
@@ -122,20 +122,18 @@ in_days width n le =
 
 -- Whose a row is
 
-four : (a b d e rest : List ℕ)
-    → (a ++ (b ++ (d ++ (e ++ [])))) ++ rest ≡ (a ++ (b ++ (d ++ e))) ++ rest
-four a b d e rest = simp (append_assoc, append-nil)
+six : (a b d e age last rest : List ℕ)
+    → (a ++ (b ++ (d ++ (e ++ [])))) ++ (age ++ (last ++ rest))
+    ≡ (a ++ (b ++ (d ++ (e ++ (age ++ last))))) ++ rest
+six a b d e age last rest = simp (append_assoc, append-nil)
 
-abbrev head_parts : StationView → List (List ℕ)
-head_parts s =
-    codes "<tr class=\"" ∷ standing_text s.standing ∷ codes "\"><td>" ∷ escaped Html s.name.now
-    ∷ html.cell ∷ decimal s.address ∷ html.cell ∷ decimal s.common_address
-    ∷ codes "</td><td class=\"s\">" ∷ standing_text s.standing ∷ html.cell ∷ []
-
-row : (first a b d e f g h i : List ℕ)
-    → Has ((first ++ a) ++ (b ++ (d ++ (e ++ (d ++ (f ++ (g ++ (h ++ (d ++ i)))))))))
-    (a ++ (b ++ (d ++ (e ++ (d ++ (f ++ (g ++ (h ++ d))))))))
-row first a b d e f g h i = (first, i, simp append_assoc)
+row : (o q a b d e f g h age last rest : List ℕ)
+    → (o ++ (h ++ ((q ++ a) ++ (b ++ (d ++ (e ++ (d ++ (f ++ (g ++ (h ++ (d ++ [])))))))))))
+    ++ (age ++ (d ++ (last ++ ((d ++ rest) ++ []))))
+    ≡ (o ++ (h ++ q))
+    ++ ((a ++ (b ++ (d ++ (e ++ (d ++ (f ++ (g ++ (h ++ (d ++ (age ++ (d ++ (last
+    ++ d)))))))))))) ++ rest)
+row o q a b d e f g h age last rest = simp (append_assoc, append-nil)
 
 named_row : (s : StationView) → table.row_counts s ≡ numbers_of s
 named_row s =
@@ -148,20 +146,21 @@ named_row s =
 pub says_whose : (s : StationView) (now : ℕ) → SaysWhose s now
 says_whose s now = record {
   table = (
-    joined (drop 1 (table.row_parts now s)),
-    four (right 7 s.address) (right 7 s.common_address) (codes "  ") (wide_text s.standing)
-        (joined (drop 1 (table.row_parts now s))),
+    joined (drop 3 (table.row_parts now s)),
+    six (right 7 s.address) (right 7 s.common_address) (codes "  ") (wide_text s.standing)
+        (age_text 6 now s.since_ms) (age_or 10 now s.last_report_ms (codes "         -    "))
+        (joined (drop 3 (table.row_parts now s))),
   );
   numbers = ends_from (table.row_parts now s) 3 (numbers_of s)
       ([], append-nil (table.row_counts s) ∙ named_row s);
-  page =
-      let part : List ℕ = codes "<td>" ++ (escaped Html s.name.now ++ (html.cell
-      ++ (decimal s.address ++ (html.cell ++ (decimal s.common_address
-      ++ (codes "</td><td class=\"s\">" ++ (standing_text s.standing ++ html.cell))))))) in
-      has_at (html.row_parts now s) 0 part
-      (has_from (head_parts s) 2 part
-      (row (codes "\">") (codes "<td>") (escaped Html s.name.now) html.cell (decimal s.address)
-      (decimal s.common_address) (codes "</td><td class=\"s\">") (standing_text s.standing) []));
+  page = (
+    codes "<tr class=\"" ++ (standing_text s.standing ++ codes "\">"),
+    joined (drop 1 (html.count_parts s)),
+    row (codes "<tr class=\"") (codes "\">") (codes "<td>") (escaped Html s.name.now) html.cell
+        (decimal s.address) (decimal s.common_address) (codes "</td><td class=\"s\">")
+        (standing_text s.standing) (age_text 0 now s.since_ms)
+        (age_or 0 now s.last_report_ms (codes "none")) (joined (drop 1 (html.count_parts s))),
+  );
 }
 
 -- The line
@@ -233,12 +232,12 @@ says_so s = record {
       let part : List ℕ = codes "\"line\":{\"name\":"
       ++ ((codes "\"" ++ (escaped Json s.name.now ++ codes "\"")) ++ (codes ",\"there\":"
       ++ (flag s.line.is_there ++ (codes ",\"since_ms\":" ++ (decimal s.line.since_ms
-      ++ codes "}"))))) in
+      ++ codes "},\"centre\":{"))))) in
       has_at (json_parts s) 0 part
       (has_from (parts_before_peer s) 10 part
       (object (codes ",") (codes "\"line\":{\"name\":") (codes "\"") (escaped Json s.name.now)
       (codes ",\"there\":") (flag s.line.is_there) (codes ",\"since_ms\":")
-      (decimal s.line.since_ms) (codes "}") (codes ",\"centre\":{\"peer\":")));
+      (decimal s.line.since_ms) (codes "},\"centre\":{") (codes "\"peer\":")));
   runs = has_from (table_parts s) 1
       (codes "\nrunning for     " ++ (age_text 0 s.now_ms s.started_ms ++ codes "\n"))
       (has_over (joined (version_parts s)) (codes "\nrunning for     ")
@@ -268,11 +267,20 @@ up_to_json s name value (end, ends, has) =
     let part : List ℕ = codes "\"" ++ (name ++ (codes "\":" ++ (value ++ end ∷ []))) in
     (end, ends, has_front (joined (parts_before_peer s)) (joined (drop 1 (json_parts s))) part has)
 
+first_member : (label mark text comma next more rest : List ℕ)
+    → ((label ++ mark) ++ (text ++ ((mark ++ (comma ++ next)) ++ more))) ++ rest
+    ≡ (label ++ ((mark ++ (text ++ mark)) ++ comma)) ++ (next ++ (more ++ rest))
+first_member label mark text comma next more rest = simp append_assoc
+
 pub has_moments : (s : Snapshot) → HasMoments s
 has_moments s = record {
-  version = up_to_json s (codes "version") (quoted (escaped Json s.version.now))
-      (string_member (parts_before_peer s) 0 (codes "{") (codes "version")
-      (escaped Json s.version.now) (codes "\"judgement\":\"") _ 44 refl (inl refl));
+  version = (
+    codes "\"judgement\":\"" ++ (joined (drop 3 (parts_before_peer s))
+        ++ joined (drop 1 (json_parts s))),
+    first_member (codes "{\"version\":") (codes "\"") (escaped Json s.version.now) (codes ",")
+        (codes "\"judgement\":\"") (joined (drop 3 (parts_before_peer s)))
+        (joined (drop 1 (json_parts s))),
+  );
   judgement = up_to_json s (codes "judgement") (quoted (judgement_text (judgement_of s)))
       (string_member (parts_before_peer s) 2 (codes "\",") (codes "judgement")
       (judgement_text (judgement_of s)) (codes "\"now_ms\":") _ 44 refl (inl refl));

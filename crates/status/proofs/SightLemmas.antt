@@ -177,12 +177,12 @@ says_of_centre s words page_words is page_is = record {
       (joined (drop 9 (html_parts s))) page_is);
 }
 
-object : (peer a started b since d un next q more : List ℕ)
-    → peer ++ ((a ++ (started ++ (b ++ (since ++ (d ++ (un ++ ((125 ∷ next) ++ q)))))))
+object : (peer a started b since d un end next q more : List ℕ)
+    → peer ++ ((a ++ (started ++ (b ++ (since ++ (d ++ (un ++ ((end ++ next) ++ q)))))))
     ++ more)
-    ≡ (peer ++ (a ++ (started ++ (b ++ (since ++ (d ++ (un ++ (125 ∷ [])))))))
-    ) ++ (next ++ (q ++ more))
-object peer a started b since d un next q more = simp append_assoc
+    ≡ (peer ++ (a ++ (started ++ (b ++ (since ++ (d ++ (un ++ end)))))))
+    ++ (next ++ (q ++ more))
+object peer a started b since d un end next q more = simp append_assoc
 
 pub json_of_centre : (s : Snapshot) (peer started : List ℕ) → json_of_peer s.centre.peer ≡ peer
     → flag s.centre.is_started ≡ started → JsonOfCentre s peer started
@@ -193,13 +193,13 @@ json_of_centre s peer started is_peer is_started =
     (joined (drop 1 (json_parts s)))
     (json_of_peer s.centre.peer ++ (codes ",\"started\":" ++ (flag s.centre.is_started
     ++ (codes ",\"since_ms\":" ++ (decimal s.centre.since_ms
-    ++ (codes ",\"unacknowledged\":" ++ (decimal s.centre.unacknowledged ++ codes "}")))))))
-    (codes ",\"queue\":{\"taken\":" ++ (joined (drop 7 (parts_before_hour s))
+    ++ (codes ",\"unacknowledged\":" ++ (decimal s.centre.unacknowledged ++ codes "},")))))))
+    (codes "\"queue\":{\"taken\":" ++ (joined (drop 7 (parts_before_hour s))
     ++ joined (drop 3 (json_parts s))))
     (last_part (parts_before_peer s) 16 (codes "},") (codes "\"centre\":{\"peer\":") refl)
     (object (json_of_peer s.centre.peer) (codes ",\"started\":") (flag s.centre.is_started)
     (codes ",\"since_ms\":") (decimal s.centre.since_ms) (codes ",\"unacknowledged\":")
-    (decimal s.centre.unacknowledged) (codes ",\"queue\":{\"taken\":")
+    (decimal s.centre.unacknowledged) (codes "},") (codes "\"queue\":{\"taken\":")
     (joined (drop 7 (parts_before_hour s))) (joined (drop 3 (json_parts s))))))
 
 -- The queue and the state
@@ -219,7 +219,7 @@ abbrev json_queue : Snapshot → List ℕ
 json_queue s =
     codes "\"queue\":{\"taken\":" ++ (decimal s.queue.taken ++ (codes ",\"places\":"
     ++ (decimal s.queue.places ++ (codes ",\"hour\":["
-    ++ (listed decimal s.queue.hour.now ++ codes "]}")))))
+    ++ (listed decimal s.queue.hour.now ++ codes "]},")))))
 
 pub says_of_queue : (s : Snapshot) → SaysOfQueue s
 says_of_queue s = record {
@@ -240,7 +240,7 @@ says_of_queue s = record {
       (has_within (parts_before_hour s) 6 (joined (drop 3 (json_parts s))) (json_queue s)
       (spread (codes "},") (codes "\"queue\":{\"taken\":") (decimal s.queue.taken)
       (codes ",\"places\":") (decimal s.queue.places) (codes ",\"hour\":[")
-      (listed decimal s.queue.hour.now) (codes "]}") (codes ",\"state\":\"")
+      (listed decimal s.queue.hour.now) (codes "]},") (codes "\"state\":\"")
       (keeping_text s.keeping ++ codes "\",\"stations\":[")
       (joined (drop 5 (json_parts s)))));
 }
@@ -285,12 +285,12 @@ stand_in_order s = record {
       (codes "</div>\n<h2>Settings in force</h2>\n<div class=\"scroll\"><table>\n")
       (joined (drop 14 (html_parts s))) refl;
   json = has_from (json_parts s) 4
-      (codes "\"stations\":[" ++ (listed json_of_station s.stations.now ++ codes "]"))
+      (codes "\"stations\":[" ++ (listed json_of_station s.stations.now ++ codes "],"))
       (has_over (joined (stations_parts s)) (codes "\"stations\":[")
-      (joined (drop 5 (json_parts s))) (listed json_of_station s.stations.now ++ codes "]")
-      (codes ",\"settings\":{" ++ joined (drop 7 (json_parts s)))
+      (joined (drop 5 (json_parts s))) (listed json_of_station s.stations.now ++ codes "],")
+      (codes "\"settings\":{" ++ joined (drop 7 (json_parts s)))
       (last_part (stations_parts s) 2 (codes "\",") (codes "\"stations\":[") refl)
-      (ends_it (listed json_of_station s.stations.now) (codes "]") (codes ",\"settings\":{")
+      (ends_it (listed json_of_station s.stations.now) (codes "],") (codes "\"settings\":{")
       (joined (drop 7 (json_parts s)))));
   settings = three_from (json_parts s) 6 (codes "],") (codes "\"settings\":{")
       (listed json_of_setting s.settings.now)

@@ -4,7 +4,6 @@ use Rattle.std.specs.Prelude.{◌⊎◌, None, true, false}
 use Rattle.std.specs.Fmt.{decimal}
 use Rattle.status.specs.Labels.{standing_text}
 use Rattle.status.specs.Words.{escaped, number_or}
-use Rattle.status.specs.Html.{cell}
 use Rattle.status.specs.Judge.{cannot_keep}
 use Rattle.status.specs.Texts.{seconds}
 use Rattle.status.specs.declared.snapshot.LinkState.TheVariants.{Up}
@@ -60,8 +59,9 @@ HasMember text name value =
 abbrev pub quoted : List ℕ → List ℕ
 quoted text = codes "\"" ++ (text ++ codes "\"")
 
--- each number of a station under its name, in JSON
+-- each number of a station under its name, in an object of JSON
 pub record HasStation (s : StationView) (text : List ℕ) : Type 0 where
+  pub begins : (rest : List ℕ) × (text ≡ codes "{" ++ rest)
   pub name : HasMember text (codes "name") (quoted (escaped marks.Json s.name.now))
   pub address : HasMember text (codes "address") (decimal s.address)
   pub common_address : HasMember text (codes "common_address") (decimal s.common_address)
@@ -85,11 +85,15 @@ pub record HasColumns (s : StationView) (text : List ℕ) : Type 0 where
   pub gaps : HasColumn text s.gaps
   pub commands : HasColumn text s.commands
 
+-- a cell of a row ends, and one for a number begins
+abbrev pub to_next : List ℕ
+to_next = codes "</td><td class=\"n\">"
+
 -- the numbers of a station, one behind another, in its row of the page for a person
 abbrev pub cells_of : StationView → List ℕ
 cells_of s =
-    decimal s.reports ++ (cell ++ (decimal s.skipped ++ (cell ++ (decimal s.gaps ++ (cell
-    ++ decimal s.commands)))))
+    decimal s.reports ++ (to_next ++ (decimal s.skipped ++ (to_next ++ (decimal s.gaps
+    ++ (to_next ++ decimal s.commands)))))
 
 -- a line of a number of a station, for Prometheus
 abbrev pub sample_of : (name : List ℕ) → StationView → (value : List ℕ) → List ℕ

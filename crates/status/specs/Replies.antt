@@ -10,12 +10,15 @@ use Rattle.status.specs.Judge.{judgement_of}
 use Rattle.status.specs.Labels.{judgement_text, keeping_text, standing_text, wide_text}
 use Rattle.status.specs.Sights.{EndsWith}
 use Rattle.status.specs.declared.snapshot.LinkState.TheVariants.{Up}
-use Rattle.status.specs.Reading.{Has, HasMember, quoted}
+use Rattle.status.specs.Reading.{Has, HasMember, quoted, to_next}
 use Rattle.status.specs.Table as table
 use Rattle.status.specs.Table.{table_of, text_of_row as text_in_table}
-use Rattle.status.specs.Texts.{age_text, comma_behind}
+use Rattle.status.specs.Texts.{age_or, age_text, comma_behind}
 use Rattle.status.specs.Words.{escaped, number_or, right}
+use Rattle.status.specs.Request.{asked_by}
 use Rattle.status.specs.declared.request.Inquiry.{Inquiry}
+use Rattle.status.specs.declared.request.Inquiry.TheVariants.{Page}
+use Rattle.status.specs.declared.request.View.{View}
 use Rattle.status.specs.declared.snapshot.Snapshot.{Snapshot}
 use Rattle.status.specs.declared.snapshot.StationView.{StationView}
 use Rattle.status.specs.declared.words.Marks.TheVariants as marks
@@ -26,6 +29,15 @@ pub record IsAnsweredWith (asked : Inquiry) (s : Snapshot) (status kind allow bo
     : Type 0 where
   pub head : head_before asked (Some body) ≡ head_text status kind allow (length body)
   pub shown : body_of asked s ≡ body
+
+-- This path has this page, whatever query stands behind it: GET shows it, and HEAD its head alone.
+pub record IsPathOf (path : List ℕ) (v : View) : Type 0 where
+  pub get : asked_by (codes "GET") path ≡ Page v true
+  pub head : asked_by (codes "HEAD") path ≡ Page v false
+  pub query : (query : List ℕ) → asked_by (codes "GET") (path ++ (codes "?" ++ query))
+      ≡ Page v true
+  pub head_query : (query : List ℕ) → asked_by (codes "HEAD") (path ++ (codes "?" ++ query))
+      ≡ Page v false
 
 -- plain text
 abbrev pub plain : List ℕ
@@ -42,15 +54,19 @@ numbers_of s =
     ++ (right 5 s.gaps ++ (codes " " ++ (right 9 s.commands ++ (codes "  " ++ (s.name.now
     ++ codes "\n")))))))))
 
--- A station's row says whose it is: its addresses, how it stands, and its name.
+-- A station's row says whose it is: its addresses, how it stands and for how long, how long ago it
+-- gave a report, and its name.
 pub record SaysWhose (s : StationView) (now : ℕ) : Type 0 where
   pub table : BeginsWith (table.text_of_row now s)
-      (right 7 s.address ++ (right 7 s.common_address ++ (codes "  " ++ wide_text s.standing)))
+      (right 7 s.address ++ (right 7 s.common_address ++ (codes "  " ++ (wide_text s.standing
+      ++ (age_text 6 now s.since_ms
+      ++ age_or 10 now s.last_report_ms (codes "         -    "))))))
   pub numbers : EndsWith (text_in_table now s) (numbers_of s)
   pub page : Has (html.text_of_row now s)
-      (codes "<td>" ++ (escaped marks.Html s.name.now ++ (html.cell ++ (decimal s.address
-      ++ (html.cell ++ (decimal s.common_address ++ (codes "</td><td class=\"s\">"
-      ++ (standing_text s.standing ++ html.cell))))))))
+      (codes "<td>" ++ (escaped marks.Html s.name.now ++ (to_next ++ (decimal s.address
+      ++ (to_next ++ (decimal s.common_address ++ (codes "</td><td class=\"s\">"
+      ++ (standing_text s.standing ++ (to_next ++ (age_text 0 now s.since_ms ++ (to_next
+      ++ (age_or 0 now s.last_report_ms (codes "none") ++ to_next))))))))))))
 
 -- Each page says of the line whether it is there, and since when; and for how long it runs.
 pub record SaysOfLine (s : Snapshot) (word truth : List ℕ) : Type 0 where
@@ -63,15 +79,16 @@ pub record SaysOfLine (s : Snapshot) (word truth : List ℕ) : Type 0 where
   pub json : Has (json_of s)
       (codes "\"line\":{\"name\":" ++ (quoted (escaped marks.Json s.name.now)
       ++ (codes ",\"there\":" ++ (truth ++ (codes ",\"since_ms\":"
-      ++ (decimal s.line.since_ms ++ codes "}"))))))
+      ++ (decimal s.line.since_ms ++ codes "},\"centre\":{"))))))
   pub runs : Has (table_of s)
       (codes "\nrunning for     " ++ (age_text 0 s.now_ms s.started_ms ++ codes "\n"))
   pub page_runs : Has (html_of s)
       (codes "<th>running for</th><td>" ++ (age_text 0 s.now_ms s.started_ms ++ codes "</td>"))
 
--- JSON has the version, the judgement and the moments under their names.
+-- JSON begins with the version, and has the judgement and the moments under their names.
 pub record HasMoments (s : Snapshot) : Type 0 where
-  pub version : HasMember (json_of s) (codes "version") (quoted (escaped marks.Json s.version.now))
+  pub version : BeginsWith (json_of s)
+      (codes "{\"version\":" ++ (quoted (escaped marks.Json s.version.now) ++ codes ","))
   pub judgement : HasMember (json_of s) (codes "judgement")
       (quoted (judgement_text (judgement_of s)))
   pub now : HasMember (json_of s) (codes "now_ms") (decimal s.now_ms)

@@ -30,7 +30,7 @@ abbrev pub JsonOfCentre : Snapshot → (peer started : List ℕ) → Type 0
 JsonOfCentre s peer started = Has (json_of s)
     (codes "\"centre\":{\"peer\":" ++ (peer ++ (codes ",\"started\":" ++ (started
     ++ (codes ",\"since_ms\":" ++ (decimal s.centre.since_ms
-    ++ (codes ",\"unacknowledged\":" ++ (decimal s.centre.unacknowledged ++ codes "}"))))))))
+    ++ (codes ",\"unacknowledged\":" ++ (decimal s.centre.unacknowledged ++ codes "},"))))))))
 
 -- Of the queue each page says how many of how many places are taken.
 pub record SaysOfQueue (s : Snapshot) : Type 0 where
@@ -46,7 +46,7 @@ pub record SaysOfQueue (s : Snapshot) : Type 0 where
   pub json : Has (json_of s)
       (codes "\"queue\":{\"taken\":" ++ (decimal s.queue.taken ++ (codes ",\"places\":"
       ++ (decimal s.queue.places ++ (codes ",\"hour\":["
-      ++ (listed decimal s.queue.hour.now ++ codes "]}"))))))
+      ++ (listed decimal s.queue.hour.now ++ codes "]},"))))))
 
 -- Each page says how many pieces the control centre hasn't acknowledged, and of the state whether
 -- it is kept.
@@ -73,7 +73,7 @@ pub record StandInOrder (s : Snapshot) : Type 0 where
       (codes "<th>commands</th></tr>\n" ++ (rows (html.text_of_row s.now_ms) s.stations.now
       ++ codes "</table>"))
   pub json : Has (json_of s)
-      (codes "\"stations\":[" ++ (listed json_of_station s.stations.now ++ codes "]"))
+      (codes "\"stations\":[" ++ (listed json_of_station s.stations.now ++ codes "],"))
   pub settings : Has (json_of s)
       (codes "\"settings\":{" ++ (listed json_of_setting s.settings.now ++ codes "}}\n"))
   pub page_settings : Has (html_of s)

@@ -60,8 +60,8 @@ pub use reading_laws::{
 };
 pub use reply::{UNKNOWN, body_of, exit_status};
 pub use reply_laws::{
-    ages_are_told_whole, each_request_has_its_answer, rows_and_line_say_what_they_are_of,
-    the_summary_says_how_all_stands,
+    ages_are_told_whole, each_path_has_its_page, each_request_has_its_answer,
+    rows_and_line_say_what_they_are_of, the_summary_says_how_all_stands,
 };
 pub use sight_laws::{
     queue_and_state_stand_in_their_lines, stations_stand_in_their_order,

@@ -2,18 +2,19 @@
 ghost use Rattle.std.specs.Fmt.{decimal};
 ghost use Rattle.std.specs.Prelude.{◌≡◌, ◌≢◌, ◌-◌, ◌/◌, ◌<◌, ◌≤◌, ◌++◌, ◌∷◌, List, [], Bool, ℕ};
 ghost use Rattle.std.specs.Prelude.{codes};
-ghost use Rattle.std.specs.Prelude.{true, false, None, replicate};
+ghost use Rattle.std.specs.Prelude.{true, false, None, Some, replicate};
 ghost use Rattle.status.specs.Answer.{body_in, body_sent, head_before, head_text};
 ghost use Rattle.status.specs.Html.{html_of};
 ghost use Rattle.status.specs.Json.{json_of};
 ghost use Rattle.status.specs.Metrics.{metrics_of};
 ghost use Rattle.status.specs.Reading.{Has};
 ghost use Rattle.status.specs.Replies.{IsCentreWord, IsLineWord, SaysInSum, name_line};
-ghost use Rattle.status.specs.Replies.{HasMoments, IsAnsweredWith, SaysOfLine, SaysWhose, plain};
+ghost use Rattle.status.specs.Replies.{HasMoments, IsAnsweredWith, IsPathOf, SaysOfLine};
+ghost use Rattle.status.specs.Replies.{SaysWhose, plain};
 ghost use Rattle.status.specs.Request.{asked_by, path_of};
 ghost use Rattle.status.specs.Table.{table_of};
 ghost use Rattle.status.specs.TextPage.{empty};
-ghost use Rattle.status.specs.Texts.{age_text, seconds};
+ghost use Rattle.status.specs.Texts.{age_or, age_text, seconds};
 ghost use Rattle.status.specs.Words.{right};
 ghost use Rattle.status.specs.declared.request.Inquiry.{Inquiry};
 ghost use Rattle.status.specs.declared.request.Inquiry.TheVariants as asked;
@@ -59,9 +60,17 @@ pub fn each_request_has_its_answer()
         × (body_sent room (asked.Unknown false) s ≡ empty room) }
 {}
 
+/// Each page has its path, and stays the same whatever query stands behind it (RFC 3986, 3.3).
+pub fn each_path_has_its_page()
+    ensures person { IsPathOf (codes "/") view.Person }
+    ensures json { IsPathOf (codes "/status.json") view.Json }
+    ensures metrics { IsPathOf (codes "/metrics") view.Metrics }
+    ensures table { IsPathOf (codes "/status.txt") view.Table }
+{}
+
 /// Whatever number a column has, it stands there whole, behind spaces. How long ago a moment is, is
 /// told in seconds up to two minutes, then in minutes up to two hours, in hours up to two days, and
-/// in days.
+/// in days. Of a moment that may not be, another text is told where it isn't.
 pub fn ages_are_told_whole()
     ensures whole { (width n : ℕ) → (k : ℕ) × (right width n ≡ replicate k 32 ++ decimal n) }
     ensures in_seconds { (width now since : ℕ) → (now - since) / 1000 < 120 →
@@ -74,11 +83,15 @@ pub fn ages_are_told_whole()
         age_text width now since ≡ right width ((now - since) / 1000 / 3600) ++ codes " h  " }
     ensures in_days { (width now since : ℕ) → 172800 ≤ (now - since) / 1000 →
         age_text width now since ≡ right width ((now - since) / 1000 / 86400) ++ codes " d  " }
+    ensures maybe { (width now since : ℕ) (other : List ℕ) →
+        (age_or width now (Some since) other ≡ age_text width now since)
+        × (age_or width now None other ≡ other) }
 {}
 
-/// A station's row says whose it is: its addresses, how it stands and its name. Each page says of
-/// the line whether it is there and for how long, and for how long the gateway runs. JSON has the
-/// moments under their names. For Prometheus a station's name stands with its addresses.
+/// A station's row says whose it is: its addresses, how it stands and for how long, how long ago it
+/// gave a report, and its name. Each page says of the line whether it is there and for how long,
+/// and for how long the gateway runs. JSON has the moments under their names. For Prometheus a
+/// station's name stands with its addresses.
 pub fn rows_and_line_say_what_they_are_of()
     ensures whose { (s : StationView) (now : ℕ) → SaysWhose s now }
     ensures there { (s : Snapshot) → s.line.is_there ≡ true →

@@ -1,5 +1,8 @@
 use Rattle.live.specs.declared.ends.Presence.TheVariants as presence
-use Rattle.runlog.proofs.Seen.{away_since, receiving_since}
+use Rattle.std.proofs.Common.{ap}
+use Rattle.runlog.specs.Ends.{seen_as}
+use Rattle.runlog.proofs.Failures.{away_so, receiving_so}
+use Rattle.runlog.proofs.Seen.{away_since, found_so, receiving_since}
 use Rattle.runlog.proofs.ends_laws.a_line_stands_so_since_the_look_that_found_it_so.Goals as goal
 
 pub returns-clause-came : goal.returns-clause-came
@@ -25,3 +28,15 @@ returns-clause-away c = away_since presence.Away
 
 pub returns-clause-untried : goal.returns-clause-untried
 returns-clause-untried c = away_since presence.Untried
+
+pub returns-clause-receives : goal.returns-clause-receives
+returns-clause-receives c = λ w now.
+    found_so presence.Receiving presence.Receiving now w (receiving_so w.is_receiving)
+
+pub returns-clause-goes : goal.returns-clause-goes
+returns-clause-goes c = λ w now.
+    found_so presence.Away presence.Away now w (away_so w.is_receiving)
+
+pub returns-clause-quiet : goal.returns-clause-quiet
+returns-clause-quiet c = λ w now is.
+    found_so presence.There presence.There now w (ap (λ b. seen_as b presence.There) is)

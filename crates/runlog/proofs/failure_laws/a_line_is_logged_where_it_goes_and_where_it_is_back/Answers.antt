@@ -1,5 +1,5 @@
 use Rattle.runlog.proofs.Failures.{anew_so, back_so, between_so, first_so, lost_so, not_yet_so}
-use Rattle.runlog.proofs.Failures.{reached_so, still_so, there_so}
+use Rattle.runlog.proofs.Failures.{reached_so, stays_so, still_so, there_so}
 use Rattle.runlog.proofs.failure_laws.a_line_is_logged_where_it_goes_and_where_it_is_back.Goals as goal
 
 pub returns-clause-lost : goal.returns-clause-lost
@@ -19,6 +19,9 @@ returns-clause-back c = back_so
 
 pub returns-clause-reached : goal.returns-clause-reached
 returns-clause-reached c = reached_so
+
+pub returns-clause-stays : goal.returns-clause-stays
+returns-clause-stays c = stays_so
 
 pub returns-clause-there : goal.returns-clause-there
 returns-clause-there c = there_so

@@ -1,9 +1,12 @@
 use Rattle.sim.proofs.LossLemmas.{fate_is, cut_is, sent_is, request_line, answer_line, spoil_line}
-use Rattle.sim.proofs.LossLemmas.{cut_line}
+use Rattle.sim.proofs.LossLemmas.{cut_line, lost_first}
 use Rattle.sim.proofs.laws.each_line_is_about_its_number.Goals as goal
 
 pub returns-clause-fates : goal.returns-clause-fates
 returns-clause-fates c = fate_is
+
+pub returns-clause-lost : goal.returns-clause-lost
+returns-clause-lost c = lost_first
 
 pub returns-clause-cuts : goal.returns-clause-cuts
 returns-clause-cuts c = cut_is

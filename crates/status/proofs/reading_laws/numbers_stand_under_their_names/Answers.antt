@@ -13,6 +13,7 @@ use Rattle.status.proofs.reading_laws.numbers_stand_under_their_names.Goals as g
 
 pub returns-clause-station : goal.returns-clause-station
 returns-clause-station c s = record {
+  begins = (codes "\"name\":\"" ++ joined (drop 1 (station_parts s)), refl);
   name = string_member (station_parts s) 0 (codes "{") (codes "name") _ _ _ 44 refl (inl refl);
   address = member (station_parts s) 2 (codes "\",") (codes "address") _ _ _ 44 refl (inl refl);
   common_address =

@@ -10,4 +10,5 @@ returns c = record {
   in_minutes = λ width now since. in_minutes width ((now - since) / 1000);
   in_hours = λ width now since. in_hours width ((now - since) / 1000);
   in_days = λ width now since. in_days width ((now - since) / 1000);
+  maybe = λ width now since other. (refl, refl);
 }
