@@ -1,9 +1,9 @@
 -- Which commands are lost where a gateway goes on with other settings.
-use Rattle.std.proofs.Common.{◌≡◌, ◌≢◌, ◌<◌, ◌≤◌, ◌+◌, ◌^◌, ◌==◌, ℕ, zero, suc, Bool, true, false}
-use Rattle.std.proofs.Common.{cond, List, [], ◌∷◌, length, Option, Some, None, inl, inr, refl, sym}
+use Rattle.std.proofs.Common.{◌≡◌, ◌≢◌, ◌<◌, ◌≤◌, ◌+◌, ◌^◌, ℕ, zero, suc, Bool, true, false}
+use Rattle.std.proofs.Common.{List, [], ◌∷◌, length, Option, Some, None, inl, inr, refl, sym}
 use Rattle.std.proofs.Common.{ap}
 use Rattle.std.proofs.Common.{◌∙◌, arith, if◌then◌else◌}
-use Rattle.std.specs.Prelude.{slice_get, option_and_then, ◌&&◌}
+use Rattle.std.specs.Prelude.{slice_get, option_and_then}
 use Rattle.std.specs.Io.Iter.{u64_saturate}
 use Rattle.std.proofs.lemmas.List.{get_or-set_other}
 use Rattle.link.specs.Carried.{released}
