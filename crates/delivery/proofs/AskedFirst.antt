@@ -1,8 +1,7 @@
 -- Where the event isn't octets of TCP, nothing goes to TCP before the request.
-use Rattle.std.proofs.Common.{◌≡◌, ℕ, ◌+◌, ◌<◌, ◌≤◌, Bool, true, false, List, [], ◌∷◌, ◌++◌, length}
+use Rattle.std.proofs.Common.{◌≡◌, ℕ, ◌+◌, ◌<◌, ◌≤◌, Bool, true, false, [], ◌∷◌, ◌++◌, length}
 use Rattle.std.proofs.Common.{refl, ap, ◌∙◌, arith, if◌then◌else◌}
 use Rattle.std.proofs.lemmas.List.{length-append}
-use Rattle.session.specs.declared.kinds.Close.{Close}
 use Rattle.gateway.specs.Behind.{GoesBehindFrames}
 use Rattle.gateway.specs.Connections.{Channel, present, received_before, ends, no_channel}
 use Rattle.gateway.specs.Log.{Log, Input, Came, Went, Opened, LineIn, TcpIn, CutOff, Ticked, WallIs}

@@ -183,7 +183,7 @@ done_all p log rest out =
     }
 
 -- each step rested when the next event came
-rests_before : (p : Setup) (newer older : Log) → RestsBetweenSteps p (newer ++ older)
+pub rests_before : (p : Setup) (newer older : Log) → RestsBetweenSteps p (newer ++ older)
     → RestsBetweenSteps p older
 rests_before p [] older h = h
 rests_before p (Went now action ∷ newer) older h = rests_before p newer older h

@@ -1,21 +1,20 @@
 -- What goes out to TCP: whole frames, which bear the counts of their connection.
-use Rattle.std.proofs.Common.{◌≡◌, ℕ, ◌%◌, ◌<◌, ◌⊎◌, Bool, true, false, List, [], ◌∷◌, ◌++◌, length}
-use Rattle.std.proofs.Common.{Option, Some, None, refl, ap, sym, ◌∙◌, subst, inl, inr, nat_lt}
+use Rattle.std.proofs.Common.{◌≡◌, ℕ, ◌%◌, Bool, true, false, List, [], ◌∷◌, ◌++◌, length}
+use Rattle.std.proofs.Common.{Option, Some, None, ap, sym, ◌∙◌, subst, inl, inr, nat_lt}
 use Rattle.std.specs.Prelude.{if◌then◌else◌, ◌&&◌, ◌==◌}
 use Rattle.apci.specs.declared.apdu.Apdu.{Apdu}
 use Rattle.apci.specs.declared.apdu.Apdu.TheVariants.{I, S, U}
 use Rattle.apci.specs.declared.apdu.Uf.{Uf}
 use Rattle.apci.specs.declared.apdu.Uf.TheVariants.{TestAct, StopCon}
 use Rattle.apci.specs.Spelling.{spelling, Fits}
-use Rattle.session.specs.History.{History, received_count, sent_frames, acknowledgement_of}
-use Rattle.session.specs.History.{confirmation_of, confirmation_owed, stop_confirmation_of}
-use Rattle.session.specs.History.{function_of, frame_due, is_acknowledgement_due, is_test_due}
+use Rattle.session.specs.History.{received_count, sent_frames}
+use Rattle.session.specs.History.{confirmation_owed}
+use Rattle.session.specs.History.{function_of, is_acknowledgement_due, is_test_due}
 use Rattle.session.specs.History.{is_stop_pending, unconfirmed_moments, still_unacknowledged}
 use Rattle.session.specs.Rules.{KeepsRules}
 use Rattle.gateway.specs.Log.{Log, Went, TcpOut, latest}
 use Rattle.gateway.specs.Connections.{present}
-use Rattle.gateway.specs.Course.{Course, came_frames, logged_sent, Runs}
-use Rattle.gateway.specs.Frames.{i_frames}
+use Rattle.gateway.specs.Course.{Course, logged_sent, Runs}
 use Rattle.gateway.specs.Reports.{Setup}
 use Rattle.gateway.specs.Traffic.{ActsRightly}
 use Rattle.gateway.proofs.OneCause.{counted}

@@ -41,7 +41,7 @@ use Rattle.delivery.specs.Joined.{IsSetUp, mirrored_in, command_reports, skipped
 use Rattle.gateway.proofs.Waiting.{AnswersStay}
 use Rattle.delivery.proofs.History.{line_logged, WaitsFit, one_fits}
 use Rattle.delivery.proofs.Exchanging.{exchanges_at, IsLogged, stays_logged}
-use Rattle.delivery.proofs.LinkLaws.{LinkLaws}
+use Rattle.delivery.specs.LinkLaws.{LinkLaws}
 use Rattle.delivery.proofs.Line.{received_logged, asked_logged, timed_logged}
 use Rattle.delivery.proofs.Works.{all_logged, IsAllLogged, logged_alike, silent_logged, IsLearnt}
 use Rattle.delivery.proofs.Works.{learnt_of}

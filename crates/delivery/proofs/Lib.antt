@@ -54,3 +54,4 @@ pub mod GoingOut
 pub mod Told
 pub mod Forwarded
 pub mod AskedFirst
+pub mod AtEachMoment

@@ -36,7 +36,8 @@ use Rattle.delivery.proofs.Exchanging.{stays_logged, alike_logged, logged_by, re
 use Rattle.delivery.proofs.Exchanging.{received_far}
 use Rattle.delivery.proofs.Requests.{logged_asked, asked_one, asked_far, logged_due, closed_one}
 use Rattle.delivery.proofs.Requests.{closed_far}
-use Rattle.delivery.proofs.LinkLaws.{LinkLaws, gap_matches_nothing, at_last, or_false, as_open}
+use Rattle.delivery.specs.LinkLaws.{LinkLaws}
+use Rattle.delivery.proofs.LinkLaws.{gap_matches_nothing, at_last, or_false, as_open}
 use Rattle.delivery.proofs.LinkLaws.{same_when_over, nothing_said, no_front}
 
 module _ (laws : LinkLaws) (p : Setup) (q : Primary) (e : Exchanges)

@@ -1,20 +1,16 @@
 -- Which commands are lost where a gateway goes on with other settings.
-use Rattle.std.proofs.Common.{◌≡◌, ◌≢◌, ◌<◌, ◌≤◌, ◌+◌, ◌^◌, ◌==◌, ℕ, zero, suc, Bool, true, false}
-use Rattle.std.proofs.Common.{cond, List, [], ◌∷◌, length, Option, Some, None, inl, inr, refl, sym}
+use Rattle.std.proofs.Common.{◌≡◌, ◌≢◌, ◌<◌, ◌≤◌, ◌+◌, ◌^◌, ℕ, zero, suc, Bool, true, false}
+use Rattle.std.proofs.Common.{List, [], ◌∷◌, length, Option, Some, None, inl, inr, refl, sym}
 use Rattle.std.proofs.Common.{ap}
 use Rattle.std.proofs.Common.{◌∙◌, arith, if◌then◌else◌}
-use Rattle.std.specs.Prelude.{slice_get, option_and_then, ◌&&◌}
+use Rattle.std.specs.Prelude.{slice_get, option_and_then}
 use Rattle.std.specs.Io.Iter.{u64_saturate}
-use Rattle.std.proofs.lemmas.Bool.{and_parts, eqb-true, eq-eqb}
 use Rattle.std.proofs.lemmas.List.{get_or-set_other}
-use Rattle.ft12.specs.Spelling.{address_len}
-use Rattle.asdu.specs.Sizes.{cause_len, ca_len, ioa_len}
 use Rattle.link.specs.Carried.{released}
 use Rattle.command.specs.declared.waiting.Line.{Line}
 use Rattle.command.specs.declared.waiting.Line.TheVariants.{Free}
 use Rattle.command.specs.State.{is_used, line_of}
 use Rattle.gateway.specs.declared.counts.Tally.{Tally}
-use Rattle.gateway.specs.declared.settings.LineSettings.{LineSettings}
 use Rattle.gateway.specs.declared.settings.StationSettings.{StationSettings}
 use Rattle.gateway.specs.declared.starting_links.LinkStart.{LinkStart}
 use Rattle.gateway.specs.declared.starting_links.LinkStart.TheVariants as links
@@ -22,164 +18,10 @@ use Rattle.gateway.specs.Config.{Settings}
 use Rattle.gateway.specs.Counting.{one_more, one_lost}
 use Rattle.gateway.specs.Serial.{Serial}
 use Rattle.gateway.specs.State.{State}
-use Rattle.gateway.specs.Starts.{have_same_sizes, are_alike, are_same, link_start}
+use Rattle.gateway.specs.Starts.{have_same_sizes, link_start}
 use Rattle.gateway.specs.Carried.{station_with, start_of, link_started, links_started_upto, carried}
-use Rattle.gateway.specs.Unchanged.{IsUnchanged}
+use Rattle.gateway.proofs.Unchanged.{never_down, unchanged, starts_on}
 use Rattle.delivery.specs.Counts.{GoesOn, on_line_of, AreLost}
-
--- ---- The table, read from the settings
-
-alike : (a b : Bool) → are_alike a b ≡ true → a ≡ b
-alike true true h = refl
-alike true false h = cc
-alike false true h = cc
-alike false false h = refl
-
--- what a link that goes on shows of the table's row
-record IsRow (holds same : Bool) (before now : Option StationSettings) : Type 0 where
-  trusted : holds ≡ true
-  sizes : same ≡ true
-  was : StationSettings
-  stood : before ≡ Some was
-  is : StationSettings
-  found : now ≡ Some is
-  alike : are_same was is ≡ true
-
-row_by : (was is : StationSettings) (b : Bool) → are_same was is ≡ b
-    → cond b links.GoesOn links.Reset
-    ≡ links.GoesOn
-    → IsRow true true (Some was) (Some is)
-row_by was is true e h =
-    record {
-      trusted = refl;
-      sizes = refl;
-      was = was;
-      stood = refl;
-      is = is;
-      found = refl;
-      alike =
-          e;
-    }
-row_by was is false e h = absurd (other h)
-  where
-    other : links.Reset ≡ links.GoesOn → ⊥
-    other x = cc
-
-row : (holds same : Bool) (before now : Option StationSettings) → link_start holds same before now
-    ≡ links.GoesOn
-    → IsRow holds same before now
-row holds same None now h = absurd (other h)
-  where
-    other : links.Down ≡ links.GoesOn → ⊥
-    other x = cc
-row holds same (Some was) None h = absurd (other h)
-  where
-    other : links.Dropped ≡ links.GoesOn → ⊥
-    other x = cc
-row false same (Some was) (Some is) h = absurd (other h)
-  where
-    other : links.ResetAfterGap ≡ links.GoesOn → ⊥
-    other x = cc
-row true false (Some was) (Some is) h = absurd (other h)
-  where
-    other : links.Reset ≡ links.GoesOn → ⊥
-    other x = cc
-row true true (Some was) (Some is) h = row_by was is (are_same was is) refl h
-
-never_down : (holds same : Bool) (was : StationSettings) (now : Option StationSettings)
-    → link_start holds same (Some was) now ≡ links.Down
-    → ⊥
-never_down holds same was None h = cc
-never_down false same was (Some is) h = cc
-never_down true false was (Some is) h = cc
-never_down true true was (Some is) h = go (are_same was is) h
-  where
-    go : (b : Bool) → cond b links.GoesOn links.Reset ≡ links.Down → ⊥
-    go true x = cc
-    go false x = cc
-
-sizes_same : (a b : LineSettings) → have_same_sizes a b ≡ true
-    → (address_len a.link ≡ address_len b.link)
-    × (cause_len a.sizes.cause ≡ cause_len b.sizes.cause) × (ca_len a.sizes.ca ≡ ca_len b.sizes.ca)
-    × (ioa_len a.sizes.ioa ≡ ioa_len b.sizes.ioa)
-sizes_same a b h =
-    let first = and_parts (address_len a.link == address_len b.link) _ h in
-    let second = and_parts (cause_len a.sizes.cause == cause_len b.sizes.cause) _ first.1 in
-    let third = and_parts (ca_len a.sizes.ca == ca_len b.sizes.ca) _ second.1 in (
-      eqb-true _ _ first.0,
-      eqb-true _ _ second.0,
-      eqb-true _ _ third.0,
-      eqb-true _ _ third.1,
-    )
-
--- the place of a station that stood there
-pub unchanged : (goes_on : Bool) (before now : Settings) (k : ℕ) → start_of goes_on before now k
-    ≡ links.GoesOn
-    → GoesOn goes_on before now k
-unchanged goes_on before now k h =
-    let r = row goes_on (have_same_sizes before.line now.line) (slice_get before.stations k)
-    (option_and_then (λ (s : StationSettings). station_with s.address now.stations)
-    (slice_get before.stations k)) h in
-    let sizes = sizes_same before.line now.line r.sizes in
-    let parts = and_parts (r.was.ca == r.is.ca) (are_alike r.was.select r.is.select) r.alike in (
-      r.trusted,
-      record {
-        was = r.was;
-        stood = r.stood;
-        is = r.is;
-        found =
-            sym
-            (ap
-            (λ (o : Option StationSettings). option_and_then
-            (λ (s : StationSettings). station_with s.address
-            now.stations) o) r.stood)
-            ∙ r.found;
-        ca = eqb-true r.was.ca r.is.ca parts.0;
-        select = alike r.was.select r.is.select parts.1;
-        link_size = sizes.0;
-        cause_size = sizes.1;
-        ca_size = sizes.2;
-        ioa_size = sizes.3;
-      },
-    )
-
--- And the link of each such station goes on
-
-both : (a b : Bool) → a ≡ true → b ≡ true → (a && b) ≡ true
-both a b first second = ap (λ (x : Bool). x && b) first ∙ second
-
-are_alike_same : (a b : Bool) → a ≡ b → are_alike a b ≡ true
-are_alike_same true b same = sym same
-are_alike_same false true same = cc
-are_alike_same false false same = refl
-
-goes_by_row : (holds same : Bool) (before now : Option StationSettings)
-    (was is : StationSettings) → holds ≡ true → same ≡ true → before ≡ Some was → now ≡ Some is
-    → are_same was is ≡ true → link_start holds same before now ≡ links.GoesOn
-goes_by_row holds same before now was is trusted sizes stood found alike =
-    ap (λ (x : Bool). link_start x same before now) trusted
-    ∙ ap (λ (x : Bool). link_start true x before now) sizes
-    ∙ ap (λ (x : Option StationSettings). link_start true true x now) stood
-    ∙ ap (λ (x : Option StationSettings). link_start true true (Some was) x) found
-    ∙ ap (λ (x : Bool). cond x links.GoesOn links.Reset) alike
-
-pub starts_on : (goes_on : Bool) (before now : Settings) (k : ℕ) → goes_on ≡ true
-    → IsUnchanged before now k → start_of goes_on before now k ≡ links.GoesOn
-starts_on goes_on before now k trusted u =
-    goes_by_row goes_on (have_same_sizes before.line now.line) (slice_get before.stations k)
-    (option_and_then (λ (s : StationSettings). station_with s.address now.stations)
-    (slice_get before.stations k)) u.was u.is trusted
-    (both (address_len before.line.link == address_len now.line.link) _
-    (eq-eqb _ _ u.link_size)
-    (both (cause_len before.line.sizes.cause == cause_len now.line.sizes.cause) _
-    (eq-eqb _ _ u.cause_size)
-    (both (ca_len before.line.sizes.ca == ca_len now.line.sizes.ca) _ (eq-eqb _ _ u.ca_size)
-    (eq-eqb _ _ u.ioa_size))))
-    u.stood
-    (ap (λ (o : Option StationSettings). option_and_then
-    (λ (s : StationSettings). station_with s.address now.stations) o) u.stood ∙ u.found)
-    (both (u.was.ca == u.is.ca) _ (eq-eqb _ _ u.ca)
-    (are_alike_same u.was.select u.is.select u.select))
 
 -- a place within a list has an element
 there : {X : Type 0} (xs : List X) (k : ℕ) → k < length xs → slice_get xs k ≡ None → ⊥

@@ -38,7 +38,7 @@ use Rattle.delivery.proofs.History.{LineLogged, line_logged, WaitsFit, one_fits}
 use Rattle.delivery.proofs.Steps.{Counts, so_far, counts}
 use Rattle.delivery.proofs.Exchanging.{exchanges_at, IsLogged, stays_logged, lost_if, lost_far}
 use Rattle.delivery.proofs.Exchanging.{here_is}
-use Rattle.delivery.proofs.LinkLaws.{LinkLaws}
+use Rattle.delivery.specs.LinkLaws.{LinkLaws}
 use Rattle.delivery.proofs.Skipping.{lost_skips}
 
 -- ---- What the exchanges show

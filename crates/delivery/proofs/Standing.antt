@@ -17,8 +17,8 @@ use Rattle.gateway.specs.Config.{Settings}
 use Rattle.gateway.specs.Serial.{Serial}
 use Rattle.gateway.specs.State.{State}
 use Rattle.delivery.specs.Counts.{GoesOn}
-use Rattle.delivery.proofs.NewSettings.{other_stays, side, later_stay, starts_on, unchanged}
-use Rattle.delivery.proofs.NewSettings.{never_starts_down}
+use Rattle.gateway.proofs.Unchanged.{unchanged, starts_on}
+use Rattle.delivery.proofs.NewSettings.{other_stays, side, later_stay, never_starts_down}
 
 -- a line that is freed is free
 free_there : (lines : List Line) (k : ℕ) → get_or (set lines k Free) k Free ≡ Free

@@ -35,7 +35,7 @@ use Rattle.gateway.proofs.Restarting.{kept_over}
 use Rattle.gateway.proofs.Waiting.{AnswersStay}
 use Rattle.delivery.specs.Joined.{IsSetUp, command_reports}
 use Rattle.delivery.specs.Counts.{answers_on, CameStopped}
-use Rattle.delivery.proofs.LinkLaws.{LinkLaws}
+use Rattle.delivery.specs.LinkLaws.{LinkLaws}
 use Rattle.delivery.proofs.Skipping.{lost_mirrors}
 use Rattle.delivery.proofs.Works.{reports_more}
 use Rattle.delivery.proofs.Joining.{joins, left_joins}

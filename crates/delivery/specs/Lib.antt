@@ -12,3 +12,4 @@ pub mod OwnAnswers
 pub mod Octets
 pub mod Counts
 pub mod Meanings
+pub mod LinkLaws

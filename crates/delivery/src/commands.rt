@@ -23,17 +23,13 @@ ghost use Rattle.delivery.specs.Joined.{IsSetUp, IsJoined};
 ghost use Rattle.delivery.specs.OwnAnswers.{GivesAnswers, GivesNoMore};
 ghost use Rattle.delivery.specs.Selections.{KeepsSelections};
 
+use crate::exchanges::the_line_is_its_exchanges;
 use apci::one_front;
 use command::{
     own_answers_are_given, selections_are_selects_that_stand, settings_stay, waiting_commands_stay,
 };
 use gateway::{courses_keep_commands, what_is_due_is_given};
-use link::{
-    commands_are_accepted, commands_are_those_that_wait, giving_up_is_logged,
-    master_matches_the_log, outcomes_are_answers, outcomes_bear_the_reports,
-    requests_are_read_back, requests_wait_their_turn, sessions_are_known,
-    the_latest_exchange_is_marked,
-};
+use link::{commands_are_accepted, sessions_are_known};
 
 /// The stations of a gateway's settings have link addresses that fit the line, and each is found by
 /// its own.
@@ -71,14 +67,7 @@ pub fn the_course_is_the_logs()
     ensures { (p : Setup) (log : Log) (c : Course) → IsFaithful p log → IsSetUp p → Runs p log c →
         IsJoined p log c }
 {
-    master_matches_the_log();
-    outcomes_bear_the_reports();
-    outcomes_are_answers();
-    requests_wait_their_turn();
-    requests_are_read_back();
-    commands_are_those_that_wait();
-    giving_up_is_logged();
-    the_latest_exchange_is_marked();
+    the_line_is_its_exchanges();
     waiting_commands_stay();
     one_front();
 }

@@ -13,13 +13,9 @@ ghost use Rattle.delivery.specs.Joined.{IsSetUp};
 ghost use Rattle.delivery.specs.Counts.{lost_of, sum_upto, CameStopped, AreLost};
 
 use crate::commands::the_course_is_the_logs;
+use crate::exchanges::the_line_is_its_exchanges;
 use command::{commands_keep_the_rules, waiting_commands_stay};
 use gateway::{counts_match_commands, courses_keep_commands};
-use link::{
-    commands_are_those_that_wait, giving_up_is_logged, master_matches_the_log,
-    outcomes_are_answers, outcomes_bear_the_reports, requests_are_read_back,
-    requests_wait_their_turn, the_latest_exchange_is_marked,
-};
 
 /// What is counted of commands is what the log shows. `lost` is the number of commands whose
 /// station's link went down while they stood on its line, over all stations of the settings: each
@@ -38,14 +34,7 @@ pub fn counts_of_commands_are_the_logs()
     courses_keep_commands();
     commands_keep_the_rules();
     counts_match_commands();
-    master_matches_the_log();
-    outcomes_bear_the_reports();
-    outcomes_are_answers();
-    requests_wait_their_turn();
-    requests_are_read_back();
-    commands_are_those_that_wait();
-    giving_up_is_logged();
-    the_latest_exchange_is_marked();
+    the_line_is_its_exchanges();
     waiting_commands_stay();
 }
 

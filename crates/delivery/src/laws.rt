@@ -17,9 +17,12 @@ ghost use Rattle.delivery.specs.Delivery.{IsHonest, IsSteady, reports_from, Deli
 ghost use Rattle.delivery.specs.Delivery.{before_sessions, sessions_of, IsIdle, IsOneLife};
 ghost use Rattle.delivery.specs.Sessions.{ended, given_in, taken_in, session_counts};
 ghost use Rattle.delivery.specs.Sessions.{LoseAsReported, gaps_on};
+ghost use Rattle.delivery.specs.Joined.{IsSetUp};
 ghost use Rattle.delivery.specs.Merges.{values_of};
 
 use crate::commands::each_command_is_given_once;
+use crate::exchanges::the_line_is_its_exchanges;
+use command::waiting_commands_stay;
 use link::{
     commands_are_accepted, each_service_acts_once, gaps_are_ended_sessions, giving_up_is_logged,
     reports_are_learnt, sessions_are_known,
@@ -147,4 +150,15 @@ pub fn silence_is_no_reset()
         AllByRecursion (λ x. x.given_up ≡ false) (exchanges_with p i log) }
 {
     link::silence_is_no_reset();
+}
+
+/// What keeps every promise has kept it at each moment: each beginning of its log keeps them all,
+/// between two steps and in the middle of one. So they hold while a run goes on, and of a run that
+/// was cut off, and not at its end alone. (The log has its newest entry first.)
+pub fn promises_hold_at_each_moment()
+    ensures { (p : Setup) (newer log : Log) → IsSetUp p → IsFaithful p (newer ++ log) →
+        IsFaithful p log }
+{
+    the_line_is_its_exchanges();
+    waiting_commands_stay();
 }

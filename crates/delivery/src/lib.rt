@@ -22,7 +22,8 @@
 //!
 //! A log has what comes and goes under its own name
 //! ([`events_and_actions_stand_under_their_names`]), and gives each request its time
-//! ([`requests_have_their_time_by_the_log`]). What a run promises of it only a failed device ends
+//! ([`requests_have_their_time_by_the_log`]). What a run promises of it holds at each moment
+//! ([`promises_hold_at_each_moment`]), and only a failed device ends it
 //! ([`only_a_failed_device_ends_a_promise`]). Stations are told apart
 //! ([`stations_are_told_apart`]), and what stands on their lines outlives other settings
 //! ([`what_stands_on_a_line_goes_on_with_its_station`]), which each part takes up
@@ -57,6 +58,7 @@
 // stays short (docs/DECISIONS.md, "`delivery` stands apart").
 mod commands;
 mod counting;
+mod exchanges;
 mod laws;
 mod logged;
 mod new_settings;
@@ -74,7 +76,7 @@ pub use counting::{commands_lost_at_new_settings_are_counted, counts_of_commands
 pub use laws::{
     each_session_is_known, gaps_are_reported_by_their_station,
     gaps_are_told_before_the_next_request, losses_are_reported, losses_have_gaps, nothing_is_lost,
-    silence_is_no_reset,
+    promises_hold_at_each_moment, silence_is_no_reset,
 };
 pub use logged::{
     events_and_actions_stand_under_their_names, only_a_failed_device_ends_a_promise,

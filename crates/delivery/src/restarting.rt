@@ -10,13 +10,10 @@ ghost use Rattle.gateway.specs.Reports.{Setup, address_at, exchanges_with};
 ghost use Rattle.gateway.specs.Traffic.{IsFaithful};
 ghost use Rattle.delivery.specs.Joined.{IsSetUp};
 
+use crate::exchanges::the_line_is_its_exchanges;
 use command::waiting_commands_stay;
 use gateway::restarts_give_up_commands;
-use link::{
-    commands_are_those_that_wait, giving_up_is_logged, master_matches_the_log,
-    outcomes_are_answers, outcomes_bear_the_reports, requests_are_read_back,
-    requests_wait_their_turn, the_latest_exchange_is_marked,
-};
+use link::giving_up_is_logged;
 
 /// No command is sent again behind a restart: by the exchanges of the log no station holds one
 /// then. Each other station's link stays as it was, so a report that waits there is polled as
@@ -38,13 +35,7 @@ pub fn no_command_is_sent_again_behind_a_restart()
         × (c.works.serial.commands.waiting ≡ left.works.serial.commands.waiting) }
 {
     restarts_give_up_commands();
-    master_matches_the_log();
-    outcomes_bear_the_reports();
-    outcomes_are_answers();
-    requests_wait_their_turn();
-    requests_are_read_back();
-    commands_are_those_that_wait();
+    the_line_is_its_exchanges();
     giving_up_is_logged();
-    the_latest_exchange_is_marked();
     waiting_commands_stay();
 }

@@ -81,7 +81,7 @@ row true false (Some was) (Some is) h = absurd (other h)
     other x = cc
 row true true (Some was) (Some is) h = row_by was is (are_same was is) refl h
 
-never_down : (holds same : Bool) (was : StationSettings) (now : Option StationSettings)
+pub never_down : (holds same : Bool) (was : StationSettings) (now : Option StationSettings)
     → link_start holds same (Some was) now ≡ links.Down
     → ⊥
 never_down holds same was None h = cc
@@ -108,7 +108,7 @@ sizes_same a b h =
     )
 
 -- the place of a station that stood there
-unchanged : (goes_on : Bool) (before now : Settings) (k : ℕ) → start_of goes_on before now k
+pub unchanged : (goes_on : Bool) (before now : Settings) (k : ℕ) → start_of goes_on before now k
     ≡ links.GoesOn
     → (goes_on ≡ true) × IsUnchanged before now k
 unchanged goes_on before now k h =
@@ -238,7 +238,7 @@ goes_by_row holds same before now was is trusted sizes stood found alike =
     ∙ ap (λ (x : Option StationSettings). link_start true true (Some was) x) found
     ∙ ap (λ (x : Bool). cond x links.GoesOn links.Reset) alike
 
-starts_on : (goes_on : Bool) (before now : Settings) (k : ℕ) → goes_on ≡ true
+pub starts_on : (goes_on : Bool) (before now : Settings) (k : ℕ) → goes_on ≡ true
     → IsUnchanged before now k → start_of goes_on before now k ≡ links.GoesOn
 starts_on goes_on before now k trusted u =
     goes_by_row goes_on (have_same_sizes before.line now.line) (slice_get before.stations k)

@@ -1,10 +1,18 @@
 -- Texts that are printed part by part.
-use Rattle.std.proofs.Common.{◌≡◌, ℕ, Bool, true, false, List, ◌++◌, Option, Some, None, sym, ap}
-use Rattle.std.proofs.Common.{subst, ◌∙◌, append_assoc}
+use Rattle.std.proofs.Common.{◌≡◌, ℕ, Bool, true, false, List, [], ◌++◌, Option, Some, None, sym}
+use Rattle.std.proofs.Common.{ap, subst, ◌∙◌, append_assoc}
+use Rattle.std.proofs.lemmas.List.{append-nil}
 use Rattle.std.specs.Prelude.{Result, Ok, Err, OnOk, OnErr}
 use Rattle.std.specs.Result.{is_ok}
 use Rattle.std.specs.Io.KnownBytes.{Appends}
+use Rattle.gateway.specs.Log.{Log}
+use Rattle.traces.specs.Actions.{lines_of_actions}
 use Rattle.pages.specs.Pouring.{IsBegun, IsPoured}
+
+-- nothing was printed
+pub appends_none : (known : Option (List ℕ)) → Appends known known []
+appends_none None = tt
+appends_none (Some octets) = sym (append-nil octets)
 
 -- one text behind another
 pub appends_more : (a b c : Option (List ℕ)) (xs ys : List ℕ) → Appends a b xs → Appends b c ys
@@ -36,6 +44,16 @@ begun_behind a b c xs ys p begun = (
   appends_more a b c xs begun.0 p begun.2,
 )
 
+-- all of it is a beginning too
+pub appends_begun : (a b : Option (List ℕ)) (xs : List ℕ) → Appends a b xs → IsBegun a b xs
+appends_begun a b xs p = (xs, ([], append-nil xs), p)
+
+pub poured_begun : (is_whole : Bool) (a b : Option (List ℕ)) (xs : List ℕ)
+    → IsPoured is_whole a b xs
+    → IsBegun a b xs
+poured_begun true a b xs p = appends_begun a b xs p
+poured_begun false a b xs p = p
+
 -- a text that is known, or a beginning of it, goes behind one that was printed
 pub poured_more : {E : Type 0} (before old new : Option (List ℕ)) (xs ys zs : List ℕ)
     (r : Result (Unit {0}) E)
@@ -55,3 +73,12 @@ pub poured_as : {W : Type 0} (contents : W → Option (List ℕ)) (before : Opti
 poured_as contents before text taken is out w e f p =
     subst (λ (b : Bool). IsPoured b before (contents out) text) (sym e)
     (subst (λ (x : _). IsPoured is before (contents x) text) (sym f) p)
+
+-- all lines of the log
+pub poured_all : (is_whole : Bool) (before after : Option (List ℕ)) (log poured : Log) → Some log
+    ≡ Some poured
+    → IsPoured is_whole before after (lines_of_actions poured)
+    → IsPoured is_whole before after (lines_of_actions log)
+poured_all is_whole before after log poured all p =
+    let same : poured ≡ log = cc in
+    subst (λ (l : Log). IsPoured is_whole before after (lines_of_actions l)) same p

@@ -27,7 +27,6 @@ pub mod BeginningLemmas
 pub mod TextLemmas
 pub mod RunLemmas
 pub mod Bare
-pub mod Poured
 pub mod SimulationLemmas
 pub mod Moments
 pub mod Connected

@@ -12,7 +12,6 @@ pub mod RunPorts
 pub mod Begins
 pub mod AuditLemmas
 pub mod Worded
-pub mod Poured
 pub mod ReplayLemmas
 pub mod SimLemmas
 pub mod Performed

@@ -1,34 +1,13 @@
-use Rattle.std.proofs.Common.{◌≡◌, ◌∷◌, ℕ, sym, ◌∙◌, length, subst, ◌<◌}
-use Rattle.gateway.specs.Course.{Runs}
-use Rattle.gateway.specs.Log.{Log, Came, Restarted}
+use Rattle.std.proofs.Common.{◌∷◌, ℕ, sym, ◌∙◌, subst, ◌<◌}
+use Rattle.gateway.specs.Log.{Came, Restarted}
 use Rattle.gateway.specs.Reports.{exchanges_of}
 use Rattle.delivery.proofs.Joining.{Joins, joins, left_joins}
-use Rattle.delivery.proofs.LinkLaws.{LinkLaws}
+use Rattle.delivery.specs.LinkLaws.{LinkLaws}
 use Rattle.delivery.proofs.restarting.no_command_is_sent_again_behind_a_restart.Goals as goal
 
 pub returns-clause-given_up : goal.returns-clause-given_up
 returns-clause-given_up c = λ p log at station f set within.
-    let laws : LinkLaws = record {
-      begins = c.master_matches_the_log.ensures.start;
-      octets = c.master_matches_the_log.ensures.octets;
-      due = c.master_matches_the_log.ensures.due;
-      next = c.master_matches_the_log.ensures.next;
-      octets_report = c.outcomes_bear_the_reports.ensures.octets;
-      due_reports = c.outcomes_bear_the_reports.ensures.due;
-      next_reports = c.outcomes_bear_the_reports.ensures.next;
-      fit = c.requests_wait_their_turn.ensures.fit;
-      carried = c.requests_wait_their_turn.ensures.carried;
-      back = c.requests_are_read_back.ensures.whole;
-      begun = c.commands_are_those_that_wait.ensures;
-      answered = c.outcomes_are_answers.ensures.octets;
-      silent = c.outcomes_are_answers.ensures.due;
-      early = c.outcomes_are_answers.ensures.early;
-      awaits = c.giving_up_is_logged.ensures.awaits;
-      given_up = c.giving_up_is_logged.ensures.one;
-      given_reports = c.giving_up_is_logged.ensures.reports;
-      itself = c.the_latest_exchange_is_marked.ensures.itself;
-      others = c.the_latest_exchange_is_marked.ensures.others;
-    } in
+    let laws : LinkLaws = c.the_line_is_its_exchanges.ensures in
     let stay = c.waiting_commands_stay.ensures.mirrored in
     let now : Joins p (exchanges_of p (Came at Restarted ∷ log)) f.course.works =
     joins laws stay p set (Came at Restarted ∷ log) f.course f.course_runs f.acts in
