@@ -31,8 +31,8 @@ use sqlite_disk::Disk;
 /// changed or not, and whether the links go on or not. The gateway has followed the whole log:
 /// behind the state at its head each event that a line logs, up to the first line that logs none.
 /// Then it has given up its commands, which is the restart in its log. The gap that its last step
-/// reported is reported again. Only where that text says these settings does it go on so; else it is
-/// what they make of it. Whether they have changed is said: another text may say the same.
+/// reported is reported again. Only where that text says these settings does it go on so; else it
+/// is what they make of it. Whether they have changed is said: another text may say the same.
 pub fn each_log_is_received_again_under_its_settings<D: Disk + Drop>()
     ensures received { (c : Settings) (log : Log) (mark : Option Bool)
         (newest other : D) (o : Origin) (head : SegmentHead) (body written : List ℕ)

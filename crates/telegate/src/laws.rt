@@ -174,9 +174,9 @@ pub fn each_log_begins_where_the_run_stands<S: Store>()
 /// Any number of lives, one behind another, are one run. The first one begins anew, and each is cut
 /// at some moment. The next one begins over what the crash leaves of the files, with the same
 /// settings, whatever else their files say. Then its gateway follows the log of all lives before:
-/// with what had passed when the newest log was begun, with the events that were synced behind that,
-/// and with the oldest of those that waited. So what `run_kept` promises of all lives together holds
-/// of each life.
+/// with what had passed when the newest log was begun, with the events that were synced behind
+/// that, and with the oldest of those that waited. So what `run_kept` promises of all lives
+/// together holds of each life.
 pub fn all_lives_are_one_run<S: Store, D: Disk>()
     ensures lives { (c : Settings) (origin : Origin) → IsLastOfLives S D.Disk c origin →
         IsUpTo (setup_of c) origin.before.entries origin.gateway }
