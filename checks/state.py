@@ -723,6 +723,32 @@ def settings_that_change(count, program, settings, resets):
         gateway.field.server.close()
 
 
+def settings_in_other_words(count, program):
+    """Only values count: a comment, the order of keys, a default that is written out and another end change nothing."""
+    with tempfile.TemporaryDirectory() as folder:
+        gateway = quiet(program, folder)
+        gateway.start()
+        gateway.waits("listening")
+        queue_up(gateway, 10)
+        before = resets_of(gateway)
+        gateway.kill()
+        gateway.listener = ("127.0.0.1", ends.free_port())
+        gateway.set()
+        with open(gateway.config) as file:
+            line, tcp, *stations, live = file.read().strip().split("\n[")
+        with open(gateway.config, "w") as file:
+            tables = [live, tcp + "\nt1_ms = 15000", *stations, line.removeprefix("[")]
+            file.write("\n[".join(["# the same settings", *tables]) + "\n")
+        gateway.start()
+        told = gateway.waits("goes on")
+        got = drained(gateway)
+        said = gateway.kill()
+        count.judge("the same settings in other words: not told as others", told and "settings have changed" not in said, said)
+        count.judge("nothing is lost", got == all_came(gateway), got)
+        count.judge("no link is reset", resets_of(gateway) == before, (before, resets_of(gateway)))
+        gateway.field.server.close()
+
+
 def resets_of(gateway):
     return {address: station.resets for address, station in gateway.field.stations.items()}
 
@@ -906,7 +932,15 @@ def a_look(count, program):
         with open(other, "w") as file:
             file.write("\n".join(settings) + "\n# another\n")
         lines, _, _ = looked(gateway, gateway.state, other)
+        count.judge("the same settings with a comment", lines[0] == f"state: goes on, {queued} queued", lines[:2])
+        with open(other, "w") as file:
+            file.write("\n".join(settings).replace("answer_ms = ", "answer_ms = 1"))
+        lines, _, _ = looked(gateway, gateway.state, other)
         count.judge("other settings", lines[0] == "state: settings have changed", lines[:2])
+        with open(other, "w") as file:
+            file.write("no settings")
+        lines, _, _ = looked(gateway, gateway.state, other)
+        count.judge("no settings", lines[0] == "state: settings have changed", lines[:2])
         with open("/dev/full", "w") as full:
             status = subprocess.run([program, "state", gateway.state], stdout=full, stderr=subprocess.DEVNULL, timeout=60).returncode
         count.judge("an output that fails", status == 3, status)
@@ -985,6 +1019,7 @@ PARTS = [
     alone("station new", a_new_station),
     alone("station gone", a_station_that_is_gone),
     *(alone(f"settings {n}", settings_that_change, *row) for n, row in enumerate(CHANGES)),
+    alone("settings in other words", settings_in_other_words),
 ]
 
 

@@ -35,7 +35,8 @@ use Rattle.gateway.specs.Connections.{Channel, present, past, closed_by, Passes,
 use Rattle.gateway.specs.Connections.{IsConnection, AreConnections}
 use Rattle.gateway.specs.Reports.{Setup, address_at, exchanges_of, reports_in, taken_objects}
 use Rattle.gateway.specs.Reports.{sending_in}
-use Rattle.gateway.specs.Course.{Course, came_frames, here_of, with_frames, with_sent, closed_course}
+use Rattle.gateway.specs.Course.{Course, came_frames, here_of, with_frames, with_sent}
+use Rattle.gateway.specs.Course.{closed_course}
 use Rattle.gateway.specs.Course.{logged_sent, HasTakenAll, IsCause, IsNext, TakesFrames, Comes}
 use Rattle.gateway.specs.Course.{Runs}
 use Rattle.gateway.specs.Conversation.{KeepsRulesThroughout}
@@ -443,7 +444,8 @@ module _ (p : Setup) where
               (joins laws stay p set log c r acts).matches),
         )
     grows log now (TcpIn octets) c r acts =
-        ([], timed log (latest (Came now (TcpIn octets) ∷ log)) (Came now (TcpIn octets) ∷ log) refl)
+        ([], timed log (latest (Came now (TcpIn octets) ∷ log)) (Came now (TcpIn octets) ∷ log)
+        refl)
     grows log now Ticked c r acts =
         ([], timed log (latest (Came now Ticked ∷ log)) (Came now Ticked ∷ log) refl)
     grows log now (WallIs number) c r acts = (

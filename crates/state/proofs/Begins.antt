@@ -1,5 +1,5 @@
 -- What a start makes of a log, and what is shown of it.
-use Rattle.std.proofs.Common.{◌≡◌, ◌∙◌, ◌⊎◌, inl, inr, ℕ, ◌+◌, ◌<◌, Bool, true, false, List, []}
+use Rattle.std.proofs.Common.{◌≡◌, ◌∙◌, ◌⊎◌, inl, inr, ℕ, ◌+◌, ◌<◌, Bool, true, false, List}
 use Rattle.std.proofs.Common.{◌∷◌}
 use Rattle.std.proofs.Common.{◌++◌, drop, length, Option, Some, None, Ok, refl, sym, ap, subst}
 use Rattle.std.proofs.Common.{arith, zero, suc}
@@ -9,7 +9,7 @@ use Rattle.gateway.specs.Agrees.{Follows, Rests}
 use Rattle.gateway.specs.Carried.{carried, command_given_up, commands_given_up_upto}
 use Rattle.gateway.specs.Carried.{link_given_up, without_commands}
 use Rattle.gateway.specs.Config.{Settings}
-use Rattle.gateway.specs.Log.{Came, Log, LogEntry, Restarted, events_of}
+use Rattle.gateway.specs.Log.{Came, Log, Restarted, events_of}
 use Rattle.gateway.specs.Restored.{IsSavable, state_lines}
 use Rattle.gateway.specs.Serial.{Serial}
 use Rattle.gateway.specs.Setups.{setup_of}
@@ -25,7 +25,7 @@ use Rattle.segments.proofs.Crashes.{same_first}
 use Rattle.segments.proofs.Fronts.{not_shut}
 use Rattle.settings.specs.Settings.{IsReadOfText}
 use Rattle.statetext.specs.Text.{lines_in}
-use Rattle.state.specs.Beginnings.{AreLinesRead, GoesOnBy, GoesOnFrom, IsHeadOf, IsMoved, MovedOn}
+use Rattle.state.specs.Beginnings.{AreLinesRead, GoesOnBy, GoesOnFrom, IsMoved}
 use Rattle.state.specs.Beginnings.{WentOn, has_past, is_trusted}
 use Rattle.state.specs.Directories.{BeginsOver}
 use Rattle.state.specs.Origins.{IsMarkedBy}
@@ -40,38 +40,38 @@ use Rattle.state.proofs.Returning.{AreSame, same_head}
 
 -- With which settings a run went on, and from where
 
-abbrev IsGone : (trusted : Bool) → Settings → (written text : List ℕ) → (wrote : Settings)
+abbrev IsGone : (trusted : Bool) → Settings → (written : List ℕ) → (wrote : Settings)
     → (left s : State) → Type 0
-IsGone trusted c written text wrote left s =
-    ((trusted ≡ true) × (written ≡ text) × (wrote ≡ c) × (s ≡ left))
+IsGone trusted c written wrote left s =
+    ((trusted ≡ true) × IsReadOfText written (Ok c) × (wrote ≡ c) × (s ≡ left))
     ⊎ (IsReadOfText written (Ok wrote) × (s ≡ carried trusted wrote c left))
 
-record Gone (trusted : Bool) (c : Settings) (written text : List ℕ) (log : Log)
+record Gone (trusted : Bool) (c : Settings) (written : List ℕ) (log : Log)
     (lines : List (List ℕ)) (events : List ℕ) (gap : Option ReportedGap) (whole : Log)
     (s : State) : Type 0 where
   wrote : Settings
   left : State
   went : WentOn wrote log lines events gap whole left
-  gone : IsGone trusted c written text wrote left s
+  gone : IsGone trusted c written wrote left s
 
-gone_on : (trusted is_moved : Bool) (c : Settings) (written text : List ℕ) (log : Log)
+gone_on : (trusted is_moved : Bool) (c : Settings) (written : List ℕ) (log : Log)
     (lines : List (List ℕ)) (events : List ℕ) (gap : Option ReportedGap) (whole : Log) (s : State)
-    → IsMoved written text is_moved
+    → IsMoved c written is_moved
     → GoesOnBy (trusted && not is_moved) trusted c written log lines events gap whole s
-    → Gone trusted c written text log lines events gap whole s
-gone_on true false c written text log lines events gap whole s moved goes = record {
+    → Gone trusted c written log lines events gap whole s
+gone_on true false c written log lines events gap whole s moved goes = record {
   wrote = c;
   left = s;
   went = goes;
   gone = inl (refl, moved, refl, refl);
 }
-gone_on true true c written text log lines events gap whole s moved goes = record {
+gone_on true true c written log lines events gap whole s moved goes = record {
   wrote = goes.wrote;
   left = goes.left;
   went = goes.went;
   gone = inr (goes.read, goes.moved);
 }
-gone_on false is_moved c written text log lines events gap whole s moved goes = record {
+gone_on false is_moved c written log lines events gap whole s moved goes = record {
   wrote = goes.wrote;
   left = goes.left;
   went = goes.went;
@@ -84,10 +84,11 @@ trusted_on beginnings.PutAside is = absurd (cc)
 trusted_on beginnings.LinksReset is = absurd (cc)
 trusted_on beginnings.GoesOn is = refl
 
-moved_is : (is_moved : Bool) (written text : List ℕ) → IsMoved written text is_moved
-    → (is_moved ≡ true → written ≡ text → ⊥) × (is_moved ≡ false → written ≡ text)
-moved_is true written text moved = (λ _. moved, λ is. absurd (cc))
-moved_is false written text moved = (λ is. absurd (cc), λ _. moved)
+moved_is : (is_moved : Bool) (c : Settings) (written : List ℕ) → IsMoved c written is_moved
+    → (is_moved ≡ true → IsReadOfText written (Ok c) → ⊥)
+    × (is_moved ≡ false → IsReadOfText written (Ok c))
+moved_is true c written moved = (λ _. moved, λ is. absurd (cc))
+moved_is false c written moved = (λ is. absurd (cc), λ _. moved)
 
 -- giving up commands leaves the number of stations
 
@@ -106,32 +107,32 @@ number law (suc n) s =
     one_number law n (commands_given_up_upto n s) _ refl ∙ number law n s
 
 -- the head of the log is that which stands in the file
-head_is : (c : Settings) (text : List ℕ) (log : Log) (o : Origin) (trusted : Bool)
+head_is : (c : Settings) (log : Log) (o : Origin) (trusted : Bool)
     (file : List ℕ) (head : SegmentHead) (body written : List ℕ) (lines : List (List ℕ))
-    (goes : GoesOnFrom trusted c text log file o.is_moved o.gap o.before.entries o.gateway)
+    (goes : GoesOnFrom trusted c log file o.is_moved o.gap o.before.entries o.gateway)
     → Fits head → IsFoundIn file head body → lines_in body ≡ written ∷ lines
     → AreSame goes.begins (87 + length body) goes.written written goes.lines lines
-head_is c text log o trusted file head body written lines goes fits found says =
+head_is c log o trusted file head body written lines goes fits found says =
     same_head file goes.begins (87 + length body) goes.written written goes.lines lines goes.head
     (record { head = head; body = body; fits = fits; found = found; says = says; behind = refl })
 
-gone_from : (c : Settings) (text : List ℕ) (log : Log) (o : Origin) (trusted : Bool)
+gone_from : (c : Settings) (log : Log) (o : Origin) (trusted : Bool)
     (file : List ℕ)
-    (goes : GoesOnFrom trusted c text log file o.is_moved o.gap o.before.entries o.gateway)
-    → Gone trusted c goes.written text log goes.lines (before_zero (drop goes.begins file)) o.gap
+    (goes : GoesOnFrom trusted c log file o.is_moved o.gap o.before.entries o.gateway)
+    → Gone trusted c goes.written log goes.lines (before_zero (drop goes.begins file)) o.gap
     o.before.entries o.gateway
-gone_from c text log o trusted file goes =
-    gone_on trusted o.is_moved c goes.written text log goes.lines
+gone_from c log o trusted file goes =
+    gone_on trusted o.is_moved c goes.written log goes.lines
     (before_zero (drop goes.begins file)) o.gap o.before.entries o.gateway goes.moved goes.goes
 
 module _ {D : Type 0} {g : Ghosts D} where
-  pub received : (c : Settings) (text : List ℕ) (log : Log) (mark : Option Bool)
+  pub received : (c : Settings) (log : Log) (mark : Option Bool)
       (newest other : D) (o : Origin) (head : SegmentHead) (body written : List ℕ)
-      (first : State) (rest : List (List ℕ)) → BeginsOver g c text log mark newest other o
+      (first : State) (rest : List (List ℕ)) → BeginsOver g c log mark newest other o
       → has_past o.beginning ≡ true → Fits head → IsFoundIn (g.seen newest) head body
       → lines_in body ≡ written ∷ (state_lines first ++ rest) → IsSavable first
       → (wrote : Settings) × (left : State)
-      × (((o.beginning ≡ beginnings.GoesOn) × (written ≡ text) × (wrote ≡ c)
+      × (((o.beginning ≡ beginnings.GoesOn) × IsReadOfText written (Ok c) × (wrote ≡ c)
       × (o.gateway ≡ left)) ⊎ (IsReadOfText written (Ok wrote)
       × (o.gateway ≡ carried (is_trusted o.beginning) wrote c left)))
       × (Follows (setup_of wrote) first (Some log) → Rests (setup_of wrote) (Some log)
@@ -140,17 +141,22 @@ module _ {D : Type 0} {g : Ghosts D} where
       × (events_of (news ++ log) ≡ events_of log
       ++ events_in_front (whole_lines (lines_behind body (g.seen newest))))
       × (o.gap ≡ last_gap news))
-  received c text log mark newest other o head body written first rest over past fits found says
+  received c log mark newest other o head body written first rest over past fits found says
       savable =
       let file : List ℕ = g.seen newest in
       let goes = over.begun.goes_on past over.first in
-      let same = head_is c text log o (is_trusted o.beginning) file head body written
+      let same = head_is c log o (is_trusted o.beginning) file head body written
       (state_lines first ++ rest) goes fits found says in
-      let it = gone_from c text log o (is_trusted o.beginning) file goes in (
+      let it = gone_from c log o (is_trusted o.beginning) file goes in (
         it.wrote,
         it.left,
         elim it.gone [
-          | inl kept ↦ inl (trusted_on o.beginning kept.0, sym same.wrote ∙ kept.1, kept.2, kept.3)
+          | inl kept ↦ inl (
+            trusted_on o.beginning kept.0,
+            subst (λ (t : List ℕ). IsReadOfText t (Ok c)) same.wrote kept.1,
+            kept.2,
+            kept.3,
+          )
           | inr moved ↦ inr (
             subst (λ (t : List ℕ). IsReadOfText t (Ok it.wrote)) same.wrote
                 moved.0,
@@ -172,28 +178,29 @@ module _ {D : Type 0} {g : Ghosts D} where
             ),
       )
 
-  pub is_moved : (c : Settings) (text : List ℕ) (log : Log) (mark : Option Bool)
+  pub is_moved : (c : Settings) (log : Log) (mark : Option Bool)
       (newest other : D) (o : Origin) (head : SegmentHead) (body written : List ℕ)
-      (lines : List (List ℕ)) → BeginsOver g c text log mark newest other o
+      (lines : List (List ℕ)) → BeginsOver g c log mark newest other o
       → has_past o.beginning ≡ true → Fits head → IsFoundIn (g.seen newest) head body
       → lines_in body ≡ written ∷ lines
-      → (o.is_moved ≡ true → written ≡ text → ⊥) × (o.is_moved ≡ false → written ≡ text)
-  is_moved c text log mark newest other o head body written lines over past fits found says =
+      → (o.is_moved ≡ true → IsReadOfText written (Ok c) → ⊥)
+      × (o.is_moved ≡ false → IsReadOfText written (Ok c))
+  is_moved c log mark newest other o head body written lines over past fits found says =
       let goes = over.begun.goes_on past over.first in
-      let same = head_is c text log o (is_trusted o.beginning) (g.seen newest) head body written
+      let same = head_is c log o (is_trusted o.beginning) (g.seen newest) head body written
       lines goes fits found says in
-      moved_is o.is_moved written text
-      (subst (λ (t : List ℕ). IsMoved t text o.is_moved) same.wrote goes.moved)
+      moved_is o.is_moved c written
+      (subst (λ (t : List ℕ). IsMoved c t o.is_moved) same.wrote goes.moved)
 
-  pub gives_up : IsForOne → (c : Settings) (text : List ℕ) (log : Log) (mark : Option Bool)
-      (newest other : D) (o : Origin) → BeginsOver g c text log mark newest other o
+  pub gives_up : IsForOne → (c : Settings) (log : Log) (mark : Option Bool)
+      (newest other : D) (o : Origin) → BeginsOver g c log mark newest other o
       → has_past o.beginning ≡ true → (wrote : Settings) × (left : State)
       × ((o.gateway ≡ left) ⊎ (o.gateway ≡ carried (is_trusted o.beginning) wrote c left))
       × ((place : ℕ) → place < length left.serial.line.stations
       → awaits_command left.serial.line place ≡ false)
-  gives_up law c text log mark newest other o over past =
+  gives_up law c log mark newest other o over past =
       let goes = over.begun.goes_on past over.first in
-      let it = gone_from c text log o (is_trusted o.beginning) (g.seen newest) goes in
+      let it = gone_from c log o (is_trusted o.beginning) (g.seen newest) goes in
       let before : Serial = it.went.left.serial in
       let serial : it.left.serial ≡ without_commands before =
       ap (λ (s : State). s.serial) it.went.given in
@@ -314,17 +321,17 @@ past_shown log is_stale first second s shown (Some l) is past shut =
 
 module _ {D : Type 0} {g : Ghosts D} where
   -- a log was found where a run goes on
-  not_shut_of : (c : Settings) (text : List ℕ) (log : Log) (mark : Option Bool) (newest other : D)
-      (o : Origin) → BeginsOver g c text log mark newest other o → has_past o.beginning ≡ true
+  not_shut_of : (c : Settings) (log : Log) (mark : Option Bool) (newest other : D)
+      (o : Origin) → BeginsOver g c log mark newest other o → has_past o.beginning ≡ true
       → IsShut (g.seen newest) → ⊥
-  not_shut_of c text log mark newest other o over past shut =
+  not_shut_of c log mark newest other o over past shut =
       let goes = over.begun.goes_on past over.first in
       not_shut (g.seen newest) goes.head.head goes.head.found.first shut
 
-  module _ (c : Settings) (text : List ℕ) (log : Log) (is_stale : Bool) (newest other : D)
+  module _ (c : Settings) (log : Log) (is_stale : Bool) (newest other : D)
       (o : Origin) (first second : List ℕ) (s : Sight)
       (shown : IsSight log is_stale first second s)
-      (over : BeginsOver g c text log (Some is_stale) newest other o)
+      (over : BeginsOver g c log (Some is_stale) newest other o)
       (one : shown.newest ≡ g.seen newest) (two : shown.other ≡ g.seen other) where
     here : Type 0
     here = s.beginning ≡ o.beginning
@@ -360,10 +367,10 @@ module _ {D : Type 0} {g : Ghosts D} where
     by_both beginnings.Anew beginnings.PutAside is is' aside aside' so = absurd (aside' refl)
     by_both beginnings.Anew beginnings.Anew is is' aside aside' so = refl
     by_both beginnings.Anew beginnings.LinksReset is is' aside aside' so =
-        absurd (not_shut_of c text log (Some is_stale) newest other o over (ap has_past is')
+        absurd (not_shut_of c log (Some is_stale) newest other o over (ap has_past is')
         (subst IsShut one so.0))
     by_both beginnings.Anew beginnings.GoesOn is is' aside aside' so =
-        absurd (not_shut_of c text log (Some is_stale) newest other o over (ap has_past is')
+        absurd (not_shut_of c log (Some is_stale) newest other o over (ap has_past is')
         (subst IsShut one so.0))
     by_both beginnings.LinksReset beginnings.PutAside is is' aside aside' so = absurd (aside' refl)
     by_both beginnings.LinksReset beginnings.Anew is is' aside aside' so =

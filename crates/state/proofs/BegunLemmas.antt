@@ -39,7 +39,7 @@ never b is isnt = let none : true ≡ false = sym is ∙ isnt in absurd (cc)
 
 module _ {D : Type 0} {g : Ghosts D} where
   -- with a past
-  pub resumed_begun : (c : Settings) (text : List ℕ) (log : Log) (mark : Option Bool)
+  pub resumed_begun : (c : Settings) (log : Log) (mark : Option Bool)
       (newest spare : D) (o : Origin)
       (goes_on : Bool) → o.moment ≡ Some o.gateway.moment → has_past o.beginning ≡ true
       → is_trusted o.beginning ≡ goes_on
@@ -52,10 +52,10 @@ module _ {D : Type 0} {g : Ghosts D} where
       → (goes_on ≡ false → (mark ≡ Some true) ⊎ (IsTrue (g.is_clean newest)
       → IsTrue (g.is_clean spare)
       → HasNoNewer (g.seen newest) (g.seen spare) → AreLinesRead (g.seen newest) → ⊥))
-      → (IsTrue (g.is_clean newest) → GoesOnFrom goes_on c text log (g.seen newest) o.is_moved o.gap
+      → (IsTrue (g.is_clean newest) → GoesOnFrom goes_on c log (g.seen newest) o.is_moved o.gap
       o.before.entries o.gateway)
-      → IsBegun {D = D} {g = g} c text log mark (opens.Both newest spare) o
-  resumed_begun c text log mark newest spare o goes_on moment past is marked wins sure read reset
+      → IsBegun {D = D} {g = g} c log mark (opens.Both newest spare) o
+  resumed_begun c log mark newest spare o goes_on moment past is marked wins sure read reset
       goes =
       record {
         moment = moment ∙ sym (ap (λ (b : Bool). if b then Some o.gateway.moment else None) past);
@@ -67,18 +67,18 @@ module _ {D : Type 0} {g : Ghosts D} where
         read = λ on one two. read (sym is ∙ ap is_trusted on) one;
         reset = λ links. reset (sym is ∙ ap is_trusted links);
         goes_on = λ _. subst (λ (t : Bool). IsTrue (g.is_clean newest) →
-            GoesOnFrom t c text log (g.seen newest) o.is_moved o.gap o.before.entries o.gateway)
+            GoesOnFrom t c log (g.seen newest) o.is_moved o.gap o.before.entries o.gateway)
             (sym is) goes;
       }
 
   -- anew
-  pub anew_begun : (c : Settings) (text : List ℕ) (log : Log) (mark : Option Bool)
+  pub anew_begun : (c : Settings) (log : Log) (mark : Option Bool)
       (newest spare : D) (o : Origin)
       → IsNew c o → o.moment ≡ None → o.beginning ≡ beginnings.Anew
       → (IsTrue (g.is_clean newest) → IsTrue (g.is_clean spare) → IsShut (g.seen newest)
       × IsShut (g.seen spare))
-      → IsBegun {D = D} {g = g} c text log mark (opens.Both newest spare) o
-  anew_begun c text log mark newest spare o new moment is shut = record {
+      → IsBegun {D = D} {g = g} c log mark (opens.Both newest spare) o
+  anew_begun c log mark newest spare o new moment is shut = record {
     moment = moment ∙ sym (ap (λ (b : Beginning). moment_at b o.gateway.moment) is);
     marked = subst (λ (b : Beginning). IsMarkedBy b mark) (sym is) tt;
     anew = λ _. new;
@@ -92,7 +92,7 @@ module _ {D : Type 0} {g : Ghosts D} where
   }
 
   -- with a past, where the files are those that were looked at
-  pub begun_from : (c : Settings) (text : List ℕ) (log : Log) (mark : Option Bool)
+  pub begun_from : (c : Settings) (log : Log) (mark : Option Bool)
       (opened : Opened D g)
       (newest spare new old other : D) (o : Origin) (goes_on : Bool)
       → opened ≡ opens.Both newest spare → newest ≡ new → spare ≡ other
@@ -107,18 +107,18 @@ module _ {D : Type 0} {g : Ghosts D} where
       → (goes_on ≡ false → (mark ≡ Some true) ⊎ (IsTrue (g.is_clean new)
       → IsTrue (g.is_clean other)
       → HasNoNewer (g.seen old) (g.seen other) → AreLinesRead (g.seen new) → ⊥))
-      → (IsTrue (g.is_clean new) → GoesOnFrom goes_on c text log (g.seen new) o.is_moved o.gap
+      → (IsTrue (g.is_clean new) → GoesOnFrom goes_on c log (g.seen new) o.is_moved o.gap
       o.before.entries o.gateway)
-      → IsBegun {D = D} {g = g} c text log mark opened o
-  begun_from c text log mark opened newest spare new old other o goes_on both at_newest at_spare
+      → IsBegun {D = D} {g = g} c log mark opened o
+  begun_from c log mark opened newest spare new old other o goes_on both at_newest at_spare
       seen clean moment past is
       marked wins sure read reset goes =
-      subst (λ (f : Opened D g). IsBegun {D = D} {g = g} c text log mark f o) (sym both)
-      (subst (λ (d : D). IsBegun {D = D} {g = g} c text log mark (opens.Both d spare) o)
+      subst (λ (f : Opened D g). IsBegun {D = D} {g = g} c log mark f o) (sym both)
+      (subst (λ (d : D). IsBegun {D = D} {g = g} c log mark (opens.Both d spare) o)
       (sym at_newest)
-      (subst (λ (d : D). IsBegun {D = D} {g = g} c text log mark (opens.Both new d) o)
+      (subst (λ (d : D). IsBegun {D = D} {g = g} c log mark (opens.Both new d) o)
       (sym at_spare)
-      (resumed_begun c text log mark new other o goes_on moment past is marked
+      (resumed_begun c log mark new other o goes_on moment past is marked
       (λ one two. subst (λ (file : List ℕ). IsNewest file (g.seen other)) (sym seen)
       (wins (clean one, two)))
       (λ on one two. subst (λ (file : List ℕ). HasNoNewer file (g.seen other)) (sym seen)

@@ -1,5 +1,5 @@
 -- What stands beside a log that was begun.
-use Rattle.std.proofs.Common.{◌≡◌, inl, inr, Bool, true, false, List, ℕ, IsTrue, refl, subst}
+use Rattle.std.proofs.Common.{◌≡◌, inl, inr, Bool, true, false, IsTrue, refl, subst}
 use Rattle.segments.specs.Starts.{IsSound}
 use Rattle.sqlite_disk.specs.declared.Disk.{Ghosts}
 use Rattle.state.specs.Logs.{IsLeftBeside, SpareIs, WasOpen, WasOpened}

@@ -1,5 +1,5 @@
 -- The gap that the last step has reported.
-use Rattle.std.proofs.Common.{◌≡◌, ℕ, List, [], ◌∷◌, ◌++◌, Some, None, refl}
+use Rattle.std.proofs.Common.{◌≡◌, ℕ, [], ◌∷◌, ◌++◌, Some, None, refl}
 use Rattle.std.specs.List.{AllByRecursion}
 use Rattle.gateway.specs.Log.{Log, Came, Went, Input, Output, LineOut, TcpOut, Closed, GapOut}
 use Rattle.state.specs.Replays.{IsQuiet, last_gap}

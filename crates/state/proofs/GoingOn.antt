@@ -1,6 +1,6 @@
 -- A gateway that goes on with what a log has.
 use Rattle.std.proofs.Common.{◌≡◌, ◌∷◌, ℕ, Bool, true, false, List, drop, Option, Some, refl, sym}
-use Rattle.std.proofs.Common.{subst}
+use Rattle.std.proofs.Common.{subst, Result, Ok, ap, ◌∙◌}
 use Rattle.std.specs.Prelude.{not, ◌&&◌}
 use Rattle.gateway.specs.Agrees.{Follows, Rests}
 use Rattle.gateway.specs.Config.{Settings}
@@ -9,9 +9,11 @@ use Rattle.gateway.specs.Reports.{Setup}
 use Rattle.gateway.specs.Setups.{setup_of}
 use Rattle.gateway.specs.State.{State}
 use Rattle.segments.specs.Starts.{before_zero}
+use Rattle.settings.specs.Settings.{IsReadOfText, known_settings, values_of}
 use Rattle.state.specs.Beginnings.{GoesOnBy, GoesOnFrom, IsHeadOf, IsMoved, IsRead}
 use Rattle.state.specs.Beginnings.{MovedOn, WentOn, given_up}
 use Rattle.state.specs.Replays.{ReportedGap}
+use Rattle.state.specs.Sights.{AreChanged}
 
 pub went_on : (c : Settings) (log : Log) (lines : List (List ℕ)) (events : List ℕ)
     (gap other : Option ReportedGap) (arrived whole : Log) (left s : State)
@@ -35,10 +37,44 @@ went_on c log lines events gap other arrived whole left s read same given restar
           );
     }
 
-moved_by : (is_same : Bool) (written text : List ℕ) → (is_same ≡ true → written ≡ text)
-    → (is_same ≡ false → written ≡ text → ⊥) → IsMoved written text (not is_same)
-moved_by true written text same others = same refl
-moved_by false written text same others = others refl
+-- a text that says the same values says these settings
+pub says_same : (written : List ℕ) (wrote c : Settings) → IsReadOfText written (Ok wrote)
+    → values_of wrote ≡ values_of c → IsReadOfText written (Ok c)
+says_same written wrote c read same = (read.0, read.1, read.2 ∙ ap Ok same, read.3)
+
+ok_is : {A B : Type 0} (a b : A) → ◌≡◌ {A = Result A B} (Ok a) (Ok b) → a ≡ b
+ok_is a b e = cc
+
+-- a text says one list of values
+one_says : (text : List ℕ) (a b : Settings) → IsReadOfText text (Ok a) → IsReadOfText text (Ok b)
+    → values_of a ≡ values_of b
+one_says text a b first second =
+    let root : Some first.0 ≡ Some second.0 = sym first.1.parsed ∙ second.1.parsed in
+    let one : first.0 ≡ second.0 = cc in
+    ok_is _ _ (sym first.2 ∙ ap known_settings one ∙ second.2)
+
+-- and one that says others doesn't
+pub says_others : (written : List ℕ) (wrote c : Settings) → IsReadOfText written (Ok wrote)
+    → (values_of wrote ≡ values_of c → ⊥) → IsReadOfText written (Ok c) → ⊥
+says_others written wrote c read differ says = differ (one_says written wrote c read says)
+
+-- two texts that can be read
+pub changed_by : (written text : List ℕ) (before now : Settings) (is_same : Bool)
+    → IsReadOfText written (Ok before) → IsReadOfText text (Ok now)
+    → (is_same ≡ true → values_of before ≡ values_of now)
+    → (is_same ≡ false → values_of before ≡ values_of now → ⊥)
+    → AreChanged written text (not is_same)
+changed_by written text before now true wrote says same others =
+    (now, says, says_same written before now wrote (same refl))
+changed_by written text before now false wrote says same others = λ c text_says written_says.
+    others refl
+    (one_says written before c wrote written_says ∙ sym (one_says text now c says text_says))
+
+moved_by : (is_same : Bool) (c : Settings) (written : List ℕ)
+    → (is_same ≡ true → IsReadOfText written (Ok c))
+    → (is_same ≡ false → IsReadOfText written (Ok c) → ⊥) → IsMoved c written (not is_same)
+moved_by true c written same others = same refl
+moved_by false c written same others = others refl
 
 by_moved : (trusted is_same : Bool) → (trusted ≡ true → is_same ≡ false)
     → (trusted && not (not is_same)) ≡ false
@@ -47,22 +83,22 @@ by_moved true false other = refl
 by_moved true true other = other refl
 
 -- it was moved
-pub moved_from : (trusted is_same is_moved : Bool) (c : Settings) (text : List ℕ) (log : Log)
+pub moved_from : (trusted is_same is_moved : Bool) (c : Settings) (log : Log)
     (file : List ℕ) (begins : ℕ)
     (written : List ℕ) (lines : List (List ℕ)) (gap : Option ReportedGap) (whole : Log) (s : State)
-    → IsHeadOf file begins written lines → (is_same ≡ true → written ≡ text)
-    → (is_same ≡ false → written ≡ text → ⊥)
+    → IsHeadOf file begins written lines → (is_same ≡ true → IsReadOfText written (Ok c))
+    → (is_same ≡ false → IsReadOfText written (Ok c) → ⊥)
     → (trusted ≡ true → is_same ≡ false) → is_moved ≡ not is_same
     → MovedOn trusted c written log lines (before_zero (drop begins file)) gap whole s
-    → GoesOnFrom trusted c text log file is_moved gap whole s
-moved_from trusted is_same is_moved c text log file begins written lines gap whole s head same
+    → GoesOnFrom trusted c log file is_moved gap whole s
+moved_from trusted is_same is_moved c log file begins written lines gap whole s head same
     others other is moved =
-    subst (λ (m : Bool). GoesOnFrom trusted c text log file m gap whole s) (sym is) (record {
+    subst (λ (m : Bool). GoesOnFrom trusted c log file m gap whole s) (sym is) (record {
       begins = begins;
       written = written;
       lines = lines;
       head = head;
-      moved = moved_by is_same written text same others;
+      moved = moved_by is_same c written same others;
       goes =
           subst (λ (b : Bool). GoesOnBy b trusted c written log lines
           (before_zero (drop begins file)) gap whole s)

@@ -1,5 +1,5 @@
 -- How long the line of an event is, and which event a line can't hold.
-use Rattle.std.proofs.Common.{◌≡◌, ◌∙◌, ℕ, ◌+◌, ◌*◌, ◌<◌, ◌≤◌, Bool, true, false, List, []}
+use Rattle.std.proofs.Common.{◌≡◌, ◌∙◌, ℕ, ◌+◌, ◌*◌, ◌<◌, ◌≤◌, true, false, List, []}
 use Rattle.std.proofs.Common.{◌∷◌, ◌++◌, length, take, drop, codes, Result, Ok, Err, IfErr, OnOk}
 use Rattle.std.proofs.Common.{is_err, refl, sym, ap, subst, arith}
 use Rattle.std.specs.Fmt.{decimal, digits}

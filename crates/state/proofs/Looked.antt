@@ -3,7 +3,6 @@ use Rattle.std.proofs.Common.{◌≡◌, Bool, true, false, ℕ, ◌+◌, List, 
 use Rattle.std.proofs.Common.{refl}
 use Rattle.std.proofs.Common.{sym, subst}
 use Rattle.std.specs.Option.{ForSome, is_some}
-use Rattle.gateway.specs.Config.{Settings}
 use Rattle.gateway.specs.Log.{Log}
 use Rattle.segments.specs.Starts.{ArePlaced, HasNoNewer, IsBacked, IsFoundIn, IsNewest}
 use Rattle.segments.specs.declared.start.FoundHead.{FoundHead}
@@ -54,11 +53,11 @@ sight_of log is_stale goes_on first second newest other side b s placed same see
     }
 
 -- a segment was found, whose state can't be read
-pub aside_of : (honest : Type 0) (c : Settings) (text newest other : List ℕ) (o : Option FoundHead)
+pub aside_of : (honest : Type 0) (newest other : List ℕ) (o : Option FoundHead)
     (at : ℕ) → is_some o ≡ true
     → ForSome o (λ f. (at ≡ 87 + length f.text.items)
     × (honest → IsFoundIn newest f.head f.text.items))
-    → honest → IsBacked newest other → (HasState c text newest → ⊥) → IsUnread c text newest other
-aside_of honest c text newest other None at some stands clean wins none = absurd (cc)
-aside_of honest c text newest other (Some f) at some stands clean wins none =
-    unread_found c text newest other f.head f.text.items wins ((stands f refl).1 clean) none
+    → honest → IsBacked newest other → (HasState newest → ⊥) → IsUnread newest other
+aside_of honest newest other None at some stands clean wins none = absurd (cc)
+aside_of honest newest other (Some f) at some stands clean wins none =
+    unread_found newest other f.head f.text.items wins ((stands f refl).1 clean) none

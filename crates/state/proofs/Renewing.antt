@@ -1,13 +1,13 @@
 -- What a renewal of a log leaves of both files.
 use Rattle.std.proofs.Common.{◌≡◌, ◌∙◌, inl, inr, ℕ, ◌≤◌, Bool, true, List, ◌∷◌}
-use Rattle.std.proofs.Common.{length, take, drop, sym, ap, subst, arith, slice_index}
+use Rattle.std.proofs.Common.{length, take, drop, ap, subst, arith, slice_index}
 use Rattle.std.specs.Prelude.{◌≢◌}
 use Rattle.std.proofs.lemmas.Bool.{cases_lt}
 use Rattle.std.proofs.lemmas.List.{ext_get_or, get_or-take, get_or_past, length-take-le}
 use Rattle.sqlite_disk.specs.declared.Disk.{Ghosts}
 use Rattle.segments.specs.Crash.{AreMixing, BeginsWith, HasLength, HasNoOther, HasText, IsShut}
 use Rattle.segments.specs.Crashes.{AreShutOr, HasWhole}
-use Rattle.segments.specs.Head.{IsWholeText, whole_text}
+use Rattle.segments.specs.Head.{IsWholeText}
 use Rattle.segments.proofs.HeadLemmas.{whole_behind}
 use Rattle.statetext.specs.Text.{lines_in}
 use Rattle.state.specs.Logs.{AreAmid, AreFilesOf, HasFreshLog, IsAmid, IsHeaded, IsReadWell}

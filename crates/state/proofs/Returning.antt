@@ -1,8 +1,7 @@
 -- A start behind a crash.
 use Rattle.std.proofs.Common.{◌≡◌, ◌∙◌, inl, inr, ℕ, ◌+◌, Bool, true, false}
 use Rattle.std.proofs.Common.{List, [], ◌∷◌, ◌++◌, drop, length, reverse, Option, Some, refl, sym}
-use Rattle.std.proofs.Common.{ap}
-use Rattle.std.proofs.Common.{subst, arith}
+use Rattle.std.proofs.Common.{ap, subst, arith, Ok}
 use Rattle.std.specs.Prelude.{not, ◌&&◌}
 use Rattle.std.proofs.lemmas.List.{append-nil}
 use Rattle.sqlite_disk.specs.declared.Disk.{Ghosts}
@@ -17,6 +16,7 @@ use Rattle.segments.specs.Starts.{HasNoNewer, IsFoundIn, IsNewest, IsShut, IsSou
 use Rattle.segments.specs.Starts.{before_zero}
 use Rattle.segments.proofs.Crashes.{one_segment}
 use Rattle.segments.proofs.Fronts.{not_shut}
+use Rattle.settings.specs.Settings.{IsReadOfText}
 use Rattle.statetext.specs.Text.{lines_in}
 use Rattle.state.specs.Beginnings.{AreLinesRead, GoesOnBy, GoesOnFrom, IsHeadOf, IsMoved, WentOn}
 use Rattle.state.specs.Beginnings.{has_past, is_trusted, moment_at}
@@ -58,19 +58,19 @@ same_head file begins begins' settings settings' lines lines' one two =
     }
 
 -- a log whose settings are the same wasn't moved
-went : (is_moved : Bool) (c : Settings) (written text : List ℕ) (log : Log)
+went : (is_moved : Bool) (c : Settings) (written : List ℕ) (log : Log)
     (lines : List (List ℕ)) (events : List ℕ) (gap : Option ReportedGap) (whole : Log) (s : State)
-    → IsMoved written text is_moved → written ≡ text
+    → IsMoved c written is_moved → IsReadOfText written (Ok c)
     → GoesOnBy (true && not is_moved) true c written log lines events gap whole s
     → WentOn c log lines events gap whole s
-went true c written text log lines events gap whole s moved same goes = absurd (moved same)
-went false c written text log lines events gap whole s moved same goes = goes
+went true c written log lines events gap whole s moved same goes = absurd (moved same)
+went false c written log lines events gap whole s moved same goes = goes
 
 module _ {D : Type 0} (g : Ghosts D) (settings : List ℕ) (deeds : Deeds) (file other : List ℕ)
-    (c : Settings) (text : List ℕ) (log : Log) (o : Origin) (kept : IsKeptIn settings deeds file)
-    (beside : IsOlderBeside file other) (b : IsBegunOver g file other c text log o) where
+    (c : Settings) (log : Log) (o : Origin) (kept : IsKeptIn settings deeds file)
+    (beside : IsOlderBeside file other) (b : IsBegunOver g file other c log o) where
   -- the newest file is that of the log, where the start has found a segment there
-  newest_is : (trusted : Bool) → GoesOnFrom trusted c text log (g.seen b.newest) o.is_moved o.gap
+  newest_is : (trusted : Bool) → GoesOnFrom trusted c log (g.seen b.newest) o.is_moved o.gap
       o.before.entries o.gateway
       → IsNewest (g.seen b.newest) (g.seen b.spare)
       → AreBoth file other (g.seen b.newest) (g.seen b.spare)
@@ -129,16 +129,16 @@ module _ {D : Type 0} (g : Ghosts D) (settings : List ℕ) (deeds : Deeds) (file
   pub goes_on : o.beginning ≡ beginnings.GoesOn
   goes_on = begins_so o.beginning refl
 
-  from_file : GoesOnFrom true c text log file o.is_moved o.gap o.before.entries o.gateway
+  from_file : GoesOnFrom true c log file o.is_moved o.gap o.before.entries o.gateway
   from_file =
       let past : has_past o.beginning ≡ true = ap has_past goes_on in
       let there = is_there past in
-      subst (λ (f : List ℕ). GoesOnFrom true c text log f o.is_moved o.gap o.before.entries
+      subst (λ (f : List ℕ). GoesOnFrom true c log f o.is_moved o.gap o.before.entries
       o.gateway) there.0
-      (subst (λ (t : Bool). GoesOnFrom t c text log (g.seen b.newest) o.is_moved o.gap
+      (subst (λ (t : Bool). GoesOnFrom t c log (g.seen b.newest) o.is_moved o.gap
       o.before.entries o.gateway) (ap is_trusted goes_on) (b.begun.goes_on past b.clean.0))
 
-  returned_from : settings ≡ text → IsSavable kept.state
+  returned_from : IsReadOfText settings (Ok c) → IsSavable kept.state
       → Follows (setup_of c) kept.state (Some log) → Rests (setup_of c) (Some log)
       → HasReturned c log deeds o
   returned_from unchanged savable follows rests =
@@ -147,8 +147,9 @@ module _ {D : Type 0} (g : Ghosts D) (settings : List ℕ) (deeds : Deeds) (file
       (state_lines kept.state) goes.head kept.opening in
       let on : WentOn c log goes.lines (before_zero (drop goes.begins file)) o.gap
       o.before.entries o.gateway =
-      went o.is_moved c goes.written text log goes.lines (before_zero (drop goes.begins file))
-      o.gap o.before.entries o.gateway goes.moved (same.wrote ∙ unchanged) goes.goes in
+      went o.is_moved c goes.written log goes.lines (before_zero (drop goes.begins file))
+      o.gap o.before.entries o.gateway goes.moved
+      (subst (λ (t : List ℕ). IsReadOfText t (Ok c)) (sym same.wrote) unchanged) goes.goes in
       let lines : goes.lines ≡ state_lines kept.state ++ [] =
       same.state ∙ sym (append-nil (state_lines kept.state)) in
       let replayed = on.read kept.state [] lines savable follows rests in
@@ -176,7 +177,8 @@ module _ {D : Type 0} (g : Ghosts D) (settings : List ℕ) (deeds : Deeds) (file
             b.begun.moment ∙ ap (λ (x : Beginning). moment_at x o.gateway.moment) goes_on;
       }
 
-  pub returned : settings ≡ text → (state : State) → head deeds ≡ Some state → IsSavable state
+  pub returned : IsReadOfText settings (Ok c) → (state : State) → head deeds ≡ Some state
+      → IsSavable state
       → Follows (setup_of c) state (Some log) → Rests (setup_of c) (Some log)
       → HasReturned c log deeds o
   returned unchanged state begun savable follows =
@@ -188,9 +190,9 @@ module _ {D : Type 0} (g : Ghosts D) (settings : List ℕ) (deeds : Deeds) (file
 pub goes_on_over : {D : Type 0} (g : Ghosts D) (settings : List ℕ) (deeds : Deeds)
     (file other : List ℕ) → IsKeptIn settings deeds file → IsOlderBeside file other
     → GoesOnOver g settings deeds file other
-goes_on_over g settings deeds file other kept beside c text log o b = (
-  goes_on g settings deeds file other c text log o kept beside b,
-  λ same state begun savable follows rests. returned g settings deeds file other c text log o kept
+goes_on_over g settings deeds file other kept beside c log o b = (
+  goes_on g settings deeds file other c log o kept beside b,
+  λ same state begun savable follows rests. returned g settings deeds file other c log o kept
       beside b same state begun savable follows rests,
 )
 
@@ -202,7 +204,7 @@ swapped one two newest other (inr both) = inl both
 pub in_either_place : {D : Type 0} (g : Ghosts D) (settings : List ℕ) (deeds : Deeds)
     (file other : List ℕ) → GoesOnOver g settings deeds other file
     → GoesOnOver g settings deeds file other
-in_either_place g settings deeds file other over c text log o b = over c text log o (record {
+in_either_place g settings deeds file other over c log o b = over c log o (record {
   newest = b.newest;
   spare = b.spare;
   found = swapped file other (g.seen b.newest) (g.seen b.spare) b.found;

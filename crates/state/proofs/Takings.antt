@@ -1,6 +1,6 @@
 -- What a start takes of a directory.
-use Rattle.std.proofs.Common.{◌≡◌, ◌∙◌, ◌⊎◌, inl, inr, ℕ, ◌+◌, ◌<◌, ◌≤◌, Bool, true, false, IsTrue}
-use Rattle.std.proofs.Common.{List, [], ◌∷◌, ◌++◌, length, slice_index, Option, Some, None, Ok}
+use Rattle.std.proofs.Common.{◌≡◌, ◌⊎◌, inl, inr, ℕ, ◌<◌, ◌≤◌, Bool, true, false}
+use Rattle.std.proofs.Common.{List, [], ◌∷◌, length, Option, Some, None, Ok}
 use Rattle.std.proofs.Common.{refl, sym, ap, subst, arith}
 use Rattle.std.specs.List.{AllByRecursion}
 use Rattle.std.specs.Option.{is_some}
@@ -10,7 +10,7 @@ use Rattle.sqlite_disk.specs.declared.Disk.{Ghosts}
 use Rattle.checkpoint.specs.Octets.{IsOctetLine}
 use Rattle.gateway.specs.Carried.{carried}
 use Rattle.gateway.specs.Config.{Settings}
-use Rattle.gateway.specs.Log.{Log, LogEntry}
+use Rattle.gateway.specs.Log.{Log}
 use Rattle.gateway.specs.Restored.{HasSettings, IsSavable, state_lines}
 use Rattle.gateway.specs.State.{State}
 use Rattle.gateway.specs.Unchanged.{MayGoOn}
@@ -34,7 +34,7 @@ use Rattle.state.specs.Beginnings.{AreLinesRead, GoesOnFrom, MovedOn, has_past, 
 use Rattle.state.specs.Directories.{BeginsOver}
 use Rattle.state.specs.Origins.{IsMarkedBy}
 use Rattle.state.specs.Replays.{AreRead, before_those, events_in_front, whole_lines}
-use Rattle.state.specs.Unread.{HasState, IsUnread}
+use Rattle.state.specs.Unread.{IsUnread}
 use Rattle.state.specs.declared.beginning.Origin.{Origin}
 use Rattle.state.specs.declared.start.Beginning.{Beginning}
 use Rattle.state.specs.declared.start.Beginning.TheVariants as beginnings
@@ -63,13 +63,13 @@ each_read (line ∷ lines) read = by (logged line) refl (each_read lines)
 -- The laws of starts
 
 module _ {D : Type 0} {g : Ghosts D} where
-  pub takes_whole : (c : Settings) (text : List ℕ) (log : Log) (mark : Option Bool)
-      (newest other : D) (o : Origin) → BeginsOver g c text log mark newest other o
+  pub takes_whole : (c : Settings) (log : Log) (mark : Option Bool)
+      (newest other : D) (o : Origin) → BeginsOver g c log mark newest other o
       → has_past o.beginning ≡ true → (head : SegmentHead) × (body : List ℕ)
       × Holds (g.seen newest) 0 (head_of head)
       × (0 < length body → Holds (g.seen newest) 87 body) × (length body ≡ head.octets)
       × (sum_of body ≡ head.sum)
-  takes_whole c text log mark newest other o over past =
+  takes_whole c log mark newest other o over past =
       let goes = over.begun.goes_on past over.first in (
         goes.head.head,
         goes.head.body,
@@ -79,21 +79,21 @@ module _ {D : Type 0} {g : Ghosts D} where
         goes.head.found.sum,
       )
 
-  pub takes_lines : (c : Settings) (text : List ℕ) (log : Log) (mark : Option Bool)
-      (newest other : D) (o : Origin) → BeginsOver g c text log mark newest other o
+  pub takes_lines : (c : Settings) (log : Log) (mark : Option Bool)
+      (newest other : D) (o : Origin) → BeginsOver g c log mark newest other o
       → o.beginning ≡ beginnings.GoesOn → (head : SegmentHead) (body : List ℕ) → Fits head
       → IsFoundIn (g.seen newest) head body
       → AllByRecursion (λ line. is_some (logged line) ≡ true)
       (whole_lines (lines_behind body (g.seen newest)))
-  takes_lines c text log mark newest other o over on head body fits found =
+  takes_lines c log mark newest other o over on head body fits found =
       each_read _ (over.begun.read on over.first over.second head body fits found)
 
-  pub takes_newest : (c : Settings) (text : List ℕ) (log : Log) (mark : Option Bool)
-      (newest other : D) (o : Origin) → BeginsOver g c text log mark newest other o
+  pub takes_newest : (c : Settings) (log : Log) (mark : Option Bool)
+      (newest other : D) (o : Origin) → BeginsOver g c log mark newest other o
       → o.beginning ≡ beginnings.GoesOn → (own head : SegmentHead) → Fits own → Fits head
       → Holds (g.seen newest) 0 (head_of own) → Holds (g.seen other) 0 (head_of head)
       → head.number < own.number
-  takes_newest c text log mark newest other o over on own head fits fits' holds holds' =
+  takes_newest c log mark newest other o over on own head fits fits' holds holds' =
       elim (over.begun.sure on over.first over.second) [
         | inl shut ↦ absurd (not_shut (g.seen other) head holds' shut)
         | inr found ↦
@@ -104,39 +104,39 @@ module _ {D : Type 0} {g : Ghosts D} where
             (subst (λ (h : SegmentHead). h.number < mine.number) same' order)
       ]
 
-  pub never_stale : (c : Settings) (text : List ℕ) (log : Log) (newest other : D) (o : Origin)
-      → BeginsOver g c text log (Some true) newest other o → o.beginning ≡ beginnings.GoesOn → ⊥
-  never_stale c text log newest other o over on =
+  pub never_stale : (c : Settings) (log : Log) (newest other : D) (o : Origin)
+      → BeginsOver g c log (Some true) newest other o → o.beginning ≡ beginnings.GoesOn → ⊥
+  never_stale c log newest other o over on =
       let marked : Some true ≡ Some false =
       subst (λ (b : Beginning). IsMarkedBy b (Some true)) on over.begun.marked in absurd (cc)
 
-  pub anew_shut : (c : Settings) (text : List ℕ) (log : Log) (mark : Option Bool)
-      (newest other : D) (o : Origin) → BeginsOver g c text log mark newest other o
+  pub anew_shut : (c : Settings) (log : Log) (mark : Option Bool)
+      (newest other : D) (o : Origin) → BeginsOver g c log mark newest other o
       → o.beginning ≡ beginnings.Anew → (file : D) → (file ≡ newest) ⊎ (file ≡ other)
       → IsShut (g.seen file)
-  anew_shut c text log mark newest other o over anew file which =
+  anew_shut c log mark newest other o over anew file which =
       let shut = over.begun.empty anew over.first over.second in
       elim which [
         | inl is ↦ subst (λ (d : D). IsShut (g.seen d)) (sym is) shut.0
         | inr is ↦ subst (λ (d : D). IsShut (g.seen d)) (sym is) shut.1
       ]
 
-  pub links_stay : (c : Settings) (text : List ℕ) (log : Log) (newest other : D) (o : Origin)
-      → BeginsOver g c text log (Some false) newest other o
+  pub links_stay : (c : Settings) (log : Log) (newest other : D) (o : Origin)
+      → BeginsOver g c log (Some false) newest other o
       → HasNoNewer (g.seen newest) (g.seen other) → AreLinesRead (g.seen newest)
       → o.beginning ≡ beginnings.LinksReset → ⊥
-  links_stay c text log newest other o over older read reset =
+  links_stay c log newest other o over older read reset =
       elim (over.begun.reset reset) [
         | inl stale ↦ absurd (cc)
         | inr torn ↦ torn over.first over.second older read
       ]
 
-  pub newer_wins : (c : Settings) (text : List ℕ) (log : Log) (mark : Option Bool)
-      (newest other : D) (o : Origin) → BeginsOver g c text log mark newest other o
+  pub newer_wins : (c : Settings) (log : Log) (mark : Option Bool)
+      (newest other : D) (o : Origin) → BeginsOver g c log mark newest other o
       → has_past o.beginning ≡ true → (own head : SegmentHead) (body others : List ℕ) → Fits own
       → Fits head → IsFoundIn (g.seen newest) own body → IsFoundIn (g.seen other) head others
       → head.number ≤ own.number
-  newer_wins c text log mark newest other o over past own head body others fits fits' found
+  newer_wins c log mark newest other o over past own head body others fits fits' found
       found' =
       over.begun.newest past over.first over.second own head body others fits fits' found found'
 
@@ -146,17 +146,17 @@ module _ {D : Type 0} {g : Ghosts D} where
       → slice_get now.stations i ≡ Some station
       → is_up (station_at (carried false before now s).serial.line.stations i).link ≡ true
       → MayGoOn false before now station.address)
-      → (c : Settings) (text : List ℕ) (log : Log) (mark : Option Bool) (newest other : D)
-      (o : Origin) → BeginsOver g c text log mark newest other o
+      → (c : Settings) (log : Log) (mark : Option Bool) (newest other : D)
+      (o : Origin) → BeginsOver g c log mark newest other o
       → o.beginning ≡ beginnings.LinksReset → (wrote : Settings) × (left : State)
       × (o.gateway ≡ carried false wrote c left)
       × (length left.serial.line.stations ≡ length wrote.stations → (place : ℕ)
       (station : StationSettings) → slice_get c.stations place ≡ Some station
       → is_up (station_at o.gateway.serial.line.stations place).link ≡ true → ⊥)
-  reset_down law c text log mark newest other o b is =
-      let goes : GoesOnFrom false c text log (g.seen newest) o.is_moved o.gap o.before.entries
+  reset_down law c log mark newest other o b is =
+      let goes : GoesOnFrom false c log (g.seen newest) o.is_moved o.gap o.before.entries
       o.gateway =
-      subst (λ (t : Bool). GoesOnFrom t c text log (g.seen newest) o.is_moved o.gap
+      subst (λ (t : Bool). GoesOnFrom t c log (g.seen newest) o.is_moved o.gap
       o.before.entries o.gateway) (ap is_trusted is) (b.begun.goes_on (ap has_past is) b.first) in
       let moved : MovedOn false c goes.written log goes.lines
       (before_zero (drop goes.begins (g.seen newest))) o.gap o.before.entries o.gateway =
@@ -177,10 +177,10 @@ module _ {D : Type 0} {g : Ghosts D} where
 pub not_aside : (c : Settings) (text newest other : List ℕ) (head : SegmentHead) (body : List ℕ)
     (state : State) → Fits head → IsFoundIn newest head body
     → lines_in body ≡ text ∷ state_lines state → IsOctetLine text → IsReadOfText text (Ok c)
-    → IsSavable state → HasSettings c state
+    → IsSavable state
     → ((by : Settings) → IsReadOfText text (Ok by) → HasSettings by state)
-    → IsUnread c text newest other → ⊥
-not_aside c text newest other head body state fits found says octets read savable own all unread =
+    → IsUnread newest other → ⊥
+not_aside c text newest other head body state fits found says octets read savable all unread =
     unread.none (record {
       head = head;
       body = body;
@@ -199,15 +199,8 @@ not_aside c text newest other head body state fits found says octets read savabl
         savable = savable;
         settings = all by is;
       };
-      own = λ same. record {
-        state = state;
-        rest = [];
-        are = sym (append-nil (state_lines state));
-        savable = savable;
-        settings = own;
-      };
     })
 
-pub shut_not_aside : (c : Settings) (text newest other : List ℕ) → IsShut newest → IsShut other
-    → IsUnread c text newest other → ⊥
-shut_not_aside c text newest other one two unread = unread.some one two
+pub shut_not_aside : (newest other : List ℕ) → IsShut newest → IsShut other
+    → IsUnread newest other → ⊥
+shut_not_aside newest other one two unread = unread.some one two

@@ -1,5 +1,5 @@
 -- What a start can't read.
-use Rattle.std.proofs.Common.{◌≡◌, ◌∙◌, inl, ℕ, ◌+◌, ◌<◌, true, false, IsTrue, List, [], ◌∷◌}
+use Rattle.std.proofs.Common.{◌≡◌, ◌∙◌, ℕ, ◌+◌, ◌<◌, true, false, IsTrue, List, [], ◌∷◌}
 use Rattle.std.proofs.Common.{drop, length, Option, Some, None, Result, Ok, Err, IfErr, IfOk}
 use Rattle.std.proofs.Common.{IfSome, refl, sym}
 use Rattle.std.proofs.Common.{ap, subst, arith}
@@ -46,20 +46,20 @@ faultless text c (Unknown path) read wrong =
 faultless text c NoMemory read wrong = refl
 
 -- no segment was found, and a file has what no crash leaves
-pub unread_none : (c : Settings) (text newest other : List ℕ) → IsBacked newest other
+pub unread_none : (newest other : List ℕ) → IsBacked newest other
     → HasNone newest
-    → (IsShut newest → IsShut other → ⊥) → IsUnread c text newest other
-unread_none c text newest other wins none doubt = record {
+    → (IsShut newest → IsShut other → ⊥) → IsUnread newest other
+unread_none newest other wins none doubt = record {
   wins = wins;
   none = λ state. none state.head state.body state.fits state.found;
   some = doubt;
 }
 
 -- a segment was found
-pub unread_found : (c : Settings) (text newest other : List ℕ) (head : SegmentHead) (body : List ℕ)
+pub unread_found : (newest other : List ℕ) (head : SegmentHead) (body : List ℕ)
     → IsBacked newest other
-    → IsFoundIn newest head body → (HasState c text newest → ⊥) → IsUnread c text newest other
-unread_found c text newest other head body wins found none = record {
+    → IsFoundIn newest head body → (HasState newest → ⊥) → IsUnread newest other
+unread_found newest other head body wins found none = record {
   wins = wins;
   none = none;
   some = λ one two. not_shut newest head found.first one;
@@ -114,50 +114,57 @@ never_anew b anew is =
     let no : beginnings.Anew ≡ beginnings.PutAside = sym anew ∙ is in absurd (cc)
 
 -- what was read first is the settings that stand at the head
-pub head_wrong : (file body : List ℕ) (head : SegmentHead) (coming : List (List ℕ)) (c : Settings)
-    (text : List ℕ) → Fits head
+pub head_wrong : (file body : List ℕ) (head : SegmentHead) (coming : List (List ℕ)) → Fits head
     → IsFoundIn file head body → coming ≡ lines_in body
     → ((octets : List ℕ) (rest : List (List ℕ)) → IsOctetLine octets → coming ≡ octets ∷ rest → ⊥)
-    → HasState c text file → ⊥
-head_wrong file body head coming c text fits found are none state =
+    → HasState file → ⊥
+head_wrong file body head coming fits found are none state =
     none state.written state.lines state.octets
     (are ∙ ap lines_in (one_segment file head state.head body state.body fits state.fits found
     state.found) ∙ state.says)
 
-pub head_read : (file body : List ℕ) (head : SegmentHead) (c : Settings) (text written : List ℕ)
+pub head_read : (file body : List ℕ) (head : SegmentHead) (written : List ℕ)
     (lines : List (List ℕ)) → Fits head
-    → IsFoundIn file head body → lines_in body ≡ written ∷ lines → (state : HasState c text file)
+    → IsFoundIn file head body → lines_in body ≡ written ∷ lines → (state : HasState file)
     → (written ≡ state.written) × (lines ≡ state.lines)
-head_read file body head c text written lines fits found says state =
+head_read file body head written lines fits found says state =
     let same : written ∷ lines ≡ state.written ∷ state.lines =
     sym says ∙ ap lines_in (one_segment file head state.head body state.body fits state.fits found
     state.found) ∙ state.says in (cc, cc)
 
 -- the lines behind the settings, under which the gateway is read
-pub same_wrong : (c : Settings) (text file : List ℕ) (begins : ℕ) (written : List ℕ)
+pub same_wrong : (c : Settings) (file : List ℕ) (begins : ℕ) (written : List ℕ)
     (lines : List (List ℕ)) → IsHeadOf file begins written lines
-    → written ≡ text → (AreStateOf c lines → ⊥) → HasState c text file → ⊥
-same_wrong c text file begins written lines head is none state =
-    let same = head_read file head.body head.head c text written lines head.fits head.found
-    head.says state in
-    none (subst (AreStateOf c) (sym same.1) (state.own (sym same.0 ∙ is)))
+    → IsReadOfText written (Ok c) → (AreStateOf c lines → ⊥) → HasState file → ⊥
+same_wrong c file begins written lines head is none state =
+    let same = head_read file head.body head.head written lines head.fits head.found head.says
+    state in
+    none (subst (AreStateOf c) (sym same.1)
+    (state.states c (subst (λ (t : List ℕ). IsReadOfText t (Ok c)) same.0 is)))
 
-pub other_wrong : (c : Settings) (text file : List ℕ) (begins : ℕ) (written : List ℕ)
+pub other_wrong : (file : List ℕ) (begins : ℕ) (written : List ℕ)
     (lines : List (List ℕ)) → IsHeadOf file begins written lines
     → ((wrote : Settings) → IsReadOfText written (Ok wrote)
     → ((by : Settings) → IsReadOfText written (Ok by) → AreStateOf by lines) → ⊥)
-    → HasState c text file → ⊥
-other_wrong c text file begins written lines head none state =
-    let same = head_read file head.body head.head c text written lines head.fits head.found
-    head.says state in
+    → HasState file → ⊥
+other_wrong file begins written lines head none state =
+    let same = head_read file head.body head.head written lines head.fits head.found head.says
+    state in
     none state.wrote
     (subst (λ (t : List ℕ). IsReadOfText t (Ok state.wrote)) (sym same.0) state.read)
     (λ by read. subst (AreStateOf by) (sym same.1)
     (state.states by (subst (λ (t : List ℕ). IsReadOfText t (Ok by)) same.0 read)))
 
+-- settings at the head that aren't said
+pub unsaid_wrong : (file : List ℕ) (begins : ℕ) (written : List ℕ) (lines : List (List ℕ))
+    → IsHeadOf file begins written lines
+    → ((c : Settings) → IsReadOfText written (Ok c) → ⊥) → HasState file → ⊥
+unsaid_wrong file begins written lines head none =
+    other_wrong file begins written lines head (λ wrote read states. none wrote read)
+
 module _ {D : Type 0} (g : Ghosts D) where
   -- no segment was found at the start
-  pub unread_at_start : (c : Settings) (text : List ℕ) (one two newest other : D) → one ≡ newest
+  pub unread_at_start : (one two newest other : D) → one ≡ newest
       → two ≡ other
       → (IsTrue (g.is_clean newest) × IsTrue (g.is_clean other)
       → IsBacked (g.seen newest) (g.seen other))
@@ -166,18 +173,18 @@ module _ {D : Type 0} (g : Ghosts D) where
       → (IsTrue (g.is_clean newest) × IsTrue (g.is_clean other) → IsShut (g.seen newest)
       → IsShut (g.seen other) → ⊥)
       → IsTrue (g.is_clean one) → IsTrue (g.is_clean two)
-      → IsUnread c text (g.seen one) (g.seen two)
-  unread_at_start c text one two newest other is same wins none doubt first second =
+      → IsUnread (g.seen one) (g.seen two)
+  unread_at_start one two newest other is same wins none doubt first second =
       let clean : IsTrue (g.is_clean newest) × IsTrue (g.is_clean other) = (
         subst (λ (d : D). IsTrue (g.is_clean d)) is first,
         subst (λ (d : D). IsTrue (g.is_clean d)) same second,
       ) in
-      subst (λ (d : D). IsUnread c text (g.seen d) (g.seen two)) (sym is)
-      (subst (λ (d : D). IsUnread c text (g.seen newest) (g.seen d)) (sym same)
-      (unread_none c text (g.seen newest) (g.seen other) (wins clean) (none clean).0 (doubt clean)))
+      subst (λ (d : D). IsUnread (g.seen d) (g.seen two)) (sym is)
+      (subst (λ (d : D). IsUnread (g.seen newest) (g.seen d)) (sym same)
+      (unread_none (g.seen newest) (g.seen other) (wins clean) (none clean).0 (doubt clean)))
 
   -- one was found, and its head couldn't be read
-  pub unread_from : (c : Settings) (text logged : List ℕ) (one two new old other : D)
+  pub unread_from : (one two new old other : D)
       (o : Option FoundHead) (at : ℕ) → one ≡ new
       → two ≡ other → g.seen new ≡ g.seen old → (IsTrue (g.is_clean new) → IsTrue (g.is_clean old))
       → is_some o ≡ true
@@ -185,22 +192,20 @@ module _ {D : Type 0} (g : Ghosts D) where
       → IsFoundIn (g.seen old) f.head f.text.items))
       → (IsTrue (g.is_clean old) × IsTrue (g.is_clean other)
       → IsBacked (g.seen old) (g.seen other))
-      → logged ≡ text
-      → (is_some o ≡ true → IsTrue (g.is_clean new) → HasState c logged (g.seen new) → ⊥)
+      → (is_some o ≡ true → IsTrue (g.is_clean new) → HasState (g.seen new) → ⊥)
       → IsTrue (g.is_clean one) → IsTrue (g.is_clean two)
-      → IsUnread c text (g.seen one) (g.seen two)
-  unread_from c text logged one two new old other None at is same seen clean some stands wins alike
-      wrong first second = absurd (cc)
-  unread_from c text logged one two new old other (Some f) at is same seen clean some stands wins
-      alike wrong first second =
+      → IsUnread (g.seen one) (g.seen two)
+  unread_from one two new old other None at is same seen clean some stands wins wrong first
+      second = absurd (cc)
+  unread_from one two new old other (Some f) at is same seen clean some stands wins wrong first
+      second =
       let here : IsTrue (g.is_clean new) = subst (λ (d : D). IsTrue (g.is_clean d)) is first in
       let there : IsTrue (g.is_clean other) =
       subst (λ (d : D). IsTrue (g.is_clean d)) same second in
-      subst (λ (d : D). IsUnread c text (g.seen d) (g.seen two)) (sym is)
-      (subst (λ (d : D). IsUnread c text (g.seen new) (g.seen d)) (sym same)
-      (subst (λ (t : List ℕ). IsUnread c t (g.seen new) (g.seen other)) alike
-      (subst (λ (file : List ℕ). IsUnread c logged file (g.seen other)) (sym seen)
-      (unread_found c logged (g.seen old) (g.seen other) f.head f.text.items
+      subst (λ (d : D). IsUnread (g.seen d) (g.seen two)) (sym is)
+      (subst (λ (d : D). IsUnread (g.seen new) (g.seen d)) (sym same)
+      (subst (λ (file : List ℕ). IsUnread file (g.seen other)) (sym seen)
+      (unread_found (g.seen old) (g.seen other) f.head f.text.items
       (wins (clean here, there))
       ((stands f refl).1 (clean here))
-      (λ state. wrong some here (subst (HasState c logged) (sym seen) state))))))
+      (λ state. wrong some here (subst HasState (sym seen) state)))))

@@ -117,20 +117,19 @@ GoesOnBy true trusted c written log lines events gap whole s =
 GoesOnBy false trusted c written log lines events gap whole s =
     MovedOn trusted c written log lines events gap whole s
 
--- whether settings have changed
-abbrev pub IsMoved : (written text : List ℕ) → Bool → Type 0
-IsMoved written text true = written ≡ text → ⊥
-IsMoved written text false = written ≡ text
+-- whether the text under which a log was written says other settings than these
+abbrev pub IsMoved : Settings → (written : List ℕ) → Bool → Type 0
+IsMoved c written true = IsReadOfText written (Ok c) → ⊥
+IsMoved c written false = IsReadOfText written (Ok c)
 
--- A gateway with these settings, which this text says, goes on with what stands in a file. Where
--- the log there was written under another text it is moved, and also where its links aren't
--- trusted: then each of them is reset.
-pub record GoesOnFrom (trusted : Bool) (c : Settings) (text : List ℕ) (log : Log) (file : List ℕ)
+-- A gateway with these settings goes on with what stands in a file. Where the log there was written
+-- under others it is moved, and also where its links aren't trusted: then each of them is reset.
+pub record GoesOnFrom (trusted : Bool) (c : Settings) (log : Log) (file : List ℕ)
     (is_moved : Bool) (gap : Option ReportedGap) (whole : Log) (s : State) : Type 0 where
   pub begins : ℕ
   pub written : List ℕ
   pub lines : List (List ℕ)
   pub head : IsHeadOf file begins written lines
-  pub moved : IsMoved written text is_moved
+  pub moved : IsMoved c written is_moved
   pub goes : GoesOnBy (trusted && not is_moved) trusted c written log lines
       (before_zero (drop begins file)) gap whole s

@@ -1,5 +1,5 @@
 -- The lines of events in a log, and their room there (profile).
-use Rattle.std.specs.Prelude.{◌≡◌, ℕ, ◌+◌, ◌*◌, ◌≤◌, nat_lt, Bool, true, List}
+use Rattle.std.specs.Prelude.{◌≡◌, ℕ, ◌+◌, ◌*◌, ◌≤◌, nat_lt, Bool, true}
 use Rattle.std.specs.List.{AllByRecursion}
 use Rattle.gateway.specs.Log.{Log, LogEntry, last_moment}
 use Rattle.gateway.specs.declared.ports.Next.{Next}

@@ -1,5 +1,5 @@
 -- What a keeper has tried and reported while the state wasn't kept, over the calls on it (profile).
-use Rattle.std.specs.Prelude.{◌≡◌, ℕ, Bool, true, false, List, [], ◌∷◌, Option, Some, None}
+use Rattle.std.specs.Prelude.{ℕ, Bool, List, [], ◌∷◌, Option, Some, None}
 use Rattle.gateway.specs.Log.{LogEntry}
 use Rattle.live.specs.declared.watched.Notice.{Notice}
 use Rattle.state.specs.Deeds.{moment_of}

@@ -51,12 +51,12 @@ module _ {D : Type 0} {g : Ghosts D} where
       × IsNext number (g.seen newest) (g.seen spare)
   IsNumbered number (opens.Current c) = Unit {0}
 
-  -- With these settings, which this text says, a run begins so, where the directory has this mark
-  -- and these files, whose log so far was this one: anew where both files are shut; with the newer
+  -- With these settings a run begins so, where the directory has this mark and these files, whose
+  -- log so far was this one: anew where both files are shut; with the newer
   -- of two segments; and each link is reset only where the state is marked as stale, or the other
   -- file may have had a segment as new, or a line of the log can't be read. Where links are trusted
   -- no segment as new ever stood in that file, and each line of the log can be read.
-  pub record IsBegun (c : Settings) (text : List ℕ) (log : Log) (mark : Option Bool)
+  pub record IsBegun (c : Settings) (log : Log) (mark : Option Bool)
       (opened : Opened D g) (o : Origin) : Type 0 where
     pub moment : o.moment ≡ moment_at o.beginning o.gateway.moment
     pub marked : IsMarkedBy o.beginning mark
@@ -70,5 +70,5 @@ module _ {D : Type 0} {g : Ghosts D} where
     pub reset : o.beginning ≡ beginnings.LinksReset → (mark ≡ Some true)
         ⊎ OnBoth (λ newest spare. HasNoNewer newest spare → AreLinesRead newest → ⊥) opened
     pub goes_on : has_past o.beginning ≡ true → NewestIs (λ newest. IsTrue (g.is_clean newest) →
-        GoesOnFrom (is_trusted o.beginning) c text log (g.seen newest) o.is_moved o.gap
+        GoesOnFrom (is_trusted o.beginning) c log (g.seen newest) o.is_moved o.gap
         o.before.entries o.gateway) opened

@@ -1,5 +1,5 @@
 -- What a start makes of a log that a crash left (profile).
-use Rattle.std.specs.Prelude.{◌≡◌, ℕ, false, List, [], ◌∷◌, ◌++◌, reverse, Some, IsTrue}
+use Rattle.std.specs.Prelude.{◌≡◌, ℕ, false, List, [], ◌∷◌, ◌++◌, reverse, Some, Ok, IsTrue}
 use Rattle.gateway.specs.Agrees.{Follows, Rests}
 use Rattle.gateway.specs.Config.{Settings}
 use Rattle.gateway.specs.Log.{Came, Log, Restarted, events_of}
@@ -7,6 +7,7 @@ use Rattle.gateway.specs.Restored.{IsSavable}
 use Rattle.gateway.specs.Setups.{setup_of}
 use Rattle.gateway.specs.State.{State}
 use Rattle.segments.specs.Crashes.{AreBoth}
+use Rattle.settings.specs.Settings.{IsReadOfText}
 use Rattle.sqlite_disk.specs.declared.Disk.{Ghosts}
 use Rattle.state.specs.Deeds.{Deeds, waiting}
 use Rattle.state.specs.Origins.{IsBegun}
@@ -16,15 +17,15 @@ use Rattle.state.specs.declared.beginning.Origin.{Origin}
 use Rattle.state.specs.declared.opened.Opened.TheVariants as opens
 use Rattle.state.specs.declared.start.Beginning.TheVariants as beginnings
 
--- With these settings, which this text says, a run begins so where it finds these two files as they
--- are, in either place, and the directory isn't marked as stale.
+-- With these settings a run begins so where it finds these two files as they are, in either place,
+-- and the directory isn't marked as stale.
 pub record IsBegunOver {D : Type 0} (g : Ghosts D) (file other : List ℕ) (c : Settings)
-    (text : List ℕ) (log : Log) (o : Origin) : Type 0 where
+    (log : Log) (o : Origin) : Type 0 where
   pub newest : D
   pub spare : D
   pub found : AreBoth file other (g.seen newest) (g.seen spare)
   pub clean : IsTrue (g.is_clean newest) × IsTrue (g.is_clean spare)
-  pub begun : IsBegun {D = D} {g = g} c text log (Some false) (opens.Both newest spare) o
+  pub begun : IsBegun {D = D} {g = g} c log (Some false) (opens.Both newest spare) o
 
 -- The gateway follows a log that goes on from this one, with all events that were synced, with the
 -- oldest of those that waited, and with a restart at its end. The clock goes on where it stands.
@@ -49,10 +50,10 @@ Returns c log deeds o = (state : State) → head deeds ≡ Some state → IsSava
     → Follows (setup_of c) state (Some log) → Rests (setup_of c) (Some log)
     → HasReturned c log deeds o
 
--- A run that finds these two files, in either place, goes on with each link. Where its settings are
--- these too, it goes on with the log of these deeds.
+-- A run that finds these two files, in either place, trusts what they say of the links. Where the
+-- text under which they were written says its settings, it goes on with the log of these deeds.
 abbrev pub GoesOnOver : {D : Type 0} → Ghosts D → (settings : List ℕ) → Deeds
     → (file other : List ℕ) → Type 0
-GoesOnOver g settings deeds file other = (c : Settings) (text : List ℕ) (log : Log) (o : Origin)
-    → IsBegunOver g file other c text log o
-    → (o.beginning ≡ beginnings.GoesOn) × (settings ≡ text → Returns c log deeds o)
+GoesOnOver g settings deeds file other = (c : Settings) (log : Log) (o : Origin)
+    → IsBegunOver g file other c log o
+    → (o.beginning ≡ beginnings.GoesOn) × (IsReadOfText settings (Ok c) → Returns c log deeds o)

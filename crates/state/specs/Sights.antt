@@ -6,7 +6,7 @@ use Rattle.gateway.specs.Log.{Log}
 use Rattle.segments.specs.Starts.{ArePlaced, HasNoNewer, IsNewest, IsShut, before_zero}
 use Rattle.segments.specs.declared.start.Side.{Side}
 use Rattle.settings.specs.Settings.{IsReadOfText}
-use Rattle.state.specs.Beginnings.{AreLinesRead, BearsNumber, IsHeadOf, IsRead, has_past}
+use Rattle.state.specs.Beginnings.{AreLinesRead, BearsNumber, IsHeadOf, IsMoved, IsRead, has_past}
 use Rattle.state.specs.Replays.{ReportedGap, events_in_front, whole_lines}
 use Rattle.state.specs.Unread.{IsUnread}
 use Rattle.state.specs.declared.looking.Seen.{Seen}
@@ -34,6 +34,14 @@ pub record IsSeen (log : Log) (file : List ℕ) (s : Seen) : Type 0 where
   pub whole : Log
   pub read : IsRead wrote log lines (before_zero (drop begins file)) gap whole s.gateway
 
+-- Whether the settings that the second text says are others than those of the first, under which a
+-- log was written. A text that can't be read says none.
+abbrev pub AreChanged : (written text : List ℕ) → Bool → Type 0
+AreChanged written text true =
+    (c : Settings) → IsReadOfText text (Ok c) → IsMoved c written true
+AreChanged written text false =
+    (c : Settings) × IsReadOfText text (Ok c) × IsMoved c written false
+
 -- where links aren't trusted, each of them would be reset
 abbrev pub IsDistrusted : (is_stale : Bool) → (newest other : List ℕ) → Type 0
 IsDistrusted is_stale newest other = (is_stale ≡ true)
@@ -44,7 +52,7 @@ IsDistrusted is_stale newest other = (is_stale ≡ true)
 abbrev pub BeginsSo : Beginning → (is_stale : Bool) → (newest other : List ℕ) → Type 0
 BeginsSo beginnings.Anew is_stale newest other = IsShut newest × IsShut other
 BeginsSo beginnings.PutAside is_stale newest other =
-    (c : Settings) (text : List ℕ) → IsUnread c text newest other
+    IsUnread newest other
 BeginsSo beginnings.LinksReset is_stale newest other =
     IsNewest newest other × IsDistrusted is_stale newest other
 BeginsSo beginnings.GoesOn is_stale newest other =

@@ -20,9 +20,8 @@ pub record AreStateOf (c : Settings) (lines : List (List ℕ)) : Type 0 where
   pub settings : HasSettings c state
 
 -- A file has a segment, at whose head a gateway's state stands: a file of settings that can be
--- read, and the lines of the state of a gateway with these. Where the settings are this text, they
--- are those that were read of it.
-pub record HasState (c : Settings) (text file : List ℕ) : Type 0 where
+-- read, and the lines of the state of a gateway with these.
+pub record HasState (file : List ℕ) : Type 0 where
   pub head : SegmentHead
   pub body : List ℕ
   pub written : List ℕ
@@ -34,20 +33,18 @@ pub record HasState (c : Settings) (text file : List ℕ) : Type 0 where
   pub wrote : Settings
   pub read : IsReadOfText written (Ok wrote)
   pub states : (by : Settings) → IsReadOfText written (Ok by) → AreStateOf by lines
-  pub own : written ≡ text → AreStateOf c lines
 
 -- What two files have is no state to go on with: the newest segment hasn't one at its head, or
 -- there is none; and not both files are shut.
-pub record IsUnread (c : Settings) (text newest other : List ℕ) : Type 0 where
+pub record IsUnread (newest other : List ℕ) : Type 0 where
   pub wins : IsBacked newest other
-  pub none : HasState c text newest → ⊥
+  pub none : HasState newest → ⊥
   pub some : IsShut newest → IsShut other → ⊥
 
 -- two files were put aside, whose state can't be read
-pub record WasAside {D : Type 0} (g : Ghosts D) (aside : D → D → Type 0) (c : Settings)
-    (text : List ℕ) : Type 0 where
+pub record WasAside {D : Type 0} (g : Ghosts D) (aside : D → D → Type 0) : Type 0 where
   pub newest : D
   pub other : D
   pub was : aside newest other
   pub unread : IsTrue (g.is_clean newest) → IsTrue (g.is_clean other) →
-      IsUnread c text (g.seen newest) (g.seen other)
+      IsUnread (g.seen newest) (g.seen other)

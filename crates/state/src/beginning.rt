@@ -6,9 +6,11 @@ ghost use Rattle.std.specs.Option.{is_some};
 ghost use Rattle.segments.specs.Found.{AreClean, begins_at, events_in, newest_in, newest_of};
 ghost use Rattle.segments.specs.Found.{next_of, other_in, other_of};
 ghost use Rattle.gateway.specs.Agrees.{Follows, Rests};
+ghost use Rattle.gateway.specs.Carried.{carried};
 ghost use Rattle.gateway.specs.Config.{Settings};
 ghost use Rattle.gateway.specs.Log.{Came, Restarted};
 ghost use Rattle.gateway.specs.Reports.{Setup};
+ghost use Rattle.gateway.specs.State.{State};
 ghost use Rattle.segments.specs.Head.{Fits};
 ghost use Rattle.segments.specs.Starts.{HasNoNewer, IsAbove, IsBacked, IsNewest, IsNext};
 ghost use Rattle.settings.specs.Settings.{IsReadOfText};
@@ -24,6 +26,7 @@ use crate::disk_store::DiskStore;
 use crate::event_text::EventText;
 use crate::folder::{Folder, FolderFault};
 use crate::replaying::{EventLines, Lineage, Replayed, ReportedGap, are_read, replay};
+use crate::same_settings::are_same;
 use crate::start::{Beginning, Found, beginning_of};
 use checkpoint::{Lines, StateFault};
 use gateway::{Config, Gateway, History, NoMemory};
@@ -213,8 +216,7 @@ pub(crate) fn read_opening<D: Disk + Drop>(
         BearsNumber (D.Disk.seen (newest_of start.new)) o.number) }
     ensures wrong { IfErr result (λ fault. fault ≡ StateFault.Wrong →
         is_some start.old.checkpoint ≡ true → IsTrue (D.Disk.is_clean (newest_of start.new)) →
-        (c : Settings) (text : List ℕ) →
-        HasState c text (D.Disk.seen (newest_of start.new)) → ⊥) }
+        HasState (D.Disk.seen (newest_of start.new)) → ⊥) }
     ensures newest { newest_of start.new ≡ newest_of start.old }
     ensures other { other_of start.new ≡ other_of start.old }
     ensures next { next_of start.new ≡ next_of start.old }
@@ -231,14 +233,6 @@ pub(crate) fn read_opening<D: Disk + Drop>(
         settings,
         lines,
     })
-}
-
-/// Whether both are the same octets.
-fn are_same(first: &[u8], second: &[u8]) -> bool
-    ensures same { result ≡ true → first.now ≡ second.now }
-    ensures others { result ≡ false → first.now ≡ second.now → ⊥ }
-{
-    first == second
 }
 
 /// It has given up each command without an answer, which is the restart in its log.
@@ -299,19 +293,18 @@ fn go_on<K: Lineage, D: Disk + Drop>(
 fn move_on<K: Lineage, D: Disk + Drop>(
     alloc: Global,
     config: &Config,
-    opening: Opening,
+    wrote: &Config,
+    lines: TextLines,
     start: &mut Start<D>,
     goes_on: bool,
     is_moved: bool,
 ) -> Result<Resumed, StateFault>
-    ensures wrong { IfErr result (λ fault. fault ≡ StateFault.Wrong → (wrote : Settings) →
-        IsReadOfText opening.settings.items (Ok wrote) →
-        ((by : Settings) → IsReadOfText opening.settings.items (Ok by) →
-        AreStateOf by (⟦<TextLines as Lines>⟧.coming opening.lines)) → ⊥) }
+    ensures wrong { IfErr result (λ fault. fault ≡ StateFault.Wrong →
+        AreStateOf wrote.now (⟦<TextLines as Lines>⟧.coming lines) → ⊥) }
     ensures went { IfOk result (λ r. IsTrue (D.Disk.is_clean (newest_of start.new)) →
-        MovedOn goes_on config.now opening.settings.items K.log
-        (⟦<TextLines as Lines>⟧.coming opening.lines) (events_in start.new) r.gap
-        r.before.entries r.gateway) }
+        (left : State) × WentOn wrote.now K.log (⟦<TextLines as Lines>⟧.coming lines)
+        (events_in start.new) r.gap r.before.entries left
+        × (r.gateway ≡ carried goes_on wrote.now config.now left)) }
     ensures moved { IfOk result (λ r. r.is_moved ≡ is_moved) }
     ensures seen { D.Disk.seen (newest_of start.new) ≡ D.Disk.seen (newest_of start.old) }
     ensures clean { IsTrue (D.Disk.is_clean (newest_of start.new)) →
@@ -320,23 +313,14 @@ fn move_on<K: Lineage, D: Disk + Drop>(
     ensures other { other_of start.new ≡ other_of start.old }
     ensures next { next_of start.new ≡ next_of start.old }
 {
-    let Opening {
-        number: _,
-        settings,
-        lines,
-    } = opening;
-    let wrote = match read_config(alloc, &settings, false) {
-        Ok(wrote) => wrote,
-        Err(fault) => return Err(unread(fault)),
-    };
-    let resumed = go_on::<K, D>(alloc, &wrote, lines, start)?;
+    let resumed = go_on::<K, D>(alloc, wrote, lines, start)?;
     let Resumed {
         gateway,
         gap,
         before,
         is_moved: _,
     } = resumed;
-    match gateway.carried(alloc, &wrote, config, goes_on) {
+    match gateway.carried(alloc, wrote, config, goes_on) {
         Ok(gateway) => Ok(Resumed {
             gateway,
             gap,
@@ -347,12 +331,22 @@ fn move_on<K: Lineage, D: Disk + Drop>(
     }
 }
 
-/// The gateway goes on with the state that was found, to which the folder's lineage has led. `text`
-/// says its settings.
+/// The settings that a text says.
+pub(crate) fn settings_in(alloc: Global, text: &[u8]) -> Result<Config, StateFault>
+    ensures read { IfOk result (λ c. IsReadOfText text.now (Ok c)) }
+    ensures wrong { IfErr result (λ fault. fault ≡ StateFault.Wrong → (c : Settings) →
+        IsReadOfText text.now (Ok c) → ⊥) }
+{
+    match read_config(alloc, text, false) {
+        Ok(config) => Ok(config),
+        Err(fault) => Err(unread(fault)),
+    }
+}
+
+/// The gateway goes on with the state that was found, to which the folder's lineage has led.
 fn resume<K: Lineage, D: Disk + Drop, F: Folder>(
     alloc: Global,
     config: &Config,
-    text: &[u8],
     start: &mut Start<D>,
     goes_on: bool,
     _folder: &F,
@@ -360,9 +354,9 @@ fn resume<K: Lineage, D: Disk + Drop, F: Folder>(
     requires { F.lineage _folder.now ≡ K.log }
     ensures wrong { IfErr result (λ fault. fault ≡ StateFault.Wrong →
         is_some start.old.checkpoint ≡ true → IsTrue (D.Disk.is_clean (newest_of start.new)) →
-        HasState config.now text.now (D.Disk.seen (newest_of start.new)) → ⊥) }
+        HasState (D.Disk.seen (newest_of start.new)) → ⊥) }
     ensures goes_on { IfOk result (λ r. IsTrue (D.Disk.is_clean (newest_of start.new)) →
-        GoesOnFrom goes_on config.now text.now K.log (D.Disk.seen (newest_of start.new))
+        GoesOnFrom goes_on config.now K.log (D.Disk.seen (newest_of start.new))
         r.is_moved r.gap r.before.entries r.gateway) }
     ensures seen { D.Disk.seen (newest_of start.new) ≡ D.Disk.seen (newest_of start.old) }
     ensures clean { IsTrue (D.Disk.is_clean (newest_of start.new)) →
@@ -371,28 +365,30 @@ fn resume<K: Lineage, D: Disk + Drop, F: Folder>(
     ensures next { next_of start.new ≡ next_of start.old }
 {
     let opening = read_opening(alloc, start)?;
-    let is_same = are_same(&opening.settings, text);
+    let wrote = settings_in(alloc, &opening.settings)?;
+    let is_same = are_same(&wrote, config);
+    let lines = opening.lines;
     if goes_on && is_same {
-        let lines = opening.lines;
         return go_on::<K, D>(alloc, config, lines, start);
     }
-    move_on::<K, D>(alloc, config, opening, start, goes_on, !is_same)
+    move_on::<K, D>(alloc, config, &wrote, lines, start, goes_on, !is_same)
 }
 
 /// Begins a run: with the state that the directory has, or anew. `text` is the file of settings
-/// that `config` was read from. An `Err` says that the directory can't be used.
+/// that `config` was read from, and stands at the head of the next log. An `Err` says that the
+/// directory can't be used.
 pub fn begin<F: Folder + Drop>(
     alloc: Global,
     config: &Config,
     text: &[u8],
     folder: F,
 ) -> Result<Begun<F>, FolderFault>
-    ensures begun { IfOk result (λ b. IsBegun config.now text.now (F.lineage folder)
+    ensures begun { IfOk result (λ b. IsBegun config.now (F.lineage folder)
         (F.mark b.store.folder) b.store.opened b.origin) }
     ensures settings { IfOk result (λ b. b.store.settings.items ≡ text.now) }
     // What is put aside is no state to go on with.
     ensures aside { IfOk result (λ b. b.origin.beginning ≡ Beginning.PutAside →
-        WasAside F.File.Disk (F.aside b.store.folder) config.now text.now) }
+        WasAside F.File.Disk (F.aside b.store.folder)) }
     // The next log is newer than each that ever stood in a file: so a start finds that one. Its
     // number is the next one.
     ensures numbered { IfOk result (λ b. IsNumbered b.store.number b.store.opened) }
@@ -517,16 +513,16 @@ fn carry_on<F: Folder + Drop>(
         IsNext start.number (newest_in start) (other_in start) }
     requires reset { is_trusted ≡ false → (F.mark folder ≡ Some true) ⊎ (AreClean start →
         HasNoNewer (newest_in start) (other_in start) → ⊥) }
-    ensures begun { IfOk result (λ b. IsBegun config.now settings.items (F.lineage folder)
+    ensures begun { IfOk result (λ b. IsBegun config.now (F.lineage folder)
         (F.mark b.store.folder) b.store.opened b.origin) }
     ensures aside { IfOk result (λ b. b.origin.beginning ≡ Beginning.PutAside →
-        WasAside F.File.Disk (F.aside b.store.folder) config.now settings.items) }
+        WasAside F.File.Disk (F.aside b.store.folder)) }
     ensures settings { IfOk result (λ b. b.store.settings ≡ settings) }
     ensures numbered { IfOk result (λ b. IsNumbered b.store.number b.store.opened) }
 {
     let mut start = start;
     let goes_on = may_go_on(alloc, &mut start, is_trusted)?;
-    match resume::<Brand, F::File, F>(alloc, config, &settings, &mut start, goes_on, &folder) {
+    match resume::<Brand, F::File, F>(alloc, config, &mut start, goes_on, &folder) {
         Ok(resumed) => {
             let store = DiskStore::new(alloc, folder, settings, start.next_number());
             let (newest, spare) = start.into_files();
@@ -584,9 +580,9 @@ fn put_aside<F: Folder + Drop>(
 ) -> Result<Begun<F>, FolderFault>
     requires locked { F.is_locked folder ≡ true }
     requires unread { IsTrue (F.File.is_clean newest) → IsTrue (F.File.is_clean other) →
-        IsUnread config.now settings.items (F.File.seen newest) (F.File.seen other) }
+        IsUnread (F.File.seen newest) (F.File.seen other) }
     ensures aside { IfOk result (λ b.
-        WasAside F.File.Disk (F.aside b.store.folder) config.now settings.items) }
+        WasAside F.File.Disk (F.aside b.store.folder)) }
     ensures new { IfOk result (λ b. IsNew config.now b.origin) }
     ensures moment { IfOk result (λ b. b.origin.moment ≡ None) }
     ensures beginning { IfOk result (λ b. b.origin.beginning ≡ Beginning.PutAside) }

@@ -106,9 +106,9 @@ pub trait Folder {
     fn put_aside(&mut self, newest: Self::File, other: Self::File) -> bool
         requires locked { is_locked self.old ≡ true }
         requires marked { mark self.old ≡ Some true }
-        requires unread { (c : Settings) × (text : List ℕ) ×
-            (IsTrue (Self.File.is_clean newest) → IsTrue (Self.File.is_clean other) →
-            IsUnread c text (Self.File.seen newest) (Self.File.seen other)) }
+        requires unread { IsTrue (Self.File.is_clean newest) →
+            IsTrue (Self.File.is_clean other) →
+            IsUnread (Self.File.seen newest) (Self.File.seen other) }
         ensures aside { result ≡ true → aside self.new newest other }
         ensures stays { is_locked self.new ≡ true }
         ensures mark { mark self.new ≡ mark self.old };

@@ -90,12 +90,12 @@ pub fn no_event_waits_for_a_second()
 /// The clock of a run that goes on does so at the gateway's moment, and not anew: else no timer of
 /// it would run out before the clock is there again. A run that begins anew goes on from nothing.
 pub fn a_clock_goes_on_where_the_gateway_stood<D: Disk + Drop>()
-    ensures goes_on { (c : Settings) (text : List ℕ) (log : Log) (mark : Option Bool)
-        (opened : Opened D D.Disk) (o : Origin) → IsBegun c text log mark opened o →
+    ensures goes_on { (c : Settings) (log : Log) (mark : Option Bool)
+        (opened : Opened D D.Disk) (o : Origin) → IsBegun c log mark opened o →
         (o.beginning ≡ Beginning.GoesOn) ⊎ (o.beginning ≡ Beginning.LinksReset) →
         o.moment ≡ Some o.gateway.moment }
-    ensures anew { (c : Settings) (text : List ℕ) (log : Log) (mark : Option Bool)
-        (opened : Opened D D.Disk) (o : Origin) → IsBegun c text log mark opened o →
+    ensures anew { (c : Settings) (log : Log) (mark : Option Bool)
+        (opened : Opened D D.Disk) (o : Origin) → IsBegun c log mark opened o →
         (o.beginning ≡ Beginning.Anew) ⊎ (o.beginning ≡ Beginning.PutAside) →
         o.moment ≡ None }
 {}
@@ -271,25 +271,25 @@ pub fn a_start_goes_on_behind_a_crash<D: Disk + Drop>()
 /// line behind that logs an event, no first line of a segment as new stands in the other file, and
 /// no mark says that the state is stale.
 pub fn a_damaged_state_never_goes_on_as_whole<D: Disk + Drop>()
-    ensures whole { (c : Settings) (text : List ℕ) (log : Log) (mark : Option Bool)
-        (newest other : D) (o : Origin) → BeginsOver D.Disk c text log mark newest other o →
+    ensures whole { (c : Settings) (log : Log) (mark : Option Bool)
+        (newest other : D) (o : Origin) → BeginsOver D.Disk c log mark newest other o →
         has_past o.beginning ≡ true → (head : SegmentHead) × (body : List ℕ) ×
         Holds (D.Disk.seen newest) 0 (head_of head) ×
         (0 < length body → Holds (D.Disk.seen newest) 87 body) ×
         (length body ≡ head.octets) × (sum_of body ≡ head.sum) }
-    ensures lines { (c : Settings) (text : List ℕ) (log : Log) (mark : Option Bool)
-        (newest other : D) (o : Origin) → BeginsOver D.Disk c text log mark newest other o →
+    ensures lines { (c : Settings) (log : Log) (mark : Option Bool)
+        (newest other : D) (o : Origin) → BeginsOver D.Disk c log mark newest other o →
         o.beginning ≡ Beginning.GoesOn → (head : SegmentHead) (body : List ℕ) → Fits head →
         IsFoundIn (D.Disk.seen newest) head body →
         AllByRecursion (λ line. is_some (logged line) ≡ true)
         (whole_lines (lines_behind body (D.Disk.seen newest))) }
-    ensures newer { (c : Settings) (text : List ℕ) (log : Log) (mark : Option Bool)
-        (newest other : D) (o : Origin) → BeginsOver D.Disk c text log mark newest other o →
+    ensures newer { (c : Settings) (log : Log) (mark : Option Bool)
+        (newest other : D) (o : Origin) → BeginsOver D.Disk c log mark newest other o →
         o.beginning ≡ Beginning.GoesOn → (own head : SegmentHead) → Fits own → Fits head →
         Holds (D.Disk.seen newest) 0 (head_of own) → Holds (D.Disk.seen other) 0 (head_of head) →
         head.number < own.number }
-    ensures stale { (c : Settings) (text : List ℕ) (log : Log) (newest other : D) (o : Origin) →
-        BeginsOver D.Disk c text log (Some true) newest other o →
+    ensures stale { (c : Settings) (log : Log) (newest other : D) (o : Origin) →
+        BeginsOver D.Disk c log (Some true) newest other o →
         o.beginning ≡ Beginning.GoesOn → ⊥ }
 {}
 
@@ -298,18 +298,18 @@ pub fn a_damaged_state_never_goes_on_as_whole<D: Disk + Drop>()
 /// begins with an older segment's first line, and each line of the log is read, a run goes on with
 /// its links. It goes on with the newer of two segments.
 pub fn what_stands_is_not_passed_over<D: Disk + Drop>()
-    ensures anew { (c : Settings) (text : List ℕ) (log : Log) (mark : Option Bool)
-        (newest other : D) (o : Origin) → BeginsOver D.Disk c text log mark newest other o →
+    ensures anew { (c : Settings) (log : Log) (mark : Option Bool)
+        (newest other : D) (o : Origin) → BeginsOver D.Disk c log mark newest other o →
         o.beginning ≡ Beginning.Anew → (file : D) → (file ≡ newest) ⊎ (file ≡ other) →
         (length (D.Disk.seen file) < 2) ⊎ (slice_index (D.Disk.seen file) 0 ≡ 0) }
-    ensures links { (c : Settings) (text : List ℕ) (log : Log) (newest other : D) (o : Origin) →
-        BeginsOver D.Disk c text log (Some false) newest other o →
+    ensures links { (c : Settings) (log : Log) (newest other : D) (o : Origin) →
+        BeginsOver D.Disk c log (Some false) newest other o →
         IsShut (D.Disk.seen other) ⊎ ((own head : SegmentHead) × Fits own × Fits head ×
         Holds (D.Disk.seen newest) 0 (head_of own) × Holds (D.Disk.seen other) 0 (head_of head) ×
         (head.number < own.number)) →
         AreLinesRead (D.Disk.seen newest) → o.beginning ≡ Beginning.LinksReset → ⊥ }
-    ensures newest { (c : Settings) (text : List ℕ) (log : Log) (mark : Option Bool)
-        (newest other : D) (o : Origin) → BeginsOver D.Disk c text log mark newest other o →
+    ensures newest { (c : Settings) (log : Log) (mark : Option Bool)
+        (newest other : D) (o : Origin) → BeginsOver D.Disk c log mark newest other o →
         has_past o.beginning ≡ true → (own head : SegmentHead) (body others : List ℕ) → Fits own →
         Fits head → IsFoundIn (D.Disk.seen newest) own body →
         IsFoundIn (D.Disk.seen other) head others → head.number ≤ own.number }
@@ -320,8 +320,8 @@ pub fn what_stands_is_not_passed_over<D: Disk + Drop>()
 /// link for each station of the settings that wrote it.) So no frame count bit and no held service
 /// goes on, though the settings are the same.
 pub fn no_link_is_up_behind_a_reset<D: Disk + Drop>()
-    ensures { (c : Settings) (text : List ℕ) (log : Log) (mark : Option Bool) (newest other : D)
-        (o : Origin) → BeginsOver D.Disk c text log mark newest other o →
+    ensures { (c : Settings) (log : Log) (mark : Option Bool) (newest other : D)
+        (o : Origin) → BeginsOver D.Disk c log mark newest other o →
         o.beginning ≡ Beginning.LinksReset → (wrote : Settings) × (left : State) ×
         (o.gateway ≡ carried false wrote c left) ×
         (length left.serial.line.stations ≡ length wrote.stations → (place : ℕ)
@@ -339,15 +339,15 @@ pub fn a_state_that_can_be_read_is_not_put_aside<F: Folder + Drop>()
     ensures kept { (c : Settings) (text newest other : List ℕ) (head : SegmentHead)
         (body : List ℕ) (state : State) → Fits head → IsFoundIn newest head body →
         lines_in body ≡ text ∷ state_lines state → IsOctetLine text →
-        IsReadOfText text (Ok c) → IsSavable state → HasSettings c state →
+        IsReadOfText text (Ok c) → IsSavable state →
         ((by : Settings) → IsReadOfText text (Ok by) → HasSettings by state) →
-        IsUnread c text newest other → ⊥ }
-    ensures shut { (c : Settings) (text newest other : List ℕ) → IsShut newest → IsShut other →
-        IsUnread c text newest other → ⊥ }
+        IsUnread newest other → ⊥ }
+    ensures shut { (newest other : List ℕ) → IsShut newest → IsShut other →
+        IsUnread newest other → ⊥ }
     ensures put { (folder : F) (c : Settings) (text : List ℕ) (head : SegmentHead)
-        (body : List ℕ) (state : State) (was : WasAside F.File.Disk (F.aside folder) c text) →
+        (body : List ℕ) (state : State) (was : WasAside F.File.Disk (F.aside folder)) →
         IsTrue (F.File.is_clean was.newest) → IsTrue (F.File.is_clean was.other) → Fits head →
         IsFoundIn (F.File.seen was.newest) head body → lines_in body ≡ text ∷ state_lines state →
-        IsOctetLine text → IsReadOfText text (Ok c) → IsSavable state → HasSettings c state →
+        IsOctetLine text → IsReadOfText text (Ok c) → IsSavable state →
         ((by : Settings) → IsReadOfText text (Ok by) → HasSettings by state) → ⊥ }
 {}

@@ -9,23 +9,23 @@ ghost use Rattle.segments.specs.Starts.{ArePlaced, HasNoNewer, IsBacked, IsNewes
 ghost use Rattle.settings.specs.Settings.{IsReadOfText};
 ghost use Rattle.state.specs.Beginnings.{BearsNumber, IsHeadOf};
 ghost use Rattle.state.specs.Replays.{whole_lines};
-ghost use Rattle.state.specs.Sights.{AreCounted, IsSeen, IsSight};
+ghost use Rattle.state.specs.Sights.{AreChanged, AreCounted, IsSeen, IsSight};
 ghost use Rattle.state.specs.Unread.{AreStateOf, HasState};
 
 use crate::beginning::{
-    Opening, found_in, lines_of, may_go_on, read_opening, replayed, unread, with_past,
+    Opening, found_in, lines_of, may_go_on, read_opening, replayed, settings_in, with_past,
 };
 use crate::counting::{count_all, count_logged};
 use crate::folder::FolderFault;
 use crate::replaying::Lineage;
+use crate::same_settings::are_same;
 use crate::start::{Beginning, beginning_of};
 use checkpoint::{Lines, StateFault};
-use gateway::{Gateway, History};
+use gateway::{Config, Gateway, History};
 use segments::{SegmentFault, Side, Start};
-use settings::read_config;
 use sqlite_disk::{Disk, Files};
 use statetext::TextLines;
-use std::alloc::Global;
+use std::alloc::{AllocError, Global};
 use std::marker::Brand;
 
 /// The log that a run would go on with, as it stands.
@@ -161,6 +161,34 @@ fn look_behind<K: Lineage, D: Disk + Drop>(
     }
 }
 
+/// The settings that a text says, if it says any.
+fn said_in(alloc: Global, text: &[u8]) -> Result<Option<Config>, AllocError>
+    ensures some { IfOk result (λ said. IfSome said (λ c. IsReadOfText text.now (Ok c))) }
+    ensures none { IfOk result (λ said. said ≡ None → (c : Settings) →
+        IsReadOfText text.now (Ok c) → ⊥) }
+{
+    match settings_in(alloc, text) {
+        Ok(config) => Ok(Some(config)),
+        Err(StateFault::Wrong) => Ok(None),
+        Err(StateFault::NoMemory | StateFault::Device) => Err(AllocError),
+    }
+}
+
+/// Whether a run with the second file of settings would be moved from a log that was written under
+/// the first: whether they don't say the same settings. Only want of memory is answered by an
+/// `Err`.
+pub fn are_changed(alloc: Global, written: &[u8], text: &[u8]) -> Result<bool, AllocError>
+    ensures { IfOk result (AreChanged written.now text.now) }
+{
+    let Some(before) = said_in(alloc, written)? else {
+        return Ok(true);
+    };
+    let Some(now) = said_in(alloc, text)? else {
+        return Ok(true);
+    };
+    Ok(!are_same(&before, &now))
+}
+
 /// A log counts.
 fn with_log(beginning: Beginning, seen: Seen) -> Sight
     ensures { result ≡ record { beginning = beginning; seen = Some seen } }
@@ -177,8 +205,7 @@ fn see<K: Lineage, D: Disk + Drop>(alloc: Global, start: &mut Start<D>) -> Resul
     ensures log { IfOk result (IsSeen K.log (D.Disk.seen (newest_of start.old))) }
     ensures side { IfOk result (λ s. s.side ≡ start.old.side) }
     ensures wrong { IfErr result (λ fault. fault ≡ StateFault.Wrong →
-        is_some start.old.checkpoint ≡ true → (c : Settings) (text : List ℕ) →
-        HasState c text (D.Disk.seen (newest_of start.old)) → ⊥) }
+        is_some start.old.checkpoint ≡ true → HasState (D.Disk.seen (newest_of start.old)) → ⊥) }
 {
     let side = start.side();
     let opening = read_opening(alloc, start)?;
@@ -208,10 +235,7 @@ fn see_behind<K: Lineage, D: Disk + Drop>(
         settings,
         lines,
     } = opening;
-    let wrote = match read_config(alloc, &settings, false) {
-        Ok(wrote) => wrote,
-        Err(fault) => return Err(unread(fault)),
-    };
+    let wrote = settings_in(alloc, &settings)?;
     let resumed = replayed::<K, D>(alloc, &wrote, lines, start)?;
     let count = count(alloc, start)?;
     Ok(Seen {

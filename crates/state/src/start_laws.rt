@@ -31,17 +31,18 @@ use sqlite_disk::Disk;
 /// changed or not, and whether the links go on or not. The gateway has followed the whole log:
 /// behind the state at its head each event that a line logs, up to the first line that logs none.
 /// Then it has given up its commands, which is the restart in its log. The gap that its last step
-/// reported is reported again. Only where the settings are these does it go on so; else it is what
-/// they make of it. Whether they have changed is said.
+/// reported is reported again. Only where that text says these settings does it go on so; else it
+/// is what they make of it. Whether they have changed is said: another text may say the same.
 pub fn each_log_is_received_again_under_its_settings<D: Disk + Drop>()
-    ensures received { (c : Settings) (text : List ℕ) (log : Log) (mark : Option Bool)
+    ensures received { (c : Settings) (log : Log) (mark : Option Bool)
         (newest other : D) (o : Origin) (head : SegmentHead) (body written : List ℕ)
         (first : State) (rest : List (List ℕ)) →
-        BeginsOver D.Disk c text log mark newest other o → has_past o.beginning ≡ true →
+        BeginsOver D.Disk c log mark newest other o → has_past o.beginning ≡ true →
         Fits head → IsFoundIn (D.Disk.seen newest) head body →
         lines_in body ≡ written ∷ (state_lines first ++ rest) → IsSavable first →
         (wrote : Settings) × (left : State) ×
-        (((o.beginning ≡ Beginning.GoesOn) × (written ≡ text) × (wrote ≡ c) × (o.gateway ≡ left))
+        (((o.beginning ≡ Beginning.GoesOn) × IsReadOfText written (Ok c) × (wrote ≡ c)
+        × (o.gateway ≡ left))
         ⊎ (IsReadOfText written (Ok wrote)
         × (o.gateway ≡ carried (is_trusted o.beginning) wrote c left))) ×
         (Follows (setup_of wrote) first (Some log) → Rests (setup_of wrote) (Some log) →
@@ -50,19 +51,20 @@ pub fn each_log_is_received_again_under_its_settings<D: Disk + Drop>()
         (events_of (news ++ log) ≡ events_of log
         ++ events_in_front (whole_lines (lines_behind body (D.Disk.seen newest)))) ×
         (o.gap ≡ last_gap news)) }
-    ensures moved { (c : Settings) (text : List ℕ) (log : Log) (mark : Option Bool)
+    ensures moved { (c : Settings) (log : Log) (mark : Option Bool)
         (newest other : D) (o : Origin) (head : SegmentHead) (body written : List ℕ)
         (lines : List (List ℕ)) →
-        BeginsOver D.Disk c text log mark newest other o → has_past o.beginning ≡ true →
+        BeginsOver D.Disk c log mark newest other o → has_past o.beginning ≡ true →
         Fits head → IsFoundIn (D.Disk.seen newest) head body → lines_in body ≡ written ∷ lines →
-        (o.is_moved ≡ true → written ≡ text → ⊥) × (o.is_moved ≡ false → written ≡ text) }
+        (o.is_moved ≡ true → IsReadOfText written (Ok c) → ⊥)
+        × (o.is_moved ≡ false → IsReadOfText written (Ok c)) }
 {}
 
 /// No command is sent again by a run that goes on: of what it goes on with, each station's command
 /// without an answer is given up, whether the settings have changed or not.
 pub fn no_command_outlives_a_start<D: Disk + Drop>()
-    ensures { (c : Settings) (text : List ℕ) (log : Log) (mark : Option Bool) (newest other : D)
-        (o : Origin) → BeginsOver D.Disk c text log mark newest other o →
+    ensures { (c : Settings) (log : Log) (mark : Option Bool) (newest other : D)
+        (o : Origin) → BeginsOver D.Disk c log mark newest other o →
         has_past o.beginning ≡ true → (wrote : Settings) × (left : State) ×
         ((o.gateway ≡ left) ⊎ (o.gateway ≡ carried (is_trusted o.beginning) wrote c left)) ×
         ((place : ℕ) → place < length left.serial.line.stations →
@@ -76,10 +78,10 @@ pub fn no_command_outlives_a_start<D: Disk + Drop>()
 /// lines are those of the newest segment. Its gateway has followed the log under these settings, up
 /// to the first line that logs no event.
 pub fn what_is_shown_is_what_a_start_finds<D: Disk + Drop>()
-    ensures begins { (c : Settings) (text : List ℕ) (log : Log) (is_stale : Bool)
+    ensures begins { (c : Settings) (log : Log) (is_stale : Bool)
         (newest other : D) (o : Origin) (first second : List ℕ) (s : Sight)
         (shown : IsSight log is_stale first second s) →
-        BeginsOver D.Disk c text log (Some is_stale) newest other o →
+        BeginsOver D.Disk c log (Some is_stale) newest other o →
         shown.newest ≡ D.Disk.seen newest → shown.other ≡ D.Disk.seen other →
         (s.beginning ≡ Beginning.PutAside → ⊥) → (o.beginning ≡ Beginning.PutAside → ⊥) →
         s.beginning ≡ o.beginning }

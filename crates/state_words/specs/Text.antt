@@ -11,7 +11,7 @@ use Rattle.runlog.specs.declared.note.Note.TheVariants as note
 use Rattle.runlog.specs.declared.note.Trouble.TheVariants as trouble
 use Rattle.segments.specs.declared.start.Side.{Side}
 use Rattle.segments.specs.declared.start.Side.TheVariants as sides
-use Rattle.state.specs.Beginnings.{IsMoved}
+use Rattle.state.specs.Sights.{AreChanged}
 use Rattle.state.specs.declared.looking.Seen.{Seen}
 use Rattle.state.specs.declared.looking.Sight.{Sight}
 use Rattle.state.specs.declared.start.Beginning.{Beginning}
@@ -103,7 +103,7 @@ state_text is_held is_stale is_moved o =
 abbrev pub IsMovedFrom : (given : Option (List ℕ)) → Option Seen → Bool → Type 0
 IsMovedFrom None seen is_moved = is_moved ≡ false
 IsMovedFrom (Some text) None is_moved = is_moved ≡ false
-IsMovedFrom (Some text) (Some s) is_moved = IsMoved s.settings.items text is_moved
+IsMovedFrom (Some text) (Some s) is_moved = AreChanged s.settings.items text is_moved
 
 -- this text says it
 pub record IsStateText (is_held is_stale : Bool) (given : Option (List ℕ)) (o : Sight)

@@ -8,7 +8,7 @@ use crate::stations::push_stations;
 use gateway::{Gateway, Wall};
 use runlog::{Note, Trouble};
 use segments::Side;
-use state::{Seen, Sight};
+use state::{Seen, Sight, are_changed};
 use std::alloc::{AllocError, Global};
 
 /// Appends the words of the log, if there is anything to say.
@@ -180,21 +180,14 @@ fn push_beginning(
     push_note(text, note_of(sight.beginning))
 }
 
-/// Whether both are the same octets.
-fn are_same(first: &[u8], second: &[u8]) -> bool
-    ensures same { result ≡ true → first.now ≡ second.now }
-    ensures others { result ≡ false → first.now ≡ second.now → ⊥ }
-{
-    first == second
-}
-
 /// Whether the log was kept under other settings than these, if any are given.
-fn is_moved(given: Option<&[u8]>, seen: &Seen) -> bool
-    ensures { spec.IsMovedFrom (option_map (λ t. t.now) given.entry) (Some seen.now) result }
+fn is_moved(alloc: Global, given: Option<&[u8]>, seen: &Seen) -> Result<bool, AllocError>
+    ensures { IfOk result (spec.IsMovedFrom (option_map (λ t. t.now) given.entry)
+        (Some seen.now)) }
 {
     match given {
-        Some(text) => !are_same(&seen.settings, text),
-        None => false,
+        Some(text) => are_changed(alloc, &seen.settings, text),
+        None => Ok(false),
     }
 }
 
@@ -215,7 +208,8 @@ pub fn describe_state(
     push_beginning(&mut text, is_held, is_stale, sight)?;
     match &sight.seen {
         Some(seen) => {
-            push_seen(&mut text, seen, is_moved(given, seen))?;
+            let is_moved = is_moved(alloc, given, seen)?;
+            push_seen(&mut text, seen, is_moved)?;
             let mut lines = text.into_bytes();
             lines.extend_from_slice(&seen.settings)?;
             Ok(lines)

@@ -200,19 +200,19 @@ readable bears (PutOut action ∷ deeds) newest earlier right is =
 
 -- The next life
 
-module _ (S : Type 0) {D : Type 0} (g : Ghosts D) (c : Settings) (text : List ℕ)
+module _ (S : Type 0) {D : Type 0} (g : Ghosts D) (c : Settings)
     (between : (s : State) (log : Log) → Follows (setup_of c) s (Some log) → IsBetweenSteps s) where
-  pub returns : (this next : Origin) (b : ComesBehind S g c text this next)
+  pub returns : (this next : Origin) (b : ComesBehind S g c this next)
       → IsUpTo (setup_of c) this.before.entries this.gateway
       → HasReturned c (b.head.1 ++ this.before.entries) b.deeds next
   returns this next b up =
       let log = b.head.1 ++ this.before.entries in
       let at = heads_up_to S (setup_of c) this b.events b.now b.gone up b.head b.in_run in
-      (b.left c text log next b.begun).1 refl b.head.0
+      (b.left c log next b.begun).1 b.says b.head.0
       (newest_head b.deeds b.head b.earlier b.newest) (b.readable (between b.head.0 log at.0)) at.0
       at.1
 
-  pub last_up_to : (o : Origin) → IsLastOfLives S g c text o
+  pub last_up_to : (o : Origin) → IsLastOfLives S g c o
       → IsUpTo (setup_of c) o.before.entries o.gateway
   last_up_to _ (First origin new) = (
     subst (λ (log : Log). Follows (setup_of c) origin.gateway (Some log)) (sym new.before)

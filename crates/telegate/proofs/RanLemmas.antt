@@ -72,9 +72,9 @@ pub of_kept : {A K : Type 0} (anew : A → Type 0) (kept : K → Type 0) (over :
 of_kept anew kept over run is h = subst (λ o. IfOver o anew kept) is h
 
 -- the log so far under another name
-pub begins_by : {D : Type 0} (g : Ghosts D) (c : Settings) (text : List ℕ) (one other : Log)
-    (o : Origin) → one ≡ other → BeginsIn g c text one o → BeginsIn g c text other o
-begins_by g c text one other o same begun = subst (λ log. BeginsIn g c text log o) same begun
+pub begins_by : {D : Type 0} (g : Ghosts D) (c : Settings) (one other : Log)
+    (o : Origin) → one ≡ other → BeginsIn g c one o → BeginsIn g c other o
+begins_by g c one other o same begun = subst (λ log. BeginsIn g c log o) same begun
 
 -- a run that began so began in a way that follows from that
 pub begins_weaker : {E : Type 0} (strong weak : Origin → Type 0) (settings : Settings)

@@ -1,5 +1,5 @@
 -- Lives of a gateway whose state is kept, one behind another (this gateway's own profile).
-use Rattle.std.specs.Prelude.{◌≡◌, ℕ, List, [], ◌∷◌, ◌++◌, Option, Some}
+use Rattle.std.specs.Prelude.{◌≡◌, ℕ, List, [], ◌∷◌, ◌++◌, Option, Some, Ok}
 use Rattle.gateway.specs.Agrees.{Follows, Rests}
 use Rattle.gateway.specs.Config.{Settings}
 use Rattle.gateway.specs.Log.{Log}
@@ -8,6 +8,7 @@ use Rattle.gateway.specs.Restored.{IsSavable}
 use Rattle.gateway.specs.State.{State, IsBetweenSteps}
 use Rattle.live.specs.Ends.{LiveEnds}
 use Rattle.live.specs.declared.watched.Notice.{Notice}
+use Rattle.settings.specs.Settings.{IsReadOfText}
 use Rattle.sqlite_disk.specs.declared.Disk.{Ghosts}
 use Rattle.state.specs.Both.{Both}
 use Rattle.state.specs.Deeds.{Deeds, heads, passed}
@@ -66,10 +67,10 @@ pub data IsHeadIn {S : Type 0} (origin : Origin)
       (tends_in_life log_of_kept tends_of_kept) now)
       → IsHeadIn origin now (next.taken.gateway, passed next.taken.port.port.ends.deeds)
 
--- The one run comes behind the other, with the same settings. That one was cut, at a moment at
--- which these were the deeds: so this state stands at the head of its log, and can be read. The
--- next run finds what the crash has left.
-pub record ComesBehind (S : Type 0) {D : Type 0} (g : Ghosts D) (c : Settings) (text : List ℕ)
+-- The one run comes behind the other, with the same settings: those that the text says under which
+-- that one kept its state. That one was cut, at a moment at which these were the deeds: so this
+-- state stands at the head of its log, and can be read. The next run finds what the crash has left.
+pub record ComesBehind (S : Type 0) {D : Type 0} (g : Ghosts D) (c : Settings)
     (this next : Origin) : Type 0 where
   pub events : ℕ
   pub now : RunStanding (PortOfLife (Keeping (Both LiveEnds S)))
@@ -80,14 +81,16 @@ pub record ComesBehind (S : Type 0) {D : Type 0} (g : Ghosts D) (c : Settings) (
   pub earlier : List (State × Log)
   pub newest : heads deeds ≡ head ∷ earlier
   pub readable : IsBetweenSteps head.0 → IsSavable head.0
+  pub text : List ℕ
+  pub says : IsReadOfText text (Ok c)
   pub file : List ℕ
   pub other : List ℕ
   pub left : GoesOnOver g text deeds file other
-  pub begun : IsBegunOver g file other c text (head.1 ++ this.before.entries) next
+  pub begun : IsBegunOver g file other c (head.1 ++ this.before.entries) next
 
 -- The last of any number of lives with these settings, whose first one began anew.
-pub data IsLastOfLives (S : Type 0) {D : Type 0} (g : Ghosts D) (c : Settings) (text : List ℕ)
+pub data IsLastOfLives (S : Type 0) {D : Type 0} (g : Ghosts D) (c : Settings)
     : Origin → Type 0 where
-  First : (origin : Origin) → IsNew c origin → IsLastOfLives S g c text origin
-  Behind : (this next : Origin) → IsLastOfLives S g c text this
-      → ComesBehind S g c text this next → IsLastOfLives S g c text next
+  First : (origin : Origin) → IsNew c origin → IsLastOfLives S g c origin
+  Behind : (this next : Origin) → IsLastOfLives S g c this → ComesBehind S g c this next
+      → IsLastOfLives S g c next

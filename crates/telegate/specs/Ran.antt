@@ -86,19 +86,19 @@ HasNotBegun (Ok done) = ⊥
 HasNotBegun (Err fault) = IsKeptFault fault
 
 -- the settings of a live run are those of its file, and this is answered of it
-pub record HasRunWith (begins : Settings → List ℕ → Origin → Type 0) (text : List ℕ)
+pub record HasRunWith (begins : Settings → Origin → Type 0) (text : List ℕ)
     (wishes : Wishes) (answer : Result (Unit {0}) Fault) : Type 0 where
   pub settings : Settings
   pub places : LiveSettings
   pub are : IsLiveReadOfText text (Ok (settings, places))
   pub came : HasNotBegun answer
-      ⊎ IsOver (begins settings text) settings places wishes answer
+      ⊎ IsOver (begins settings) settings places wishes answer
 
 -- or the file is refused by the first fault, and nothing is run
 abbrev pub IsRefused : List ℕ → Result (Unit {0}) Fault → Type 0
 IsRefused text (Ok done) = ⊥
 IsRefused text (Err fault) = IsLiveConfigFault text fault
 
-abbrev pub HasRunBy : (begins : Settings → List ℕ → Origin → Type 0) → List ℕ → Wishes
+abbrev pub HasRunBy : (begins : Settings → Origin → Type 0) → List ℕ → Wishes
     → Result (Unit {0}) Fault → Type 0
 HasRunBy begins text wishes answer = HasRunWith begins text wishes answer ⊎ IsRefused text answer

@@ -163,8 +163,8 @@ impl Host for System<'_> {
     ghost use Rattle.state.specs.Directories.{BeginsIn};
     ghost use Rattle.telegate.specs.Ran.{HasRunBy};
 
-    ghost ran = { λ old _ text wishes ended. HasRunBy (λ settings kept. BeginsIn
-        ⟦<DiskFile as Disk>⟧ settings kept old.lineage.entries) text wishes ended };
+    ghost ran = { λ old _ text wishes ended. HasRunBy (λ settings. BeginsIn
+        ⟦<DiskFile as Disk>⟧ settings old.lineage.entries) text wishes ended };
 
     ghost use Rattle.telegate.specs.Playing.{ArePlayedBy};
 

@@ -113,15 +113,15 @@ pub fn what_is_said_keeps_its_name()
 /// connect. Where its state was kept it bore the loss of that if that was wished.
 #[tactic(auto, using(crate::proofs::RanLemmas::as_wished, crate::proofs::RanLemmas::bears_as_wished))]
 pub fn runs_are_as_they_were_wished<T: RunSite>()
-    ensures all { (c : Settings) (text : List ℕ) (w : Wishes) (old new : Asked) (left : RunLeft)
+    ensures all { (c : Settings) (w : Wishes) (old new : Asked) (left : RunLeft)
         (ended : Result (Unit {0}) DeviceFailed) →
-        HasLivedAs (BeginsIn T.Folder.File.Disk c text old.lineage) c w old new left ended →
+        HasLivedAs (BeginsIn T.Folder.File.Disk c old.lineage) c w old new left ended →
         (left.book.is_wished ≡ w.log) × (left.pen.is_wished ≡ w.record)
         × (left.book.is_watching ≡ is_some w.status) × (left.is_shown ≡ is_some w.status)
         × (left.port.allow_list ≡ w.allow_list) }
-    ensures bears { (c : Settings) (text : List ℕ) (w : Wishes) (old new : Asked)
+    ensures bears { (c : Settings) (w : Wishes) (old new : Asked)
         (left : RunLeft) (ended : Result (Unit {0}) DeviceFailed) (directory : Bor Text) →
-        HasLivedAs (BeginsIn T.Folder.File.Disk c text old.lineage) c w old new left ended →
+        HasLivedAs (BeginsIn T.Folder.File.Disk c old.lineage) c w old new left ended →
         w.state ≡ Some directory →
         left.bears_loss ≡ Some w.bears_loss }
 {}
@@ -132,10 +132,10 @@ pub fn runs_are_as_they_were_wished<T: RunSite>()
 /// and one clock. The line was to be reached again where that was wished.
 #[tactic(auto, using(crate::proofs::RanLemmas::asked_as_wished))]
 pub fn runs_ask_for_the_places_of_their_settings<T: RunSite>()
-    ensures { (c : Settings) (text : List ℕ) (w : Wishes) (places : Places) (lineage : Log)
+    ensures { (c : Settings) (w : Wishes) (places : Places) (lineage : Log)
         (before : List SiteCall) (moments : List ℕ) (new : Asked) (left : RunLeft)
         (ended : Result (Unit {0}) DeviceFailed) →
-        HasLivedAs (BeginsIn T.Folder.File.Disk c text lineage) c w (record {
+        HasLivedAs (BeginsIn T.Folder.File.Disk c lineage) c w (record {
           places = places;
           lineage = lineage;
           calls = Some before;
@@ -173,15 +173,14 @@ pub fn each_log_begins_where_the_run_stands<S: Store>()
 
 /// Any number of lives, one behind another, are one run. The first one begins anew, and each is cut
 /// at some moment. The next one begins over what the crash leaves of the files, with the same
-/// settings. Then its gateway follows the log of all lives before: with what had passed when the
-/// newest log was begun, with the events that were synced behind that, and with the oldest of those
-/// that waited. So what `run_kept` promises of all lives together holds of each life.
+/// settings, whatever else their files say. Then its gateway follows the log of all lives before:
+/// with what had passed when the newest log was begun, with the events that were synced behind
+/// that, and with the oldest of those that waited. So what `run_kept` promises of all lives
+/// together holds of each life.
 pub fn all_lives_are_one_run<S: Store, D: Disk>()
-    ensures lives { (c : Settings) (text : List ℕ) (origin : Origin) →
-        IsLastOfLives S D.Disk c text origin →
+    ensures lives { (c : Settings) (origin : Origin) → IsLastOfLives S D.Disk c origin →
         IsUpTo (setup_of c) origin.before.entries origin.gateway }
-    ensures next { (c : Settings) (text : List ℕ) (this next : Origin)
-        (b : ComesBehind S D.Disk c text this next) →
+    ensures next { (c : Settings) (this next : Origin) (b : ComesBehind S D.Disk c this next) →
         IsUpTo (setup_of c) this.before.entries this.gateway →
         HasReturned c (b.head.1 ++ this.before.entries) b.deeds next }
 {

@@ -276,7 +276,7 @@ pub(crate) fn run_at<T: RunSite>(
     // before the next one came.
     ensures lived { IfOk result (λ over. IfOver over
         (λ anew. HasLivedAs
-        (BeginsIn T.Folder.File.Disk config.now text.now (T.asked site.old).lineage)
+        (BeginsIn T.Folder.File.Disk config.now (T.asked site.old).lineage)
         config.now wishes.entry (T.asked site.old) (T.asked site.new) (record {
           before = anew.run_log.port.before.entries;
           port = anew.run_log.port.port.port;
@@ -286,7 +286,7 @@ pub(crate) fn run_at<T: RunSite>(
           bears_loss = None;
         }) anew.ended)
         (λ kept. HasLivedAs (λ origin.
-        BeginsIn T.Folder.File.Disk config.now text.now (T.asked site.old).lineage origin
+        BeginsIn T.Folder.File.Disk config.now (T.asked site.old).lineage origin
         × HasServedOn origin (in_life kept.run_log.port.before.entries kept.run_log.port.port.pen
         kept.run_log.port.port.port) kept.run_log.logger (shown_to kept.lookout) kept.ended)
         config.now wishes.entry (T.asked site.old) (T.asked site.new) (record {
@@ -413,7 +413,7 @@ fn run_kept<T: RunSite>(
 ) -> Result<Lived<Kept<T>, T::Sheet, T::Sink, T::Glass>, Fault>
     // It went on from what the directory had, and all looked behind each of its events.
     ensures lived { IfOk result (λ lived. HasLivedFrom (λ origin.
-        BeginsIn T.Folder.File.Disk config.now text.now (T.asked site.old).lineage origin
+        BeginsIn T.Folder.File.Disk config.now (T.asked site.old).lineage origin
         × HasServedOn origin (in_life lived.run_log.port.before.entries
         lived.run_log.port.port.pen lived.run_log.port.port.port) lived.run_log.logger
         (shown_to lived.lookout) lived.ended) config.now wishes.entry.allow_list
@@ -491,7 +491,7 @@ fn begun_in<T: RunSite>(
     directory: &str,
     logger: &mut Logger<T::Sink>,
 ) -> Result<Begun<T::Folder>, Fault>
-    ensures begun { IfOk result (λ b. IsBegun config.now text.now (T.asked site.old).lineage
+    ensures begun { IfOk result (λ b. IsBegun config.now (T.asked site.old).lineage
         (T.Folder.mark b.store.folder) b.store.opened b.origin) }
     ensures settings { IfOk result (λ b. b.store.settings.items ≡ text.now) }
     ensures logged { IfOk result (λ b. LogsBeginning b.origin logger.old logger.new) }

@@ -19,13 +19,13 @@ returns-in-Anew-clause-begun g c =
     of_four c.anew.result c.anew.ensures.new c.anew.ensures.moment c.anew.ensures.beginning
     c.anew.ensures.store
     (λ b new moment is store.
-    subst (λ s. IsBegun {D = _} {g = g.F.File.Disk} c.args.config.now c.args.text.now
+    subst (λ s. IsBegun {D = _} {g = g.F.File.Disk} c.args.config.now
     (g.F.Folder.lineage c.args.folder) (g.F.Folder.mark s.folder) s.opened b.origin)
     (sym store)
-    (subst (λ o. IsBegun {D = _} {g = g.F.File.Disk} c.args.config.now c.args.text.now
+    (subst (λ o. IsBegun {D = _} {g = g.F.File.Disk} c.args.config.now
     (g.F.Folder.lineage c.args.folder) (g.F.Folder.mark c.with_files.result.folder) o b.origin)
     (sym c.with_files.ensures.opened)
-    (anew_begun c.args.config.now c.args.text.now (g.F.Folder.lineage c.args.folder) _ _ _ b.origin
+    (anew_begun c.args.config.now (g.F.Folder.lineage c.args.folder) _ _ _ b.origin
     new moment is
     (λ one other.
     let newest = c.into_files-newest.ensures.newest in

@@ -1,4 +1,4 @@
-use Rattle.std.proofs.Common.{inl, inr, List, Some, ℕ, ◌∙◌, ap, sym, subst}
+use Rattle.std.proofs.Common.{inl, inr, Some, ◌∙◌, ap, sym, subst}
 use Rattle.std.specs.Option.{is_some}
 use Rattle.state.specs.Beginnings.{AreLinesRead, GoesOnFrom, has_past, is_trusted}
 use Rattle.state.specs.declared.beginning.Origin.{Origin}
@@ -10,7 +10,7 @@ pub returns-in-Ok-clause-begun : goal.returns-in-Ok-clause-begun
 returns-in-Ok-clause-begun g c =
     let is = c.origin_of.ensures in
     let folder = c.with_files.ensures.folder ∙ c.new-store.ensures.folder in
-    begun_from c.args.config.now c.args.settings.items (g.F.Folder.lineage c.args.folder)
+    begun_from c.args.config.now (g.F.Folder.lineage c.args.folder)
     (g.F.Folder.mark c.with_files.result.folder)
     c.with_files.result.opened c.into_files-newest.result.0 c.into_files-newest.result.1
     c.resume.new.start.newest
@@ -37,14 +37,9 @@ returns-in-Ok-clause-begun g c =
           (subst AreLinesRead c.resume.ensures.seen read))
     ])
     (λ clean. subst (λ (o : Origin). GoesOnFrom c.in_ok-goes_on.goes_on c.args.config.now
-    c.args.settings.items (g.F.Folder.lineage c.args.folder)
-    (g.F.File.Disk.seen c.resume.new.start.newest) o.is_moved o.gap o.before.entries o.gateway)
-    (sym is)
-    (subst (λ (text : List ℕ). GoesOnFrom c.in_ok-goes_on.goes_on c.args.config.now text
     (g.F.Folder.lineage c.args.folder)
-    (g.F.File.Disk.seen c.resume.new.start.newest) c.in-Ok.resumed.is_moved c.in-Ok.resumed.gap
-    c.in-Ok.resumed.before.entries c.in-Ok.resumed.gateway) c.deref.ensures.value
-    (c.in-Ok.ensures.goes_on clean)))
+    (g.F.File.Disk.seen c.resume.new.start.newest) o.is_moved o.gap o.before.entries o.gateway)
+    (sym is) (c.in-Ok.ensures.goes_on clean))
 
 pub returns-in-Ok-clause-numbered : goal.returns-in-Ok-clause-numbered
 returns-in-Ok-clause-numbered g c =
@@ -63,7 +58,7 @@ returns-in-Ok-clause-numbered g c =
 pub put_aside-requires : goal.put_aside-requires
 put_aside-requires g c = record {
   locked = c.requires.locked;
-  unread = unread_from g.F.File.Disk c.args.config.now c.args.settings.items c.deref.result.now
+  unread = unread_from g.F.File.Disk
       c.into_files-newest-in-Err-Wrong.result.0 c.into_files-newest-in-Err-Wrong.result.1
       c.resume.new.start.newest c.args.start.newest c.args.start.other c.args.start.checkpoint
       c.args.start.at c.into_files-newest-in-Err-Wrong.ensures.newest
@@ -71,7 +66,7 @@ put_aside-requires g c = record {
       ∙ c.may_go_on.ensures.other)
       (c.resume.ensures.seen ∙ c.may_go_on.ensures.seen)
       (λ clean. c.may_go_on.ensures.clean (c.resume.ensures.clean clean)) c.requires.found
-      c.args.start.stands c.requires.backed c.deref.ensures.value
+      c.args.start.stands c.requires.backed
       (λ some. c.in-Err-Wrong.ensures.wrong c.in-Err-Wrong.field-0-is
       (ap is_some c.may_go_on.ensures.taken ∙ some));
 }

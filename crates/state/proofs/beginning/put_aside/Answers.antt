@@ -7,7 +7,7 @@ pub put_aside-requires : goal.put_aside-requires
 put_aside-requires g c = record {
   locked = search rules;
   marked = search rules;
-  unread = (c.args.config.now, c.args.settings.items, c.requires.unread);
+  unread = c.requires.unread;
 }
 
 pub returns-clause-numbered : goal.returns-clause-numbered

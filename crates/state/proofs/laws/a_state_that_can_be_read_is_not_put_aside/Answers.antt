@@ -10,6 +10,6 @@ returns-clause-shut g c = shut_not_aside
 pub returns-clause-put : goal.returns-clause-put
 returns-clause-put g c = λ folder wanted text head body state was clean clean' fits found says
     octets
-    read savable own all. not_aside wanted text (g.F.File.Disk.seen was.newest)
-    (g.F.File.Disk.seen was.other) head body state fits found says octets read savable own all
+    read savable all. not_aside wanted text (g.F.File.Disk.seen was.newest)
+    (g.F.File.Disk.seen was.other) head body state fits found says octets read savable all
     (was.unread clean clean')

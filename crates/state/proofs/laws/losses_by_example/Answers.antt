@@ -1,4 +1,4 @@
-use Rattle.std.proofs.Common.{refl, ap, Bool, Some, if◌then◌else◌}
+use Rattle.std.proofs.Common.{ap, Bool, Some, if◌then◌else◌}
 use Rattle.std.proofs.lemmas.Bool.{lt-ltb}
 use Rattle.live.specs.declared.watched.Failure.TheVariants as failures
 use Rattle.state.proofs.laws.losses_by_example.Goals as goal

@@ -8,9 +8,8 @@ use Rattle.state.proofs.looking.see.Goals as goal
 pub returns-in_err-opening-clause-wrong : goal.returns-in_err-opening-clause-wrong
 returns-in_err-opening-clause-wrong g c =
     err_of _ c.from_residual.result c.in_err-opening.field-0.0 c.from_residual.ensures.1
-    (λ wrong some by text state. c.in_err-opening.ensures.wrong wrong some (c.requires.honest _) by
-    text
-    (subst (HasState by text) (sym (ap (λ d. g.D.Disk.seen d) c.read_opening.ensures.newest))
+    (λ wrong some state. c.in_err-opening.ensures.wrong wrong some (c.requires.honest _)
+    (subst HasState (sym (ap (λ d. g.D.Disk.seen d) c.read_opening.ensures.newest))
     state))
 
 pub returns-clause-wrong : goal.returns-clause-wrong
@@ -18,8 +17,8 @@ returns-clause-wrong g c =
     let lines : List (List ℕ) =
     lines_in (drop c.in_ok-opening.opening.lines.at c.in_ok-opening.opening.lines.text.items) in
     if_err_map c.see_behind.result c.see_behind.ensures.wrong
-    (λ fault none wrong some by text state.
-    other_wrong by text (g.D.Disk.seen c.args.start.now.newest) c.read_opening.new.start.at
+    (λ fault none wrong some state.
+    other_wrong (g.D.Disk.seen c.args.start.now.newest) c.read_opening.new.start.at
     c.in_ok-opening.opening.settings.items lines
     (subst (λ d. IsHeadOf (g.D.Disk.seen d) c.read_opening.new.start.at
     c.in_ok-opening.opening.settings.items lines) c.read_opening.ensures.newest

@@ -1,10 +1,11 @@
-use Rattle.std.proofs.Common.{◌≡◌, List, ℕ, Ok, ap₂, drop, subst}
+use Rattle.std.proofs.Common.{◌≡◌, List, ℕ, Ok, ap₂, drop, subst, sym}
 use Rattle.segments.specs.Starts.{before_zero}
 use Rattle.settings.specs.Settings.{IsReadOfText}
 use Rattle.statetext.specs.Text.{lines_in}
 use Rattle.state.specs.Beginnings.{IsRead}
 use Rattle.state.specs.Replays.{whole_lines}
 use Rattle.state.specs.Sights.{AreCounted}
+use Rattle.state.proofs.UnreadLemmas.{err_of}
 use Rattle.state.proofs.looking.see_behind.Goals as goal
 
 pub returns-clause-log : goal.returns-clause-log
@@ -21,15 +22,27 @@ returns-clause-log g c =
       begins = c.args.start.now.at;
       lines = lines;
       head = c.requires.head;
-      wrote = c.in-Ok.wrote;
-      readable = subst (λ (text : List ℕ). IsReadOfText text (Ok c.in-Ok.wrote))
-          c.deref.ensures.value c.in-Ok.ensures;
+      wrote = c.in_ok-wrote.wrote;
+      readable = subst (λ (text : List ℕ). IsReadOfText text (Ok c.in_ok-wrote.wrote))
+          c.deref.ensures.value c.in_ok-wrote.ensures.read;
       counted = subst (λ (events : List ℕ). AreCounted (whole_lines events)
           c.in_ok-count.count.logged c.in_ok-count.count.all) same c.in_ok-count.ensures.counted;
       gap = c.in_ok-resumed.resumed.gap;
       whole = c.in_ok-resumed.resumed.before.entries;
-      read = subst (λ (events : List ℕ). IsRead c.in-Ok.wrote g.K.Lineage.log lines events
+      read = subst (λ (events : List ℕ). IsRead c.in_ok-wrote.wrote g.K.Lineage.log lines events
           c.in_ok-resumed.resumed.gap c.in_ok-resumed.resumed.before.entries
           c.in_ok-resumed.resumed.gateway) same
           (c.in_ok-resumed.ensures.read (c.requires.honest _));
     }
+
+pub returns-in_err-wrote-clause-wrong : goal.returns-in_err-wrote-clause-wrong
+returns-in_err-wrote-clause-wrong g c =
+    err_of _ c.from_residual.result c.in_err-wrote.field-0.0 c.from_residual.ensures.1
+    (λ wrong wrote read states. c.in_err-wrote.ensures.wrong wrong wrote
+    (subst (λ (text : List ℕ). IsReadOfText text (Ok wrote)) (sym c.deref.ensures.value) read))
+
+pub returns-in_err-count-clause-wrong : goal.returns-in_err-count-clause-wrong
+returns-in_err-count-clause-wrong g c =
+    err_of _ c.from_residual-in_err-count.result c.in_err-count.field-0.0
+    c.from_residual-in_err-count.ensures.1
+    (λ wrong wrote read states. c.in_err-count.ensures.fault wrong)

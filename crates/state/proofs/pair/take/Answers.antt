@@ -1,4 +1,4 @@
-use Rattle.std.proofs.Common.{rules, ◌≡◌, ◌∙◌, ◌≤◌, length, sym}
+use Rattle.std.proofs.Common.{rules, ◌∙◌, ◌≤◌, length, sym}
 use Rattle.std.specs.List.{AllByRecursion}
 use Rattle.gateway.specs.Ports.{logged_by}
 use Rattle.traces.specs.Printed.{IsPrintable}

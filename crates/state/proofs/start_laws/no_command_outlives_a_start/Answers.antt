@@ -1,4 +1,3 @@
-use Rattle.gateway.proofs.Carrying.{IsForOne}
 use Rattle.state.proofs.Begins.{gives_up}
 use Rattle.state.proofs.start_laws.no_command_outlives_a_start.Goals as goal
 

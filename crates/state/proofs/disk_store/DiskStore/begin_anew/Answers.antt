@@ -1,4 +1,3 @@
-use Rattle.std.proofs.Common.{◌≡◌, Some, true, false}
 use Rattle.state.proofs.Beside.{left_opened}
 use Rattle.state.proofs.disk_store.DiskStore.begin_anew.Goals as goal
 

@@ -1,4 +1,4 @@
-use Rattle.std.proofs.Common.{◌≡◌, subst, Some, true, false}
+use Rattle.std.proofs.Common.{subst}
 use Rattle.state.specs.Logs.{WasOpen}
 use Rattle.state.proofs.Beside.{left_open}
 use Rattle.state.proofs.disk_store.DiskStoreStore.begin.Goals as goal

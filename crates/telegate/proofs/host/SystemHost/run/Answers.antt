@@ -49,7 +49,7 @@ returns-in-Ok-Anew c =
         };
         ended = run.ended;
         lived = begins_weaker _ _ _ _ _ _ _ _ lived
-            (λ o begun. begins_by _ _ _ _ _ o same begun);
+            (λ o begun. begins_by _ _ _ _ o same begun);
         answered = c.answer_to.ensures;
       });
     })
@@ -82,7 +82,7 @@ returns-in-Ok-Kept c =
         };
         ended = run.ended;
         lived = begins_weaker _ _ _ _ _ _ _ _ lived
-            (λ o begun. begins_by _ _ _ _ _ o same begun.0);
+            (λ o begun. begins_by _ _ _ _ o same begun.0);
         answered = c.answer_to-in-Ok-Kept.ensures;
       });
     })
