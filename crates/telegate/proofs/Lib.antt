@@ -28,3 +28,9 @@ pub mod RanLemmas
 pub mod CaptureLemmas
 pub mod PlayLemmas
 pub mod StoodLemmas
+pub mod AuditLaw
+pub mod FileLaw
+pub mod PipeLaw
+pub mod ClockLaw
+pub mod AllowLaw
+pub mod CheckLaw

@@ -136,7 +136,7 @@ bears_as_wished begins settings wishes old new left ended directory h named =
     kept.bears
 
 -- each call that is asked for is noted
-all_noted : (again : Bool) (moment : ℕ) (state status : Option (Bor Text)) (places : Places)
+pub all_noted : (again : Bool) (moment : ℕ) (state status : Option (Bor Text)) (places : Places)
     (lineage : Log) (before : List SiteCall) (moments : List ℕ)
     → let a : Asked = ends_asked again moment (asked_for (call_if StateIn state)
     (scribes_asked status (record {

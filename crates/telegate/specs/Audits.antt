@@ -2,6 +2,8 @@
 use Rattle.std.specs.Prelude.{◌≡◌, ℕ, codes, List, [], ◌∷◌, ◌++◌, Result, Ok, Err, MatchResult}
 use Rattle.std.specs.Fmt.{decimal}
 use Rattle.record.specs.Audit.{IsAudit, IsWrongLine}
+use Rattle.record.specs.Law.{IsOtherRun, IsSameRun}
+use Rattle.record.specs.Lines.{whole_lines}
 use Rattle.record.specs.declared.audit.RecordFault.{RecordFault}
 use Rattle.record.specs.declared.audit.RecordFault.TheVariants as faults
 use Rattle.record.specs.declared.audit.Comparison.{Comparison}
@@ -41,6 +43,23 @@ pub record IsAuditAnswer (config : List ℕ) (has : List ℕ → Type 0) (answer
   pub is : has text
   pub audited : IsAudit settings text comparison
   pub answered : IsComparisonAnswer comparison answer
+
+-- The answer tells that the run begins with the lines of this text, and its counts.
+pub record TellsSame (config text : List ℕ) (answer : CommandAnswer) : Type 0 where
+  pub settings : Settings
+  pub events : ℕ
+  pub actions : ℕ
+  pub read : IsReadOfText config (Ok settings)
+  pub same : IsSameRun settings (whole_lines text) events actions
+  pub told : answer.text.items ≡ comparison_line (Same events actions)
+
+-- It tells at which line the run differs first from those of this text.
+pub record TellsOther (config text : List ℕ) (answer : CommandAnswer) : Type 0 where
+  pub settings : Settings
+  pub number : ℕ
+  pub read : IsReadOfText config (Ok settings)
+  pub other : IsOtherRun settings (whole_lines text) number
+  pub told : answer.text.items ≡ comparison_line (Differs number)
 
 -- why a command stops whose record has no comparison
 abbrev pub fault_of_lem : RecordFault → Fault

@@ -37,6 +37,17 @@ IsShownAs piped words octets (Some shown) =
     (xs : List ℕ) × (octets ≡ Some xs)
     × AreFrames piped words xs (string_bytes shown.lines) shown.condition
 
+-- a line whose octets are frames, each as it should be
+abbrev pub IsGoodLine : Piped → (words : Bool) → (line : List ℕ) → Type 0
+IsGoodLine piped words line = (octets : List ℕ) × (text : List ℕ)
+    × (octets_in line ≡ Some octets) × AreFrames piped words octets text Good
+
+-- a line that is no octets, or whose frames aren't all as they should be
+abbrev pub IsFaultyLine : Piped → (words : Bool) → (line : List ℕ) → Type 0
+IsFaultyLine piped words line = (octets_in line ≡ None)
+    ⊎ ((octets : List ℕ) × (text : List ℕ)
+    × (octets_in line ≡ Some octets) × AreFrames piped words octets text Faulty)
+
 -- it was added behind a text, and judged with what is there
 pub record IsAdded (piped : Piped) (words : Bool) (octets : Option (List ℕ))
     (old new : List ℕ) (condition later : Condition) : Type 0 where

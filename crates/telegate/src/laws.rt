@@ -1,6 +1,6 @@
 //! What of a run's ends is seen by its log and by its page, and what is said of a run.
-ghost use Rattle.std.specs.Prelude.{◌≡◌, ◌<◌, ◌+◌, ◌||◌, ◌∷◌, ◌++◌, ℕ, List, not, Some};
-ghost use Rattle.std.specs.Prelude.{Bool, Result, true};
+ghost use Rattle.std.specs.Prelude.{◌≡◌, ◌⊎◌, ◌<◌, ◌+◌, ◌||◌, ◌∷◌, ◌++◌, ℕ, List, not};
+ghost use Rattle.std.specs.Prelude.{Bool, None, Result, Some, true};
 ghost use Rattle.std.specs.Borrow.{Bor};
 ghost use Rattle.std.specs.Option.{is_some, option_or};
 ghost use Rattle.clap.specs.Words.{Text};
@@ -44,7 +44,7 @@ use gateway::steps_leave_nothing_open;
 use live::{LineSocket, OctetStream, RunPort, Watched};
 use record::Recorder;
 use sqlite_disk::Disk;
-use state::Store;
+use state::{Beginning, Store};
 
 /// The line of the program.
 type ProgramLine = SystemLine<'static, HostRuntime>;
@@ -145,6 +145,37 @@ pub fn runs_ask_for_the_places_of_their_settings<T: RunSite>()
         ∷ ListenAt places.listen true
         ∷ call_if StateIn w.state ++ RecordAt ∷ call_if StatusAt w.status ++ LogAt ∷ before))
         × (new.clocks ≡ Some (moment ∷ moments)) }
+{}
+
+/// The clock of a live run begins where its gateway stands: at 0 where it begins anew, and where it
+/// goes on at the moment of the gateway that it goes on with. So no timer of that stands still for
+/// as long as the lives before have lasted. What passed in these is what that gateway begins with.
+#[tactic(auto, using(crate::proofs::ClockLaw::clocked_anew, crate::proofs::ClockLaw::clocked_kept))]
+pub fn the_clock_of_a_run_begins_where_its_gateway_stands<T: RunSite>()
+    ensures anew { (c : Settings) (text : List ℕ) (w : Wishes) (places : Places) (lineage : Log)
+        (before : List SiteCall) (moments : List ℕ) (new : Asked) (left : RunLeft)
+        (ended : Result (Unit {0}) DeviceFailed) →
+        HasLivedAs (BeginsIn T.Folder.File.Disk c text lineage) c w (record {
+          places = places;
+          lineage = lineage;
+          calls = Some before;
+          clocks = Some moments;
+        }) new left ended → w.state ≡ None → new.clocks ≡ Some (0 ∷ moments) }
+    ensures kept { (c : Settings) (text : List ℕ) (w : Wishes) (places : Places) (lineage : Log)
+        (before : List SiteCall) (moments : List ℕ) (new : Asked) (left : RunLeft)
+        (ended : Result (Unit {0}) DeviceFailed) (directory : Bor Text) →
+        HasLivedAs (BeginsIn T.Folder.File.Disk c text lineage) c w (record {
+          places = places;
+          lineage = lineage;
+          calls = Some before;
+          clocks = Some moments;
+        }) new left ended → w.state ≡ Some directory →
+        (o : Origin) × BeginsIn T.Folder.File.Disk c text lineage o
+        × (left.before ≡ o.before.entries)
+        × ((o.beginning ≡ Beginning.GoesOn) ⊎ (o.beginning ≡ Beginning.LinksReset) →
+        new.clocks ≡ Some (o.gateway.moment ∷ moments))
+        × ((o.beginning ≡ Beginning.Anew) ⊎ (o.beginning ≡ Beginning.PutAside) →
+        new.clocks ≡ Some (0 ∷ moments)) }
 {}
 
 /// Behind each event of a run, before the next one comes, all look at its gateway once: the port

@@ -20,8 +20,10 @@
 //! of faults, are tested.
 #![tactic(auto)]
 
+mod allow_laws;
 mod allow_list;
 mod answer;
+mod answer_laws;
 mod asking;
 mod auditing;
 mod capturing;
@@ -55,6 +57,7 @@ mod site;
 mod source;
 mod stood;
 mod wishes;
+mod word_laws;
 
 use fault::{Fault, USAGE};
 use gateway::History;
