@@ -1,7 +1,8 @@
 //! What the lines of a state mean.
 ghost use Rattle.std.specs.Prelude.{◌≡◌, ◌≢◌, ◌+◌, ◌<◌, ◌≤◌, ℕ, Bool, List, [], ◌∷◌, ◌++◌, None};
-ghost use Rattle.std.specs.Prelude.{Option, Some, codes, false, length, true};
+ghost use Rattle.std.specs.Prelude.{Ok, Option, Some, codes, false, length, true};
 ghost use Rattle.std.specs.Fmt.{decimal};
+ghost use Rattle.gateway.specs.Config.{Settings};
 ghost use Rattle.gateway.specs.State.{State};
 ghost use Rattle.gateway.specs.declared.walls.Wall.{Wall};
 ghost use Rattle.link.specs.Carried.{awaits_command};
@@ -13,6 +14,7 @@ ghost use Rattle.link.specs.declared.service.Service.TheVariants.{Class1, Class2
 ghost use Rattle.link.specs.declared.turn.StationState.{StationState};
 ghost use Rattle.runlog.specs.Logging.{taken_in};
 ghost use Rattle.segments.specs.declared.start.Side.TheVariants.{Db, Log};
+ghost use Rattle.settings.specs.Settings.{IsReadOfText};
 ghost use Rattle.state.specs.declared.looking.Seen.{Seen};
 ghost use Rattle.state.specs.declared.looking.Sight.{Sight};
 ghost use Rattle.state.specs.declared.start.Beginning.{Beginning};
@@ -42,21 +44,24 @@ pub fn the_first_lines_say_how_a_run_begins()
 {}
 
 /// What is said of a log, of every one. If no log counts, nothing stands behind the first lines.
-/// Else come a line where the given settings aren't those of the log, octet by octet, and how many
+/// Else come a line where the given settings aren't those of the log, value by value, and how many
 /// places of the queue are taken. The number of the segment, its file and its events follow, and a
 /// line where not all lines can be read. Then come the gateway, and last the settings as they are.
 pub fn a_log_is_told_whole()
     ensures none { (is_held is_stale : Bool) (given : Option (List ℕ)) (o : Sight)
         (text : List ℕ) → o.seen ≡ None → IsStateText is_held is_stale given o text →
         text ≡ beginning_lines is_held is_stale o.beginning }
-    ensures same { (is_held is_stale : Bool) (o : Sight) (s : Seen) (text : List ℕ) →
-        o.seen ≡ Some s → IsStateText is_held is_stale (Some s.settings.items) o text →
+    ensures same { (is_held is_stale : Bool) (given : List ℕ) (o : Sight) (s : Seen)
+        (text : List ℕ) → o.seen ≡ Some s →
+        (c : Settings) → IsReadOfText given (Ok c) → IsReadOfText s.settings.items (Ok c) →
+        IsStateText is_held is_stale (Some given) o text →
         text ≡ beginning_lines is_held is_stale o.beginning ++ rest_of_log s }
     ensures ungiven { (is_held is_stale : Bool) (o : Sight) (s : Seen) (text : List ℕ) →
         o.seen ≡ Some s → IsStateText is_held is_stale None o text →
         text ≡ beginning_lines is_held is_stale o.beginning ++ rest_of_log s }
     ensures moved { (is_held is_stale : Bool) (given : List ℕ) (o : Sight) (s : Seen)
-        (text : List ℕ) → o.seen ≡ Some s → given ≢ s.settings.items →
+        (text : List ℕ) → o.seen ≡ Some s →
+        ((c : Settings) → IsReadOfText given (Ok c) → IsReadOfText s.settings.items (Ok c) → ⊥) →
         IsStateText is_held is_stale (Some given) o text →
         text ≡ beginning_lines is_held is_stale o.beginning
         ++ line (codes "state: settings have changed") ++ rest_of_log s }
