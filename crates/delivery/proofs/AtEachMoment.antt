@@ -443,9 +443,11 @@ module _ (p : Setup) where
               ∙ laws.octets_report p.link p.addresses q e octets
               (joins laws stay p set log c r acts).matches),
         )
-    grows log now (TcpIn octets) c r acts =
-        ([], timed log (latest (Came now (TcpIn octets) ∷ log)) (Came now (TcpIn octets) ∷ log)
-        refl)
+    grows log now (TcpIn octets) c r acts = (
+      [],
+      timed log (latest (Came now (TcpIn octets) ∷ log)) (Came now (TcpIn octets) ∷ log)
+          refl,
+    )
     grows log now Ticked c r acts =
         ([], timed log (latest (Came now Ticked ∷ log)) (Came now Ticked ∷ log) refl)
     grows log now (WallIs number) c r acts = (
