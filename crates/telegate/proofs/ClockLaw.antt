@@ -82,24 +82,24 @@ clocked_anew begins settings wishes places lineage before moments new left ended
     (of_none begins settings wishes places lineage before moments new left ended h none).asked
 
 -- one whose state is kept
-pub clocked_kept : {E D : Type 0} (g : Ghosts D) (settings : Settings) (text : List ℕ)
-    (wishes : Wishes) (places : Places) (lineage : Log) (before : List SiteCall)
+pub clocked_kept : {E D : Type 0} (g : Ghosts D) (settings : Settings) (wishes : Wishes)
+    (places : Places) (lineage : Log) (before : List SiteCall)
     (moments : List ℕ) (new : Asked) (left : RunLeft) (ended : Result (Unit {0}) E)
-    (directory : Bor Text) → HasLivedAs (BeginsIn g settings text lineage) settings wishes (record {
+    (directory : Bor Text) → HasLivedAs (BeginsIn g settings lineage) settings wishes (record {
       places = places;
       lineage = lineage;
       calls = Some before;
       clocks = Some moments;
     }) new left ended → wishes.state ≡ Some directory
-    → (o : Origin) × BeginsIn g settings text lineage o × (left.before ≡ o.before.entries)
+    → (o : Origin) × BeginsIn g settings lineage o × (left.before ≡ o.before.entries)
     × ((o.beginning ≡ beginnings.GoesOn) ⊎ (o.beginning ≡ beginnings.LinksReset)
     → new.clocks ≡ Some (o.gateway.moment ∷ moments))
     × ((o.beginning ≡ beginnings.Anew) ⊎ (o.beginning ≡ beginnings.PutAside)
     → new.clocks ≡ Some (0 ∷ moments))
 unfolding was By
-clocked_kept {E} {D} g settings text wishes places lineage before moments new left ended directory h
+clocked_kept {E} {D} g settings wishes places lineage before moments new left ended directory h
     named =
-    let begins : Origin → Type 0 = BeginsIn g settings text lineage in
+    let begins : Origin → Type 0 = BeginsIn g settings lineage in
     let k = of_some begins settings wishes places lineage before moments new left ended directory h
     named in
     let o = k.lived.origin in

@@ -152,25 +152,25 @@ pub fn runs_ask_for_the_places_of_their_settings<T: RunSite>()
 /// as long as the lives before have lasted. What passed in these is what that gateway begins with.
 #[tactic(auto, using(crate::proofs::ClockLaw::clocked_anew, crate::proofs::ClockLaw::clocked_kept))]
 pub fn the_clock_of_a_run_begins_where_its_gateway_stands<T: RunSite>()
-    ensures anew { (c : Settings) (text : List ℕ) (w : Wishes) (places : Places) (lineage : Log)
+    ensures anew { (c : Settings) (w : Wishes) (places : Places) (lineage : Log)
         (before : List SiteCall) (moments : List ℕ) (new : Asked) (left : RunLeft)
         (ended : Result (Unit {0}) DeviceFailed) →
-        HasLivedAs (BeginsIn T.Folder.File.Disk c text lineage) c w (record {
+        HasLivedAs (BeginsIn T.Folder.File.Disk c lineage) c w (record {
           places = places;
           lineage = lineage;
           calls = Some before;
           clocks = Some moments;
         }) new left ended → w.state ≡ None → new.clocks ≡ Some (0 ∷ moments) }
-    ensures kept { (c : Settings) (text : List ℕ) (w : Wishes) (places : Places) (lineage : Log)
+    ensures kept { (c : Settings) (w : Wishes) (places : Places) (lineage : Log)
         (before : List SiteCall) (moments : List ℕ) (new : Asked) (left : RunLeft)
         (ended : Result (Unit {0}) DeviceFailed) (directory : Bor Text) →
-        HasLivedAs (BeginsIn T.Folder.File.Disk c text lineage) c w (record {
+        HasLivedAs (BeginsIn T.Folder.File.Disk c lineage) c w (record {
           places = places;
           lineage = lineage;
           calls = Some before;
           clocks = Some moments;
         }) new left ended → w.state ≡ Some directory →
-        (o : Origin) × BeginsIn T.Folder.File.Disk c text lineage o
+        (o : Origin) × BeginsIn T.Folder.File.Disk c lineage o
         × (left.before ≡ o.before.entries)
         × ((o.beginning ≡ Beginning.GoesOn) ⊎ (o.beginning ≡ Beginning.LinksReset) →
         new.clocks ≡ Some (o.gateway.moment ∷ moments))
