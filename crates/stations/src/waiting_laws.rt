@@ -120,11 +120,11 @@ pub fn late_answers_wait_until_they_are_due()
         old.stream ≡ Some stream → GivesLate now old new → IsGivenLate octets stream new }
 {}
 
-/// The requests are counted on, one by one, in their order. What becomes of each, and of its answer,
-/// is what the lines of the script with its number say, and nothing but the stations changes. The
-/// stations receive it as those before it have left them. The beginning of a request waits for the
-/// rest of it, however long it is. Octets that begin none are dropped with those behind them, and no
-/// whole request is left. The answers go out whole, each once, in their order.
+/// The requests are counted on, one by one, in their order. What becomes of each, and of its
+/// answer, is what the lines of the script with its number say. Nothing but the stations changes,
+/// and they receive it as those before it have left them. The beginning of a request waits for the
+/// rest of it, however long it is. Octets that begin none are dropped with those behind them, and
+/// no whole request is left. The answers go out whole, each once, in their order.
 pub fn requests_are_counted_on()
     ensures one { (old new : OutstationsState) (request : Frame) (back : Option (List ℕ)) →
         ComesBack old request back new → old.requests + 1 < 2 ^ 64 →
