@@ -8,6 +8,7 @@ ghost use Rattle.status.specs.Reading.{Has, HasColumns, HasGauges, HasSamples, H
 ghost use Rattle.status.specs.Reading.{InHtml, InJson, InLabel, ReadsAs, cells_of};
 ghost use Rattle.status.specs.Table as table;
 ghost use Rattle.status.specs.Table.{table_of};
+ghost use Rattle.status.specs.Typed.{HasFamilies, HasTypes, SaysVersion};
 ghost use Rattle.status.specs.Words.{escaped, listed, rows};
 ghost use Rattle.status.specs.declared.snapshot.Snapshot.{Snapshot};
 ghost use Rattle.status.specs.declared.snapshot.StationView.{StationView};
@@ -47,4 +48,17 @@ pub fn numbers_stand_under_their_names()
     ensures columns { (now : ℕ) (s : StationView) → HasColumns s (table.text_of_row now s) }
     ensures cells { (now : ℕ) (s : StationView) → Has (html.text_of_row now s) (cells_of s) }
     ensures gauges { (s : Snapshot) → HasGauges s (metrics_of s) }
+{}
+
+/// Table and page say the version, and so do the lines for Prometheus, which say the line's name
+/// too. The page's first line is marked by the judgement, and each row by how its station stands.
+pub fn each_page_says_its_version()
+    ensures { (s : Snapshot) → SaysVersion s }
+{}
+
+/// For Prometheus each number stands right behind the line of its type (text format 0.0.4): those
+/// of the stations one behind another, each once and in their order, with nothing between them.
+pub fn numbers_stand_behind_their_types()
+    ensures stations { (s : Snapshot) → HasFamilies s }
+    ensures gateway { (s : Snapshot) → HasTypes s }
 {}
