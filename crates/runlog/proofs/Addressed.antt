@@ -82,7 +82,7 @@ tail_of size fcb a asdu =
 abbrev pub length_of : LinkSize → (fcb : Bool) → (a : ℕ) → (asdu : List ℕ) → ℕ
 length_of size fcb a asdu = length (user size (command_control fcb) a asdu)
 
-address_is : (size : LinkSize) (a : ℕ) (r : Request) → address_of size (octets_of size a r) ≡ a
+pub address_is : (size : LinkSize) (a : ℕ) (r : Request) → address_of size (octets_of size a r) ≡ a
 address_is One a request.Status = refl
 address_is One a request.Reset = refl
 address_is One a (request.Counted fcb service.Class1) = refl

@@ -1,6 +1,6 @@
 //! Laws of the station that answers, commands and mishaps are noted of, of what passes a run that
 //! is watched, of APDUs that come in a step, and of how a run ends.
-ghost use Rattle.std.specs.Prelude.{◌≡◌, ◌≢◌, ℕ, ◌+◌, ◌%◌, ◌<◌, ◌≤◌, Bool, List, ◌∷◌, ◌++◌, length};
+ghost use Rattle.std.specs.Prelude.{◌≡◌, ℕ, ◌+◌, ◌%◌, ◌<◌, ◌≤◌, Bool, List, ◌∷◌, ◌++◌, length};
 ghost use Rattle.std.specs.Prelude.{drop, Option, Some, None, true, false};
 ghost use Rattle.std.specs.declared.net.ip_addr.IpAddr.{IpAddr};
 ghost use Rattle.asdu.specs.Sizes.{tcp};
@@ -74,8 +74,7 @@ pub fn answers_are_noted_of_the_station_that_was_asked()
 
 /// What the gateway counted befell the station that was asked last before the latest event, and is
 /// noted once: a command that it gave up, an answer to a command that it dropped, an exchange that
-/// was spoilt. Octets that were dropped before a request came late from the station that was asked
-/// before it, where that exchange had lasted as long as an answer is awaited.
+/// was spoilt.
 pub fn mishaps_are_noted_of_the_station_that_was_asked()
     ensures given_up { (counts : Counts) (w : Watching) (before behind : List Traffic)
         (t : Traffic) → IsInPlace before behind t w →
@@ -96,13 +95,18 @@ pub fn mishaps_are_noted_of_the_station_that_was_asked()
         w.seen.mirrors ≡ counts.mirrors → w.seen.spoilt ≡ counts.spoilt →
         (counts_noted counts w).traffic ≡ w.traffic }
     ensures once { (counts : Counts) (w : Watching) → (counts_noted counts w).seen ≡ counts }
+    ensures before { (e : RequestWatch) → (begun e).before ≡ e.place }
+{}
+
+/// Octets that were dropped before a request came late from the station that was asked before it,
+/// where that exchange had lasted as long as an answer is awaited. They are noted once.
+pub fn late_answers_are_noted_of_the_station_asked_before()
     ensures late { (late : ℕ) (w : Watching) (before behind : List Traffic) (t : Traffic) →
         IsInPlace before behind t w → w.exchange.overdue ≡ Some (length before) →
         w.late < late → IsInPlace before behind (suffered mishap.Late t) (late_noted late w) }
     ensures not_late { (late : ℕ) (w : Watching) → late ≤ w.late →
         (late_noted late w).traffic ≡ w.traffic }
     ensures late_once { (late : ℕ) (w : Watching) → (late_noted late w).late ≡ late }
-    ensures before { (e : RequestWatch) → (begun e).before ≡ e.place }
     ensures overdue { (place : Option ℕ) (what : AwaitedAnswer) (now : ℕ) (e : RequestWatch) →
         e.since + e.answer_ms ≤ now → (asked place what now e).overdue ≡ e.place }
     ensures in_time { (place : Option ℕ) (what : AwaitedAnswer) (now : ℕ) (e : RequestWatch) →

@@ -57,7 +57,7 @@ pub use laws::{
 };
 pub use reading_laws::{
     each_page_says_its_version, lists_have_each_thing, numbers_stand_behind_their_types,
-    numbers_stand_under_their_names, texts_are_read_back,
+    numbers_stand_under_their_names, standings_are_told_in_their_words, texts_are_read_back,
 };
 pub use reply::{UNKNOWN, body_of, exit_status};
 pub use reply_laws::{

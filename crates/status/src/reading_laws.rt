@@ -1,8 +1,9 @@
 //! What the texts of the pages mean to who reads them.
-ghost use Rattle.std.specs.Prelude.{◌≡◌, ℕ, List, [], ◌∷◌, ◌++◌};
+ghost use Rattle.std.specs.Prelude.{◌≡◌, ◌-◌, ℕ, List, [], ◌∷◌, ◌++◌, codes, length, replicate};
 ghost use Rattle.status.specs.Html as html;
 ghost use Rattle.status.specs.Html.{html_of};
 ghost use Rattle.status.specs.Json.{json_of, json_of_station};
+ghost use Rattle.status.specs.Labels.{judgement_text, keeping_text, standing_text, wide_text};
 ghost use Rattle.status.specs.Metrics.{metrics_of};
 ghost use Rattle.status.specs.Reading.{Has, HasColumns, HasGauges, HasSamples, HasStation};
 ghost use Rattle.status.specs.Reading.{InHtml, InJson, InLabel, ReadsAs, cells_of};
@@ -10,6 +11,10 @@ ghost use Rattle.status.specs.Table as table;
 ghost use Rattle.status.specs.Table.{table_of};
 ghost use Rattle.status.specs.Typed.{HasFamilies, HasTypes, SaysVersion};
 ghost use Rattle.status.specs.Words.{escaped, listed, rows};
+ghost use Rattle.status.specs.declared.judging.Judgement.TheVariants as judgement;
+ghost use Rattle.status.specs.declared.snapshot.Keeping.TheVariants as keeping;
+ghost use Rattle.status.specs.declared.snapshot.LinkState.{LinkState};
+ghost use Rattle.status.specs.declared.snapshot.LinkState.TheVariants as stands;
 ghost use Rattle.status.specs.declared.snapshot.Snapshot.{Snapshot};
 ghost use Rattle.status.specs.declared.snapshot.StationView.{StationView};
 ghost use Rattle.status.specs.declared.words.Marks.TheVariants.{Html, Json, Label};
@@ -61,4 +66,21 @@ pub fn each_page_says_its_version()
 pub fn numbers_stand_behind_their_types()
     ensures stations { (s : Snapshot) → HasFamilies s }
     ensures gateway { (s : Snapshot) → HasTypes s }
+{}
+
+/// How a station stands is told in one word or three, and the table has the same words, with spaces
+/// behind them up to a width of 13. So it is told whether the state is kept, and how all stands.
+pub fn standings_are_told_in_their_words()
+    ensures standings { (standing_text stands.NotAsked ≡ codes "not asked yet")
+        × (standing_text stands.Asked ≡ codes "asked") × (standing_text stands.Up ≡ codes "up")
+        × (standing_text stands.Silent ≡ codes "silent")
+        × (standing_text stands.Down ≡ codes "down") }
+    ensures wide { (standing : LinkState) → wide_text standing
+        ≡ standing_text standing ++ replicate (13 - length (standing_text standing)) 32 }
+    ensures state { (keeping_text keeping.Off ≡ codes "none")
+        × (keeping_text keeping.Kept ≡ codes "kept")
+        × (keeping_text keeping.NotKept ≡ codes "not kept") }
+    ensures judgements { (judgement_text judgement.Ok ≡ codes "OK")
+        × (judgement_text judgement.Warning ≡ codes "WARNING")
+        × (judgement_text judgement.Critical ≡ codes "CRITICAL") }
 {}
