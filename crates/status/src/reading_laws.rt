@@ -1,5 +1,7 @@
 //! What the texts of the pages mean to who reads them.
 ghost use Rattle.std.specs.Prelude.{◌≡◌, ◌-◌, ℕ, List, [], ◌∷◌, ◌++◌, codes, length, replicate};
+ghost use Rattle.std.specs.Prelude.{None, Some};
+ghost use Rattle.std.specs.Fmt.{decimal};
 ghost use Rattle.status.specs.Html as html;
 ghost use Rattle.status.specs.Html.{html_of};
 ghost use Rattle.status.specs.Json.{json_of, json_of_station};
@@ -10,7 +12,7 @@ ghost use Rattle.status.specs.Reading.{InHtml, InJson, InLabel, ReadsAs, cells_o
 ghost use Rattle.status.specs.Table as table;
 ghost use Rattle.status.specs.Table.{table_of};
 ghost use Rattle.status.specs.Typed.{HasFamilies, HasTypes, SaysVersion};
-ghost use Rattle.status.specs.Words.{escaped, listed, rows};
+ghost use Rattle.status.specs.Words.{escaped, listed, number_or, rows};
 ghost use Rattle.status.specs.declared.judging.Judgement.TheVariants as judgement;
 ghost use Rattle.status.specs.declared.snapshot.Keeping.TheVariants as keeping;
 ghost use Rattle.status.specs.declared.snapshot.LinkState.{LinkState};
@@ -39,7 +41,8 @@ pub fn lists_have_each_thing<T>()
 {}
 
 /// Each number stands under its name, whatever it is: of each station, the first or the last of
-/// many, and of the whole gateway; in JSON, for Prometheus, in the table and for a person.
+/// many, and of the whole gateway; in JSON, for Prometheus, in the table and for a person. Where
+/// there is no number another text stands in its place.
 pub fn numbers_stand_under_their_names()
     ensures station { (s : StationView) → HasStation s (json_of_station s) }
     ensures stations { (s : Snapshot) (before after : List StationView) (station : StationView) →
@@ -53,6 +56,8 @@ pub fn numbers_stand_under_their_names()
     ensures columns { (now : ℕ) (s : StationView) → HasColumns s (table.text_of_row now s) }
     ensures cells { (now : ℕ) (s : StationView) → Has (html.text_of_row now s) (cells_of s) }
     ensures gauges { (s : Snapshot) → HasGauges s (metrics_of s) }
+    ensures missing { (n : ℕ) (other : List ℕ) → (number_or (Some n) other ≡ decimal n)
+        × (number_or None other ≡ other) }
 {}
 
 /// Table and page say the version, and so do the lines for Prometheus, which say the line's name
