@@ -124,10 +124,10 @@ asking_is Two a (request.Counted false (service.Command asdu)) =
 
 -- ---- Whose they are
 
-not_its : (a b : ℕ) → (a ≡ b → ⊥) → (a == b) ≡ false
+pub not_its : (a b : ℕ) → (a ≡ b → ⊥) → (a == b) ≡ false
 not_its a b other = grind (arith, other)
 
-its_own : (a : ℕ) → (a == a) ≡ true
+pub its_own : (a : ℕ) → (a == a) ≡ true
 its_own a = grind arith
 
 -- a request to another address
@@ -208,7 +208,7 @@ nobody_so size address r now ws all =
 
 -- ---- A gap
 
-at_its_place : (before behind : List StationWatch) (w : StationWatch)
+pub at_its_place : {A : Type 0} (before behind : List A) (w : A)
     → slice_get (before ++ w ∷ behind) (length before) ≡ Some w
 at_its_place [] behind w = refl
 at_its_place (v ∷ before) behind w = at_its_place before behind w

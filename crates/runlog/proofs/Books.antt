@@ -38,17 +38,18 @@ logged_knows (Some line) taken b = by_end b.is_over
     by_end false = refl
 
 module _ (p : Passed) (old : Book) (taken : Bool) where
-  behind : Book
+  abbrev behind : Book
   behind = after (passed p old.watching) taken old
 
   follows : IsFollowed p old behind
   follows = record {
     known = logged_knows (passed p old.watching).1 taken
         (record old { watching = (passed p old.watching).0 });
-    line = λ l before is open handed.
+    line = λ l before is goes_on handed.
         ap (λ (o : Option LogLine). (logged o taken
         (record old { watching = (passed p old.watching).0 })).handed) is
-        ∙ handed_on l taken (record old { watching = (passed p old.watching).0 }) before open handed;
+        ∙ handed_on l taken (record old { watching = (passed p old.watching).0 }) before goes_on
+        handed;
     none = λ is.
         ap (λ (o : Option LogLine). (logged o taken
         (record old { watching = (passed p old.watching).0 })).handed) is;
@@ -78,7 +79,7 @@ look_followed old new gateway watched logs =
 -- ---- The end
 
 open_is_watched : (b : Book) → b.is_over ≡ false → IsWatched b
-open_is_watched b open = ap (λ o. o && not b.is_watching) open
+open_is_watched b goes_on = ap (λ o. o && not b.is_watching) goes_on
 
 -- the line of the counts
 abbrev sum : State → Book → LogLine
@@ -88,18 +89,18 @@ summed : (old new : Book) (gateway : State) (before : List LogLine) (taken : Boo
     → old.is_over ≡ false → old.handed ≡ Some before
     → new ≡ unless_over old (logged (Some (sum gateway old)) taken old)
     → new.handed ≡ Some (sum gateway old ∷ before)
-summed old new gateway before taken open handed done =
+summed old new gateway before taken goes_on handed done =
     ap (λ (b : Book). b.handed) (done
-    ∙ still_watched old (logged (Some (sum gateway old)) taken old) (open_is_watched old open))
-    ∙ handed_on (sum gateway old) taken old before open handed
+    ∙ still_watched old (logged (Some (sum gateway old)) taken old) (open_is_watched old goes_on))
+    ∙ handed_on (sum gateway old) taken old before goes_on handed
 
 pub counts_last : (old new : Book) (gateway : State) (before : List LogLine)
     → Closes old None gateway new → old.is_over ≡ false → old.handed ≡ Some before
     → new.handed ≡ Some (sum gateway old ∷ before)
-counts_last old new gateway before closes open handed =
+counts_last old new gateway before closes goes_on handed =
     let same : closes.between ≡ old =
-    closes.fails.done ∙ still_watched old old (open_is_watched old open) in
-    summed old new gateway before closes.sums.taken open handed
+    closes.fails.done ∙ still_watched old old (open_is_watched old goes_on) in
+    summed old new gateway before closes.sums.taken goes_on handed
     (subst (λ (b : Book). new ≡ unless_over b (logged (Some (sum gateway b)) closes.sums.taken b))
     same closes.sums.done)
 
@@ -108,16 +109,16 @@ pub failure_before_counts : (old new : Book) (gateway : State) (before : List Lo
     → old.handed ≡ Some before → closes.fails.taken ≡ true
     → new.handed
     ≡ Some (sum gateway old ∷ at old.watching.moment (note.Trouble StateUnusable) ∷ before)
-failure_before_counts old new gateway before closes open handed taken =
+failure_before_counts old new gateway before closes goes_on handed taken =
     let line : LogLine = at old.watching.moment (note.Trouble StateUnusable) in
     let mid : Book = logged (Some line) true old in
     let same : closes.between ≡ mid =
     closes.fails.done
     ∙ still_watched old (after (failed (Some failure.State) old.watching) closes.fails.taken old)
-    (open_is_watched old open)
+    (open_is_watched old goes_on)
     ∙ ap (λ b. logged (Some line) b old) taken in
     summed mid new gateway (line ∷ before) closes.sums.taken
-    (if_open line) (handed_on line true old before open handed)
+    (if_open line) (handed_on line true old before goes_on handed)
     (subst (λ (b : Book). new ≡ unless_over b (logged (Some (sum gateway b)) closes.sums.taken b))
     same closes.sums.done)
     ∙ ap (λ w. Some (sum_line (counts_of gateway) (taken_in gateway) w ∷ line ∷ before))
@@ -128,7 +129,7 @@ failure_before_counts old new gateway before closes open handed taken =
       lines = kept true line old.lines;
       handed = kept true line old.handed;
       is_over = false;
-    }).is_over) open ∙ refl
+    }).is_over) goes_on ∙ refl
 
 kept_over : (line : Option LogLine) (taken : Bool) (b : Book) → b.is_over ≡ true
     → (logged line taken b).handed ≡ b.handed
@@ -138,7 +139,8 @@ kept_over (Some line) taken b over = ap (λ (x : Book). x.handed) (over_on line 
 still_over : (line : Option LogLine) (taken : Bool) (b : Book) → b.is_over ≡ true
     → (logged line taken b).is_over ≡ true
 still_over None taken b over = over
-still_over (Some line) taken b over = ap (λ (x : Book). x.is_over) (over_on line taken b over) ∙ over
+still_over (Some line) taken b over =
+    ap (λ (x : Book). x.is_over) (over_on line taken b over) ∙ over
 
 either : (b : Bool) (old new : Book) → new.handed ≡ old.handed
     → (if b then old else new).handed ≡ old.handed

@@ -26,3 +26,4 @@ pub mod Skipping
 pub mod Stepwise
 pub mod Books
 pub mod Systems
+pub mod Meanings

@@ -16,7 +16,7 @@ use Rattle.link.specs.declared.answer.Answer.{Answer}
 use Rattle.link.specs.declared.service.Asked.{Asked as Request}
 use Rattle.link.specs.declared.service.Asked.TheVariants as request
 use Rattle.link.specs.declared.service.Service.TheVariants.{Command}
-use Rattle.runlog.specs.Befallen.{IsInPlace, NoneHas}
+use Rattle.runlog.specs.Befallen.{IsInPlace, NoneHas, place_asked}
 use Rattle.runlog.specs.Exchange as exchange
 use Rattle.runlog.specs.Exchange.{RequestWatch, answer_in, awaited_of, is_over, place_of, received}
 use Rattle.runlog.specs.Exchange.{traffic_after}
@@ -34,21 +34,10 @@ use Rattle.runlog.specs.declared.fate.Mishap.{Mishap}
 use Rattle.runlog.specs.declared.fate.Mishap.TheVariants as mishap
 use Rattle.runlog.specs.declared.order.Order.{Order}
 use Rattle.runlog.specs.declared.traffic.Traffic.{Traffic}
-use Rattle.runlog.proofs.Addressed.{address_is, octets_of}
+use Rattle.runlog.proofs.Addressed.{address_is, at_its_place, its_own, not_its, octets_of}
 use Rattle.runlog.proofs.Answered.{awaited_so, command_so}
 
 -- ---- Places
-
-not_its : (a b : ℕ) → (a ≡ b → ⊥) → (a == b) ≡ false
-not_its a b other = grind (arith, other)
-
-its_own : (a : ℕ) → (a == a) ≡ true
-its_own a = grind arith
-
-here : (before behind : List Traffic) (t : Traffic)
-    → slice_get (before ++ t ∷ behind) (length before) ≡ Some t
-here [] behind t = refl
-here (v ∷ before) behind t = here before behind t
 
 put_here : (before behind : List Traffic) (t v : Traffic)
     → slice_set (before ++ t ∷ behind) (length before) v ≡ before ++ v ∷ behind
@@ -57,7 +46,7 @@ put_here before behind t v = set-append_seam before t behind v
 found_here : (before behind : List Traffic) (t : Traffic) (ts : List Traffic)
     → ts ≡ before ++ t ∷ behind → slice_get ts (length before) ≡ Some t
 found_here before behind t ts is =
-    ap (λ (l : List Traffic). slice_get l (length before)) is ∙ here before behind t
+    ap (λ (l : List Traffic). slice_get l (length before)) is ∙ at_its_place before behind t
 
 changed_here : (before behind : List Traffic) (t v : Traffic) (ts : List Traffic)
     → ts ≡ before ++ t ∷ behind → slice_set ts (length before) v ≡ before ++ v ∷ behind
@@ -128,8 +117,7 @@ sent_exchange (Some place) awaited.Command octets w =
 
 pub asked_so : (w : Watching) (r : Request) (now : ℕ) (before behind : List Traffic) (t : Traffic)
     → IsInPlace before behind t w → NoneHas t.address before
-    → (passed (Went now (LineOut (spelling w.link (request_frame t.address r)))) w)
-    .0.exchange.place ≡ Some (length before)
+    → place_asked w now (spelling w.link (request_frame t.address r)) ≡ Some (length before)
 asked_so w r now before behind t is none =
     let octets = octets_of w.link t.address r in
     let place = place_of (address_of w.link octets) w.traffic in
@@ -154,7 +142,8 @@ command_here w fcb asdu now before behind t is none new =
     let octets = octets_of w.link t.address r in
     let begun : Option ℕ → AwaitedAnswer → Watching =
     λ place what. record w { exchange = exchange.asked place what now w.exchange } in
-    ap (λ place. (sent_at place (awaited_of octets) octets (begun place (awaited_of octets))).traffic)
+    ap (λ place. (sent_at place (awaited_of octets) octets
+    (begun place (awaited_of octets))).traffic)
     (ap (λ a. place_of a w.traffic) (address_is w.link t.address r)
     ∙ place_here t.address before behind t w.traffic is none refl)
     ∙ ap (λ what. (sent_at (Some (length before)) what octets
@@ -174,7 +163,7 @@ command_here w fcb asdu now before behind t is none new =
 
 module _ (w : Watching) (octets : List ℕ) (before behind : List Traffic) (t : Traffic)
     (is : IsInPlace before behind t w) (asked : w.exchange.place ≡ Some (length before)) where
-  heard : Watching
+  abbrev heard : Watching
   heard = record w { exchange = received octets w.exchange }
 
   noted_by : (answer : Option (Option Answer))
@@ -208,9 +197,6 @@ suffered_here place what w before behind t is asked =
     (found_here before behind t w.traffic is)
     ∙ changed_here before behind t (suffered what t) w.traffic is
 
-grew : (n m : ℕ) → n < m → nat_lt n m ≡ true
-grew n m less = grind (arith, less)
-
 stayed : (n m : ℕ) → n ≡ m → nat_lt n m ≡ false
 stayed n m same = grind (arith, same)
 
@@ -237,7 +223,7 @@ pub given_up_here : (counts : Counts) (w : Watching) (before behind : List Traff
     → IsInPlace before behind (suffered mishap.GivenUp t) (counts_noted counts w)
 given_up_here counts w before behind t is asked more mirrors spoilt =
     ap (λ (v : Watching). v.traffic)
-    (counted_as false false true counts w (stayed _ _ spoilt) (stayed _ _ mirrors) (grew _ _ more))
+    (counted_as false false true counts w (stayed _ _ spoilt) (stayed _ _ mirrors) (below _ _ more))
     ∙ suffered_here w.exchange.before mishap.GivenUp w before behind t is asked
 
 pub dropped_here : (counts : Counts) (w : Watching) (before behind : List Traffic) (t : Traffic)
@@ -246,7 +232,7 @@ pub dropped_here : (counts : Counts) (w : Watching) (before behind : List Traffi
     → IsInPlace before behind (suffered mishap.MirrorDropped t) (counts_noted counts w)
 dropped_here counts w before behind t is asked more lost spoilt =
     ap (λ (v : Watching). v.traffic)
-    (counted_as false true false counts w (stayed _ _ spoilt) (grew _ _ more) (stayed _ _ lost))
+    (counted_as false true false counts w (stayed _ _ spoilt) (below _ _ more) (stayed _ _ lost))
     ∙ suffered_here w.exchange.before mishap.MirrorDropped w before behind t is asked
 
 pub spoilt_here : (counts : Counts) (w : Watching) (before behind : List Traffic) (t : Traffic)
@@ -255,7 +241,7 @@ pub spoilt_here : (counts : Counts) (w : Watching) (before behind : List Traffic
     → IsInPlace before behind (suffered mishap.Spoilt t) (counts_noted counts w)
 spoilt_here counts w before behind t is asked more lost mirrors =
     ap (λ (v : Watching). v.traffic)
-    (counted_as true false false counts w (grew _ _ more) (stayed _ _ mirrors) (stayed _ _ lost))
+    (counted_as true false false counts w (below _ _ more) (stayed _ _ mirrors) (stayed _ _ lost))
     ∙ suffered_here w.exchange.before mishap.Spoilt w before behind t is asked
 
 pub nothing_befell : (counts : Counts) (w : Watching) → w.seen.lost ≡ counts.lost
@@ -282,7 +268,7 @@ pub late_here : (late : ℕ) (w : Watching) (before behind : List Traffic) (t : 
     → IsInPlace before behind t w → w.exchange.overdue ≡ Some (length before) → w.late < late
     → IsInPlace before behind (suffered mishap.Late t) (late_noted late w)
 late_here late w before behind t is asked more =
-    ap (λ (v : Watching). v.traffic) (late_as true late w (grew _ _ more))
+    ap (λ (v : Watching). v.traffic) (late_as true late w (below _ _ more))
     ∙ suffered_here w.exchange.overdue mishap.Late w before behind t is asked
 
 no_more : (n m : ℕ) → n ≤ m → nat_lt m n ≡ false
@@ -296,8 +282,9 @@ none_late late w none =
 over_by : (since ms now : ℕ) → since + ms ≤ now → nat_le ms (now - since) ≡ true
 over_by since ms now past = grind (arith, past)
 
-in_time_by : (since ms now : ℕ) → now < since + ms → nat_le ms (now - since) ≡ false
-in_time_by since ms now early = grind (arith, early)
+in_time_by : (since ms now : ℕ) → since ≤ now → now < since + ms
+    → nat_le ms (now - since) ≡ false
+in_time_by since ms now behind early = grind (arith, behind, early)
 
 pub overdue_so : (place : Option ℕ) (what : AwaitedAnswer) (now : ℕ) (e : RequestWatch)
     → e.since + e.answer_ms ≤ now → (exchange.asked place what now e).overdue ≡ e.place
@@ -305,6 +292,7 @@ overdue_so place what now e past =
     ap (λ b. if b then e.place else None) (over_by e.since e.answer_ms now past)
 
 pub in_time_so : (place : Option ℕ) (what : AwaitedAnswer) (now : ℕ) (e : RequestWatch)
-    → now < e.since + e.answer_ms → (exchange.asked place what now e).overdue ≡ None
-in_time_so place what now e early =
-    ap (λ b. if b then e.place else None) (in_time_by e.since e.answer_ms now early)
+    → e.since ≤ now → now < e.since + e.answer_ms
+    → (exchange.asked place what now e).overdue ≡ None
+in_time_so place what now e behind early =
+    ap (λ b. if b then e.place else None) (in_time_by e.since e.answer_ms now behind early)

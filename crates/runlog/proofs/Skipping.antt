@@ -1,6 +1,6 @@
 -- Reports are skipped in the log just where the gateway counts them so.
 use Rattle.std.proofs.Common.{◌≡◌, ℕ, zero, suc, Bool, true, false, List, [], ◌∷◌, Option, Some}
-use Rattle.std.proofs.Common.{None, refl, sym, ap, ◌∙◌, map, cc}
+use Rattle.std.proofs.Common.{None, refl, ap, ◌∙◌, map}
 use Rattle.std.specs.Prelude.{◌==◌, ◌+◌, if◌then◌else◌, nat_lt, length, drop, slice_index, is_none}
 use Rattle.asdu.specs.Asdu.{AsduValue}
 use Rattle.asdu.specs.Fields.{infos_at, is_sequence, number_at, value_at}
@@ -17,6 +17,7 @@ use Rattle.runlog.specs.Traffic.{content_by, content_of}
 use Rattle.runlog.specs.declared.content.Content.{Content}
 use Rattle.runlog.specs.declared.content.Content.TheVariants as content
 use Rattle.runlog.specs.declared.content.Skip.{Skip}
+use Rattle.runlog.specs.declared.content.Skip.TheVariants as skip
 
 -- what is read has an object
 read_by : (u : AsduValue) (t : TypeId) (w : ℕ) (b : Bool) (n : ℕ) (xs : List ℕ) (c : Tally)
@@ -54,7 +55,8 @@ module _ (s : Sizes) (xs : List ℕ) (c : Tally) where
   typed_counts (Some t) none =
       read_by (value_at s t xs) t (ioa_len s.ioa) (is_sequence xs) (number_at xs)
       (drop (header_len s) xs) c (some_read s t xs none)
-      ∙ content_counts (is_answer_type t) (is_passed_on t (slice_index xs 2)) c _
+      ∙ content_counts (is_answer_type t) (is_passed_on t (slice_index xs 2)) c
+      skip.Negative
 
   counts_by : (r : Option ℕ) → refusal s xs ≡ r
       → counted_by (if is_none r then typed_objects s (type_of (slice_index xs 0)) xs else []) c

@@ -56,7 +56,7 @@ two_of : (m : ℕ) → nat_le 2 m ≡ true → 2 ≤ m
 two_of m some = grind (arith, some)
 
 module _ (s : State) (is_closed : Bool) (peer : Option IpAddr) where
-  turn_by : Bool → (most : ℕ) → List ℕ → Orders → Orders × List ℕ
+  abbrev turn_by : Bool → (most : ℕ) → List ℕ → Orders → Orders × List ℕ
   turn_by b most xs c =
       if b then all_noted most s is_closed peer (drop (apdu_len xs) xs)
       (apdu_noted s is_closed peer (take (apdu_len xs) xs) c)
@@ -69,7 +69,8 @@ module _ (s : State) (is_closed : Bool) (peer : Option IpAddr) where
       → turn_by b most xs c ≡ turn_by b more xs c
   one_turn false most more xs c is fits there rest = refl
   one_turn true most more xs c is fits there rest =
-      let two : 2 ≤ length xs = two_of (length xs) (first_of _ _ is) in
+      let two : 2 ≤ length xs = two_of (length xs) (first_of (nat_le 2 (length xs))
+      (nat_le (apdu_len xs) (length xs)) is) in
       rest (drop (apdu_len xs) xs)
       (apdu_noted s is_closed peer (take (apdu_len xs) xs) c)
       (omega (arith, fits, two, length-drop (apdu_len xs) xs))
@@ -136,11 +137,11 @@ first_so s peer b start n rest behind whole is =
 pub waits_so : (s : State) (peer : Option IpAddr) (b : Inbox) (start n : ℕ) (rest : List ℕ)
     → length rest < n → b.octets ≡ start ∷ n ∷ rest → b.is_closed ≡ false
     → (judged s peer b).octets ≡ start ∷ n ∷ rest
-waits_so s peer b start n rest part is open =
+waits_so s peer b start n rest part is is_open =
     ap (λ xs. (judged_by (all_noted (length xs) s b.is_closed peer xs b.orders) s b).octets) is
     ∙ ap (λ all. (judged_by all s b).octets)
     (none_noted s b.is_closed peer start n rest b.orders part)
-    ∙ ap (λ closed. if closed then [] else start ∷ n ∷ rest) open
+    ∙ ap (λ closed. if closed then [] else start ∷ n ∷ rest) is_open
 
 -- ---- One APDU
 

@@ -1,5 +1,5 @@
 -- What a run takes from the system.
-use Rattle.std.proofs.Common.{◌≡◌, ℕ, List, [], ◌∷◌, ◌++◌, Some, Result, sym, ap, ◌∙◌, cc}
+use Rattle.std.proofs.Common.{◌≡◌, ℕ, List, [], ◌∷◌, ◌++◌, Some, Result, sym, ap, ◌∙◌}
 use Rattle.std.proofs.lemmas.List.{append-nil}
 use Rattle.std.specs.declared.io.Error.{Error}
 use Rattle.std.specs.declared.time.Instant.{Instant}
@@ -12,8 +12,8 @@ first_of : {A : Type 0} (a b : A) (before : List A) → Some (a ∷ before) ≡ 
     → b ≡ a
 first_of a b before same = cc
 
-all_of : {A : Type 0} (as bs : List A) → Some as ≡ Some bs → bs ≡ as
-all_of as bs same = cc
+all_of : {A : Type 0} (xs ys : List A) → Some xs ≡ Some ys → ys ≡ xs
+all_of xs ys same = cc
 
 pub moment_so : (first last moment : ℕ) (start : Instant) (before : List (Result Instant Error))
     (answer : Result Instant Error)
@@ -32,5 +32,5 @@ pub told_so : (answers : List Arrival) (before after : Telling)
     → Tells (Some []) before (Some answers) after → after ≡ told_by answers before
 told_so answers before after tells =
     tells.told
-    ∙ ap (λ (as : List Arrival). told_by as before)
+    ∙ ap (λ (all : List Arrival). told_by all before)
     (sym (append-nil tells.answers) ∙ all_of answers (tells.answers ++ []) tells.asked)

@@ -4,9 +4,10 @@ use Rattle.std.specs.Prelude.{◌≡◌, ◌&&◌, ℕ, Bool, true, false, not, 
 use Rattle.std.specs.Prelude.{None}
 use Rattle.std.specs.List.{AllByRecursion}
 use Rattle.gateway.specs.Counting.{one_skipped}
+use Rattle.gateway.specs.Log.{LineOut}
 use Rattle.gateway.specs.declared.counts.Tally.{Tally}
 use Rattle.runlog.specs.Logging.{Book}
-use Rattle.runlog.specs.Passing.{Passed, passed}
+use Rattle.runlog.specs.Passing.{Passed, Went, passed}
 use Rattle.runlog.specs.Watching.{Watching}
 use Rattle.runlog.specs.declared.content.Content.{Content}
 use Rattle.runlog.specs.declared.content.Content.TheVariants as content
@@ -16,6 +17,11 @@ use Rattle.runlog.specs.declared.traffic.Traffic.{Traffic}
 -- none of these stations has this link address
 abbrev pub NoneHas : (address : ℕ) → List Traffic → Type 0
 NoneHas address ts = AllByRecursion (λ (t : Traffic). t.address ≡ address → ⊥) ts
+
+-- the place of the station that was asked last, once these octets have gone out to the line
+abbrev pub place_asked : Watching → (now : ℕ) → (octets : List ℕ) → Option ℕ
+place_asked w now octets =
+    let after = (passed (Went now (LineOut octets)) w).0 in after.exchange.place
 
 -- In place of this station stands that one, and all others stay.
 abbrev pub IsInPlace : (before behind : List Traffic) → (t : Traffic) → Watching → Type 0

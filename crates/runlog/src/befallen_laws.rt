@@ -20,7 +20,7 @@ ghost use Rattle.link.specs.declared.service.Service.TheVariants.{Command};
 ghost use Rattle.live.specs.declared.watched.EndsSight.{EndsSight};
 ghost use Rattle.live.specs.declared.watched.Failure.{Failure};
 ghost use Rattle.live.specs.declared.watched.Failure.TheVariants as failure;
-ghost use Rattle.runlog.specs.Befallen.{IsFollowed, IsInPlace, IsWatched, NoneHas};
+ghost use Rattle.runlog.specs.Befallen.{IsFollowed, IsInPlace, IsWatched, NoneHas, place_asked};
 ghost use Rattle.runlog.specs.Examples.{at};
 ghost use Rattle.runlog.specs.Exchange.{RequestWatch, answer_in, asked, begun, received};
 ghost use Rattle.runlog.specs.Exchange.{traffic_after};
@@ -49,8 +49,8 @@ ghost use Rattle.runlog.specs.declared.traffic.Traffic.{Traffic};
 pub fn answers_are_noted_of_the_station_that_was_asked()
     ensures asked { (w : Watching) (request : Request) (now : ℕ) (before behind : List Traffic)
         (t : Traffic) → IsInPlace before behind t w → NoneHas t.address before →
-        (passed (Went now (LineOut (spelling w.link (request_frame t.address request)))) w)
-        .0.exchange.place ≡ Some (length before) }
+        place_asked w now (spelling w.link (request_frame t.address request))
+        ≡ Some (length before) }
     ensures answer { (w : Watching) (octets : List ℕ) (before behind : List Traffic)
         (t : Traffic) (answer : Option Answer) → IsInPlace before behind t w →
         w.exchange.place ≡ Some (length before) →
@@ -110,7 +110,8 @@ pub fn late_answers_are_noted_of_the_station_asked_before()
     ensures overdue { (place : Option ℕ) (what : AwaitedAnswer) (now : ℕ) (e : RequestWatch) →
         e.since + e.answer_ms ≤ now → (asked place what now e).overdue ≡ e.place }
     ensures in_time { (place : Option ℕ) (what : AwaitedAnswer) (now : ℕ) (e : RequestWatch) →
-        now < e.since + e.answer_ms → (asked place what now e).overdue ≡ None }
+        e.since ≤ now → now < e.since + e.answer_ms →
+        (asked place what now e).overdue ≡ None }
     ensures since { (place : Option ℕ) (what : AwaitedAnswer) (now : ℕ) (e : RequestWatch) →
         ((asked place what now e).since ≡ now) × ((asked place what now e).place ≡ place) }
 {}
