@@ -13,11 +13,11 @@ use Rattle.runlog.specs.Examples.{at}
 use Rattle.runlog.specs.Logging.{Book, Closes, LogsAction, LogsEventSeeing, LogsLook, after, kept}
 use Rattle.runlog.specs.Logging.{logged, taken_in, unless_over}
 use Rattle.runlog.specs.Passing.{Between, Came, Passed, Went, passed}
-use Rattle.runlog.specs.Watching.{Watching, failed, sum_line}
+use Rattle.runlog.specs.Watching.{failed, sum_line}
 use Rattle.runlog.specs.declared.note.LogLine.{LogLine}
 use Rattle.runlog.specs.declared.note.Note.TheVariants as note
 use Rattle.runlog.specs.declared.note.Trouble.TheVariants.{StateUnusable}
-use Rattle.runlog.proofs.Handed.{handed_on, over_on, taken_on}
+use Rattle.runlog.proofs.Handed.{handed_on, over_on}
 
 -- ---- Each that passes
 

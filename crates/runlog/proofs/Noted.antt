@@ -1,6 +1,6 @@
 -- Which station answers, commands and mishaps are noted of.
 use Rattle.std.proofs.Common.{◌≡◌, ℕ, ◌+◌, ◌-◌, ◌==◌, ◌<◌, ◌≤◌, Bool, true, false, List, [], ◌∷◌}
-use Rattle.std.proofs.Common.{◌++◌, length, Option, Some, None, refl, sym, ap, subst, ◌∙◌, arith}
+use Rattle.std.proofs.Common.{◌++◌, length, Option, Some, None, refl, ap, ◌∙◌, arith}
 use Rattle.std.proofs.Common.{nat_le, nat_lt, zero, suc, get_or, length-append}
 use Rattle.std.proofs.Math.Seq.{get_or-append_seam, set-append_seam}
 use Rattle.std.proofs.lemmas.List.{get_or_append_left}
@@ -8,7 +8,6 @@ use Rattle.std.proofs.lemmas.List.Sums.{position_or_len_is}
 use Rattle.std.specs.List.{position_or_len}
 use Rattle.std.specs.Prelude.{if◌then◌else◌, slice_get, slice_set}
 use Rattle.ft12.specs.Spelling.{spelling}
-use Rattle.ft12.specs.declared.frame.LinkSize.{LinkSize}
 use Rattle.gateway.specs.Log.{LineOut}
 use Rattle.gateway.specs.declared.counts.Counts.{Counts}
 use Rattle.link.specs.Requests.{request_frame}
@@ -18,21 +17,20 @@ use Rattle.link.specs.declared.service.Asked.TheVariants as request
 use Rattle.link.specs.declared.service.Service.TheVariants.{Command}
 use Rattle.runlog.specs.Befallen.{IsInPlace, NoneHas, place_asked}
 use Rattle.runlog.specs.Exchange as exchange
-use Rattle.runlog.specs.Exchange.{RequestWatch, answer_in, awaited_of, is_over, place_of, received}
+use Rattle.runlog.specs.Exchange.{RequestWatch, answer_in, awaited_of, place_of, received}
 use Rattle.runlog.specs.Exchange.{traffic_after}
 use Rattle.runlog.specs.Orders.{order_of}
 use Rattle.runlog.specs.Passing.{Went, passed}
 use Rattle.runlog.specs.Stations.{address_of}
 use Rattle.runlog.specs.Traffic.{sent, suffered}
 use Rattle.runlog.specs.Watching.{Watching, answer_noted_at, answer_noted_by, answered_by}
-use Rattle.runlog.specs.Watching.{as_late, as_seen, counts_noted, exchanged, is_repeat, late_noted}
+use Rattle.runlog.specs.Watching.{as_late, as_seen, counts_noted, is_repeat, late_noted}
 use Rattle.runlog.specs.Watching.{line_received, order_at, sent_at, sent_by, suffered_at}
 use Rattle.runlog.specs.Watching.{suffered_by, suffered_if}
 use Rattle.runlog.specs.declared.exchange.AwaitedAnswer.{AwaitedAnswer}
 use Rattle.runlog.specs.declared.exchange.AwaitedAnswer.TheVariants as awaited
 use Rattle.runlog.specs.declared.fate.Mishap.{Mishap}
 use Rattle.runlog.specs.declared.fate.Mishap.TheVariants as mishap
-use Rattle.runlog.specs.declared.order.Order.{Order}
 use Rattle.runlog.specs.declared.traffic.Traffic.{Traffic}
 use Rattle.runlog.proofs.Addressed.{address_is, at_its_place, its_own, not_its, octets_of}
 use Rattle.runlog.proofs.Answered.{awaited_so, command_so}

@@ -1,11 +1,11 @@
 -- Reports are skipped in the log just where the gateway counts them so.
-use Rattle.std.proofs.Common.{◌≡◌, ℕ, zero, suc, Bool, true, false, List, [], ◌∷◌, Option, Some}
+use Rattle.std.proofs.Common.{◌≡◌, ℕ, zero, suc, Bool, true, false, List, [], Option, Some}
 use Rattle.std.proofs.Common.{None, refl, ap, ◌∙◌, map}
 use Rattle.std.specs.Prelude.{◌==◌, ◌+◌, if◌then◌else◌, nat_lt, length, drop, slice_index, is_none}
 use Rattle.asdu.specs.Asdu.{AsduValue}
 use Rattle.asdu.specs.Fields.{infos_at, is_sequence, number_at, value_at}
 use Rattle.asdu.specs.InformationObjects.{is_passed_on, object_in, objects_of, typed_objects}
-use Rattle.asdu.specs.Refusals.{is_read, refusal, typed_refusal}
+use Rattle.asdu.specs.Refusals.{refusal, typed_refusal}
 use Rattle.asdu.specs.Sizes.{header_len, ioa_len}
 use Rattle.asdu.specs.declared.sizes.Sizes.{Sizes}
 use Rattle.elements.specs.Types.{type_of}

@@ -1,6 +1,6 @@
 -- What the laws say of the station that was asked, of what passes a run that is watched, and of
 -- APDUs that come (this gateway's own profile, docs/STATUS.md and docs/TEXTS.md).
-use Rattle.std.specs.Prelude.{◌≡◌, ◌&&◌, ℕ, Bool, true, false, not, List, ◌∷◌, ◌++◌, Option, Some}
+use Rattle.std.specs.Prelude.{◌≡◌, ◌&&◌, ℕ, false, not, List, ◌∷◌, ◌++◌, Option, Some}
 use Rattle.std.specs.Prelude.{None}
 use Rattle.std.specs.List.{AllByRecursion}
 use Rattle.gateway.specs.Counting.{one_skipped}
