@@ -24,5 +24,5 @@ pub use laws::{looks_are_noted, stations_are_shown_as_they_stand, visitors_see_t
 pub use lookout::Lookout;
 pub use sight_laws::{
     each_station_has_its_row, line_state_and_settings_are_shown_as_they_are,
-    the_centre_is_shown_as_it_is, the_queue_is_shown_as_it_is,
+    silence_is_shown_as_it_is_set, the_centre_is_shown_as_it_is, the_queue_is_shown_as_it_is,
 };

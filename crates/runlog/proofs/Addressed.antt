@@ -82,7 +82,7 @@ tail_of size fcb a asdu =
 abbrev pub length_of : LinkSize → (fcb : Bool) → (a : ℕ) → (asdu : List ℕ) → ℕ
 length_of size fcb a asdu = length (user size (command_control fcb) a asdu)
 
-address_is : (size : LinkSize) (a : ℕ) (r : Request) → address_of size (octets_of size a r) ≡ a
+pub address_is : (size : LinkSize) (a : ℕ) (r : Request) → address_of size (octets_of size a r) ≡ a
 address_is One a request.Status = refl
 address_is One a request.Reset = refl
 address_is One a (request.Counted fcb service.Class1) = refl
@@ -124,10 +124,10 @@ asking_is Two a (request.Counted false (service.Command asdu)) =
 
 -- ---- Whose they are
 
-not_its : (a b : ℕ) → (a ≡ b → ⊥) → (a == b) ≡ false
+pub not_its : (a b : ℕ) → (a ≡ b → ⊥) → (a == b) ≡ false
 not_its a b other = grind (arith, other)
 
-its_own : (a : ℕ) → (a == a) ≡ true
+pub its_own : (a : ℕ) → (a == a) ≡ true
 its_own a = grind arith
 
 -- a request to another address
@@ -208,7 +208,7 @@ nobody_so size address r now ws all =
 
 -- ---- A gap
 
-at_its_place : (before behind : List StationWatch) (w : StationWatch)
+pub at_its_place : {A : Type 0} (before behind : List A) (w : A)
     → slice_get (before ++ w ∷ behind) (length before) ≡ Some w
 at_its_place [] behind w = refl
 at_its_place (v ∷ before) behind w = at_its_place before behind w

@@ -21,3 +21,9 @@ pub mod Places
 pub mod Counted
 pub mod Answered
 pub mod Namings
+pub mod Noted
+pub mod Skipping
+pub mod Stepwise
+pub mod Books
+pub mod Systems
+pub mod Meanings

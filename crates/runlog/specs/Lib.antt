@@ -14,6 +14,7 @@ pub mod Traffic
 pub mod Waiting
 pub mod Exchange
 pub mod Answering
+pub mod Befallen
 pub mod Watching
 pub mod Logging
 pub mod Passing

@@ -1,6 +1,6 @@
 //! Laws of what is logged of each station: of its commands, its reports and its mishaps.
-ghost use Rattle.std.specs.Prelude.{◌≡◌, ◌≤◌, ◌%◌, ◌⊎◌, ◌∷◌, [], ℕ, true, List, Option, Some};
-ghost use Rattle.std.specs.Prelude.{None};
+ghost use Rattle.std.specs.Prelude.{◌≡◌, ◌≢◌, ◌<◌, ◌≤◌, ◌%◌, ◌⊎◌, ◌∷◌, [], ℕ, true, List, Option};
+ghost use Rattle.std.specs.Prelude.{Some, None};
 ghost use Rattle.std.specs.declared.net.ip_addr.IpAddr.{IpAddr};
 ghost use Rattle.std.specs.List.{AllByRecursion};
 ghost use Rattle.asdu.specs.declared.sizes.Sizes.{Sizes};
@@ -65,6 +65,8 @@ pub fn answers_are_read_by_their_causes()
     ensures done { (cause : ℕ) → cause % 128 ≡ 10 → reply_of cause ≡ Some fate.Terminated }
     ensures confirmed { (cause : ℕ) → (cause % 128 ≡ 7) ⊎ (cause % 128 ≡ 9) →
         reply_of cause ≡ Some fate.Confirmed }
+    ensures other { (cause : ℕ) → cause % 64 < 44 → cause % 128 < 64 → cause % 128 ≢ 7 →
+        cause % 128 ≢ 9 → cause % 128 ≢ 10 → reply_of cause ≡ None }
 {}
 
 /// Where no line is sought among what was gathered, nothing of it waits that may be logged: of no

@@ -45,6 +45,7 @@
 //! does with it, is no matter of a proof.
 #![tactic(auto)]
 
+mod befallen_laws;
 mod connection_laws;
 mod content;
 mod ends;
@@ -72,10 +73,17 @@ mod severity;
 mod sink;
 mod station_laws;
 mod stations;
+mod system_laws;
 mod traffic;
 mod watch;
 mod word_examples;
 
+pub use befallen_laws::{
+    a_run_ends_with_its_counts, answers_are_noted_of_the_station_that_was_asked,
+    each_apdu_of_a_step_is_read, late_answers_are_noted_of_the_station_asked_before,
+    mishaps_are_noted_of_the_station_that_was_asked,
+    reports_are_skipped_as_the_gateway_counts_them, what_passes_is_known_and_logged,
+};
 pub use connection_laws::{
     connections_are_known_from_their_opening_to_their_end,
     each_step_of_a_connection_is_logged_or_counted,
@@ -124,6 +132,7 @@ pub use station_laws::{
     each_station_has_its_own_watch, requests_are_noted_of_their_own_station,
 };
 pub use stations::{StationStanding, StationWatch};
+pub use system_laws::what_the_system_answers_is_what_counts;
 pub use traffic::Traffic;
 pub use watch::Watch;
 pub use word_examples::each_word_by_example;

@@ -1,6 +1,6 @@
 //! What the log says of a command, by the octets of that.
-ghost use Rattle.std.specs.Prelude.{◌≡◌, ◌⊎◌, ℕ, ◌+◌, ◌-◌, ◌*◌, ◌%◌, ◌<◌, ◌≤◌, List, ◌∷◌, drop};
-ghost use Rattle.std.specs.Prelude.{length, slice_index, Some, None};
+ghost use Rattle.std.specs.Prelude.{◌≡◌, ◌≢◌, ◌⊎◌, ℕ, ◌+◌, ◌-◌, ◌*◌, ◌%◌, ◌<◌, ◌≤◌, List, ◌∷◌};
+ghost use Rattle.std.specs.Prelude.{drop, length, slice_index, Some, None};
 ghost use Rattle.asdu.specs.Fields.{ca_at, first_address};
 ghost use Rattle.asdu.specs.Sizes.{header_len, ioa_len};
 ghost use Rattle.asdu.specs.declared.sizes.Sizes.{Sizes};
@@ -36,7 +36,8 @@ pub fn values_of_commands_are_told_bit_by_bit()
 {}
 
 /// By its cause a command is taken back (8 and 9, whatever P/N and the test bit are). Else types 45
-/// to 49 select or execute by S/E, bit 7 behind what they want; an interrogation is activated.
+/// to 49 select or execute by S/E, bit 7 behind what they want; an interrogation is activated. No
+/// other cause makes a difference, so an answer is told as its command.
 /// Types 58 to 62 are types 45 to 49 with a time tag (IEC 60870-5-104, 8).
 pub fn acts_of_commands_are_told_by_their_bits()
     ensures taken_back { (kind cause : ℕ) (element : List ℕ) →
@@ -55,6 +56,8 @@ pub fn acts_of_commands_are_told_by_their_bits()
         act_of kind cause (low ∷ high ∷ qualifier ∷ behind) ≡ act.Execute }
     ensures activates { (cause : ℕ) (element : List ℕ) → cause % 64 ≡ 6 →
         act_of 100 cause element ≡ act.Activate }
+    ensures others { (kind cause : ℕ) (element : List ℕ) → cause % 64 ≢ 8 → cause % 64 ≢ 9 →
+        act_of kind cause element ≡ act_of kind 6 element }
     ensures tagged { (kind : ℕ) → 45 ≤ kind → kind ≤ 49 → plain (kind + 13) ≡ kind }
     ensures untagged { (kind : ℕ) → (kind < 58) ⊎ (62 < kind) → plain kind ≡ kind }
 {}

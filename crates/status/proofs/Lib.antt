@@ -8,3 +8,4 @@ pub mod PageLemmas
 pub mod HourLemmas
 pub mod SightLemmas
 pub mod ReplyLemmas
+pub mod TypeLemmas

@@ -18,4 +18,5 @@ pub mod Sights
 pub mod Streams
 pub mod Table
 pub mod Texts
+pub mod Typed
 pub mod Words

@@ -56,7 +56,8 @@ pub use laws::{
     the_last_hour_has_a_number_a_minute, visitors_are_sent_what_they_asked_for,
 };
 pub use reading_laws::{
-    lists_have_each_thing, numbers_stand_under_their_names, texts_are_read_back,
+    each_page_says_its_version, lists_have_each_thing, numbers_stand_behind_their_types,
+    numbers_stand_under_their_names, standings_are_told_in_their_words, texts_are_read_back,
 };
 pub use reply::{UNKNOWN, body_of, exit_status};
 pub use reply_laws::{

@@ -1,6 +1,6 @@
 //! What holds of the words of every element, tag and frame.
-ghost use Rattle.std.specs.Prelude.{◌≡◌, ℕ, ◌+◌, ◌-◌, ◌*◌, ◌/◌, ◌%◌, ◌^◌, ◌==◌, ◌&&◌, codes, List};
-ghost use Rattle.std.specs.Prelude.{[], ◌∷◌, ◌++◌, if◌then◌else◌, nat_le, map, unsigned_abs};
+ghost use Rattle.std.specs.Prelude.{◌≡◌, ◌≤◌, ℕ, ◌+◌, ◌-◌, ◌*◌, ◌/◌, ◌%◌, ◌^◌, ◌==◌, ◌&&◌, codes};
+ghost use Rattle.std.specs.Prelude.{[], ◌∷◌, ◌++◌, if◌then◌else◌, nat_le, map, unsigned_abs, List};
 ghost use Rattle.std.specs.Prelude.{slice_index, Some, None, true, false};
 ghost use Rattle.std.specs.Fmt.{decimal, signed_decimal};
 ghost use Rattle.hex.specs.Hex.{encode_upper};
@@ -201,7 +201,8 @@ pub fn apdus_are_told_field_by_field()
 {}
 
 /// The types that are carried are told by their labels (IEC 60870-5-101, 7.2.1, and IEC
-/// 60870-5-104, 8), and causes by their names (7.2.3): no two are exchanged.
+/// 60870-5-104, 8), and so are the other types of system information in control direction. Causes
+/// are told by their names (7.2.3), and those of a group with its number: no two are exchanged.
 pub fn types_and_causes_are_told_by_name()
     ensures reports { map type_text (1 ∷ 3 ∷ 5 ∷ 7 ∷ 9 ∷ 11 ∷ 13 ∷ 15 ∷ 70 ∷ [])
         ≡ codes "M_SP_NA_1" ∷ codes "M_DP_NA_1" ∷ codes "M_ST_NA_1" ∷ codes "M_BO_NA_1"
@@ -223,4 +224,15 @@ pub fn types_and_causes_are_told_by_name()
     ensures mirrors { map cause_text (20 ∷ 44 ∷ 45 ∷ 46 ∷ 47 ∷ [])
         ≡ codes "station interrogation" ∷ codes "unknown type" ∷ codes "unknown cause"
         ∷ codes "unknown common address" ∷ codes "unknown object address" ∷ [] }
+    ensures returns { map cause_text (11 ∷ 12 ∷ 13 ∷ [])
+        ≡ codes "return by remote command" ∷ codes "return by local command"
+        ∷ codes "file transfer" ∷ [] }
+    ensures groups { (group : ℕ) → 1 ≤ group → group ≤ 16 → cause_text (20 + group)
+        ≡ codes "group " ++ (decimal group ++ codes " interrogation") }
+    ensures counters { (cause_text 37 ≡ codes "general counter request")
+        × ((group : ℕ) → 1 ≤ group → group ≤ 4 → cause_text (37 + group)
+        ≡ codes "group " ++ (decimal group ++ codes " counter request")) }
+    ensures not_carried { map type_text (101 ∷ 102 ∷ 103 ∷ 104 ∷ 105 ∷ 106 ∷ 107 ∷ [])
+        ≡ codes "C_CI_NA_1" ∷ codes "C_RD_NA_1" ∷ codes "C_CS_NA_1" ∷ codes "C_TS_NA_1"
+        ∷ codes "C_RP_NA_1" ∷ codes "C_CD_NA_1" ∷ codes "C_TS_TA_1" ∷ [] }
 {}

@@ -1,0 +1,296 @@
+-- Which station answers, commands and mishaps are noted of.
+use Rattle.std.proofs.Common.{◌≡◌, ℕ, ◌+◌, ◌-◌, ◌==◌, ◌<◌, ◌≤◌, Bool, true, false, List, [], ◌∷◌}
+use Rattle.std.proofs.Common.{◌++◌, length, Option, Some, None, refl, ap, ◌∙◌, arith}
+use Rattle.std.proofs.Common.{nat_le, nat_lt, zero, suc, get_or, length-append}
+use Rattle.std.proofs.Math.Seq.{get_or-append_seam, set-append_seam}
+use Rattle.std.proofs.lemmas.List.{get_or_append_left}
+use Rattle.std.proofs.lemmas.List.Sums.{position_or_len_is}
+use Rattle.std.specs.List.{position_or_len}
+use Rattle.std.specs.Prelude.{if◌then◌else◌, slice_get, slice_set}
+use Rattle.ft12.specs.Spelling.{spelling}
+use Rattle.gateway.specs.Log.{LineOut}
+use Rattle.gateway.specs.declared.counts.Counts.{Counts}
+use Rattle.link.specs.Requests.{request_frame}
+use Rattle.link.specs.declared.answer.Answer.{Answer}
+use Rattle.link.specs.declared.service.Asked.{Asked as Request}
+use Rattle.link.specs.declared.service.Asked.TheVariants as request
+use Rattle.link.specs.declared.service.Service.TheVariants.{Command}
+use Rattle.runlog.specs.Befallen.{IsInPlace, NoneHas, place_asked}
+use Rattle.runlog.specs.Exchange as exchange
+use Rattle.runlog.specs.Exchange.{RequestWatch, answer_in, awaited_of, place_of, received}
+use Rattle.runlog.specs.Exchange.{traffic_after}
+use Rattle.runlog.specs.Orders.{order_of}
+use Rattle.runlog.specs.Passing.{Went, passed}
+use Rattle.runlog.specs.Stations.{address_of}
+use Rattle.runlog.specs.Traffic.{sent, suffered}
+use Rattle.runlog.specs.Watching.{Watching, answer_noted_at, answer_noted_by, answered_by}
+use Rattle.runlog.specs.Watching.{as_late, as_seen, counts_noted, is_repeat, late_noted}
+use Rattle.runlog.specs.Watching.{line_received, order_at, sent_at, sent_by, suffered_at}
+use Rattle.runlog.specs.Watching.{suffered_by, suffered_if}
+use Rattle.runlog.specs.declared.exchange.AwaitedAnswer.{AwaitedAnswer}
+use Rattle.runlog.specs.declared.exchange.AwaitedAnswer.TheVariants as awaited
+use Rattle.runlog.specs.declared.fate.Mishap.{Mishap}
+use Rattle.runlog.specs.declared.fate.Mishap.TheVariants as mishap
+use Rattle.runlog.specs.declared.traffic.Traffic.{Traffic}
+use Rattle.runlog.proofs.Addressed.{address_is, at_its_place, its_own, not_its, octets_of}
+use Rattle.runlog.proofs.Answered.{awaited_so, command_so}
+
+-- ---- Places
+
+put_here : (before behind : List Traffic) (t v : Traffic)
+    → slice_set (before ++ t ∷ behind) (length before) v ≡ before ++ v ∷ behind
+put_here before behind t v = set-append_seam before t behind v
+
+found_here : (before behind : List Traffic) (t : Traffic) (ts : List Traffic)
+    → ts ≡ before ++ t ∷ behind → slice_get ts (length before) ≡ Some t
+found_here before behind t ts is =
+    ap (λ (l : List Traffic). slice_get l (length before)) is ∙ at_its_place before behind t
+
+changed_here : (before behind : List Traffic) (t v : Traffic) (ts : List Traffic)
+    → ts ≡ before ++ t ∷ behind → slice_set ts (length before) v ≡ before ++ v ∷ behind
+changed_here before behind t v ts is =
+    ap (λ (l : List Traffic). slice_set l (length before) v) is ∙ put_here before behind t v
+
+-- ---- The station that was asked
+
+abbrev has : (address : ℕ) → Traffic → Bool
+has address t = t.address == address
+
+others_at : (address : ℕ) (before : List Traffic) (k : ℕ) (d : Traffic) → NoneHas address before
+    → k < length before → has address (get_or before k d) ≡ false
+others_at address [] k d none less = absurd (omega (arith, less))
+others_at address (v ∷ before) zero d none less = not_its v.address address none.0
+others_at address (v ∷ before) (suc k) d none less =
+    others_at address before k d none.1 (omega (arith, less))
+
+length_before : (address : ℕ) (before behind : List Traffic) (t : Traffic)
+    → NoneHas address before → t.address ≡ address
+    → position_or_len (has address) (before ++ t ∷ behind) ≡ length before
+length_before address before behind t none its =
+    position_or_len_is (has address) (before ++ t ∷ behind) (length before) t
+    (omega (arith, length-append before (t ∷ behind)))
+    (λ k less. ap (has address) (get_or_append_left before (t ∷ behind) t k less)
+    ∙ others_at address before k t none less)
+    (λ less. ap (has address) (get_or-append_seam before t behind t)
+    ∙ ap (λ a. a == address) its ∙ its_own address)
+
+below : (n m : ℕ) → n < m → nat_lt n m ≡ true
+below n m less = grind (arith, less)
+
+by_place : (n m len : ℕ) → n ≡ m → m < len → (if nat_lt n len then Some n else None) ≡ Some m
+by_place n m len is less =
+    ap (λ k. if nat_lt k len then Some k else None) is
+    ∙ ap (λ b. if b then Some m else None) (below m len less)
+
+place_here : (address : ℕ) (before behind : List Traffic) (t : Traffic) (ts : List Traffic)
+    → ts ≡ before ++ t ∷ behind → NoneHas address before → t.address ≡ address
+    → place_of address ts ≡ Some (length before)
+place_here address before behind t ts is none its =
+    ap (place_of address) is
+    ∙ by_place (position_or_len (has address) (before ++ t ∷ behind)) (length before)
+    (length (before ++ t ∷ behind)) (length_before address before behind t none its)
+    (omega (arith, length-append before (t ∷ behind)))
+
+unless_repeat : (b : Bool) (w v : Watching) → v.exchange ≡ w.exchange
+    → (if b then w else v).exchange ≡ w.exchange
+unless_repeat true w v same = refl
+unless_repeat false w v same = same
+
+sent_by_exchange : (found : Option Traffic) (place : ℕ) (octets : List ℕ) (w : Watching)
+    → (sent_by found place octets w).exchange ≡ w.exchange
+sent_by_exchange None place octets w = refl
+sent_by_exchange (Some t) place octets w =
+    unless_repeat (is_repeat place octets w) w
+    (record w { traffic = slice_set w.traffic place (sent (order_at octets w) t) }) refl
+
+sent_exchange : (place : Option ℕ) (what : AwaitedAnswer) (octets : List ℕ) (w : Watching)
+    → (sent_at place what octets w).exchange ≡ w.exchange
+sent_exchange None awaited.Nothing octets w = refl
+sent_exchange None awaited.Poll octets w = refl
+sent_exchange None awaited.Command octets w = refl
+sent_exchange (Some place) awaited.Nothing octets w = refl
+sent_exchange (Some place) awaited.Poll octets w = refl
+sent_exchange (Some place) awaited.Command octets w =
+    sent_by_exchange (slice_get w.traffic place) place octets w
+
+pub asked_so : (w : Watching) (r : Request) (now : ℕ) (before behind : List Traffic) (t : Traffic)
+    → IsInPlace before behind t w → NoneHas t.address before
+    → place_asked w now (spelling w.link (request_frame t.address r)) ≡ Some (length before)
+asked_so w r now before behind t is none =
+    let octets = octets_of w.link t.address r in
+    let place = place_of (address_of w.link octets) w.traffic in
+    ap (λ (e : RequestWatch). e.place)
+    (sent_exchange place (awaited_of octets) octets
+    (record w { exchange = exchange.asked place (awaited_of octets) now w.exchange }))
+    ∙ ap (λ a. place_of a w.traffic) (address_is w.link t.address r)
+    ∙ place_here t.address before behind t w.traffic is none refl
+
+-- ---- A command
+
+pub command_here : (w : Watching) (fcb : Bool) (asdu : List ℕ) (now : ℕ)
+    (before behind : List Traffic) (t : Traffic) → IsInPlace before behind t w
+    → NoneHas t.address before
+    → is_repeat (length before)
+    (spelling w.link (request_frame t.address (request.Counted fcb (Command asdu)))) w ≡ false
+    → IsInPlace before behind (sent (order_of w.sizes asdu) t)
+    (passed (Went now (LineOut (spelling w.link
+    (request_frame t.address (request.Counted fcb (Command asdu)))))) w).0
+command_here w fcb asdu now before behind t is none new =
+    let r : Request = request.Counted fcb (Command asdu) in
+    let octets = octets_of w.link t.address r in
+    let begun : Option ℕ → AwaitedAnswer → Watching =
+    λ place what. record w { exchange = exchange.asked place what now w.exchange } in
+    ap (λ place. (sent_at place (awaited_of octets) octets
+    (begun place (awaited_of octets))).traffic)
+    (ap (λ a. place_of a w.traffic) (address_is w.link t.address r)
+    ∙ place_here t.address before behind t w.traffic is none refl)
+    ∙ ap (λ what. (sent_at (Some (length before)) what octets
+    (begun (Some (length before)) what)).traffic) (awaited_so w.link t.address r)
+    ∙ ap (λ found. (sent_by found (length before) octets
+    (begun (Some (length before)) awaited.Command)).traffic)
+    (found_here before behind t w.traffic is)
+    ∙ ap (λ b. (if b then begun (Some (length before)) awaited.Command
+    else record (begun (Some (length before)) awaited.Command) {
+      traffic = slice_set w.traffic (length before) (sent (order_at octets w) t);
+    }).traffic) new
+    ∙ ap (λ o. slice_set w.traffic (length before) (sent (order_of w.sizes o) t))
+    (command_so w.link t.address fcb asdu)
+    ∙ changed_here before behind t (sent (order_of w.sizes asdu) t) w.traffic is
+
+-- ---- Answers
+
+module _ (w : Watching) (octets : List ℕ) (before behind : List Traffic) (t : Traffic)
+    (is : IsInPlace before behind t w) (asked : w.exchange.place ≡ Some (length before)) where
+  abbrev heard : Watching
+  heard = record w { exchange = received octets w.exchange }
+
+  noted_by : (answer : Option (Option Answer))
+      → answer_in w.link t.address (received octets w.exchange) ≡ answer
+      → (line_received octets w).traffic ≡ (answered_by answer t (length before) heard).traffic
+  noted_by answer found =
+      ap (λ place. (answer_noted_at place heard).traffic) asked
+      ∙ ap (λ o. (answer_noted_by o (length before) heard).traffic)
+      (found_here before behind t w.traffic is)
+      ∙ ap (λ a. (answered_by a t (length before) heard).traffic) found
+
+  pub answer_here : (answer : Option Answer)
+      → answer_in w.link t.address (received octets w.exchange) ≡ Some answer
+      → IsInPlace before behind (traffic_after answer w.sizes w.moment t) (line_received octets w)
+  answer_here answer found =
+      noted_by (Some answer) found
+      ∙ changed_here before behind t (traffic_after answer w.sizes w.moment t) w.traffic is
+
+  pub no_answer_here : answer_in w.link t.address (received octets w.exchange) ≡ None
+      → IsInPlace before behind t (line_received octets w)
+  no_answer_here found = noted_by None found ∙ is
+
+-- ---- What befell
+
+suffered_here : (place : Option ℕ) (what : Mishap) (w : Watching) (before behind : List Traffic)
+    (t : Traffic) → IsInPlace before behind t w → place ≡ Some (length before)
+    → IsInPlace before behind (suffered what t) (suffered_at place what w)
+suffered_here place what w before behind t is asked =
+    ap (λ p. (suffered_at p what w).traffic) asked
+    ∙ ap (λ found. (suffered_by found (length before) what w).traffic)
+    (found_here before behind t w.traffic is)
+    ∙ changed_here before behind t (suffered what t) w.traffic is
+
+stayed : (n m : ℕ) → n ≡ m → nat_lt n m ≡ false
+stayed n m same = grind (arith, same)
+
+-- which of the three counts grew
+abbrev noted_as : (spoilt mirrors lost : Bool) → Counts → Watching → Watching
+noted_as spoilt mirrors lost counts w =
+    as_seen counts (suffered_if spoilt mishap.Spoilt (suffered_if mirrors mishap.MirrorDropped
+    (suffered_if lost mishap.GivenUp w)))
+
+counted_as : (spoilt mirrors lost : Bool) (counts : Counts) (w : Watching)
+    → nat_lt w.seen.spoilt counts.spoilt ≡ spoilt → nat_lt w.seen.mirrors counts.mirrors ≡ mirrors
+    → nat_lt w.seen.lost counts.lost ≡ lost
+    → counts_noted counts w ≡ noted_as spoilt mirrors lost counts w
+unfolding counts_noted
+counted_as spoilt mirrors lost counts w a b d =
+    ap (λ x. noted_as x (nat_lt w.seen.mirrors counts.mirrors) (nat_lt w.seen.lost counts.lost)
+    counts w) a
+    ∙ ap (λ x. noted_as spoilt x (nat_lt w.seen.lost counts.lost) counts w) b
+    ∙ ap (λ x. noted_as spoilt mirrors x counts w) d
+
+pub given_up_here : (counts : Counts) (w : Watching) (before behind : List Traffic) (t : Traffic)
+    → IsInPlace before behind t w → w.exchange.before ≡ Some (length before)
+    → w.seen.lost < counts.lost → w.seen.mirrors ≡ counts.mirrors → w.seen.spoilt ≡ counts.spoilt
+    → IsInPlace before behind (suffered mishap.GivenUp t) (counts_noted counts w)
+given_up_here counts w before behind t is asked more mirrors spoilt =
+    ap (λ (v : Watching). v.traffic)
+    (counted_as false false true counts w (stayed _ _ spoilt) (stayed _ _ mirrors) (below _ _ more))
+    ∙ suffered_here w.exchange.before mishap.GivenUp w before behind t is asked
+
+pub dropped_here : (counts : Counts) (w : Watching) (before behind : List Traffic) (t : Traffic)
+    → IsInPlace before behind t w → w.exchange.before ≡ Some (length before)
+    → w.seen.mirrors < counts.mirrors → w.seen.lost ≡ counts.lost → w.seen.spoilt ≡ counts.spoilt
+    → IsInPlace before behind (suffered mishap.MirrorDropped t) (counts_noted counts w)
+dropped_here counts w before behind t is asked more lost spoilt =
+    ap (λ (v : Watching). v.traffic)
+    (counted_as false true false counts w (stayed _ _ spoilt) (below _ _ more) (stayed _ _ lost))
+    ∙ suffered_here w.exchange.before mishap.MirrorDropped w before behind t is asked
+
+pub spoilt_here : (counts : Counts) (w : Watching) (before behind : List Traffic) (t : Traffic)
+    → IsInPlace before behind t w → w.exchange.before ≡ Some (length before)
+    → w.seen.spoilt < counts.spoilt → w.seen.lost ≡ counts.lost → w.seen.mirrors ≡ counts.mirrors
+    → IsInPlace before behind (suffered mishap.Spoilt t) (counts_noted counts w)
+spoilt_here counts w before behind t is asked more lost mirrors =
+    ap (λ (v : Watching). v.traffic)
+    (counted_as true false false counts w (below _ _ more) (stayed _ _ mirrors) (stayed _ _ lost))
+    ∙ suffered_here w.exchange.before mishap.Spoilt w before behind t is asked
+
+pub nothing_befell : (counts : Counts) (w : Watching) → w.seen.lost ≡ counts.lost
+    → w.seen.mirrors ≡ counts.mirrors → w.seen.spoilt ≡ counts.spoilt
+    → (counts_noted counts w).traffic ≡ w.traffic
+nothing_befell counts w lost mirrors spoilt =
+    ap (λ (v : Watching). v.traffic)
+    (counted_as false false false counts w (stayed _ _ spoilt) (stayed _ _ mirrors)
+    (stayed _ _ lost))
+
+pub counts_seen : (counts : Counts) (w : Watching) → (counts_noted counts w).seen ≡ counts
+unfolding counts_noted
+counts_seen counts w = refl
+
+-- ---- What came late
+
+late_as : (b : Bool) (late : ℕ) (w : Watching) → nat_lt w.late late ≡ b
+    → late_noted late w
+    ≡ as_late late (if b then suffered_at w.exchange.overdue mishap.Late w else w)
+late_as b late w is =
+    ap (λ x. as_late late (if x then suffered_at w.exchange.overdue mishap.Late w else w)) is
+
+pub late_here : (late : ℕ) (w : Watching) (before behind : List Traffic) (t : Traffic)
+    → IsInPlace before behind t w → w.exchange.overdue ≡ Some (length before) → w.late < late
+    → IsInPlace before behind (suffered mishap.Late t) (late_noted late w)
+late_here late w before behind t is asked more =
+    ap (λ (v : Watching). v.traffic) (late_as true late w (below _ _ more))
+    ∙ suffered_here w.exchange.overdue mishap.Late w before behind t is asked
+
+no_more : (n m : ℕ) → n ≤ m → nat_lt m n ≡ false
+no_more n m none = grind (arith, none)
+
+pub none_late : (late : ℕ) (w : Watching) → late ≤ w.late
+    → (late_noted late w).traffic ≡ w.traffic
+none_late late w none =
+    ap (λ (v : Watching). v.traffic) (late_as false late w (no_more late w.late none))
+
+over_by : (since ms now : ℕ) → since + ms ≤ now → nat_le ms (now - since) ≡ true
+over_by since ms now past = grind (arith, past)
+
+in_time_by : (since ms now : ℕ) → since ≤ now → now < since + ms
+    → nat_le ms (now - since) ≡ false
+in_time_by since ms now behind early = grind (arith, behind, early)
+
+pub overdue_so : (place : Option ℕ) (what : AwaitedAnswer) (now : ℕ) (e : RequestWatch)
+    → e.since + e.answer_ms ≤ now → (exchange.asked place what now e).overdue ≡ e.place
+overdue_so place what now e past =
+    ap (λ b. if b then e.place else None) (over_by e.since e.answer_ms now past)
+
+pub in_time_so : (place : Option ℕ) (what : AwaitedAnswer) (now : ℕ) (e : RequestWatch)
+    → e.since ≤ now → now < e.since + e.answer_ms
+    → (exchange.asked place what now e).overdue ≡ None
+in_time_so place what now e behind early =
+    ap (λ b. if b then e.place else None) (in_time_by e.since e.answer_ms now behind early)
