@@ -92,7 +92,12 @@ ROWS = [
     ("show101 1112 E5", "single\n", "", 0),
     ("show101 1112 E5E5", "single\nrest 1\n", "", 1),
     ("show101 E5 1112", "", "bad sizes\n", 1),
+    # Sizes are judged before octets, and octets may have either case, and be 1,024 at the most.
+    ("show101 E5 E", "", "bad sizes\n", 1),
     ("show101 1112 E", "", "bad octets\n", 1),
+    ("show101 1112 e5", "single\n", "", 0),
+    ("show101 1112 " + "E5" * 1024, "single\nrest 1023\n", "", 1),
+    ("show101 1112 " + "E5" * 1025, "", "bad octets\n", 1),
     ("show104 680443000000", "U TESTFR act\n", "", 0),
     ("show104 68", "truncated\n", "", 1),
     ("check good.toml", "ok\n", "", 0),
@@ -160,6 +165,14 @@ ROWS = [
     ("replay one.trace good.toml", "", "config: not TOML\n", 1),
     ("replay good.toml none.script", "", "trace: line 1\n", 1),
     ("replay empty one.trace", "", "config: line.link\n", 1),
+    # Files are read, and a trace is opened, in the order of the words, before anything is judged.
+    ("replay empty nowhere", "", "cannot read nowhere\n", 3),
+    ("sim empty nowhere", "", "cannot read nowhere\n", 3),
+    ("audit empty nowhere", "", "cannot read nowhere\n", 3),
+    ("capture empty nowhere", "", "cannot read nowhere\n", 3),
+    ("stations empty nowhere", "", "cannot read nowhere\n", 3),
+    ("sim nowhere elsewhere", "", "cannot read nowhere\n", 3),
+    ("audit nowhere elsewhere", "", "cannot read nowhere\n", 3),
     ("replay nowhere elsewhere", "", "cannot read nowhere\n", 3),
     ("replay good.toml elsewhere", "", "cannot read elsewhere\n", 3),
     ("sim good.toml none.script", STATION, "", 0),
@@ -277,6 +290,7 @@ QUESTIONS = {
 FILES = {
     "good.toml": CONFIG,
     "empty": "",
+    "-": CONFIG,
     "one.trace": TRACE,
     "strange.trace": STRANGE,
     "none.script": "turns 0\n",
@@ -358,29 +372,56 @@ def pipes(count, program, folder):
         ("replay --words good.toml -", TRACE, WORDS, "", 0),
         ("replay --words good.toml -", RECORD, RECORD_WORDS, "", 0),
         ("replay good.toml -", RECORD, "", "trace: line 2\n", 1),
+        # `-` is standard input wherever a file is named, and `./-` a file of that name.
+        ("check -", CONFIG, "ok\n", "", 0),
+        ("check -", "", "", "config: line.link\n", 1),
+        ("check ./-", "", "ok\n", "", 0),
+        ("replay - one.trace", CONFIG, LINES, "", 0),
+        ("sim good.toml -", "turns 0\n", STATION, "", 0),
+        ("audit good.toml -", RECORD, "same, 6 events, 6 actions\n", "", 0),
     )
     for words, given, out, err, status in rows:
         done = subprocess.run([program, *words.split()], cwd=folder, input=given.encode(), capture_output=True, timeout=SECONDS)
         is_right = (text(done.stdout), text(done.stderr), done.returncode) == (out, err, status)
         count.judge(f"{words}, piped", is_right, done)
+    captured = [
+        subprocess.run([program, "capture", "good.toml", name], cwd=folder, input=RECORD.encode(), capture_output=True, timeout=SECONDS)
+        for name in ("-", "whole.record")
+    ]
+    count.judge("capture good.toml -, piped", captured[0].stdout == captured[1].stdout != b"", captured)
     # A line is told as soon as it has come.
     with subprocess.Popen([program, "show104", "--words", "-"], cwd=folder, stdin=subprocess.PIPE, stdout=subprocess.PIPE) as run:
         run.stdin.write(b"680443000000\n")
         run.stdin.flush()
         count.judge("a line of a pipe is told at once", run.stdout.readline() == b"TESTFR act\n")
         run.stdin.close()
+    # Lines are counted on from one piece of a pipe to the next, and a fault is kept to the end.
+    with subprocess.Popen([program, "show104", "-"], cwd=folder, **{end: subprocess.PIPE for end in ("stdin", "stdout", "stderr")}) as run:
+        for piece, told in ((b"680443000000\nzz\n", b"U TESTFR act\n"), (b"680401000200\n", b"S nr=1\n")):
+            run.stdin.write(piece)
+            run.stdin.flush()
+            count.judge(f"{piece} of a pipe", run.stdout.readline() == told)
+        out, err = run.communicate(b"zz\n\nzz\n", timeout=SECONDS)
+        is_right = (out, text(err), run.returncode) == (b"", "".join(f"octets: line {line}\n" for line in (2, 4, 6)), 1)
+        count.judge("lines of several pieces of a pipe", is_right, (out, err, run.returncode))
 
 
 def statuses(count, program, folder):
     """What a listener answers is printed, and its judgement is the exit status."""
     head = b"HTTP/1.1 200 OK\r\nContent-Type: text/plain\r\nConnection: close\r\n\r\n"
+    long = "".join(f"station {number}\n" for number in range(20_000))
     rows = (
         ("", {b"/status.txt": head + b"OK: 1 of 1\nx\n"}, "OK: 1 of 1\nx\n", "", 0),
         ("", {b"/status.txt": head + b"WARNING: a\n"}, "WARNING: a\n", "", 1),
         ("", {b"/status.txt": head + b"CRITICAL: a\n"}, "CRITICAL: a\n", "", 2),
         ("", {b"/status.txt": head + b"else\n"}, "else\n", "", 3),
+        # However long a page is, all of it is printed.
+        ("", {b"/status.txt": head + b"WARNING: a\n" + long.encode()}, "WARNING: a\n" + long, "", 1),
+        ("--json ", {b"/status.txt": head + b"OK: a\n" + long.encode(), b"/status.json": head + long.encode()}, long, "", 0),
         ("--json ", {b"/status.txt": head + b"WARNING: a\n", b"/status.json": head + b"{}\n"}, "{}\n", "", 1),
         ("", {b"/status.txt": b"HTTP/1.1 404 Not Found\r\n\r\n"}, "", None, 3),
+        ("--json ", {b"/status.txt": b"HTTP/1.1 404 Not Found\r\n\r\n"}, "", None, 3),
+        ("--json ", {b"/status.txt": head + b"OK: a\n", b"/status.json": b"HTTP/1.1 404 Not Found\r\n\r\n"}, "", None, 3),
         ("", {b"/status.txt": b"SSH-2.0-x\r\n"}, "", None, 3),
         ("", {b"/status.txt": b""}, "", None, 3),
     )
@@ -397,7 +438,18 @@ def statuses(count, program, folder):
             told, fault = run.communicate(timeout=SECONDS)
             err = f"no answer from {place}\n" if err is None else err
             is_right = (text(told), text(fault), run.returncode) == (out, err, status)
-            count.judge(f"status {flag}at a listener with {answers}", is_right, (told, fault, run.returncode))
+            count.judge(f"status {flag}at a listener with {str(answers)[:300]}", is_right, (told[:300], fault, run.returncode))
+    # A page that can't be printed is no judgement, however good it is.
+    with socket.create_server(("127.0.0.1", 0)) as listener, open("/dev/full", "wb") as full:
+        place = f"127.0.0.1:{listener.getsockname()[1]}"
+        run = subprocess.Popen([program, "status", place], stdout=full, stderr=subprocess.PIPE)
+        listener.settimeout(SECONDS)
+        visitor, _ = listener.accept()
+        with visitor:
+            visitor.recv(4096)
+            visitor.sendall(head + b"OK: a\n")
+        _, fault = run.communicate(timeout=SECONDS)
+        count.judge("status to a full device", (text(fault), run.returncode) == ("device failed\n", 3), (fault, run.returncode))
 
 
 def failing_outputs(count, program, folder):

@@ -192,6 +192,7 @@ def named(count, program, folder):
             time.sleep(0.1)
         names = [station["name"] for station in told["stations"]]
         count.judge("names in the JSON", (told["line"]["name"], names) == ("North <ring>", ["Mill Lane 20 kV", ""]), told)
+        count.judge("the state in the JSON", told["state"] == "kept", told)
         count.judge("the wall clock", told["wall_ms"] and abs(told["wall_ms"] - time.time() * 1000) < 5000, told)
         metrics = get(status, "/metrics")
         count.judge("the line in the metrics", '\ntelegate_line_info{name="North <ring>"} 1\n' in metrics, metrics)
@@ -205,6 +206,19 @@ def named(count, program, folder):
         silent = run.waits("station 7 doesn't answer")
         count.judge("a silent station", silent and silent.endswith(" station 7 doesn't answer [Mill Lane 20 kV]"), run.lines)
         count.judge("nothing is recorded", run.process.poll() is None, run.process.poll())
+
+
+def both_named(count, program, folder):
+    """Each station has its own name, in whatever order the file has them."""
+    status = f"127.0.0.1:{ends.free_port()}"
+    names = '[[station]]\nlink = 8\nname = "East"\n[[station]]\nlink = 7\nname = "West"\n'
+    with Run(program, folder, f'log = true\nstatus = "{status}"\n' + names) as run:
+        for address, name in ((7, "West"), (8, "East")):
+            up = run.waits(f"station {address} up")
+            count.judge(f"the name of station {address}", up and up.endswith(f" station {address} up [{name}]"), run.lines)
+        told = json.loads(get(status, "/status.json"))
+        count.judge("both names in the JSON", [station["name"] for station in told["stations"]] == ["West", "East"], told)
+        count.judge("no state in the JSON", told["state"] == "none", told)
 
 
 def words_win(count, program, folder):
@@ -317,4 +331,4 @@ def both_judged(count, program, folder):
 
 
 if __name__ == "__main__":
-    frame.main(judged, both_judged, named, words_win, nothing_said, recorded, severities)
+    frame.main(judged, both_judged, named, both_named, words_win, nothing_said, recorded, severities)

@@ -7,7 +7,7 @@ use Rattle.std.proofs.lemmas.List.{append-nil}
 use Rattle.state_files.specs.Names.{IsMarkedAs, IsPutAside, NameStep, Renamed, Sought, Steps}
 use Rattle.state_files.specs.Names.{Synced, noted, unread_name}
 
-same_calls : (one two : List NameStep) → Some one ≡ Some two → one ≡ two
+pub same_calls : (one two : List NameStep) → Some one ≡ Some two → one ≡ two
 same_calls one two is = cc
 
 pub marked : (from to : List ℕ) (before after : List NameStep)
@@ -16,7 +16,7 @@ pub marked : (from to : List ℕ) (before after : List NameStep)
 marked from to before after is = (is.0, same_calls after _ is.1)
 
 -- where calls are kept behind another one, they are kept before it
-kept_before : (steps : Steps) (step : NameStep) (after : List NameStep)
+pub kept_before : (steps : Steps) (step : NameStep) (after : List NameStep)
     → Some after ≡ noted steps step
     → (calls : List NameStep) × (steps ≡ Some calls) × (after ≡ step ∷ calls)
 kept_before None step after is = absurd (cc)

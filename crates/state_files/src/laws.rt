@@ -1,9 +1,19 @@
 //! What the calls on the names of a directory say.
-ghost use Rattle.std.specs.Prelude.{◌≡◌, ◌∷◌, ◌++◌, ◌<◌, ◌≤◌, ℕ, List, Bool, true, false, Some};
-ghost use Rattle.std.specs.Prelude.{codes};
+ghost use Rattle.std.specs.Prelude.{◌≡◌, ◌≢◌, ◌⊎◌, ◌∷◌, ◌++◌, ◌<◌, ◌≤◌, ℕ, List, Bool, true};
+ghost use Rattle.std.specs.Prelude.{false, Some, codes};
 ghost use Rattle.std.specs.Fmt.{decimal};
-ghost use Rattle.state_files.specs.Names.{IsMarkedAs, IsPutAside, NameStep};
-ghost use Rattle.state_files.specs.Names.{Renamed, Sought, Synced};
+ghost use Rattle.std.specs.IoError.{error_kind};
+ghost use Rattle.std.specs.declared.io.Error.{Error};
+ghost use Rattle.std.specs.declared.io.ErrorKind.TheVariants.{Unsupported, OutOfMemory};
+ghost use Rattle.sqlite_disk.specs.Memory.{memory_bytes};
+ghost use Rattle.sqlite_disk.specs.declared.memory.Memory.{Memory};
+ghost use Rattle.sqlite_std_file.specs.declared.pair.OpenError.TheVariants as openings;
+ghost use Rattle.state.specs.declared.folder.FolderFault.TheVariants.{Device, Foreign, InUse};
+ghost use Rattle.state.specs.declared.folder.FolderFault.TheVariants.{NoMemory};
+ghost use Rattle.state_files.specs.Copying.{IsCopied};
+ghost use Rattle.state_files.specs.Faults.{refusal_of};
+ghost use Rattle.state_files.specs.Names.{HasMark, IsLockTaken, IsMarkedAs, IsPutAside, NameStep};
+ghost use Rattle.state_files.specs.Names.{Locked, Made, Renamed, Sought, Synced};
 
 /// A mark counts only where it is on the disk. The file of the other name was renamed, then a file
 /// of the mark's name was found, and the latest call is a sync of the names that went well.
@@ -26,4 +36,42 @@ pub fn files_are_put_aside_in_pairs()
         ∷ earlier) × (n < 9 → (front : List NameStep)
         × (earlier ≡ Sought ((codes "unread-" ++ decimal n) ++ codes "-wal") (Some false)
         ∷ Sought (codes "unread-" ++ decimal n) (Some false) ∷ front)) }
+{}
+
+/// A directory counts as locked only where it was before, or where the latest call took the lock:
+/// not where another process has it, nor where nothing was answered.
+pub fn a_lock_is_told_where_it_is_taken()
+    ensures { (after : List NameStep) → IsLockTaken false (Some after) →
+        (earlier : List NameStep) × (after ≡ Locked (Some true) ∷ earlier) }
+{}
+
+/// A directory that is opened has a mark, which was found there or made. It is made as good, only
+/// where there is none of either kind, and the names are synced behind that.
+pub fn a_mark_is_made_where_there_is_none()
+    ensures { (before after : List NameStep) → HasMark (Some before) (Some after) →
+        (after ≡ Sought (codes "kept") (Some true) ∷ before)
+        ⊎ ((after ≡ Sought (codes "stale") (Some true) ∷ Sought (codes "kept") (Some false)
+        ∷ before) ⊎ (after ≡ Synced true ∷ Made (codes "kept") true
+        ∷ Sought (codes "stale") (Some false) ∷ Sought (codes "kept") (Some false) ∷ before)) }
+{}
+
+/// Who looks at a directory looks at all octets of a file, however many they are.
+pub fn a_file_is_looked_at_whole()
+    ensures { (octets : List ℕ) (before after : Memory) → IsCopied (Some octets) before after →
+        memory_bytes after ≡ memory_bytes before ++ octets }
+{}
+
+/// A directory is refused for its reason. It is in use only where another process has its files. It
+/// isn't a state's where a hot journal stands there, or where its file system lacks what a state
+/// needs. Want of memory is told as that, and all else as a device that failed.
+pub fn a_directory_is_refused_for_its_reason()
+    ensures busy { refusal_of openings.Busy ≡ InUse }
+    ensures journal { refusal_of openings.HotJournal ≡ Foreign }
+    ensures memory { refusal_of openings.OutOfMemory ≡ NoMemory }
+    ensures unsupported { (fault : Error) → error_kind fault ≡ Unsupported →
+        refusal_of (openings.Io fault) ≡ Foreign }
+    ensures refused { (fault : Error) → error_kind fault ≡ OutOfMemory →
+        refusal_of (openings.Io fault) ≡ NoMemory }
+    ensures device { (fault : Error) → error_kind fault ≢ Unsupported →
+        error_kind fault ≢ OutOfMemory → refusal_of (openings.Io fault) ≡ Device }
 {}

@@ -28,7 +28,11 @@ mod names;
 use crate::marks::Marks;
 use crate::names::SystemNames;
 use gateway::History;
-pub use laws::{a_mark_is_on_the_disk_where_it_is_told, files_are_put_aside_in_pairs};
+pub use laws::{
+    a_directory_is_refused_for_its_reason, a_file_is_looked_at_whole,
+    a_lock_is_told_where_it_is_taken, a_mark_is_made_where_there_is_none,
+    a_mark_is_on_the_disk_where_it_is_told, files_are_put_aside_in_pairs,
+};
 pub use looking::{Stood, stood_in};
 use segments::Segment;
 use sqlite_disk::{Disk, Files};
