@@ -10,7 +10,7 @@ use Rattle.gateway.specs.Carried.{carried, command_given_up, commands_given_up_u
 use Rattle.gateway.specs.Carried.{link_given_up, without_commands}
 use Rattle.gateway.specs.Config.{Settings}
 use Rattle.gateway.specs.Log.{Came, Log, Restarted, events_of}
-use Rattle.gateway.specs.Restored.{IsSavable, state_lines}
+use Rattle.gateway.specs.Restored.{IsSaid, IsSavable, state_lines}
 use Rattle.gateway.specs.Serial.{Serial}
 use Rattle.gateway.specs.Setups.{setup_of}
 use Rattle.gateway.specs.State.{State}
@@ -26,7 +26,7 @@ use Rattle.segments.proofs.Fronts.{not_shut}
 use Rattle.settings.specs.Settings.{IsReadOfText}
 use Rattle.statetext.specs.Text.{lines_in}
 use Rattle.state.specs.Beginnings.{AreLinesRead, GoesOnBy, GoesOnFrom, IsMoved}
-use Rattle.state.specs.Beginnings.{WentOn, has_past, is_trusted}
+use Rattle.state.specs.Beginnings.{SayState, WentOn, gap_now, has_past, is_trusted}
 use Rattle.state.specs.Directories.{BeginsOver}
 use Rattle.state.specs.Origins.{IsMarkedBy}
 use Rattle.state.specs.Replays.{ReportedGap, events_in_front, last_gap, whole_lines}
@@ -41,18 +41,20 @@ use Rattle.state.proofs.Returning.{AreSame, same_head}
 -- With which settings a run went on, and from where
 
 abbrev IsGone : (trusted : Bool) → Settings → (written : List ℕ) → (wrote : Settings)
-    → (left s : State) → Type 0
-IsGone trusted c written wrote left s =
-    ((trusted ≡ true) × IsReadOfText written (Ok c) × (wrote ≡ c) × (s ≡ left))
-    ⊎ (IsReadOfText written (Ok wrote) × (s ≡ carried trusted wrote c left))
+    → (left s : State) → (last gap : Option ReportedGap) → Type 0
+IsGone trusted c written wrote left s last gap =
+    ((trusted ≡ true) × IsReadOfText written (Ok c) × (wrote ≡ c) × (s ≡ left) × (gap ≡ last))
+    ⊎ (IsReadOfText written (Ok wrote) × (s ≡ carried trusted wrote c left)
+    × (gap ≡ gap_now wrote.stations c.stations last))
 
 record Gone (trusted : Bool) (c : Settings) (written : List ℕ) (log : Log)
     (lines : List (List ℕ)) (events : List ℕ) (gap : Option ReportedGap) (whole : Log)
     (s : State) : Type 0 where
   wrote : Settings
   left : State
-  went : WentOn wrote log lines events gap whole left
-  gone : IsGone trusted c written wrote left s
+  last : Option ReportedGap
+  went : WentOn wrote log lines events last whole left
+  gone : IsGone trusted c written wrote left s last gap
 
 gone_on : (trusted is_moved : Bool) (c : Settings) (written : List ℕ) (log : Log)
     (lines : List (List ℕ)) (events : List ℕ) (gap : Option ReportedGap) (whole : Log) (s : State)
@@ -62,21 +64,32 @@ gone_on : (trusted is_moved : Bool) (c : Settings) (written : List ℕ) (log : L
 gone_on true false c written log lines events gap whole s moved goes = record {
   wrote = c;
   left = s;
+  last = gap;
   went = goes;
-  gone = inl (refl, moved, refl, refl);
+  gone = inl (refl, moved, refl, refl, refl);
 }
 gone_on true true c written log lines events gap whole s moved goes = record {
   wrote = goes.wrote;
   left = goes.left;
+  last = goes.last;
   went = goes.went;
-  gone = inr (goes.read, goes.moved);
+  gone = inr (goes.read, goes.moved, goes.told);
 }
 gone_on false is_moved c written log lines events gap whole s moved goes = record {
   wrote = goes.wrote;
   left = goes.left;
+  last = goes.last;
   went = goes.went;
-  gone = inr (goes.read, goes.moved);
+  gone = inr (goes.read, goes.moved, goes.told);
 }
+
+-- the settings that the text says are those with which it went on
+says_settings : (trusted : Bool) (c : Settings) (written : List ℕ) (wrote : Settings)
+    (left s : State) (last gap : Option ReportedGap)
+    → IsGone trusted c written wrote left s last gap → IsReadOfText written (Ok wrote)
+says_settings trusted c written wrote left s last gap (inl kept) =
+    subst (λ (w : Settings). IsReadOfText written (Ok w)) (sym kept.2) kept.1
+says_settings trusted c written wrote left s last gap (inr moved) = moved.0
 
 trusted_on : (b : Beginning) → is_trusted b ≡ true → b ≡ beginnings.GoesOn
 trusted_on beginnings.Anew is = absurd (cc)
@@ -131,16 +144,17 @@ module _ {D : Type 0} {g : Ghosts D} where
       (first : State) (rest : List (List ℕ)) → BeginsOver g c log mark newest other o
       → has_past o.beginning ≡ true → Fits head → IsFoundIn (g.seen newest) head body
       → lines_in body ≡ written ∷ (state_lines first ++ rest) → IsSavable first
-      → (wrote : Settings) × (left : State)
+      → (wrote : Settings) × (left : State) × (last : Option ReportedGap)
       × (((o.beginning ≡ beginnings.GoesOn) × IsReadOfText written (Ok c) × (wrote ≡ c)
-      × (o.gateway ≡ left)) ⊎ (IsReadOfText written (Ok wrote)
-      × (o.gateway ≡ carried (is_trusted o.beginning) wrote c left)))
+      × (o.gateway ≡ left) × (o.gap ≡ last)) ⊎ (IsReadOfText written (Ok wrote)
+      × (o.gateway ≡ carried (is_trusted o.beginning) wrote c left)
+      × (o.gap ≡ gap_now wrote.stations c.stations last)))
       × (Follows (setup_of wrote) first (Some log) → Rests (setup_of wrote) (Some log)
       → Follows (setup_of wrote) left (Some o.before.entries) × (news : Log)
       × (o.before.entries ≡ Came left.moment Restarted ∷ (news ++ log))
       × (events_of (news ++ log) ≡ events_of log
       ++ events_in_front (whole_lines (lines_behind body (g.seen newest))))
-      × (o.gap ≡ last_gap news))
+      × (last ≡ last_gap news))
   received c log mark newest other o head body written first rest over past fits found says
       savable =
       let file : List ℕ = g.seen newest in
@@ -150,17 +164,20 @@ module _ {D : Type 0} {g : Ghosts D} where
       let it = gone_from c log o (is_trusted o.beginning) file goes in (
         it.wrote,
         it.left,
+        it.last,
         elim it.gone [
           | inl kept ↦ inl (
             trusted_on o.beginning kept.0,
             subst (λ (t : List ℕ). IsReadOfText t (Ok c)) same.wrote kept.1,
             kept.2,
             kept.3,
+            kept.4,
           )
           | inr moved ↦ inr (
             subst (λ (t : List ℕ). IsReadOfText t (Ok it.wrote)) same.wrote
                 moved.0,
             moved.1,
+            moved.2,
           )
         ],
         λ follows rests.
@@ -176,6 +193,30 @@ module _ {D : Type 0} {g : Ghosts D} where
                   ++ events_in_front (whole_lines (before_zero (drop n file)))) same.place,
               replayed.last,
             ),
+      )
+
+  -- a state stands at the head of what is gone on with
+  pub state_begun : (c : Settings) (log : Log) (mark : Option Bool)
+      (newest other : D) (o : Origin) (head : SegmentHead) (body written : List ℕ)
+      (lines : List (List ℕ)) → BeginsOver g c log mark newest other o
+      → has_past o.beginning ≡ true → Fits head → IsFoundIn (g.seen newest) head body
+      → lines_in body ≡ written ∷ lines
+      → (wrote : Settings) × (state : State) × (rest : List (List ℕ))
+      × IsReadOfText written (Ok wrote) × IsSaid state lines rest
+  state_begun c log mark newest other o head body written lines over past fits found says =
+      let file : List ℕ = g.seen newest in
+      let goes = over.begun.goes_on past over.first in
+      let same = head_is c log o (is_trusted o.beginning) file head body written lines goes fits
+      found says in
+      let it = gone_from c log o (is_trusted o.beginning) file goes in
+      let said : SayState lines = subst SayState same.state it.went.said in (
+        it.wrote,
+        said.first,
+        said.rest,
+        subst (λ (t : List ℕ). IsReadOfText t (Ok it.wrote)) same.wrote
+            (says_settings (is_trusted o.beginning) c goes.written it.wrote it.left o.gateway
+            it.last o.gap it.gone),
+        said.said,
       )
 
   pub is_moved : (c : Settings) (log : Log) (mark : Option Bool)
@@ -304,6 +345,27 @@ gateway_shown log is_stale first second s shown l head body written state rest i
                 ∙ ap (λ (n : ℕ). events_of log
                 ++ events_in_front (whole_lines (before_zero (drop n shown.newest)))) same.place,
           ),
+    )
+
+-- a state stands at its head
+pub state_shown : (log : Log) (is_stale : Bool) (first second : List ℕ) (s : Sight)
+    (shown : IsSight log is_stale first second s) (l : Seen) (head : SegmentHead)
+    (body written : List ℕ) (lines : List (List ℕ)) → s.seen ≡ Some l → Fits head
+    → IsFoundIn shown.newest head body → lines_in body ≡ written ∷ lines
+    → (wrote : Settings) × (state : State) × (rest : List (List ℕ))
+    × IsReadOfText written (Ok wrote) × IsSaid state lines rest
+state_shown log is_stale first second s shown l head body written lines is fits found says =
+    let it : IsSeen log shown.newest l =
+    (shown_seen log is_stale first second s shown l is).2 in
+    let same = same_head shown.newest it.begins (87 + length body) l.settings.items written it.lines
+    lines it.head
+    (record { head = head; body = body; fits = fits; found = found; says = says; behind = refl }) in
+    let said : SayState lines = subst SayState same.state it.said in (
+      it.wrote,
+      said.first,
+      said.rest,
+      subst (λ (t : List ℕ). IsReadOfText t (Ok it.wrote)) same.wrote it.readable,
+      said.said,
     )
 
 -- a log was found where one is shown

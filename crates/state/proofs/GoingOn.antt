@@ -6,24 +6,30 @@ use Rattle.gateway.specs.Agrees.{Follows, Rests}
 use Rattle.gateway.specs.Config.{Settings}
 use Rattle.gateway.specs.Log.{Came, Log, Restarted}
 use Rattle.gateway.specs.Reports.{Setup}
+use Rattle.gateway.specs.Restored.{IsSaid}
 use Rattle.gateway.specs.Setups.{setup_of}
 use Rattle.gateway.specs.State.{State}
 use Rattle.segments.specs.Starts.{before_zero}
 use Rattle.settings.specs.Settings.{IsReadOfText, known_settings, values_of}
 use Rattle.state.specs.Beginnings.{GoesOnBy, GoesOnFrom, IsHeadOf, IsMoved, IsRead}
-use Rattle.state.specs.Beginnings.{MovedOn, WentOn, given_up}
+use Rattle.state.specs.Beginnings.{MovedOn, SayState, WentOn, given_up}
 use Rattle.state.specs.Replays.{ReportedGap}
 use Rattle.state.specs.Sights.{AreChanged}
 
+-- what is said by these lines
+pub say_state : (s : State) (lines rest : List (List ℕ)) → IsSaid s lines rest → SayState lines
+say_state s lines rest said = record { first = s; rest = rest; said = said }
+
 pub went_on : (c : Settings) (log : Log) (lines : List (List ℕ)) (events : List ℕ)
     (gap other : Option ReportedGap) (arrived whole : Log) (left s : State)
-    → IsRead c log lines events gap arrived left → other ≡ gap → s ≡ given_up left
+    → SayState lines → IsRead c log lines events gap arrived left → other ≡ gap → s ≡ given_up left
     → whole ≡ Came left.moment Restarted ∷ arrived
     → ((p : Setup) → Follows p left (Some arrived) → Rests p (Some arrived)
     → Follows p s (Some whole))
     → WentOn c log lines events other whole s
-went_on c log lines events gap other arrived whole left s read same given restarted follows =
+went_on c log lines events gap other arrived whole left s said read same given restarted follows =
     record {
+      said = said;
       left = left;
       arrived = arrived;
       read = subst (λ (g : Option ReportedGap). IsRead c log lines events g arrived left) (sym same)

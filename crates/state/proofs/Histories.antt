@@ -9,7 +9,9 @@ use Rattle.state.specs.Deeds.{Synced, Begun, GivenUp, PutOut, IsInTime, appended
 use Rattle.state.specs.Deeds.{loss_of}
 use Rattle.state.specs.declared.loss.Loss.TheVariants.{Marked}
 use Rattle.state.specs.Deeds.{moment_of, oldest, on_disk, span, waiting, written}
+use Rattle.state.specs.Keeping.{IsOrderly}
 use Rattle.state.specs.Stores.{led_to_head, safe}
+use Rattle.state.specs.declared.standing.Standing.{Standing}
 
 -- a deed might be done when it was
 pub might_be : (bears : Bool) (later earlier : Deeds) (deed : Deed)
@@ -118,3 +120,18 @@ put_if_borne later earlier action right = elim (put_safely true later earlier ac
   | inl disk ↦ inl (on_it earlier disk)
   | inr lost ↦ inr lost
 ]
+
+-- what a keeper says of its history
+kept_or_borne : (bears : Bool) (action : LogEntry) (deeds : Deeds)
+    → MayBe bears (PutOut action) deeds
+    → ((is_kept deeds ≡ true) × (arrived deeds ≡ safe deeds ++ led_to_head deeds))
+    ⊎ ((loss_of deeds ≡ Some Marked) × (bears ≡ true))
+kept_or_borne bears action deeds (inl disk) = inl (on_it deeds disk)
+kept_or_borne bears action deeds (inr lost) = inr lost
+
+pub put_by_keeper : (bears : Bool) (standing : Standing) (later earlier : Deeds) (action : LogEntry)
+    → IsOrderly bears standing (later ++ PutOut action ∷ earlier)
+    → ((is_kept earlier ≡ true) × (arrived earlier ≡ safe earlier ++ led_to_head earlier))
+    ⊎ ((loss_of earlier ≡ Some Marked) × (bears ≡ true))
+put_by_keeper bears standing later earlier action orderly =
+    kept_or_borne bears action earlier (might_be bears later earlier _ orderly.right)

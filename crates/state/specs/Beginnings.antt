@@ -1,13 +1,15 @@
 -- What a run begins with (profile).
 use Rattle.std.specs.Prelude.{◌≡◌, ℕ, ◌+◌, Bool, true, false, not, ◌&&◌, List, ◌∷◌, ◌++◌, drop}
-use Rattle.std.specs.Prelude.{length, Option, Some, None, Ok, if◌then◌else◌}
+use Rattle.std.specs.Prelude.{length, Option, Some, None, Ok, if◌then◌else◌, option_and_then}
+use Rattle.std.specs.Prelude.{option_map, slice_get}
 use Rattle.gateway.specs.Agrees.{Follows, Rests}
-use Rattle.gateway.specs.Carried.{carried, without_commands}
+use Rattle.gateway.specs.Carried.{carried, place_of, without_commands}
 use Rattle.gateway.specs.Config.{Settings}
 use Rattle.gateway.specs.Log.{Came, Log, Restarted}
-use Rattle.gateway.specs.Restored.{IsSavable, state_lines}
+use Rattle.gateway.specs.Restored.{IsSaid, IsSavable, state_lines}
 use Rattle.gateway.specs.Setups.{setup_of}
 use Rattle.gateway.specs.State.{State, with_serial}
+use Rattle.gateway.specs.declared.settings.StationSettings.{StationSettings}
 use Rattle.segments.specs.Crashes.{lines_behind}
 use Rattle.segments.specs.Head.{Fits}
 use Rattle.segments.specs.Starts.{IsFoundIn, before_zero}
@@ -87,10 +89,17 @@ GoesOnWith c log lines whole s =
     → Follows (setup_of c) first (Some log) → Rests (setup_of c) (Some log)
     → Follows (setup_of c) s (Some whole) × Rests (setup_of c) (Some whole)
 
+-- The first of these lines say a gateway's state, and the others stand behind them.
+pub record SayState (lines : List (List ℕ)) : Type 0 where
+  pub first : State
+  pub rest : List (List ℕ)
+  pub said : IsSaid first lines rest
+
 -- It has received the events behind the state that these lines say, and has then given up each
 -- command without an answer. The whole log has this restart at its end, and the gateway follows it.
 pub record WentOn (c : Settings) (log : Log) (lines : List (List ℕ)) (events : List ℕ)
     (gap : Option ReportedGap) (whole : Log) (s : State) : Type 0 where
+  pub said : SayState lines
   pub left : State
   pub arrived : Log
   pub read : IsRead c log lines events gap arrived left
@@ -98,14 +107,28 @@ pub record WentOn (c : Settings) (log : Log) (lines : List (List ℕ)) (events :
   pub restarted : whole ≡ Came left.moment Restarted ∷ arrived
   pub follows : GoesOnWith c log lines whole s
 
--- It went on so under the settings that wrote the log, and was then moved to these.
+-- the place that a station has now which had this one before: it is known by its link address
+abbrev pub place_now : (before now : List StationSettings) → (place : ℕ) → Option ℕ
+place_now before now place =
+    option_and_then (λ (s : StationSettings). place_of s.address now) (slice_get before place)
+
+-- the gap of the same station, by the place that it has now, if it is still there
+abbrev pub gap_now : (before now : List StationSettings) → Option ReportedGap → Option ReportedGap
+gap_now before now None = None
+gap_now before now (Some gap) =
+    option_map (λ (place : ℕ). (place, gap.1)) (place_now before now gap.0)
+
+-- It went on so under the settings that wrote the log, and was then moved to these: a gap of its
+-- last step is told by the place that its station has now.
 pub record MovedOn (trusted : Bool) (c : Settings) (written : List ℕ) (log : Log)
     (lines : List (List ℕ)) (events : List ℕ) (gap : Option ReportedGap) (whole : Log) (s : State) :
     Type 0 where
   pub wrote : Settings
   pub read : IsReadOfText written (Ok wrote)
   pub left : State
-  pub went : WentOn wrote log lines events gap whole left
+  pub last : Option ReportedGap
+  pub went : WentOn wrote log lines events last whole left
+  pub told : gap ≡ gap_now wrote.stations c.stations last
   pub moved : s ≡ carried trusted wrote c left
 
 -- under the same settings with each link, or else moved

@@ -6,7 +6,8 @@ use Rattle.gateway.specs.Log.{Log}
 use Rattle.segments.specs.Starts.{ArePlaced, HasNoNewer, IsNewest, IsShut, before_zero}
 use Rattle.segments.specs.declared.start.Side.{Side}
 use Rattle.settings.specs.Settings.{IsReadOfText}
-use Rattle.state.specs.Beginnings.{AreLinesRead, BearsNumber, IsHeadOf, IsMoved, IsRead, has_past}
+use Rattle.state.specs.Beginnings.{AreLinesRead, BearsNumber, IsHeadOf, IsMoved, IsRead, SayState}
+use Rattle.state.specs.Beginnings.{has_past}
 use Rattle.state.specs.Replays.{ReportedGap, events_in_front, whole_lines}
 use Rattle.state.specs.Unread.{IsUnread}
 use Rattle.state.specs.declared.looking.Seen.{Seen}
@@ -27,6 +28,7 @@ pub record IsSeen (log : Log) (file : List ℕ) (s : Seen) : Type 0 where
   pub begins : ℕ
   pub lines : List (List ℕ)
   pub head : IsHeadOf file begins s.settings.items lines
+  pub said : SayState lines
   pub wrote : Settings
   pub readable : IsReadOfText s.settings.items (Ok wrote)
   pub counted : AreCounted (whole_lines (before_zero (drop begins file))) s.events s.lines

@@ -1,12 +1,12 @@
 //! What a run begins with.
-ghost use Rattle.std.specs.Prelude.{◌≡◌, ◌⊎◌, ◌∷◌, ℕ, List, None, Ok, Some, IfErr, IfOk, IfSome};
-ghost use Rattle.std.specs.Prelude.{IsTrue};
+ghost use Rattle.std.specs.Prelude.{◌≡◌, ◌⊎◌, ◌∷◌, ℕ, List, None, Ok, Option, Some, IfErr, IfOk};
+ghost use Rattle.std.specs.Prelude.{IfSome, IsTrue};
 ghost use Rattle.std.specs.Prelude.{true, false};
 ghost use Rattle.std.specs.Option.{is_some};
 ghost use Rattle.segments.specs.Found.{AreClean, begins_at, events_in, newest_in, newest_of};
 ghost use Rattle.segments.specs.Found.{next_of, other_in, other_of};
 ghost use Rattle.gateway.specs.Agrees.{Follows, Rests};
-ghost use Rattle.gateway.specs.Carried.{carried};
+ghost use Rattle.gateway.specs.Carried.{carried, place_of};
 ghost use Rattle.gateway.specs.Config.{Settings};
 ghost use Rattle.gateway.specs.Log.{Came, Restarted};
 ghost use Rattle.gateway.specs.Reports.{Setup};
@@ -14,9 +14,9 @@ ghost use Rattle.gateway.specs.State.{State};
 ghost use Rattle.segments.specs.Head.{Fits};
 ghost use Rattle.segments.specs.Starts.{HasNoNewer, IsAbove, IsBacked, IsNewest, IsNext};
 ghost use Rattle.settings.specs.Settings.{IsReadOfText};
-ghost use Rattle.state.specs.Beginnings.{AreLinesRead, BearsNumber, GoesOnFrom, HasRead};
-ghost use Rattle.state.specs.Beginnings.{IsHeadOf, IsRead, MovedOn, WentOn, given_up, has_past};
-ghost use Rattle.state.specs.Beginnings.{is_trusted};
+ghost use Rattle.state.specs.Beginnings.{AreLinesRead, BearsNumber, GoesOnFrom, HasRead, gap_now};
+ghost use Rattle.state.specs.Beginnings.{IsHeadOf, IsRead, MovedOn, SayState, WentOn, given_up};
+ghost use Rattle.state.specs.Beginnings.{has_past, is_trusted};
 ghost use Rattle.state.specs.Origins.{IsBegun, IsNew, IsNumbered};
 ghost use Rattle.state.specs.Replays.{whole_lines};
 ghost use Rattle.state.specs.Starts.{beginning_of};
@@ -29,7 +29,7 @@ use crate::replaying::{EventLines, Lineage, Replayed, ReportedGap, are_read, rep
 use crate::same_settings::are_same;
 use crate::start::{Beginning, Found, beginning_of};
 use checkpoint::{Lines, StateFault};
-use gateway::{Config, Gateway, History, NoMemory};
+use gateway::{Config, Gateway, History, NoMemory, StationSettings};
 use segments::{SegmentFault, Start};
 use settings::{ConfigFault, read_config};
 use sqlite_disk::Disk;
@@ -46,8 +46,8 @@ pub struct Origin {
     pub moment: Option<u64>,
     /// What was made of what was found.
     pub beginning: Beginning,
-    /// The gap that the last step before the end reported, if it reported one. Nobody may have seen
-    /// it.
+    /// The gap that the last step before the end reported, if it reported one: of the station by
+    /// the place that it has now. Nobody may have seen it.
     pub gap: Option<ReportedGap>,
     /// What passed in the lives before, as far as the directory shows it.
     pub before: History,
@@ -131,6 +131,8 @@ fn read<K: Lineage>(alloc: Global, config: &Config, lines: TextLines) -> Result<
         AreStateOf config.now (⟦<TextLines as Lines>⟧.coming lines) → ⊥) }
     ensures read { IfOk result (λ g.
         HasRead config.now K.log (⟦<TextLines as Lines>⟧.coming lines) g) }
+    // What isn't the lines of a state isn't read as one.
+    ensures said { IfOk result (λ _. SayState (⟦<TextLines as Lines>⟧.coming lines)) }
 {
     let mut lines = lines;
     let (mut line, mut octets) = (Vec::new(alloc), Vec::new(alloc));
@@ -175,6 +177,7 @@ pub(crate) fn replayed<K: Lineage, D: Disk + Drop>(
     ensures read { IfOk result (λ r. IsTrue (D.Disk.is_clean (newest_of start.new)) →
         IsRead config.now K.log (⟦<TextLines as Lines>⟧.coming lines) (events_in start.new)
         r.gap r.before.entries r.gateway) }
+    ensures said { IfOk result (λ _. SayState (⟦<TextLines as Lines>⟧.coming lines)) }
     ensures moved { IfOk result (λ r. r.is_moved ≡ false) }
     ensures seen { D.Disk.seen (newest_of start.new) ≡ D.Disk.seen (newest_of start.old) }
     ensures clean { IsTrue (D.Disk.is_clean (newest_of start.new)) →
@@ -288,6 +291,36 @@ fn go_on<K: Lineage, D: Disk + Drop>(
     Ok(without_commands(resumed))
 }
 
+/// The place of the station with this link address.
+fn place_of(address: u16, stations: &[StationSettings]) -> Option<usize>
+    ensures { result ≡ place_of address stations.now }
+{
+    stations
+        .iter()
+        .position(|station| station.address == address)
+}
+
+/// The gap of the same station by the place that it has now, if it is still there. Else the log
+/// would name another one.
+fn gap_now(
+    before: &[StationSettings],
+    now: &[StationSettings],
+    gap: Option<ReportedGap>,
+) -> Option<ReportedGap>
+    ensures { result ≡ gap_now before.now now.now gap }
+{
+    let Some((place, session)) = gap else {
+        return None;
+    };
+    let Some(station) = before.get(place).copied() else {
+        return None;
+    };
+    match place_of(station.address, now) {
+        Some(place) => Some((place, session)),
+        None => None,
+    }
+}
+
 /// The gateway receives again what was kept, under the settings that wrote it. It is then moved to
 /// these. `is_moved` says that they are others.
 fn move_on<K: Lineage, D: Disk + Drop>(
@@ -302,8 +335,10 @@ fn move_on<K: Lineage, D: Disk + Drop>(
     ensures wrong { IfErr result (λ fault. fault ≡ StateFault.Wrong →
         AreStateOf wrote.now (⟦<TextLines as Lines>⟧.coming lines) → ⊥) }
     ensures went { IfOk result (λ r. IsTrue (D.Disk.is_clean (newest_of start.new)) →
-        (left : State) × WentOn wrote.now K.log (⟦<TextLines as Lines>⟧.coming lines)
-        (events_in start.new) r.gap r.before.entries left
+        (left : State) × (last : Option (ℕ × ℕ))
+        × WentOn wrote.now K.log (⟦<TextLines as Lines>⟧.coming lines)
+        (events_in start.new) last r.before.entries left
+        × (r.gap ≡ gap_now wrote.now.stations config.now.stations last)
         × (r.gateway ≡ carried goes_on wrote.now config.now left)) }
     ensures moved { IfOk result (λ r. r.is_moved ≡ is_moved) }
     ensures seen { D.Disk.seen (newest_of start.new) ≡ D.Disk.seen (newest_of start.old) }
@@ -320,6 +355,7 @@ fn move_on<K: Lineage, D: Disk + Drop>(
         before,
         is_moved: _,
     } = resumed;
+    let gap = gap_now(wrote.stations(), config.stations(), gap);
     match gateway.carried(alloc, wrote, config, goes_on) {
         Ok(gateway) => Ok(Resumed {
             gateway,

@@ -33,7 +33,7 @@ ghost use Rattle.state.specs.Deeds.{Appended, Begun, Received, Synced, appended,
 ghost use Rattle.state.specs.Deeds.{loss_of, moment_of, on_disk};
 ghost use Rattle.state.specs.Deeds.{waiting, written};
 ghost use Rattle.state.specs.Directories.{BeginsOver};
-ghost use Rattle.state.specs.Keeping.{HasTended, Keeping, failure_of};
+ghost use Rattle.state.specs.Keeping.{HasTended, IsOrderly, Keeping, failure_of};
 ghost use Rattle.state.specs.Lines.{IsWritable, is_renewal_due};
 ghost use Rattle.state.specs.Logs.{IsOlderBeside};
 ghost use Rattle.state.specs.Origins.{IsBegun};
@@ -49,6 +49,7 @@ ghost use Rattle.state.specs.declared.loss.Loss.{Loss};
 ghost use Rattle.state.specs.declared.loss.Loss.TheVariants.{Marked, Unmarked};
 ghost use Rattle.state.specs.declared.loss.StoreFault.TheVariants.{Failed, Full, Unwritable};
 ghost use Rattle.state.specs.declared.opened.Opened.{Opened};
+ghost use Rattle.state.specs.declared.standing.Standing.{Standing};
 ghost use Rattle.traces.specs.Printed.{line_of_entry, lines_of_log};
 ghost use Rattle.traces.specs.Trace.{logged};
 
@@ -62,7 +63,8 @@ use sqlite_disk::Disk;
 
 /// Whatever action was handed out: when it was, all received events were on the disk, or the state
 /// there was marked as stale; and where a loss isn't borne, they were on the disk. There they led
-/// to the state at the head of the log, or their lines behind it are synced.
+/// to the state at the head of the log, or their lines behind it are synced. So it is in the
+/// history of each keeper ([`crate::Keeper::standing`]).
 pub fn nothing_goes_out_before_it_is_on_disk()
     ensures safe { (bears : Bool) (later earlier : Deeds) (action : LogEntry) →
         AreRight bears (later ++ PutOut action ∷ earlier) → IsSafe earlier }
@@ -75,6 +77,10 @@ pub fn nothing_goes_out_before_it_is_on_disk()
         AreRight true (later ++ PutOut action ∷ earlier) → ((is_kept earlier ≡ true)
         × (arrived earlier ≡ safe earlier ++ led_to_head earlier))
         ⊎ (loss_of earlier ≡ Some Marked) }
+    ensures kept { (bears : Bool) (standing : Standing) (later earlier : Deeds)
+        (action : LogEntry) → IsOrderly bears standing (later ++ PutOut action ∷ earlier) →
+        ((is_kept earlier ≡ true) × (arrived earlier ≡ safe earlier ++ led_to_head earlier))
+        ⊎ ((loss_of earlier ≡ Some Marked) × (bears ≡ true)) }
 {}
 
 /// No event waits for the disk for a second while others come: where the gateway is about to

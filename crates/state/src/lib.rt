@@ -7,6 +7,7 @@ mod disk_store;
 mod ends;
 mod event_text;
 mod folder;
+mod form_laws;
 mod keeper;
 mod keeping;
 mod laws;
@@ -28,6 +29,10 @@ pub use disk_store::DiskStore;
 pub use ends::Ends;
 pub use event_text::EventText;
 pub use folder::{Folder, FolderFault};
+pub use form_laws::{
+    commands_are_kept_in_this_form, lines_of_a_state_are_these_texts, links_are_kept_in_this_form,
+    sessions_are_kept_in_this_form, states_are_kept_in_this_form,
+};
 pub use keeper::Keeper;
 pub use laws::{
     a_clock_goes_on_where_the_gateway_stood, a_damaged_state_never_goes_on_as_whole,
@@ -48,7 +53,9 @@ pub use replaying::{EventLines, Lineage, Replayed, ReportedGap, replay};
 pub use standing::Standing;
 pub use start::{Beginning, Found, beginning_of};
 pub use start_laws::{
+    a_gap_is_told_of_its_own_station, a_log_ends_before_its_first_unread_line,
     each_log_is_received_again_under_its_settings, no_command_outlives_a_start,
+    nothing_is_gone_on_with_but_a_state, the_first_log_of_a_run_has_its_own_number,
     what_is_shown_is_what_a_start_finds,
 };
 pub use store::Store;

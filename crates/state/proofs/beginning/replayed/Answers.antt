@@ -11,3 +11,6 @@ returns-clause-read g c clean first rest is savable follows rests =
     (c.in_ok-events.ensures.lines clean)
     (c.in_ok-gap.ensures.replayed (setup_of c.args.config.now)
     (c.in_ok-gateway.ensures.read first rest is savable follows) rests)
+
+pub returns-clause-said : goal.returns-clause-said
+returns-clause-said g c = c.in_ok-gateway.ensures.said

@@ -41,8 +41,10 @@ returns-clause-goes_on g c =
       wrote = c.in_ok-wrote.wrote;
       read = read;
       left = went.0;
-      went = went.1;
-      moved = went.2;
+      last = went.1;
+      went = went.2;
+      told = went.3;
+      moved = went.4;
     }))
 
 pub returns-in_err-wrote-clause-wrong : goal.returns-in_err-wrote-clause-wrong

@@ -22,6 +22,7 @@ returns-clause-log g c =
       begins = c.args.start.now.at;
       lines = lines;
       head = c.requires.head;
+      said = c.in_ok-resumed.ensures.said;
       wrote = c.in_ok-wrote.wrote;
       readable = subst (λ (text : List ℕ). IsReadOfText text (Ok c.in_ok-wrote.wrote))
           c.deref.ensures.value c.in_ok-wrote.ensures.read;
