@@ -1,6 +1,6 @@
 -- What causes say of commands, and what they don't.
-use Rattle.std.proofs.Common.{◌≡◌, ◌≢◌, ℕ, ◌%◌, ◌<◌, ◌==◌, ◌||◌, ◌&&◌, Bool, true, false, List, Some}
-use Rattle.std.proofs.Common.{None, nat_le, sym, ap, ◌∙◌, arith, if◌then◌else◌}
+use Rattle.std.proofs.Common.{◌≡◌, ◌≢◌, ℕ, ◌%◌, ◌<◌, ◌==◌, ◌||◌, ◌&&◌, Bool, true, false, List}
+use Rattle.std.proofs.Common.{Some, None, nat_le, sym, ap, ◌∙◌, arith, if◌then◌else◌}
 use Rattle.std.specs.Prelude.{Option}
 use Rattle.runlog.specs.Orders.{act_of, is_select}
 use Rattle.runlog.specs.Traffic.{reply_of}

@@ -100,7 +100,7 @@ pub fn mishaps_are_noted_of_the_station_that_was_asked()
 
 /// Octets that were dropped before a request came late from the station that was asked before it,
 /// where that exchange had lasted as long as an answer is awaited. They are noted once.
-pub fn late_answers_are_noted_of_the_station_asked_before()
+pub fn late_octets_are_of_the_station_asked_before()
     ensures late { (late : ℕ) (w : Watching) (before behind : List Traffic) (t : Traffic) →
         IsInPlace before behind t w → w.exchange.overdue ≡ Some (length before) →
         w.late < late → IsInPlace before behind (suffered mishap.Late t) (late_noted late w) }

@@ -41,7 +41,12 @@
 //! ([`what_becomes_of_commands_is_logged`]), and nothing that may be logged waits
 //! ([`nothing_waits_that_may_be_logged`]). What a station answers is read as of the request before
 //! it ([`answers_are_read_as_of_their_request`]), and counted
-//! ([`what_a_station_does_is_counted`]). That a line's UTC time is right, and what standard error
+//! ([`what_a_station_does_is_counted`]), of the station that was asked
+//! ([`answers_are_noted_of_the_station_that_was_asked`]); and so is what befell one
+//! ([`mishaps_are_noted_of_the_station_that_was_asked`]). Each APDU of a step is read
+//! ([`each_apdu_of_a_step_is_read`]), all that passes is known and logged
+//! ([`what_passes_is_known_and_logged`]), and a run ends with its counts
+//! ([`a_run_ends_with_its_counts`]). That a line's UTC time is right, and what standard error
 //! does with it, is no matter of a proof.
 #![tactic(auto)]
 
@@ -80,7 +85,7 @@ mod word_examples;
 
 pub use befallen_laws::{
     a_run_ends_with_its_counts, answers_are_noted_of_the_station_that_was_asked,
-    each_apdu_of_a_step_is_read, late_answers_are_noted_of_the_station_asked_before,
+    each_apdu_of_a_step_is_read, late_octets_are_of_the_station_asked_before,
     mishaps_are_noted_of_the_station_that_was_asked,
     reports_are_skipped_as_the_gateway_counts_them, what_passes_is_known_and_logged,
 };

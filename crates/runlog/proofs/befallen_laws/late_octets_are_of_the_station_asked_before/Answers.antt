@@ -1,6 +1,6 @@
 use Rattle.std.proofs.Common.{refl}
 use Rattle.runlog.proofs.Noted.{in_time_so, late_here, none_late, overdue_so}
-use Rattle.runlog.proofs.befallen_laws.late_answers_are_noted_of_the_station_asked_before.Goals as goal
+use Rattle.runlog.proofs.befallen_laws.late_octets_are_of_the_station_asked_before.Goals as goal
 
 pub returns-clause-late : goal.returns-clause-late
 returns-clause-late c = late_here
