@@ -34,3 +34,6 @@ pub mod PipeLaw
 pub mod ClockLaw
 pub mod AllowLaw
 pub mod CheckLaw
+pub mod StartLaw
+pub mod RunLaw
+pub mod PlayLaw

@@ -57,7 +57,7 @@ lived_kept begins settings wishes old new directory left ended named lived wishe
     subst P (sym named)
     (record { lived = subst F (sym named) lived; wished = wished; bears = bears })
 
-by_state : {P A K : Type 0} (state : Option (Bor Text)) → (A → P) → (K → P)
+pub by_state : {P A K : Type 0} (state : Option (Bor Text)) → (A → P) → (K → P)
     → MatchOption state A (λ _. K) → P
 by_state None anew kept h = anew h
 by_state (Some directory) anew kept h = kept h

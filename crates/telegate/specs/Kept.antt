@@ -1,5 +1,5 @@
 -- A live run whose state is kept (profile).
-use Rattle.std.specs.Prelude.{◌≡◌, ℕ, Option, Some, None, Result}
+use Rattle.std.specs.Prelude.{◌≡◌, ℕ, false, OnOk, Option, Some, None, Result}
 use Rattle.std.specs.Option.{is_some}
 use Rattle.gateway.specs.Agrees.{Follows, Rests}
 use Rattle.gateway.specs.Config.{Settings}
@@ -9,7 +9,9 @@ use Rattle.live.specs.Ends.{LiveEnds}
 use Rattle.live.specs.declared.allow_list.AllowList.{AllowList}
 use Rattle.record.specs.Recording.{Recording}
 use Rattle.state.specs.declared.beginning.Origin.{Origin}
+use Rattle.telegate.specs.Lives.{all_passed}
 use Rattle.telegate.specs.Living.{HasLived, IsPortOfRun}
+use Rattle.telegate.specs.Running.{HasEnded}
 use Rattle.telegate.specs.declared.fault.Fault.{Fault}
 use Rattle.telegate.specs.declared.fault.Fault.TheVariants.{EndUnusable, NoMemory, StateInUse}
 use Rattle.telegate.specs.declared.fault.Fault.TheVariants.{StateUnusable}
@@ -32,12 +34,14 @@ IsKeptFault StateUnusable = Unit {0}
 IsKeptFault fault = IsEndFault fault
 
 -- A run with this beginning is over. The port is that of these settings and this allow list, and
--- began with the cut where it goes on. Where the gateway began with the state that the lives before
--- lead to, all lives together keep every promise of a gateway with these settings.
+-- began with the cut where it goes on. It ended well only once all turns that can be counted were
+-- used up. Where the gateway began with the state that the lives before lead to, all lives together
+-- keep every promise of a gateway with these settings.
 pub record HasLivedOn {E : Type 0} (settings : Settings) (allow_list : AllowList) (origin : Origin)
     (before : Log) (port : LiveEnds) (pen : Recording) (ended : Result (Unit {0}) E) : Type 0 where
   pub behind : before ≡ origin.before.entries
   pub port_is : IsPortOfRun settings allow_list (is_some origin.moment) port
+  pub over : OnOk ended (HasEnded false (Some before) (all_passed before pen (Some port.log)))
   pub lived : Follows (setup_of settings) origin.gateway (Some before) →
       Rests (setup_of settings) (Some before) →
       HasLived settings allow_list (is_some origin.moment) before port pen ended

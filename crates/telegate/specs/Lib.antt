@@ -34,3 +34,4 @@ pub mod Playing
 pub mod Turns
 pub mod Served
 pub mod ManyLives
+pub mod Law

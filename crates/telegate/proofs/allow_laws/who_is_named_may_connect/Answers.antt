@@ -12,3 +12,6 @@ returns-clause-named c = lets_named
 
 pub returns-clause-each : goal.returns-clause-each
 returns-clause-each c = lets_each
+
+pub returns-clause-written : goal.returns-clause-written
+returns-clause-written c word address writes = (writes.written, writes.text, writes.same)

@@ -18,6 +18,7 @@ returns-clause-lived g c =
     record {
       behind = search rules;
       port_is = port;
+      over = search rules;
       lived = λ follows rests. record {
         port_is = port;
         over = search rules;

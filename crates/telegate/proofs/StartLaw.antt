@@ -1,0 +1,45 @@
+-- What a start logs, note by note.
+use Rattle.std.proofs.Common.{◌≡◌, ◌++◌, ℕ, Bool, List, [], ◌∷◌, Option, Some, None, subst}
+use Rattle.runlog.specs.Logging.{Book}
+use Rattle.runlog.specs.declared.note.Note.{Note}
+use Rattle.state.specs.declared.beginning.Origin.{Origin}
+use Rattle.state.specs.declared.start.Beginning.{Beginning}
+use Rattle.state_words.specs.Notes.{note_of, note_of_settings}
+use Rattle.telegate.specs.Law.{LogsAll}
+use Rattle.telegate.specs.Logged.{LogsBeginning, LogsGap, LogsNoteIf, note_if_on}
+
+-- a note, if there is one
+abbrev pub notes_in : Option Note → List Note
+notes_in None = []
+notes_in (Some note) = note ∷ []
+
+one_more : (note : Option Note) (notes : List Note) (old mid new : Book)
+    → LogsNoteIf note old mid → LogsAll notes mid new → LogsAll (notes_in note ++ notes) old new
+one_more None notes old mid new same others =
+    subst (λ (book : Book). LogsAll notes book new) same others
+one_more (Some note) notes old mid new logs others = (mid, logs, others)
+
+no_gap : (moment : Option ℕ) (old new : Book) → LogsGap moment None old new → new ≡ old
+no_gap None old new same = same
+no_gap (Some moment) old new same = same
+
+-- all that is logged where no gap is reported
+pub logs_start : (o : Origin) (beginning : Beginning) (moved : Bool) (moment : Option ℕ)
+    (old new : Book) → LogsBeginning o old new → o.beginning ≡ beginning → o.is_moved ≡ moved
+    → o.moment ≡ moment → o.gap ≡ None
+    → LogsAll (notes_in (note_of beginning) ++ (notes_in (note_of_settings moved)
+    ++ (notes_in (note_if_on moment o.gateway) ++ []))) old new
+logs_start o beginning moved moment old new logs is_so is_moved is_at none =
+    let gap : LogsGap o.moment None logs.noted new =
+    subst (λ (g : Option (ℕ × ℕ)). LogsGap o.moment g logs.noted new) none logs.gap in
+    one_more (note_of beginning) (notes_in (note_of_settings moved)
+    ++ (notes_in (note_if_on moment o.gateway) ++ [])) old logs.begun new
+    (subst (λ (b : Beginning). LogsNoteIf (note_of b) old logs.begun) is_so logs.begins)
+    (one_more (note_of_settings moved) (notes_in (note_if_on moment o.gateway) ++ []) logs.begun
+    logs.moved new
+    (subst (λ (b : Bool). LogsNoteIf (note_of_settings b) logs.begun logs.moved) is_moved
+    logs.settings)
+    (one_more (note_if_on moment o.gateway) [] logs.moved logs.noted new
+    (subst (λ (m : Option ℕ). LogsNoteIf (note_if_on m o.gateway) logs.moved logs.noted) is_at
+    logs.goes_on)
+    (no_gap o.moment logs.noted new gap)))
