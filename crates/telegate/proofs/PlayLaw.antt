@@ -1,5 +1,5 @@
 -- What was played, by what is answered of it.
-use Rattle.std.proofs.Common.{◌⊎◌, ℕ, List, inl, inr}
+use Rattle.std.proofs.Common.{ℕ, List, inl, inr}
 use Rattle.std.specs.Prelude.{Err, Ok}
 use Rattle.gateway.specs.Config.{Settings}
 use Rattle.settings.specs.Settings.{IsLiveReadOfText}
