@@ -55,3 +55,7 @@ pub mod Told
 pub mod Forwarded
 pub mod AskedFirst
 pub mod AtEachMoment
+pub mod Freedom
+pub mod Steady
+pub mod Pending
+pub mod NextRequests
