@@ -59,3 +59,5 @@ pub mod Freedom
 pub mod Steady
 pub mod Pending
 pub mod NextRequests
+pub mod GivenUpFirst
+pub mod InPieces

@@ -42,12 +42,15 @@
 //! [`connections_are_closed_for_the_cause_that_is_told`]), and that it keeps the rules and leaves
 //! nothing undone ([`connections_keep_the_rules_of_the_session`]).
 //!
-//! Of the line it is said, too, what these premises leave free ([`honest_outstations_are_free`],
-//! [`honest_outstations_go_on`], [`links_that_stay_up_are_steady`]), which service can have no
-//! outcome ([`only_the_latest_service_has_no_outcome`]), and which request is next
+//! What the premises leave free is said, too: of an outstation ([`honest_outstations_are_free`],
+//! [`honest_outstations_go_on`]), of a link ([`links_that_stay_up_are_steady`]), and of what comes
+//! by TCP ([`any_beginning_may_have_come`]). Of the line it is said which service can have no
+//! outcome ([`only_the_latest_service_has_no_outcome`]), how an answer comes
+//! ([`answers_in_pieces_are_whole_answers`]), and which request is next
 //! ([`unanswered_services_go_out_again`], [`polls_come_behind_commands`],
-//! [`turns_go_on_where_they_began_with_a_held_service`]). Of commands it is said which calls their
-//! laws pass over ([`calls_are_passed_over_by_their_names`]).
+//! [`turns_go_on_where_they_began_with_a_held_service`],
+//! [`links_given_up_begin_with_the_status`]). Of commands it is said which calls their laws pass
+//! over ([`calls_are_passed_over_by_their_names`]).
 //!
 //! The premises of the laws on a log are of the line alone: serial answers are neither late nor
 //! altered unseen (`IsHonest`), and for the first law no link reset is caused (`IsSteady`; the
@@ -64,6 +67,7 @@
 // Apart from the gateway, of which it needs the log and `IsFaithful` alone: so the gateway's chain
 // stays short (docs/DECISIONS.md, "`delivery` stands apart").
 mod called;
+mod coming;
 mod commands;
 mod counting;
 mod exchanges;
@@ -77,6 +81,7 @@ mod restarting;
 mod waiting;
 
 pub use called::calls_are_passed_over_by_their_names;
+pub use coming::any_beginning_may_have_come;
 pub use commands::{
     each_command_is_given_once, faultless_commands_are_forwarded, selections_end_in_time,
     settings_are_set_up, stations_are_told_apart, the_course_is_the_logs,
@@ -94,7 +99,8 @@ pub use logged::{
 };
 pub use new_settings::{new_settings_are_taken_up, what_stands_on_a_line_goes_on_with_its_station};
 pub use of_the_line::{
-    honest_outstations_are_free, honest_outstations_go_on, links_that_stay_up_are_steady,
+    answers_in_pieces_are_whole_answers, honest_outstations_are_free, honest_outstations_go_on,
+    links_given_up_begin_with_the_status, links_that_stay_up_are_steady,
     only_the_latest_service_has_no_outcome, polls_come_behind_commands,
     turns_go_on_where_they_began_with_a_held_service, unanswered_services_go_out_again,
 };

@@ -1,11 +1,13 @@
-//! What the laws on the line take for granted: what an honest outstation may do, and which service
-//! can have no outcome. What goes out next on the line, by its calls.
+//! What the laws on the line take for granted: what an honest outstation may do, when a link is
+//! steady, and which service can have no outcome. How an answer comes, and what goes out next.
 ghost use Rattle.std.specs.Prelude.{◌≡◌, ◌≢◌, ◌⊎◌, ◌++◌, [], ◌∷◌, ℕ, Bool, true, false, List};
 ghost use Rattle.std.specs.Prelude.{Option, Some, None, if◌then◌else◌};
 ghost use Rattle.std.specs.List.{AllByRecursion};
 ghost use Rattle.arrayvec.specs.ArrayVec.{ArrayVec};
 ghost use Rattle.ft12.specs.declared.frame.Frame.{Frame};
 ghost use Rattle.ft12.specs.declared.frame.Frame.TheVariants.{Fixed, Data};
+ghost use Rattle.ft12.specs.declared.frame.Front.{Front};
+ghost use Rattle.ft12.specs.declared.frame.Front.TheVariants.{Whole, More};
 ghost use Rattle.link.specs.declared.answer.Answer.{Answer};
 ghost use Rattle.link.specs.declared.answer.Answer.TheVariants.{Confirmed, Unable};
 ghost use Rattle.link.specs.declared.procedure.Link.TheVariants.{Down, Next as Up};
@@ -18,8 +20,9 @@ ghost use Rattle.link.specs.Delivery.{IsHonest, IsLatestAnswered, pending_after}
 ghost use Rattle.link.specs.Delivery.{is_command_pending};
 ghost use Rattle.link.specs.Exchanges.{Exchange, Sending, answer_to};
 ghost use Rattle.link.specs.Outstation.{Given, Accepted, Outstation, OutstationStep, Turn};
-ghost use Rattle.link.specs.Primary.{Primary, sending};
-ghost use Rattle.link.specs.Procedure.{IsSteady, IsUp};
+ghost use Rattle.link.specs.Answers.{answer_of};
+ghost use Rattle.link.specs.Primary.{Outstanding, Primary, received, sending};
+ghost use Rattle.link.specs.Procedure.{IsSteady, IsUp, KeepsFrameCountBit};
 ghost use Rattle.link.specs.Procedure.{has_repeats, is_held};
 ghost use Rattle.link.specs.Turns.{CommandsWaiting, station_at};
 ghost use Rattle.delivery.specs.Freedom.{HasFunction, IsShort, answering, behind, IsBesides};
@@ -95,6 +98,33 @@ pub fn links_that_stay_up_are_steady()
         ((before since later : List Exchange) → before ++ (since ++ later) ≡ xs →
         IsUp settings station before → IsUp settings station (before ++ since)) →
         IsSteady settings station Down xs }
+{}
+
+/// Behind a link that was given up the status comes first, whatever the latest exchange was: no
+/// service goes out on what was known of the link before, and no reset without its status.
+pub fn links_given_up_begin_with_the_status()
+    ensures { (settings : LinkSettings) (station : ℕ) (before later : List Exchange)
+        (x y : Exchange) →
+        KeepsFrameCountBit settings station Down (before ++ x ∷ (y ∷ later)) →
+        x.given_up ≡ true → y.request ≡ Status }
+{}
+
+/// An answer that comes in pieces is the answer that it would be in one: it ends the exchange, and
+/// leaves of the station, of the turn and of all else what that would leave, in whatever state the
+/// line is.
+pub fn answers_in_pieces_are_whole_answers()
+    ensures over { (front : List ℕ → Front) (p : Primary) (o : Outstanding)
+        (before first second : List ℕ) (frame : Frame) (n : ℕ) (answer : Answer) →
+        p.outstanding ≡ Some o → o.arrived ≡ Some before → front (before ++ first) ≡ More →
+        front ((before ++ first) ++ second) ≡ Whole frame n →
+        answer_of (station_at p.stations p.turn).address o.request frame ≡ Some answer →
+        (received front (received front p first) second).outstanding ≡ None }
+    ensures same { (front : List ℕ → Front) (p : Primary) (o : Outstanding)
+        (before first second : List ℕ) (frame : Frame) (n : ℕ) (answer : Answer) →
+        p.outstanding ≡ Some o → o.arrived ≡ Some before → front (before ++ first) ≡ More →
+        front ((before ++ first) ++ second) ≡ Whole frame n →
+        answer_of (station_at p.stations p.turn).address o.request frame ≡ Some answer →
+        received front (received front p first) second ≡ received front p (first ++ second) }
 {}
 
 /// Only the latest service of a session can be without an outcome. A command is, where it had no

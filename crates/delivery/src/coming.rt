@@ -1,0 +1,24 @@
+//! What may have come to the control centre.
+ghost use Rattle.std.specs.Prelude.{◌≤◌, ◌++◌, [], ◌∷◌, ℕ, List, length};
+ghost use Rattle.apci.specs.declared.apdu.Apdu.{Apdu};
+ghost use Rattle.gateway.specs.Connections.{Channel};
+ghost use Rattle.gateway.specs.Frames.{Connection, Sent, acknowledged_count, data_frames};
+ghost use Rattle.gateway.specs.Streams.{spelled, AllFit};
+ghost use Rattle.delivery.specs.Received.{AcknowledgeWhatCame, HasCome, HaveCome};
+
+/// Whatever beginning has come of what was handed to TCP, on each connection another one,
+/// `what_has_come_is_one_run` speaks of it: it may end in the middle of a frame, before the first or
+/// behind the last. And it speaks of each control centre that acknowledges no more frames than have
+/// come on a connection.
+pub fn any_beginning_may_have_come()
+    ensures one { (frames : List Apdu) (part lost : List ℕ) → AllFit frames →
+        HasCome ((spelled frames ++ part) ++ lost) (data_frames frames) }
+    ensures none { HaveCome [] [] }
+    ensures each { (octets : Channel) (past : List Channel) (came : List Sent)
+        (earlier : List (List Sent)) → HasCome octets.sent came → HaveCome past earlier →
+        HaveCome (octets ∷ past) (came ∷ earlier) }
+    ensures nothing_acknowledged { AcknowledgeWhatCame [] [] }
+    ensures acknowledged { (c : Connection) (before : List Connection) (came : List Sent)
+        (earlier : List (List Sent)) → acknowledged_count c.received_frames ≤ length came →
+        AcknowledgeWhatCame before earlier → AcknowledgeWhatCame (c ∷ before) (came ∷ earlier) }
+{}
