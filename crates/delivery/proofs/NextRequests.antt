@@ -79,7 +79,8 @@ pub all_repeats : ((settings : LinkSettings) (addresses : List ℕ) (calls : Lis
 all_repeats new old p calls (inl (settings, addresses, is)) =
     subst (λ (q : Primary). RepeatsComeAtOnce q None calls) (sym is) (new settings addresses calls)
 all_repeats new old p calls (inr (settings, seats, before, is)) =
-    subst (λ (q : Primary). RepeatsComeAtOnce q None calls) (sym is) (old settings seats before calls)
+    subst (λ (q : Primary). RepeatsComeAtOnce q None calls) (sym is)
+    (old settings seats before calls)
 
 pub again : Repeats → (p q : Primary) (s : Sending)
     (leave : Bool) (waiting : CommandsWaiting) → IsOutNoMore p q s

@@ -4,7 +4,8 @@ use Rattle.std.proofs.Common.{None, refl, ap, ◌∙◌, ◌⊎◌, inl, inr}
 use Rattle.std.specs.Prelude.{IsSome}
 use Rattle.std.specs.List.{AllByRecursion}
 use Rattle.link.specs.declared.answer.Answer.{Answer}
-use Rattle.link.specs.declared.answer.Answer.TheVariants.{Ready, Confirmed, Busy, Report, NoData, Unable}
+use Rattle.link.specs.declared.answer.Answer.TheVariants.{Ready, Confirmed, Busy, Report}
+use Rattle.link.specs.declared.answer.Answer.TheVariants.{NoData, Unable}
 use Rattle.link.specs.declared.service.Asked.{Asked}
 use Rattle.link.specs.declared.service.Asked.TheVariants.{Reset, Counted}
 use Rattle.link.specs.declared.service.Service.{Service}

@@ -6,10 +6,10 @@ ghost use Rattle.gateway.specs.Frames.{Connection, Sent, acknowledged_count, dat
 ghost use Rattle.gateway.specs.Streams.{spelled, AllFit};
 ghost use Rattle.delivery.specs.Received.{AcknowledgeWhatCame, HasCome, HaveCome};
 
-/// Whatever beginning has come of what was handed to TCP, on each connection another one,
-/// `what_has_come_is_one_run` speaks of it: it may end in the middle of a frame, before the first or
-/// behind the last. And it speaks of each control centre that acknowledges no more frames than have
-/// come on a connection.
+/// Whatever beginning has come of what was handed to TCP, on each connection another one, that is
+/// what `what_has_come_is_one_run` speaks of. It may end in the middle of a frame, before the first
+/// or behind the last. And that law speaks of each control centre that acknowledges no more frames
+/// than have come on a connection.
 pub fn any_beginning_may_have_come()
     ensures one { (frames : List Apdu) (part lost : List ℕ) → AllFit frames →
         HasCome ((spelled frames ++ part) ++ lost) (data_frames frames) }
