@@ -1,9 +1,12 @@
-//! What may have come to the control centre.
-ghost use Rattle.std.specs.Prelude.{◌≤◌, ◌++◌, [], ◌∷◌, ℕ, List, length};
+//! What the premises of the laws leave free: of what has come by TCP, of a log, and of a step.
+ghost use Rattle.std.specs.Prelude.{◌≡◌, ◌≤◌, ◌++◌, [], ◌∷◌, ℕ, false, List, length};
 ghost use Rattle.apci.specs.declared.apdu.Apdu.{Apdu};
 ghost use Rattle.gateway.specs.Connections.{Channel};
 ghost use Rattle.gateway.specs.Frames.{Connection, Sent, acknowledged_count, data_frames};
+ghost use Rattle.gateway.specs.Log.{Log, Input, Output, Came, Went, Restarted, TcpIn};
 ghost use Rattle.gateway.specs.Streams.{spelled, AllFit};
+ghost use Rattle.delivery.specs.Delivery.{IsOneLife};
+ghost use Rattle.delivery.specs.Octets.{AreActions, brings_octets};
 ghost use Rattle.delivery.specs.Received.{AcknowledgeWhatCame, HasCome, HaveCome};
 
 /// Whatever beginning has come of what was handed to TCP, on each connection another one, that is
@@ -21,4 +24,22 @@ pub fn any_beginning_may_have_come()
     ensures acknowledged { (c : Connection) (before : List Connection) (came : List Sent)
         (earlier : List (List Sent)) → acknowledged_count c.received_frames ≤ length came →
         AcknowledgeWhatCame before earlier → AcknowledgeWhatCame (c ∷ before) (came ∷ earlier) }
+{}
+
+/// A log without a restart is that of one life, whatever else stands in it: cuts, closes, gaps, and
+/// moments far apart.
+pub fn a_log_without_a_restart_is_one_life()
+    ensures { (log : Log) →
+        ((newer older : Log) (at : ℕ) → log ≡ newer ++ Came at Restarted ∷ older → ⊥) →
+        IsOneLife log }
+{}
+
+/// What goes out behind an event belongs to its step, whatever it is: requests, octets, closes and
+/// gaps. And each event but octets by TCP brings none.
+pub fn each_action_is_of_its_step()
+    ensures none { AreActions [] }
+    ensures one_more { (now : ℕ) (action : Output) (actions : Log) → AreActions actions →
+        AreActions (Went now action ∷ actions) }
+    ensures brings_none { (event : Input) → ((octets : List ℕ) → event ≡ TcpIn octets → ⊥) →
+        brings_octets event ≡ false }
 {}

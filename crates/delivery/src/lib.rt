@@ -43,9 +43,10 @@
 //! nothing undone ([`connections_keep_the_rules_of_the_session`]).
 //!
 //! What the premises leave free is said, too: of an outstation ([`honest_outstations_are_free`],
-//! [`honest_outstations_go_on`]), of a link ([`links_that_stay_up_are_steady`]), and of what comes
-//! by TCP ([`any_beginning_may_have_come`]). Of the line it is said which service can have no
-//! outcome ([`only_the_latest_service_has_no_outcome`]), how an answer comes
+//! [`honest_outstations_go_on`]), of a link ([`links_that_stay_up_are_steady`]), of a log
+//! ([`a_log_without_a_restart_is_one_life`]), of a step ([`each_action_is_of_its_step`]), and of
+//! what comes by TCP ([`any_beginning_may_have_come`]). Of the line it is said which service can
+//! have no outcome ([`only_the_latest_service_has_no_outcome`]), how an answer comes
 //! ([`answers_in_pieces_are_whole_answers`]), and which request is next
 //! ([`unanswered_services_go_out_again`], [`polls_come_behind_commands`],
 //! [`turns_go_on_where_they_began_with_a_held_service`],
@@ -81,7 +82,9 @@ mod restarting;
 mod waiting;
 
 pub use called::calls_are_passed_over_by_their_names;
-pub use coming::any_beginning_may_have_come;
+pub use coming::{
+    a_log_without_a_restart_is_one_life, any_beginning_may_have_come, each_action_is_of_its_step,
+};
 pub use commands::{
     each_command_is_given_once, faultless_commands_are_forwarded, selections_end_in_time,
     settings_are_set_up, stations_are_told_apart, the_course_is_the_logs,
