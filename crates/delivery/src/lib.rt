@@ -50,8 +50,9 @@
 //! ([`answers_in_pieces_are_whole_answers`]), and which request is next
 //! ([`unanswered_services_go_out_again`], [`polls_come_behind_commands`],
 //! [`turns_go_on_where_they_began_with_a_held_service`],
-//! [`links_given_up_begin_with_the_status`]). Of commands it is said which calls their laws pass
-//! over ([`calls_are_passed_over_by_their_names`]).
+//! [`links_given_up_begin_with_the_status`]). Of commands it is said how many find places
+//! ([`sixty_four_commands_find_places`]) and keep their tags ([`sixteen_commands_keep_their_tags`]),
+//! and which calls their laws pass over ([`calls_are_passed_over_by_their_names`]).
 //!
 //! The premises of the laws on a log are of the line alone: serial answers are neither late nor
 //! altered unseen (`IsHonest`), and for the first law no link reset is caused (`IsSteady`; the
@@ -67,8 +68,6 @@
 
 // Apart from the gateway, of which it needs the log and `IsFaithful` alone: so the gateway's chain
 // stays short (docs/DECISIONS.md, "`delivery` stands apart").
-mod called;
-mod coming;
 mod commands;
 mod counting;
 mod exchanges;
@@ -77,14 +76,12 @@ mod logged;
 mod new_settings;
 mod of_the_line;
 mod passed_on;
+mod premises;
 mod received;
 mod restarting;
+mod room;
 mod waiting;
 
-pub use called::calls_are_passed_over_by_their_names;
-pub use coming::{
-    a_log_without_a_restart_is_one_life, any_beginning_may_have_come, each_action_is_of_its_step,
-};
 pub use commands::{
     each_command_is_given_once, faultless_commands_are_forwarded, selections_end_in_time,
     settings_are_set_up, stations_are_told_apart, the_course_is_the_logs,
@@ -112,6 +109,10 @@ pub use passed_on::{
     answers_of_stations_are_heeded, each_answer_is_given_once, pieces_bear_as_many_objects_as_fit,
     reports_of_monitor_types_are_passed_on,
 };
+pub use premises::{
+    a_log_without_a_restart_is_one_life, any_beginning_may_have_come,
+    calls_are_passed_over_by_their_names, each_action_is_of_its_step,
+};
 pub use received::{
     a_replaced_connection_is_reported, connections_are_closed_for_the_cause_that_is_told,
     connections_keep_the_rules_of_the_session, frames_go_out_whole_and_with_their_counts,
@@ -119,6 +120,7 @@ pub use received::{
     pieces_are_acknowledged_with_their_frames, what_has_come_is_one_run,
 };
 pub use restarting::no_command_is_sent_again_behind_a_restart;
+pub use room::{sixteen_commands_keep_their_tags, sixty_four_commands_find_places};
 pub use waiting::{
     a_line_rests_only_for_want_of_room, commands_wait_for_each_station,
     requests_wait_for_an_answer_and_polls_for_room, the_line_is_asked_before_octets_go_to_tcp,

@@ -1,6 +1,12 @@
-//! What the premises of the laws leave free: of what has come by TCP, of a log, and of a step.
-ghost use Rattle.std.specs.Prelude.{◌≡◌, ◌≤◌, ◌++◌, [], ◌∷◌, ℕ, false, List, length};
+//! What the premises of the laws leave free: of what has come by TCP, of a log, of a step, and of
+//! calls.
+ghost use Rattle.std.specs.Prelude.{◌≡◌, ◌⊎◌, ◌≤◌, ◌++◌, [], ◌∷◌, ℕ, true, false, List, length};
+ghost use Rattle.std.specs.Prelude.{Option};
 ghost use Rattle.apci.specs.declared.apdu.Apdu.{Apdu};
+ghost use Rattle.asdu.specs.declared.sizes.Sizes.{Sizes};
+ghost use Rattle.command.specs.CallByCall.{goes_out, is_cut, is_judge, is_own, is_put};
+ghost use Rattle.command.specs.Calls.{Call, Cut, Judge, Own, PutOnLine, SendOwn};
+ghost use Rattle.command.specs.declared.station.StationInfo.{StationInfo};
 ghost use Rattle.gateway.specs.Connections.{Channel};
 ghost use Rattle.gateway.specs.Frames.{Connection, Sent, acknowledged_count, data_frames};
 ghost use Rattle.gateway.specs.Log.{Log, Input, Output, Came, Went, Restarted, TcpIn};
@@ -42,4 +48,21 @@ pub fn each_action_is_of_its_step()
         AreActions (Went now action ∷ actions) }
     ensures brings_none { (event : Input) → ((octets : List ℕ) → event ≡ TcpIn octets → ⊥) →
         brings_octets event ≡ false }
+{}
+
+/// The laws of `command` pass over calls that don't matter. Of those that do, each word says what
+/// its name says, and no other call is meant: so what they say holds whatever other calls come in
+/// between. (`is_put` and `goes_out` are about one station.)
+pub fn calls_are_passed_over_by_their_names()
+    ensures cut { (call : Call) → is_cut call ≡ true → call ≡ Cut }
+    ensures put { (station : ℕ) (call : Call) → is_put station call ≡ true →
+        call ≡ PutOnLine station }
+    ensures judge { (call : Call) → is_judge call ≡ true →
+        (asdu : List ℕ) × (now : ℕ) × (wall : Option ℕ) × (call ≡ Judge asdu now wall) }
+    ensures own { (call : Call) → is_own call ≡ true →
+        (call ≡ SendOwn) ⊎ ((octets : List ℕ) × (call ≡ Own octets)) }
+    ensures out { (stations : List StationInfo) (sizes : Sizes) (select_ms max_age_ms station : ℕ)
+        (call : Call) (earlier : List Call) →
+        goes_out stations sizes select_ms max_age_ms station call earlier ≡ true →
+        call ≡ PutOnLine station }
 {}

@@ -1,7 +1,7 @@
 use Rattle.std.proofs.Common.{◌≡◌, ℕ, false, List, refl}
 use Rattle.gateway.specs.Log.{Input, Opened, LineIn, TcpIn, CutOff, Ticked, WallIs, Restarted}
 use Rattle.delivery.specs.Octets.{brings_octets}
-use Rattle.delivery.proofs.coming.each_action_is_of_its_step.Goals as goal
+use Rattle.delivery.proofs.premises.each_action_is_of_its_step.Goals as goal
 
 brings_none : (event : Input) → ((octets : List ℕ) → event ≡ TcpIn octets → ⊥)
     → brings_octets event ≡ false

@@ -1,6 +1,6 @@
 use Rattle.std.proofs.Common.{◌++◌, refl}
 use Rattle.gateway.specs.Streams.{spelled}
-use Rattle.delivery.proofs.coming.any_beginning_may_have_come.Goals as goal
+use Rattle.delivery.proofs.premises.any_beginning_may_have_come.Goals as goal
 
 pub returns : goal.returns
 returns c = record {

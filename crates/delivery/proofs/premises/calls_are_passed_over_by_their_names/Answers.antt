@@ -7,7 +7,7 @@ use Rattle.command.specs.Calls.{Call, Cut, Judge, Own, PutOnLine, SendOwn, Accep
 use Rattle.command.specs.Calls.{Due, run}
 use Rattle.command.specs.State.{octets_waiting}
 use Rattle.command.specs.declared.station.StationInfo.{StationInfo}
-use Rattle.delivery.proofs.called.calls_are_passed_over_by_their_names.Goals as goal
+use Rattle.delivery.proofs.premises.calls_are_passed_over_by_their_names.Goals as goal
 
 cut : (call : Call) → is_cut call ≡ true → call ≡ Cut
 cut (Judge asdu now wall) is = cc

@@ -2,7 +2,7 @@ use Rattle.std.proofs.Common.{◌≡◌, ℕ, [], ◌∷◌, ◌++◌, refl, ap}
 use Rattle.gateway.specs.Log.{Log, LogEntry, Came, Went, Opened, LineIn, TcpIn, CutOff, Ticked}
 use Rattle.gateway.specs.Log.{WallIs, Restarted}
 use Rattle.delivery.specs.Delivery.{IsOneLife}
-use Rattle.delivery.proofs.coming.a_log_without_a_restart_is_one_life.Goals as goal
+use Rattle.delivery.proofs.premises.a_log_without_a_restart_is_one_life.Goals as goal
 
 abbrev HasNone : Log → Type 0
 HasNone log = (newer older : Log) (at : ℕ) → log ≡ newer ++ Came at Restarted ∷ older → ⊥
