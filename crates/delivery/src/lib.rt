@@ -43,7 +43,8 @@
 //! nothing undone ([`connections_keep_the_rules_of_the_session`]).
 //!
 //! What the premises leave free is said, too: of an outstation ([`honest_outstations_are_free`],
-//! [`honest_outstations_go_on`]), of a link ([`links_that_stay_up_are_steady`]), of a log
+//! [`honest_outstations_go_on`]), of a link ([`links_that_stay_up_are_steady`]), of its exchanges
+//! ([`exchanges_count_as_they_ended`]) and its turns ([`stations_want_what_is_left`]), of a log
 //! ([`a_log_without_a_restart_is_one_life`]), of a step ([`each_action_is_of_its_step`]), and of
 //! what comes by TCP ([`any_beginning_may_have_come`]). Of the line it is said which service can
 //! have no outcome ([`only_the_latest_service_has_no_outcome`]), how an answer comes
@@ -51,8 +52,9 @@
 //! ([`unanswered_services_go_out_again`], [`polls_come_behind_commands`],
 //! [`turns_go_on_where_they_began_with_a_held_service`],
 //! [`links_given_up_begin_with_the_status`]). Of commands it is said how many find places
-//! ([`sixty_four_commands_find_places`]) and keep their tags ([`sixteen_commands_keep_their_tags`]),
-//! and which calls their laws pass over ([`calls_are_passed_over_by_their_names`]).
+//! ([`sixty_four_commands_find_places`]) and how many keep their tags
+//! ([`sixteen_commands_keep_their_tags`]), and which calls their laws pass over
+//! ([`calls_are_passed_over_by_their_names`]).
 //!
 //! The premises of the laws on a log are of the line alone: serial answers are neither late nor
 //! altered unseen (`IsHonest`), and for the first law no link reset is caused (`IsSteady`; the
@@ -99,9 +101,10 @@ pub use logged::{
 };
 pub use new_settings::{new_settings_are_taken_up, what_stands_on_a_line_goes_on_with_its_station};
 pub use of_the_line::{
-    answers_in_pieces_are_whole_answers, honest_outstations_are_free, honest_outstations_go_on,
-    links_given_up_begin_with_the_status, links_that_stay_up_are_steady,
-    only_the_latest_service_has_no_outcome, polls_come_behind_commands,
+    answers_in_pieces_are_whole_answers, exchanges_count_as_they_ended,
+    honest_outstations_are_free, honest_outstations_go_on, links_given_up_begin_with_the_status,
+    links_that_stay_up_are_steady, only_the_latest_service_has_no_outcome,
+    polls_come_behind_commands, stations_want_what_is_left,
     turns_go_on_where_they_began_with_a_held_service, unanswered_services_go_out_again,
 };
 pub use passed_on::{

@@ -10,7 +10,8 @@ ghost use Rattle.ft12.specs.declared.frame.Front.{Front};
 ghost use Rattle.ft12.specs.declared.frame.Front.TheVariants.{Whole, More};
 ghost use Rattle.link.specs.declared.answer.Answer.{Answer};
 ghost use Rattle.link.specs.declared.answer.Answer.TheVariants.{Confirmed, Unable};
-ghost use Rattle.link.specs.declared.procedure.Link.TheVariants.{Down, Next as Up};
+ghost use Rattle.link.specs.declared.procedure.Link.TheVariants.{Down, Available, Held};
+ghost use Rattle.link.specs.declared.procedure.Link.TheVariants.{Next as Up};
 ghost use Rattle.link.specs.declared.service.Asked.{Asked};
 ghost use Rattle.link.specs.declared.service.Asked.TheVariants.{Status, Reset, Counted};
 ghost use Rattle.link.specs.declared.service.Service.{Service};
@@ -19,12 +20,16 @@ ghost use Rattle.link.specs.declared.settings.LinkSettings.{LinkSettings};
 ghost use Rattle.link.specs.Delivery.{IsHonest, IsLatestAnswered, pending_after};
 ghost use Rattle.link.specs.Delivery.{is_command_pending};
 ghost use Rattle.link.specs.Exchanges.{Exchange, Sending, answer_to};
+ghost use Rattle.link.specs.Gaps.{is_by_the_way};
 ghost use Rattle.link.specs.Outstation.{Given, Accepted, Outstation, OutstationStep, Turn};
 ghost use Rattle.link.specs.Answers.{answer_of};
 ghost use Rattle.link.specs.Primary.{Outstanding, Primary, received, sending};
 ghost use Rattle.link.specs.Procedure.{IsSteady, IsUp, KeepsFrameCountBit};
 ghost use Rattle.link.specs.Procedure.{has_repeats, is_held};
+ghost use Rattle.link.specs.Repeats.{IsMissed};
+ghost use Rattle.link.specs.Runs.{Call, Next, Octets, Due, GivesUp, called};
 ghost use Rattle.link.specs.Turns.{CommandsWaiting, station_at};
+ghost use Rattle.link.specs.Waits.{WantsAt, AlwaysWants};
 ghost use Rattle.delivery.specs.Freedom.{HasFunction, IsShort, answering, behind, IsBesides};
 ghost use Rattle.delivery.specs.NextRequests.{IsOutNoMore};
 
@@ -156,6 +161,46 @@ pub fn only_the_latest_service_has_no_outcome()
     ensures latest { (station : ℕ) (before : List Exchange) (x : Exchange) (answer : Answer) →
         answer_to station x ≡ Some answer → IsLatestAnswered station (before ++ x ∷ []) }
     ensures no_exchange { (station : ℕ) → IsLatestAnswered station [] }
+{}
+
+/// A service is missed where its exchange was closed without an answer, whatever came in it, and
+/// its link wasn't given up: so `repeats_are_as_many_as_set` counts it. A status, and a reset that
+/// isn't confirmed, are by the way: so `gaps_are_lost_polls` looks past them.
+pub fn exchanges_count_as_they_ended()
+    ensures missed { (station : ℕ) (x : Exchange) (fcb : Bool) (service : Service) →
+        x.request ≡ Counted fcb service → answer_to station x ≡ None → x.closed ≡ true →
+        x.given_up ≡ false → IsMissed station fcb service x }
+    ensures by_the_way { (station : ℕ) (x : Exchange) → IsBesides station x →
+        is_by_the_way station x ≡ true }
+{}
+
+/// `no_station_starves` speaks of each station of which something is left to be asked whenever a
+/// request goes out. Where there is leave that is each station. Without leave it is one whose link
+/// isn't up, one that holds a command, and one for which a command waits while DFC is clear. What
+/// else is called matters nothing.
+pub fn stations_want_what_is_left()
+    ensures leave { (p : Primary) (station now : ℕ) (waiting : CommandsWaiting) →
+        WantsAt p station (Next now true waiting) }
+    ensures start { (p : Primary) (station now : ℕ) (may_poll : Bool)
+        (waiting : CommandsWaiting) → ((station_at p.stations station).link ≡ Down)
+        ⊎ ((station_at p.stations station).link ≡ Available) →
+        WantsAt p station (Next now may_poll waiting) }
+    ensures held { (p : Primary) (station now missed : ℕ) (may_poll fcb : Bool)
+        (waiting : CommandsWaiting) (asdu : List ℕ) →
+        (station_at p.stations station).link ≡ Held fcb (Command asdu) missed →
+        WantsAt p station (Next now may_poll waiting) }
+    ensures command { (p : Primary) (station now : ℕ) (may_poll fcb : Bool)
+        (waiting : CommandsWaiting) (asdu : List ℕ) →
+        (station_at p.stations station).link ≡ Up fcb → waiting station ≡ Some asdu →
+        (station_at p.stations station).dfc ≡ false →
+        WantsAt p station (Next now may_poll waiting) }
+    ensures others { (p : Primary) (station other at : ℕ) (octets : List ℕ) →
+        WantsAt p station (Octets octets) × WantsAt p station (Due at)
+        × WantsAt p station (GivesUp other) }
+    ensures none { (p : Primary) (station : ℕ) → AlwaysWants p station [] }
+    ensures each { (p : Primary) (station : ℕ) (call : Call) (calls : List Call) →
+        WantsAt p station call → AlwaysWants (called p call) station calls →
+        AlwaysWants p station (call ∷ calls) }
 {}
 
 /// A service that had no answer in time goes out again, with its frame count bit, before any other
