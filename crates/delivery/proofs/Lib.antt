@@ -61,3 +61,4 @@ pub mod Pending
 pub mod NextRequests
 pub mod GivenUpFirst
 pub mod InPieces
+pub mod FirstAnswered

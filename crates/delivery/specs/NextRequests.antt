@@ -1,11 +1,11 @@
 -- A request of a primary station that went out, and is out no more (IEC 60870-5-2, unbalanced
 -- transmission procedures).
-use Rattle.std.specs.Prelude.{◌≡◌, ◌⊎◌, ℕ, Bool, List, [], ◌∷◌, Some, None}
+use Rattle.std.specs.Prelude.{◌≡◌, ◌⊎◌, ℕ, Bool, true, List, [], ◌∷◌, Some, None}
 use Rattle.link.specs.Carried.{reseated}
 use Rattle.link.specs.Exchanges.{Sending}
 use Rattle.link.specs.Primary.{Primary, start, sending}
 use Rattle.link.specs.declared.settings.LinkSettings.{LinkSettings}
-use Rattle.link.specs.Runs.{Call, Next, GivesUp, called, called_all}
+use Rattle.link.specs.Runs.{Call, Next, Octets, GivesUp, called, called_all}
 use Rattle.link.specs.Turns.{CommandsWaiting}
 use Rattle.link.specs.declared.seat.ResumedStation.{ResumedStation}
 
@@ -40,3 +40,7 @@ pub record IsOutNoMore (p q : Primary) (s : Sending) : Type 0 where
   pub passing : ArePassing (called p (Next now may_poll waiting)) meanwhile
   pub behind : called_all (called p (Next now may_poll waiting)) meanwhile ≡ q
   pub over : q.outstanding ≡ None
+
+-- There is leave to poll, and what goes out is answered by the single character.
+abbrev pub first_answered : Primary → (now : ℕ) → CommandsWaiting → Primary
+first_answered p now waiting = called (called p (Next now true waiting)) (Octets (0xE5 ∷ []))

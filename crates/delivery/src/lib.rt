@@ -50,7 +50,7 @@
 //! have no outcome ([`only_the_latest_service_has_no_outcome`]), how an answer comes
 //! ([`answers_in_pieces_are_whole_answers`]), and which request is next
 //! ([`unanswered_services_go_out_again`], [`polls_come_behind_commands`],
-//! [`turns_go_on_where_they_began_with_a_held_service`],
+//! [`turns_go_on_where_they_began_with_a_held_service`], [`turns_go_on_behind_new_settings`],
 //! [`links_given_up_begin_with_the_status`]). Of commands it is said how many find places
 //! ([`sixty_four_commands_find_places`]) and how many keep their tags
 //! ([`sixteen_commands_keep_their_tags`]), and which calls their laws pass over
@@ -104,7 +104,7 @@ pub use of_the_line::{
     answers_in_pieces_are_whole_answers, exchanges_count_as_they_ended,
     honest_outstations_are_free, honest_outstations_go_on, links_given_up_begin_with_the_status,
     links_that_stay_up_are_steady, only_the_latest_service_has_no_outcome,
-    polls_come_behind_commands, stations_want_what_is_left,
+    polls_come_behind_commands, stations_want_what_is_left, turns_go_on_behind_new_settings,
     turns_go_on_where_they_began_with_a_held_service, unanswered_services_go_out_again,
 };
 pub use passed_on::{

@@ -1,7 +1,7 @@
 //! What the laws on the line take for granted: what an honest outstation may do, when a link is
 //! steady, and which service can have no outcome. How an answer comes, and what goes out next.
-ghost use Rattle.std.specs.Prelude.{◌≡◌, ◌≢◌, ◌⊎◌, ◌++◌, [], ◌∷◌, ℕ, Bool, true, false, List};
-ghost use Rattle.std.specs.Prelude.{Option, Some, None, if◌then◌else◌};
+ghost use Rattle.std.specs.Prelude.{◌≡◌, ◌≢◌, ◌⊎◌, ◌++◌, [], ◌∷◌, ℕ, Bool, true, false, not};
+ghost use Rattle.std.specs.Prelude.{List, Option, Some, None, if◌then◌else◌};
 ghost use Rattle.std.specs.List.{AllByRecursion};
 ghost use Rattle.arrayvec.specs.ArrayVec.{ArrayVec};
 ghost use Rattle.ft12.specs.declared.frame.Frame.{Frame};
@@ -12,11 +12,13 @@ ghost use Rattle.link.specs.declared.answer.Answer.{Answer};
 ghost use Rattle.link.specs.declared.answer.Answer.TheVariants.{Confirmed, Unable};
 ghost use Rattle.link.specs.declared.procedure.Link.TheVariants.{Down, Available, Held};
 ghost use Rattle.link.specs.declared.procedure.Link.TheVariants.{Next as Up};
+ghost use Rattle.link.specs.declared.seat.ResumedStation.{ResumedStation};
 ghost use Rattle.link.specs.declared.service.Asked.{Asked};
 ghost use Rattle.link.specs.declared.service.Asked.TheVariants.{Status, Reset, Counted};
 ghost use Rattle.link.specs.declared.service.Service.{Service};
 ghost use Rattle.link.specs.declared.service.Service.TheVariants.{Class1, Class2, Command};
 ghost use Rattle.link.specs.declared.settings.LinkSettings.{LinkSettings};
+ghost use Rattle.link.specs.Carried.{reseated};
 ghost use Rattle.link.specs.Delivery.{IsHonest, IsLatestAnswered, pending_after};
 ghost use Rattle.link.specs.Delivery.{is_command_pending};
 ghost use Rattle.link.specs.Exchanges.{Exchange, Sending, answer_to};
@@ -31,7 +33,7 @@ ghost use Rattle.link.specs.Runs.{Call, Next, Octets, Due, GivesUp, called};
 ghost use Rattle.link.specs.Turns.{CommandsWaiting, station_at};
 ghost use Rattle.link.specs.Waits.{WantsAt, AlwaysWants};
 ghost use Rattle.delivery.specs.Freedom.{HasFunction, IsShort, answering, behind, IsBesides};
-ghost use Rattle.delivery.specs.NextRequests.{IsOutNoMore};
+ghost use Rattle.delivery.specs.NextRequests.{IsOutNoMore, first_answered};
 
 use link::{
     answers_are_whole, new_settings_keep_the_procedures, polls_go_on, repeats_come_at_once,
@@ -262,3 +264,24 @@ pub fn turns_go_on_where_they_began_with_a_held_service()
     turns_go_on_behind_held_services();
     new_settings_keep_the_procedures();
 }
+
+/// Behind new settings the first station's turn goes on likewise, once the single character answers
+/// its held service. That is so where repeats of that were left, too.
+pub fn turns_go_on_behind_new_settings()
+    ensures command { (settings : LinkSettings) (seat : ResumedStation)
+        (seats : List ResumedStation) (before : Primary) (place missed now : ℕ)
+        (fcb leave : Bool) (service : Service) (asdu : List ℕ) (waiting : CommandsWaiting) →
+        seat.before ≡ Some place →
+        (station_at before.stations place).link ≡ Held fcb service missed →
+        waiting 0 ≡ Some asdu →
+        sending (first_answered (reseated settings (seat ∷ seats) before) now waiting) leave waiting
+        ≡ Some (record { station = 0; request = Counted (not fcb) (Command asdu) }) }
+    ensures poll { (settings : LinkSettings) (seat : ResumedStation)
+        (seats : List ResumedStation) (before : Primary) (place missed now : ℕ)
+        (fcb : Bool) (service : Service) (waiting : CommandsWaiting) →
+        seat.before ≡ Some place →
+        (station_at before.stations place).link ≡ Held fcb service missed →
+        waiting 0 ≡ None →
+        sending (first_answered (reseated settings (seat ∷ seats) before) now waiting) true waiting
+        ≡ Some (record { station = 0; request = Counted (not fcb) Class2 }) }
+{}
