@@ -55,3 +55,10 @@ pub mod Told
 pub mod Forwarded
 pub mod AskedFirst
 pub mod AtEachMoment
+pub mod Freedom
+pub mod Steady
+pub mod Pending
+pub mod NextRequests
+pub mod GivenUpFirst
+pub mod InPieces
+pub mod FirstAnswered

@@ -13,3 +13,5 @@ pub mod Octets
 pub mod Counts
 pub mod Meanings
 pub mod LinkLaws
+pub mod Freedom
+pub mod NextRequests

@@ -42,6 +42,20 @@
 //! [`connections_are_closed_for_the_cause_that_is_told`]), and that it keeps the rules and leaves
 //! nothing undone ([`connections_keep_the_rules_of_the_session`]).
 //!
+//! What the premises leave free is said, too: of an outstation ([`honest_outstations_are_free`],
+//! [`honest_outstations_go_on`]), of a link ([`links_that_stay_up_are_steady`]), of its exchanges
+//! ([`exchanges_count_as_they_ended`]) and its turns ([`stations_want_what_is_left`]), of a log
+//! ([`a_log_without_a_restart_is_one_life`]), of a step ([`each_action_is_of_its_step`]), and of
+//! what comes by TCP ([`any_beginning_may_have_come`]). Of the line it is said which service can
+//! have no outcome ([`only_the_latest_service_has_no_outcome`]), how an answer comes
+//! ([`answers_in_pieces_are_whole_answers`]), and which request is next
+//! ([`unanswered_services_go_out_again`], [`polls_come_behind_commands`],
+//! [`turns_go_on_where_they_began_with_a_held_service`], [`turns_go_on_behind_new_settings`],
+//! [`links_given_up_begin_with_the_status`]). Of commands it is said how many find places
+//! ([`sixty_four_commands_find_places`]) and how many keep their tags
+//! ([`sixteen_commands_keep_their_tags`]), and which calls their laws pass over
+//! ([`calls_are_passed_over_by_their_names`]).
+//!
 //! The premises of the laws on a log are of the line alone: serial answers are neither late nor
 //! altered unseen (`IsHonest`), and for the first law no link reset is caused (`IsSteady`; the
 //! start of a link is no such reset, and where unanswered services are held silence never is one,
@@ -62,9 +76,12 @@ mod exchanges;
 mod laws;
 mod logged;
 mod new_settings;
+mod of_the_line;
 mod passed_on;
+mod premises;
 mod received;
 mod restarting;
+mod room;
 mod waiting;
 
 pub use commands::{
@@ -83,10 +100,21 @@ pub use logged::{
     requests_have_their_time_by_the_log,
 };
 pub use new_settings::{new_settings_are_taken_up, what_stands_on_a_line_goes_on_with_its_station};
+pub use of_the_line::{
+    answers_in_pieces_are_whole_answers, exchanges_count_as_they_ended,
+    honest_outstations_are_free, honest_outstations_go_on, links_given_up_begin_with_the_status,
+    links_that_stay_up_are_steady, only_the_latest_service_has_no_outcome,
+    polls_come_behind_commands, stations_want_what_is_left, turns_go_on_behind_new_settings,
+    turns_go_on_where_they_began_with_a_held_service, unanswered_services_go_out_again,
+};
 pub use passed_on::{
     answers_are_passed_on_as_they_came, answers_bear_the_tag_of_their_command,
     answers_of_stations_are_heeded, each_answer_is_given_once, pieces_bear_as_many_objects_as_fit,
     reports_of_monitor_types_are_passed_on,
+};
+pub use premises::{
+    a_log_without_a_restart_is_one_life, any_beginning_may_have_come,
+    calls_are_passed_over_by_their_names, each_action_is_of_its_step,
 };
 pub use received::{
     a_replaced_connection_is_reported, connections_are_closed_for_the_cause_that_is_told,
@@ -95,6 +123,7 @@ pub use received::{
     pieces_are_acknowledged_with_their_frames, what_has_come_is_one_run,
 };
 pub use restarting::no_command_is_sent_again_behind_a_restart;
+pub use room::{sixteen_commands_keep_their_tags, sixty_four_commands_find_places};
 pub use waiting::{
     a_line_rests_only_for_want_of_room, commands_wait_for_each_station,
     requests_wait_for_an_answer_and_polls_for_room, the_line_is_asked_before_octets_go_to_tcp,
