@@ -1,5 +1,5 @@
 -- Where the event isn't octets of TCP, nothing goes to TCP before the request.
-use Rattle.std.proofs.Common.{◌≡◌, ℕ, ◌+◌, ◌<◌, ◌≤◌, Bool, true, false, [], ◌∷◌, ◌++◌, length}
+use Rattle.std.proofs.Common.{◌≡◌, ℕ, ◌+◌, ◌<◌, ◌≤◌, Bool, true, false, List, [], ◌∷◌, ◌++◌, length}
 use Rattle.std.proofs.Common.{refl, ap, ◌∙◌, arith, if◌then◌else◌}
 use Rattle.std.proofs.lemmas.List.{length-append}
 use Rattle.gateway.specs.Behind.{GoesBehindFrames}
@@ -9,6 +9,16 @@ use Rattle.gateway.specs.Log.{Restarted, LineOut, TcpOut, Closed, GapOut}
 use Rattle.gateway.specs.Streams.{spelled}
 use Rattle.delivery.specs.Octets.{AreActions, brings_octets, octets_out}
 use Rattle.delivery.proofs.Octets.{before_event}
+
+pub no_octets : (event : Input) → ((came : List ℕ) → event ≡ TcpIn came → ⊥)
+    → brings_octets event ≡ false
+no_octets (LineIn octets) other = refl
+no_octets Opened other = refl
+no_octets (TcpIn octets) other = absurd (other octets refl)
+no_octets CutOff other = refl
+no_octets Ticked other = refl
+no_octets (WallIs number) other = refl
+no_octets Restarted other = refl
 
 no_more_come : (at : ℕ) (event : Input) (log : Log) → brings_octets event ≡ false
     → length (present (Came at event ∷ log)).received ≤ length (present log).received

@@ -9,7 +9,7 @@ use Rattle.session.specs.declared.kinds.Close.TheVariants.{Stopped, Timeout, Own
 use Rattle.session.specs.declared.kinds.Taken.{Taken}
 use Rattle.session.specs.declared.kinds.Taken.TheVariants.{Nothing, Asdu, Close as Closes}
 use Rattle.command.specs.History.{History, Judged, Sent, Accepted, Refused, GivenUp, Mirrored}
-use Rattle.command.specs.History.{Offered, Answered, Ended}
+use Rattle.command.specs.History.{Offered, Answered, Ended, own_kept}
 use Rattle.gateway.specs.Connections.{present, BeginsWithFault}
 use Rattle.gateway.specs.Course.{Course, HasTakenAll, came_frames, Runs}
 use Rattle.gateway.specs.Frames.{acknowledged_count, fault_of, transfers}
@@ -24,7 +24,7 @@ use Rattle.gateway.specs.Works.{has_lacked_place}
 use Rattle.gateway.proofs.Placing.{all_placed}
 use Rattle.gateway.proofs.OneCause.{came_transfers, came_acknowledged, counted}
 use Rattle.delivery.specs.Closing.{IsClosedFor, IsAtFault, MaySendData, HasDoneAll, IsOfStep}
-use Rattle.delivery.specs.Closing.{AreTaken, WaitsForNone}
+use Rattle.delivery.specs.Closing.{AreTaken, WaitsForNone, own_given}
 use Rattle.delivery.specs.Received.{close_by}
 use Rattle.delivery.proofs.Faults.{same_fault}
 use Rattle.delivery.proofs.Frames.{none_came}
@@ -136,9 +136,39 @@ placed_so p newer log now cause acts other own =
     placed_for p log cause (acts_before p newer (Went now (Closed cause) ∷ log) acts).0.may other
     own
 
+-- and on the course that shows the cause
+both_for : (p : Setup) (log : Log) (cause : Close) → HasCause p cause log
+    → (cause ≡ Replaced → ⊥) → (cause ≡ OwnAnswers → ⊥)
+    → (c : Course) × Runs p log c × IsClosedFor p log c cause × (unplaced c.works.history ≡ 0)
+unfolding closed_for
+both_for p log Grammar has other own =
+    let s = closed_for p log Grammar has other in
+    (s.1, s.2, s.3, all_placed s.1.works.history (has refl).1.2.placed)
+both_for p log SendNumber has other own =
+    let s = closed_for p log SendNumber has other in
+    (s.1, s.2, s.3, all_placed s.1.works.history (has refl).1.2.placed)
+both_for p log ReceiveNumber has other own =
+    let s = closed_for p log ReceiveNumber has other in
+    (s.1, s.2, s.3, all_placed s.1.works.history (has refl).1.2.placed)
+both_for p log Stopped has other own =
+    let s = closed_for p log Stopped has other in
+    (s.1, s.2, s.3, all_placed s.1.works.history (has refl).1.2.placed)
+both_for p log Timeout has other own =
+    let s = closed_for p log Timeout has other in
+    (s.1, s.2, s.3, all_placed s.1.works.history (has refl).1.2.placed)
+both_for p log OwnAnswers has other own = absurd (own refl)
+both_for p log Replaced has other own = absurd (other refl)
+
+pub both_so : (p : Setup) (newer log : Log) (now : ℕ) (cause : Close)
+    → ActsRightly p (newer ++ Went now (Closed cause) ∷ log) → (cause ≡ Replaced → ⊥)
+    → (cause ≡ OwnAnswers → ⊥)
+    → (c : Course) × Runs p log c × IsClosedFor p log c cause × (unplaced c.works.history ≡ 0)
+both_so p newer log now cause acts other own =
+    both_for p log cause (acts_before p newer (Went now (Closed cause) ∷ log) acts).0.may other own
+
 -- ---- A step that rests
 
-taken_all : (log : Log) (c : Course) → HasTakenAll (present log) c.talk → AreTaken log c.talk
+pub taken_all : (log : Log) (c : Course) → HasTakenAll (present log) c.talk → AreTaken log c.talk
 taken_all log c all = record { rest = all.rest; octets = all.joined; more = all.more }
 
 open_of : (p : Setup) (log : Log) (c : Course) → Runs p log c → talk.is_started c.talk ≡ true
@@ -164,6 +194,20 @@ room_of p log c r room = omega (
   length-drop (talk.acknowledged_count c.talk) (talk.sent_frames c.talk),
 )
 
+all_kept : (h : History) → has_lacked_place h ≡ false → own_given h ≡ own_kept h
+all_kept [] e = refl
+all_kept (Judged now wall asdu answer ∷ h) e = all_kept h e
+all_kept (Sent k octets ∷ h) e = all_kept h e
+all_kept (Accepted k ∷ h) e = all_kept h e
+all_kept (Refused k answer ∷ h) e = all_kept h e
+all_kept (GivenUp k was ∷ h) e = all_kept h e
+all_kept (Mirrored now v ∷ h) e = all_kept h e
+all_kept (Offered octets true ∷ h) e =
+    ap (λ (xs : List (List ℕ)). xs ++ octets ∷ []) (all_kept h e)
+all_kept (Offered octets false ∷ h) e = let wrong : true ≡ false = e in cc
+all_kept (Answered octets ∷ h) e = all_kept h e
+all_kept (Ended ∷ h) e = refl
+
 pub done_all : (p : Setup) (log : Log) (rest : IsAtRest p log) → AnswersGoOut rest.course
     → HasDoneAll p log rest.course
 done_all p log rest out =
@@ -176,6 +220,7 @@ done_all p log rest out =
       confirmed = rest.talk.confirmed;
       none_due = rest.talk.none_due;
       in_time = rest.talk.in_time;
+      placed = λ on. all_kept c.works.history (rest.placed on);
       answers = λ may. out
           ∙ ap (λ (xs : List (List ℕ)). answers_among c.sent ++ xs) (all may).answers
           ∙ append-nil (answers_among c.sent);
@@ -199,6 +244,17 @@ at_rest p (Came now CutOff) older s h = h
 at_rest p (Came now Ticked) older s h = h
 at_rest p (Came now (WallIs number)) older s h = h
 at_rest p (Came now Restarted) older s h = absurd s
+
+pub of_step : (entry : LogEntry) → ((moment : ℕ) → entry ≡ Came moment Restarted → ⊥)
+    → IsOfStep entry
+of_step (Went now action) other = tt
+of_step (Came now (LineIn octets)) other = tt
+of_step (Came now Opened) other = tt
+of_step (Came now (TcpIn octets)) other = tt
+of_step (Came now CutOff) other = tt
+of_step (Came now Ticked) other = tt
+of_step (Came now (WallIs number)) other = tt
+of_step (Came now Restarted) other = absurd (other now refl)
 
 pub rested_then : (p : Setup) (newer older : Log) (at : ℕ) (event : Input) (entry : LogEntry)
     → RestsBetweenSteps p (newer ++ Came at event ∷ entry ∷ older) → IsOfStep entry

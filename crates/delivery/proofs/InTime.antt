@@ -56,7 +56,7 @@ end_in_time p law log c r due xs =
 
 -- What is logged bears the log's moments
 
-are_more : (at : ℕ) (e : HistoryEntry) (h : History) → AreAt at (e ∷ []) → AreAt at h
+pub are_more : (at : ℕ) (e : HistoryEntry) (h : History) → AreAt at (e ∷ []) → AreAt at h
     → AreAt at (e ∷ h)
 are_more at (Judged now wall xs a) h is all = (is.0, all)
 are_more at (Mirrored now v) h is all = (is.0, all)

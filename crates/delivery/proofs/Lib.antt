@@ -15,6 +15,7 @@ pub mod Works
 pub mod Frames
 pub mod Arriving
 pub mod Restarts
+pub mod PollsStay
 pub mod OneLife
 pub mod Joining
 pub mod Judgements
@@ -26,6 +27,7 @@ pub mod Centre
 pub mod Settings
 pub mod Confirmed
 pub mod InTime
+pub mod OwnMoments
 pub mod Lasting
 pub mod Parts
 pub mod HasCome
@@ -45,12 +47,15 @@ pub mod OwnAnswers
 pub mod Places
 pub mod Counts
 pub mod Unpassed
+pub mod Accounts
 pub mod NewSettings
 pub mod NoMore
 pub mod Standing
 pub mod Having
 pub mod Apart
 pub mod GoingOut
+pub mod GoingLast
+pub mod OneStep
 pub mod Told
 pub mod Forwarded
 pub mod AskedFirst

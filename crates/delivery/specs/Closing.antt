@@ -1,6 +1,6 @@
 -- Why a connection is closed, and what a step leaves undone on one that stays open: nothing (IEC
 -- 60870-5-104, 5.1 to 5.5; the causes' numbers are this gateway's own profile).
-use Rattle.std.specs.Prelude.{◌≡◌, ℕ, ◌+◌, ◌<◌, true, false, List, ◌++◌, length, None}
+use Rattle.std.specs.Prelude.{◌≡◌, ℕ, ◌+◌, ◌<◌, true, false, List, [], ◌∷◌, ◌++◌, length, None}
 use Rattle.apci.specs.declared.apdu.Apdu.{Apdu}
 use Rattle.apci.specs.declared.apdu.Why.{Why}
 use Rattle.apci.specs.declared.apdu.Front.TheVariants.{Never}
@@ -10,7 +10,7 @@ use Rattle.session.specs.History as talk
 use Rattle.session.specs.declared.kinds.Close.{Close}
 use Rattle.session.specs.declared.kinds.Close.TheVariants.{Grammar, Timeout, OwnAnswers, Replaced}
 use Rattle.session.specs.declared.kinds.Taken.TheVariants.{Close as Closes}
-use Rattle.command.specs.History.{own_kept}
+use Rattle.command.specs.History.{History, Offered, Ended, own_kept}
 use Rattle.gateway.specs.Connections.{present}
 use Rattle.gateway.specs.Course.{Course, came_frames, here_of}
 use Rattle.gateway.specs.Frames.{first_unacknowledged, monitor_objects_sent}
@@ -58,6 +58,14 @@ abbrev pub MaySendData : Setup → Course → Type 0
 MaySendData p c = (talk.is_started c.talk ≡ true)
     × (length (talk.still_unacknowledged c.talk) < p.session.k)
 
+-- the own answers that were handed over on the open connection, with a place or without, the oldest
+-- first
+abbrev pub own_given : History → List (List ℕ)
+own_given [] = []
+own_given (Offered octets kept ∷ h) = own_given h ++ octets ∷ []
+own_given (Ended ∷ h) = []
+own_given (_ ∷ h) = own_given h
+
 -- All is done on the connection that can be done.
 pub record HasDoneAll (p : Setup) (log : Log) (c : Course) : Type 0 where
   pub taken : AreTaken log c.talk
@@ -66,6 +74,8 @@ pub record HasDoneAll (p : Setup) (log : Log) (c : Course) : Type 0 where
   pub none_due :
       talk.frame_due p.session.w p.session.t2 p.session.t3 (latest log) c.talk ≡ None
   pub in_time : talk.has_timed_out p.session.t1 (latest log) c.talk ≡ false
+  -- each own answer that was handed over was kept: none was dropped for want of a place
+  pub placed : (present log).is_open ≡ true → own_given c.works.history ≡ own_kept c.works.history
   -- where data may go out, each own answer that was kept has gone out in an I frame
   pub answers : MaySendData p c → own_kept c.works.history ≡ answers_among c.sent
   -- and all objects taken have: those that no connection before acknowledged went out on this one

@@ -5,7 +5,9 @@ pub mod Joined
 pub mod Delivery
 pub mod Sessions
 pub mod Selections
+pub mod Moments
 pub mod Received
+pub mod Sending
 pub mod Closing
 pub mod Answers
 pub mod OwnAnswers

@@ -2,9 +2,11 @@
 use Rattle.std.specs.Prelude.{◌≡◌, ℕ, ◌+◌, ◌%◌, ◌≤◌, List, [], ◌∷◌, ◌++◌, length, take, drop}
 use Rattle.std.specs.Prelude.{Option}
 use Rattle.std.specs.Prelude.{Some, None}
+use Rattle.std.specs.List.{AllByRecursion}
 use Rattle.asdu.specs.InformationObjects.{InformationObject}
 use Rattle.apci.specs.declared.apdu.Apdu.{Apdu}
 use Rattle.apci.specs.declared.apdu.Apdu.TheVariants.{I, S, U}
+use Rattle.session.specs.History as talk
 use Rattle.session.specs.declared.kinds.Close.{Close}
 use Rattle.session.specs.declared.kinds.Taken.{Taken}
 use Rattle.session.specs.declared.kinds.Taken.TheVariants.{Nothing, Asdu, Close as Closes}
@@ -79,6 +81,32 @@ BearsCounts (I ns nr asdu) c =
     (ns ≡ length c.sent % 32768) × (nr ≡ i_frames (came_frames c.talk) % 32768)
 BearsCounts (S nr) c = nr ≡ i_frames (came_frames c.talk) % 32768
 BearsCounts (U function) c = Unit {0}
+
+-- a frame that came
+abbrev pub IsArrival : talk.Happened → Type 0
+IsArrival (talk.Came frame now) = Unit {0}
+IsArrival entry = ⊥
+
+-- The entry says of the frame what its octets say, and they are the counts of what was said before
+-- it: of an I frame N(S) and N(R), of an S frame N(R) (5.1).
+abbrev pub IsSaid : Apdu → (entry : talk.Happened) → (before : talk.History) → Type 0
+IsSaid (I ns nr asdu) (talk.Sent said_ns said_nr kind now) before =
+    (ns ≡ said_ns) × (nr ≡ said_nr) × (ns ≡ length (talk.sent_frames before) % 32768)
+    × (nr ≡ talk.received_count before % 32768)
+IsSaid (S nr) (talk.Went frame now) before =
+    (frame ≡ S nr) × (nr ≡ talk.received_count before % 32768)
+IsSaid (U function) (talk.Went frame now) before = frame ≡ U function
+IsSaid frame entry before = ⊥
+
+-- The frame is the latest that went out on the connection: behind it there are only frames that
+-- came.
+pub record IsLatestSaid (frame : Apdu) (h : talk.History) : Type 0 where
+  pub since : talk.History
+  pub came : AllByRecursion IsArrival since
+  pub entry : talk.Happened
+  pub before : talk.History
+  pub is : h ≡ since ++ entry ∷ before
+  pub said : IsSaid frame entry before
 
 -- the cause to close the connection that a frame leads to, if any (5.1 and 5.3)
 abbrev pub close_by : Taken → Option Close

@@ -11,7 +11,7 @@ ghost use Rattle.command.specs.Passing.{FindsPlaces};
 ghost use Rattle.command.specs.Standard.{cause_of_fault, executes, must_be_selected};
 ghost use Rattle.gateway.specs.Course.{Course, here_of, Runs};
 ghost use Rattle.gateway.specs.Config.{Settings, AreStations};
-ghost use Rattle.gateway.specs.Log.{Log};
+ghost use Rattle.gateway.specs.Log.{Log, Went, LineOut, latest};
 ghost use Rattle.gateway.specs.Reports.{Setup, address_at, exchanges_with};
 ghost use Rattle.gateway.specs.Setups.{setup_of};
 ghost use Rattle.gateway.specs.declared.settings.StationSettings.{StationSettings};
@@ -21,7 +21,8 @@ ghost use Rattle.delivery.specs.Commands.{first_sendings, AreCommandsOf};
 ghost use Rattle.delivery.specs.Delivery.{IsHonest};
 ghost use Rattle.delivery.specs.Joined.{IsSetUp, IsJoined};
 ghost use Rattle.delivery.specs.OwnAnswers.{GivesAnswers, GivesNoMore};
-ghost use Rattle.delivery.specs.Selections.{KeepsSelections};
+ghost use Rattle.delivery.specs.Octets.{AreActions};
+ghost use Rattle.delivery.specs.Selections.{KeepsSelections, AreInTime};
 
 use crate::exchanges::the_line_is_its_exchanges;
 use apci::one_front;
@@ -79,7 +80,10 @@ pub fn the_course_is_the_logs()
 /// confirmation, came less than that before. What came from the control centre and what stations
 /// answered bears the moment of its entry of the log.
 pub fn selections_end_in_time()
-    ensures { (p : Setup) (log : Log) (c : Course) → Runs p log c → KeepsSelections p log c }
+    ensures behind { (p : Setup) (actions log : Log) (now : ℕ) (octets : List ℕ) (c : Course) →
+        Runs p (actions ++ Went now (LineOut octets) ∷ log) c → AreActions actions →
+        0 < p.select_ms → AreInTime p (latest log) c.works }
+    ensures kept { (p : Setup) (log : Log) (c : Course) → Runs p log c → KeepsSelections p log c }
 {
     courses_keep_commands();
     selections_are_selects_that_stand();

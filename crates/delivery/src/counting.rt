@@ -1,15 +1,22 @@
 //! What is counted of commands.
-ghost use Rattle.std.specs.Prelude.{◌≡◌, ◌+◌, ◌^◌, ◌<◌, ℕ, Bool, length};
+ghost use Rattle.std.specs.Prelude.{◌≡◌, ◌∷◌, ◌++◌, ◌+◌, ◌^◌, ◌<◌, ℕ, Bool, length, drop};
+ghost use Rattle.std.specs.List.{flat_map};
 ghost use Rattle.std.specs.Io.Iter.{u64_saturate};
+ghost use Rattle.ft12.specs.Fronts.{front_of};
+ghost use Rattle.link.specs.Exchanges.{all_of, spoilt_count};
+ghost use Rattle.gateway.specs.Accounts.{IsAccounted};
 ghost use Rattle.gateway.specs.Carried.{carried};
 ghost use Rattle.gateway.specs.Config.{Settings};
-ghost use Rattle.gateway.specs.Course.{Course, Runs};
+ghost use Rattle.gateway.specs.Course.{Course, here_of, Runs};
+ghost use Rattle.gateway.specs.Frames.{first_unacknowledged};
 ghost use Rattle.gateway.specs.Line.{done_in};
 ghost use Rattle.gateway.specs.Log.{Log};
-ghost use Rattle.gateway.specs.Reports.{Setup};
-ghost use Rattle.gateway.specs.State.{State};
+ghost use Rattle.gateway.specs.Objects.{objects};
+ghost use Rattle.gateway.specs.Reports.{Setup, address_at, exchanges_of, reports_in, taken_objects};
+ghost use Rattle.gateway.specs.State.{State, counts_of};
 ghost use Rattle.gateway.specs.Traffic.{IsFaithful};
-ghost use Rattle.delivery.specs.Joined.{IsSetUp};
+ghost use Rattle.delivery.specs.Closing.{AreTaken};
+ghost use Rattle.delivery.specs.Joined.{IsSetUp, skipped_among};
 ghost use Rattle.delivery.specs.Counts.{lost_of, sum_upto, CameStopped, AreLost};
 
 use crate::commands::the_course_is_the_logs;
@@ -49,3 +56,31 @@ pub fn commands_lost_at_new_settings_are_counted()
         × ((carried goes_on before now s).serial.counts.lost
         ≡ u64_saturate (s.serial.counts.lost + lost)) }
 {}
+
+/// What a gateway tells of its run is what the log shows. Kept are the objects taken from the line
+/// that no connection has acknowledged, the open one among them, in their order. Each number is
+/// told under its own name: the reports that had nothing to be passed on, the answers that came
+/// while data transfer was stopped, the commands that were lost, and the exchanges that closed with
+/// octets but without an answer. Each stays at the greatest number of 64 bits. (`drive_on` promises
+/// `IsAccounted` of the gateway that it leaves.)
+pub fn what_a_gateway_tells_is_its_logs()
+    ensures kept { (p : Setup) (s : State) (log : Log) → IsAccounted p s log →
+        (c : Course) × Runs p log c × AreTaken log c.talk
+        × (flat_map objects (s.centre.queue.sent ++ s.centre.queue.unsent)
+        ≡ drop (first_unacknowledged (here_of c ∷ c.earlier)) (taken_objects p log)) }
+    ensures skipped { (p : Setup) (s : State) (log : Log) → IsFaithful p log → IsSetUp p →
+        IsAccounted p s log → (counts_of s).skipped
+        ≡ u64_saturate (skipped_among p.sizes (reports_in p log)) }
+    ensures mirrors { (p : Setup) (s : State) (log : Log) → IsFaithful p log → IsSetUp p →
+        IsAccounted p s log → (n : ℕ) × CameStopped p log n
+        × ((counts_of s).mirrors ≡ u64_saturate n) }
+    ensures lost { (p : Setup) (s : State) (log : Log) → IsFaithful p log → IsSetUp p →
+        IsAccounted p s log → (counts_of s).lost
+        ≡ u64_saturate (sum_upto (lost_of p log) (length p.stations)) }
+    ensures spoilt { (p : Setup) (s : State) (log : Log) → IsAccounted p s log →
+        (counts_of s).spoilt ≡ u64_saturate (spoilt_count (front_of p.link.size)
+        (address_at p.addresses) (all_of (exchanges_of p log))) }
+{
+    the_course_is_the_logs();
+    counts_of_commands_are_the_logs();
+}

@@ -11,9 +11,12 @@
 //! [`each_command_is_given_once`], and [`faultless_commands_are_forwarded`]. What isn't given is
 //! answered ([`what_is_refused_is_answered`]). Between them: [`the_course_is_the_logs`], that what
 //! the gateway's course logs of the line and of commands is what the octets of the log show; and
-//! [`selections_end_in_time`], by the log's moments. What is counted of commands is what the log
+//! [`selections_end_in_time`], by the log's moments, and that what comes is taken at its own
+//! ([`what_comes_is_taken_at_its_own_moment`]), and by the wall clock of that moment
+//! ([`the_wall_clock_goes_on_with_the_moments`]). What is counted of commands is what the log
 //! shows ([`counts_of_commands_are_the_logs`]), and at other settings what stood on the lines
-//! ([`commands_lost_at_new_settings_are_counted`]). What a station says of a command goes on as it
+//! ([`commands_lost_at_new_settings_are_counted`]); a gateway tells these numbers
+//! ([`what_a_gateway_tells_is_its_logs`]). What a station says of a command goes on as it
 //! came ([`answers_are_passed_on_as_they_came`]), with the command's tag
 //! ([`answers_bear_the_tag_of_their_command`]), once ([`each_answer_is_given_once`]; on each log
 //! [`answers_of_stations_are_heeded`]) and in ASDUs of as many objects as fit
@@ -33,11 +36,13 @@
 //! Commands wait for the line by their stations ([`commands_wait_for_each_station`]), requests for
 //! an answer and polls for room ([`requests_wait_for_an_answer_and_polls_for_room`]). The line
 //! rests only where there is none ([`a_line_rests_only_for_want_of_room`]). It is asked before
-//! octets go to TCP ([`the_line_is_asked_before_octets_go_to_tcp`]).
+//! octets go to TCP ([`the_line_is_asked_before_octets_go_to_tcp`]), and once a step
+//! ([`each_step_asks_and_closes_once`]).
 //!
 //! What the gateway's definitions take for granted of a connection is said here too: which octets
 //! are its own ([`octets_are_those_of_their_connection`]), what its frames bear
-//! ([`frames_go_out_whole_and_with_their_counts`]), what closes it
+//! ([`frames_go_out_whole_and_with_their_counts`]), in which order they go
+//! ([`frames_go_out_in_their_order`]), what closes it
 //! ([`frames_have_the_faults_of_their_history`], [`a_replaced_connection_is_reported`],
 //! [`connections_are_closed_for_the_cause_that_is_told`]), and that it keeps the rules and leaves
 //! nothing undone ([`connections_keep_the_rules_of_the_session`]).
@@ -75,6 +80,7 @@ mod counting;
 mod exchanges;
 mod laws;
 mod logged;
+mod moments;
 mod new_settings;
 mod of_the_line;
 mod passed_on;
@@ -82,6 +88,7 @@ mod premises;
 mod received;
 mod restarting;
 mod room;
+mod sending;
 mod waiting;
 
 pub use commands::{
@@ -89,7 +96,10 @@ pub use commands::{
     settings_are_set_up, stations_are_told_apart, the_course_is_the_logs,
     what_is_refused_is_answered,
 };
-pub use counting::{commands_lost_at_new_settings_are_counted, counts_of_commands_are_the_logs};
+pub use counting::{
+    commands_lost_at_new_settings_are_counted, counts_of_commands_are_the_logs,
+    what_a_gateway_tells_is_its_logs,
+};
 pub use laws::{
     each_session_is_known, gaps_are_reported_by_their_station,
     gaps_are_told_before_the_next_request, losses_are_reported, losses_have_gaps, nothing_is_lost,
@@ -99,6 +109,7 @@ pub use logged::{
     events_and_actions_stand_under_their_names, only_a_failed_device_ends_a_promise,
     requests_have_their_time_by_the_log,
 };
+pub use moments::{the_wall_clock_goes_on_with_the_moments, what_comes_is_taken_at_its_own_moment};
 pub use new_settings::{new_settings_are_taken_up, what_stands_on_a_line_goes_on_with_its_station};
 pub use of_the_line::{
     answers_in_pieces_are_whole_answers, exchanges_count_as_they_ended,
@@ -124,6 +135,7 @@ pub use received::{
 };
 pub use restarting::no_command_is_sent_again_behind_a_restart;
 pub use room::{sixteen_commands_keep_their_tags, sixty_four_commands_find_places};
+pub use sending::{each_step_asks_and_closes_once, frames_go_out_in_their_order};
 pub use waiting::{
     a_line_rests_only_for_want_of_room, commands_wait_for_each_station,
     requests_wait_for_an_answer_and_polls_for_room, the_line_is_asked_before_octets_go_to_tcp,

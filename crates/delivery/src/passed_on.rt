@@ -2,6 +2,7 @@
 ghost use Rattle.std.specs.Prelude.{◌≡◌, ◌<◌, ◌≤◌, ◌+◌, ◌%◌, ◌⊎◌, ℕ, List, [], ◌∷◌, ◌++◌};
 ghost use Rattle.std.specs.Prelude.{length, drop, slice_get, slice_index, Some, None, true, false};
 ghost use Rattle.std.specs.List.{flat_map, AllByRecursion};
+ghost use Rattle.arrayvec.specs.ArrayVec.{ArrayVec};
 ghost use Rattle.elements.specs.declared.tag.Cp56.{Cp56};
 ghost use Rattle.asdu.specs.Asdu.{AsduValue, Info, IsAsdu, IsNoAsdu};
 ghost use Rattle.elements.specs.Octets.{AreOctets};
@@ -11,6 +12,7 @@ ghost use Rattle.asdu.specs.Sizes.{tcp};
 ghost use Rattle.asdu.specs.declared.sizes.Sizes.{Sizes};
 ghost use Rattle.asdu.specs.Translation.{report_pieces, AllButLast};
 ghost use Rattle.elements.specs.Types.{row};
+ghost use Rattle.link.specs.declared.outcome.Outcome.TheVariants.{Report};
 ghost use Rattle.session.specs.History.{is_started};
 ghost use Rattle.command.specs.History.{History};
 ghost use Rattle.gateway.specs.Counting.{is_answer_code};
@@ -111,9 +113,16 @@ pub fn each_answer_is_given_once()
 
 /// On each log: where the line's octets bring a station's answer to a command, that is given to the
 /// control centre while data transfer runs, as `each_answer_is_given_once` says. While it is
-/// stopped nothing of it is given. Nothing else becomes of commands with this answer.
+/// stopped nothing of it is given. Nothing else becomes of commands with this answer. Answers are
+/// of the types 45 to 49 and 100, so of each type that goes to a station (IEC 60870-5-101,
+/// 7.2.1.1).
 pub fn answers_of_stations_are_heeded()
-    ensures { (p : Setup) (log : Log) (at : ℕ) (octets : List ℕ) (c : Course) →
+    ensures types { AllByRecursion (λ code. is_answer_code code ≡ true)
+        (45 ∷ 46 ∷ 47 ∷ 48 ∷ 49 ∷ 100 ∷ []) }
+    ensures heard { (station : ℕ) (asdu : ArrayVec ℕ) →
+        is_answer_code (slice_index asdu.items 0) ≡ true →
+        answer_in (Report station asdu) ≡ Some asdu.items }
+    ensures heeded { (p : Setup) (log : Log) (at : ℕ) (octets : List ℕ) (c : Course) →
         Runs p (Came at (LineIn octets) ∷ log) c →
         (before : Course) × (left : Course) × Runs p log before × IsLeft p log before left
         × ((report : List ℕ) (v : AsduValue) →

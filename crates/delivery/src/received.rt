@@ -29,7 +29,7 @@ ghost use Rattle.delivery.specs.Delivery.{Delivers};
 ghost use Rattle.delivery.specs.Octets.{Ends, GoesOn, AreActions, is_opening, lacks_place};
 ghost use Rattle.delivery.specs.Octets.{octets_in, octets_out};
 ghost use Rattle.delivery.specs.Received.{AcknowledgeWhatCame, AreRuns, HaveCome, IsOneRun};
-ghost use Rattle.delivery.specs.Received.{close_by, BearsCounts};
+ghost use Rattle.delivery.specs.Received.{close_by, BearsCounts, IsLatestSaid};
 
 use apci::spellings_cancel;
 use gateway::own_answers_go_out;
@@ -115,7 +115,8 @@ pub fn octets_are_those_of_their_connection()
 /// frame bears the counts of its connection, in the octets that are handed over (IEC 60870-5-104,
 /// 5.1). An I frame has as N(S) how many I frames went out before it, and as N(R) how many came. An
 /// S frame has this N(R), too. So the control centre finds no gap, and what it sent is
-/// acknowledged.
+/// acknowledged. The history of the connection has the frame as its octets have it, and the counts
+/// are those of all that came before it: also of the frame that it answers.
 pub fn frames_go_out_whole_and_with_their_counts()
     ensures whole { (p : Setup) (newer log : Log) (now : ℕ) (octets : List ℕ) →
         IsFaithful p (newer ++ Went now (TcpOut octets) ∷ log) →
@@ -124,6 +125,8 @@ pub fn frames_go_out_whole_and_with_their_counts()
     ensures counts { (p : Setup) (log : Log) (now : ℕ) (frame : Apdu) (c : Course) →
         Runs p (Went now (TcpOut (spelling frame)) ∷ log) c →
         (before : Course) × Runs p log before × BearsCounts frame before }
+    ensures said { (p : Setup) (log : Log) (now : ℕ) (frame : Apdu) (c : Course) →
+        Runs p (Went now (TcpOut (spelling frame)) ∷ log) c → IsLatestSaid frame c.talk }
 {
     spellings_cancel();
 }
@@ -196,6 +199,10 @@ pub fn connections_are_closed_for_the_cause_that_is_told()
         IsFaithful p (newer ++ Went now (Closed cause) ∷ log) → (cause ≡ Replaced → ⊥) →
         (cause ≡ OwnAnswers → ⊥) →
         (c : Course) × Runs p log c × (unplaced c.works.history ≡ 0) }
+    ensures both { (p : Setup) (newer log : Log) (now : ℕ) (cause : Close) →
+        IsFaithful p (newer ++ Went now (Closed cause) ∷ log) → (cause ≡ Replaced → ⊥) →
+        (cause ≡ OwnAnswers → ⊥) → (c : Course) × Runs p log c × IsClosedFor p log c cause
+        × (unplaced c.works.history ≡ 0) }
     ensures told { (number_of Grammar ≡ 1) × (number_of SendNumber ≡ 2)
         × (number_of ReceiveNumber ≡ 3) × (number_of Stopped ≡ 4) × (number_of Timeout ≡ 5)
         × (number_of OwnAnswers ≡ 6) × (number_of Replaced ≡ 7) }

@@ -1,11 +1,19 @@
 use Rattle.session.specs.History.{is_started}
-use Rattle.std.proofs.Common.{◌∙◌}
+use Rattle.std.proofs.Common.{◌∙◌, Bool, Some, None, refl, ap}
+use Rattle.std.specs.Prelude.{if◌then◌else◌}
 use Rattle.gateway.proofs.OneCause.{came_transfers}
 use Rattle.delivery.proofs.Heeded.{Laws, heeded}
 use Rattle.delivery.proofs.passed_on.answers_of_stations_are_heeded.Goals as goal
 
-pub returns : goal.returns
-returns c = λ p log at octets d r.
+pub returns-clause-types : goal.returns-clause-types
+returns-clause-types c = (refl, (refl, (refl, (refl, (refl, (refl, tt))))))
+
+pub returns-clause-heard : goal.returns-clause-heard
+returns-clause-heard c = λ station asdu code.
+    ap (λ (b : Bool). if b then Some asdu.items else None) code
+
+pub returns-clause-heeded : goal.returns-clause-heeded
+returns-clause-heeded c = λ p log at octets d r.
     let laws : Laws = record {
       types = c.answers_have_the_types_of_commands.ensures.types;
       objects = c.objects_are_those_of_the_asdu.ensures.objects;

@@ -2,6 +2,7 @@ use Rattle.std.proofs.Common.{◌∷◌, ℕ, sym, ◌∙◌, subst, ◌<◌}
 use Rattle.gateway.specs.Log.{Came, Restarted}
 use Rattle.gateway.specs.Reports.{exchanges_of}
 use Rattle.delivery.proofs.Joining.{Joins, joins, left_joins}
+use Rattle.delivery.proofs.PollsStay.{unchanged}
 use Rattle.delivery.specs.LinkLaws.{LinkLaws}
 use Rattle.delivery.proofs.restarting.no_command_is_sent_again_behind_a_restart.Goals as goal
 
@@ -33,3 +34,7 @@ returns-clause-kept c = λ p log at course r.
       gives.4.answers,
       gives.4.waiting,
     )
+
+pub returns-clause-polls : goal.returns-clause-polls
+returns-clause-polls c = λ p log at station other.
+    unchanged c.the_line_is_its_exchanges.ensures.others p station (exchanges_of p log) other

@@ -5,6 +5,8 @@ use Rattle.gateway.specs.Frames.{Connection}
 use Rattle.gateway.specs.Line.{IsLineAtRest, IsWaiting, LacksOnlyRoom}
 use Rattle.gateway.specs.Log.{Log}
 use Rattle.gateway.specs.Reports.{Setup}
+use Rattle.delivery.proofs.Closing.{taken_all}
+use Rattle.delivery.proofs.PollsStay.{polls_owed}
 use Rattle.delivery.proofs.waiting.commands_wait_for_each_station.Goals as goal
 
 -- a line at rest with no exchange out lacks room and nothing else
@@ -28,4 +30,15 @@ returns c = record {
       (lacks p log course connections rests none).free station below;
   rests = λ p log course connections station rests none below.
       (lacks p log course connections rests none).served station below;
+  held = polls_owed;
+  all = λ p log calls asks. (
+    asks.course,
+    asks.runs,
+    taken_all log asks.course asks.all,
+    room_in p log asks.course,
+    waiting_by p asks.course.works.history,
+    asks.are,
+    (λ station. refl),
+    c.polls_need_three_places.ensures.log p log asks.course,
+  );
 }

@@ -1,4 +1,4 @@
-use Rattle.std.proofs.Common.{◌∷◌, ◌++◌, List, ℕ}
+use Rattle.std.proofs.Common.{◌∷◌, ◌++◌, List, ℕ, refl}
 use Rattle.gateway.specs.Log.{Log, Went, LineOut}
 use Rattle.gateway.specs.Reports.{Setup}
 use Rattle.gateway.specs.Traffic.{IsFaithful, IsRequest}
@@ -28,3 +28,6 @@ returns-clause-polls c = λ p newer log now octets f.
         (c.polls_need_three_places.ensures.log p log room.course).0 room.room,
       ),
     )
+
+pub returns-clause-services : goal.returns-clause-services
+returns-clause-services c = λ fcb. (refl, refl)
