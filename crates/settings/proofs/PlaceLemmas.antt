@@ -12,7 +12,7 @@ use Rattle.settings.specs.Live.{begins_with, has_port, is_address, is_line, is_p
 
 -- ---- a port
 
-port_is : (digits : List ℕ) → is_port digits ≡ true → IsPort digits
+pub port_is : (digits : List ℕ) → is_port digits ≡ true → IsPort digits
 port_is digits e = go (decimal_of digits) refl e
   where
     go : (o : Option ℕ) → decimal_of digits ≡ o → is_port_number o ≡ true → IsPort digits
@@ -39,7 +39,7 @@ record PortIn (text : List ℕ) : Type 0 where
   are : text ≡ before ++ 58 ∷ digits
   port : IsPort digits
 
-either : (a b : Bool) → (a || b) ≡ true → (a ≡ true) ⊎ (b ≡ true)
+pub either : (a b : Bool) → (a || b) ≡ true → (a ≡ true) ⊎ (b ≡ true)
 either true b e = inl refl
 either false b e = inr e
 
@@ -101,7 +101,7 @@ address_back text is = ap is_address is.are ∙ address_of_host is.host is.digit
 
 -- ---- a line
 
-begins : (head text : List ℕ) → begins_with head text ≡ true
+pub begins : (head text : List ℕ) → begins_with head text ≡ true
     → text ≡ head ++ drop (length head) text
 begins head text e =
     let same : take (length head) text ≡ head =

@@ -68,8 +68,8 @@ pub fn words_are_those_of_the_rows()
 {}
 
 /// A line is on this machine by its name where it is a path, or its host is `localhost`, `::1` or
-/// an address of 127.0.0.0/8, at each port. A host that begins otherwise isn't, nor is a name that
-/// only begins as one of these.
+/// an address of 127.0.0.0/8, at each port. No other line is: not one whose host begins otherwise,
+/// nor a name that only begins as one of these.
 pub fn lines_are_here_by_their_names()
     ensures { LinesAreHere }
 {}

@@ -1,4 +1,4 @@
-//! What holds of every ASDU that is shown.
+//! What holds of all octets that are shown.
 ghost use Rattle.std.specs.Prelude.{◌≡◌, ◌+◌, ◌-◌, ◌/◌, ◌%◌, ◌^◌, ◌++◌, ◌∷◌, [], ℕ, List, codes};
 ghost use Rattle.std.specs.Prelude.{length, Some, None};
 ghost use Rattle.std.specs.Prelude.{if◌then◌else◌};
@@ -6,13 +6,17 @@ ghost use Rattle.std.specs.Fmt.{decimal, signed_decimal};
 ghost use Rattle.std.specs.List.{flat_map};
 ghost use Rattle.hex.specs.Hex.{encode_upper};
 ghost use Rattle.ft12.specs.declared.frame.Frame.{Frame};
-ghost use Rattle.ft12.specs.declared.frame.Frame.TheVariants.{Fixed, Data};
-ghost use Rattle.ft12.specs.declared.frame.Front.TheVariants.{Whole, Never};
+ghost use Rattle.ft12.specs.declared.frame.Frame.TheVariants.{Single, Fixed, Data};
+ghost use Rattle.ft12.specs.declared.frame.Front.TheVariants.{Whole, More, Never};
 ghost use Rattle.ft12.specs.declared.frame.Why.{Why};
 ghost use Rattle.apci.specs.declared.apdu.Apdu.{Apdu};
-ghost use Rattle.apci.specs.declared.apdu.Apdu.TheVariants.{I, S};
+ghost use Rattle.apci.specs.declared.apdu.Apdu.TheVariants.{I, S, U};
 ghost use Rattle.apci.specs.declared.apdu.Front.TheVariants.{Whole as TcpWhole};
+ghost use Rattle.apci.specs.declared.apdu.Front.TheVariants.{More as TcpMore, Never as TcpNever};
+ghost use Rattle.apci.specs.declared.apdu.Uf.{Uf};
+ghost use Rattle.apci.specs.declared.apdu.Why.{Why as ApduWhy};
 ghost use Rattle.asdu.specs.Asdu.{AsduValue, IsAsdu, IsNoAsdu};
+ghost use Rattle.asdu.specs.Refusals.{refusal};
 ghost use Rattle.asdu.specs.Sizes.{tcp};
 ghost use Rattle.asdu.specs.declared.sizes.Sizes.{Sizes};
 ghost use Rattle.elements.specs.Octets.{AreOctets};
@@ -23,7 +27,9 @@ ghost use Rattle.elements.specs.declared.types.TypeId.{TypeId};
 ghost use Rattle.show.specs.Condition.{rest_line, with_rest};
 ghost use Rattle.show.specs.Line.{control_text, frame_condition, frame_line, frame_lines};
 ghost use Rattle.show.specs.Line.{front_condition, front_lines, number_of};
-ghost use Rattle.show.specs.Tcp.{apdu_condition, apdu_line, apdu_lines};
+ghost use Rattle.show.specs.Sizes.{digits_of, sizes_of};
+ghost use Rattle.show.specs.Tcp.{apdu_condition, apdu_line, apdu_lines, function_text};
+ghost use Rattle.show.specs.Tcp.{number_of as apdu_number};
 ghost use Rattle.show.specs.Tcp.{front_condition as apdu_front, front_lines as apdu_fronts};
 ghost use Rattle.show.specs.Units.{header_line, object_line, unit_condition, unit_lines};
 ghost use Rattle.show.specs.Units.{verdict_text};
@@ -107,4 +113,40 @@ pub fn fields_are_shown()
         ≡ value ++ (codes " element=" ++ encode_upper element
         ++ (codes " tag=" ++ encode_upper tag ++ codes " " ++ verdict_text (verdict_of tag))
         ++ 10 ∷ [])) }
+{}
+
+/// Octets that begin a frame or an APDU are told as truncated, however many they are. Those that
+/// begin none are told by the number of the refusal and its place. Both are a fault, and so is what
+/// a frame carries that is no ASDU, which is told by its number. The single character and a U
+/// format have a line of their own, and are none.
+pub fn octets_that_are_no_frame_are_a_fault()
+    ensures line { (s : LineSizes) (n place : ℕ) (why : Why) →
+        (front_lines s n More ≡ codes "truncated" ++ 10 ∷ [])
+        × (front_condition s n More ≡ condition.Faulty)
+        × (front_condition s n (Never place why) ≡ condition.Faulty) }
+    ensures connection { (n place : ℕ) (why : ApduWhy) →
+        (apdu_fronts n TcpMore ≡ codes "truncated" ++ 10 ∷ [])
+        × (apdu_front n TcpMore ≡ condition.Faulty)
+        × (apdu_fronts n (TcpNever place why)
+        ≡ codes "refused " ++ decimal (apdu_number why) ++ codes " at " ++ decimal place
+        ++ 10 ∷ [])
+        × (apdu_front n (TcpNever place why) ≡ condition.Faulty) }
+    ensures asdus { (s : Sizes) (first n : ℕ) (octets : List ℕ) →
+        refusal s (first ∷ octets) ≡ Some n →
+        (unit_lines s (first ∷ octets) ≡ codes "asdu refused " ++ decimal n ++ 10 ∷ [])
+        × (unit_condition s (first ∷ octets) ≡ condition.Faulty) }
+    ensures alone { (s : LineSizes) (f : Uf) →
+        (frame_lines s Single ≡ codes "single" ++ 10 ∷ [])
+        × (frame_condition s Single ≡ condition.Good)
+        × (apdu_lines (U f) ≡ codes "U " ++ function_text f ++ 10 ∷ [])
+        × (apdu_condition (U f) ≡ condition.Good) }
+{}
+
+/// Four digits name the sizes of a line: how many octets a link address, the cause, a common
+/// address and an object's address have, in this order. All sizes are named so, and no other text
+/// names any.
+pub fn sizes_are_named_by_four_digits()
+    ensures named { (s : LineSizes) → sizes_of (digits_of s) ≡ Some s }
+    ensures only { (text : List ℕ) (s : LineSizes) → sizes_of text ≡ Some s →
+        text ≡ digits_of s }
 {}

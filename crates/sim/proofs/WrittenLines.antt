@@ -10,6 +10,8 @@ use Rattle.std.proofs.lemmas.Bool.{eqb-true}
 use Rattle.std.specs.List.{slice_split}
 use Rattle.std.specs.Str.{bytes_eq}
 use Rattle.ft12.specs.declared.frame.LinkSize.{LinkSize}
+use Rattle.ft12.specs.declared.frame.LinkSize.TheVariants as sizes
+use Rattle.link.specs.Requests.{FitsFrame}
 use Rattle.traces.specs.Fields.{decimal_of, octets_of}
 use Rattle.sim.specs.declared.directive.Class.{Class}
 use Rattle.sim.specs.declared.directive.Class.TheVariants.{One, Two}
@@ -32,6 +34,17 @@ is_number digits n e = go (nat_le (length digits) 9) refl e
         → (if b then decimal_of digits else None) ≡ Some n → IsNumber digits n
     go true is same = (leb-true (length digits) 9 is, same)
     go false is same = cc
+
+-- a report has no more octets than a frame has room for
+fits_frame : (size : LinkSize) (octets : List ℕ) → length octets ≤ longest_report size
+    → FitsFrame size octets
+fits_frame sizes.One octets le = omega (arith, le)
+fits_frame sizes.Two octets le = omega (arith, le)
+
+has_room : (size : LinkSize) (octets : List ℕ) → FitsFrame size octets
+    → length octets ≤ longest_report size
+has_room sizes.One octets lt = omega (arith, lt)
+has_room sizes.Two octets lt = omega (arith, lt)
 
 named : (word name : List ℕ) → bytes_eq word name ≡ true → word ≡ name
 named word name e = (bytes_eq-Decides word name).0 e
@@ -282,7 +295,7 @@ module _ (size : LinkSize) (stations : ℕ) where
             there = let lt : n - 1 < stations = omega arith in lt;
             classed = of;
             written = os;
-            fits = short;
+            fits = fits_frame size octets short;
           })
       there n class octets false at of os short is same = cc
 
@@ -382,7 +395,7 @@ report_says size stations i class octets fields is =
     reporting_by size stations (Some (i + 1)) (Some (number_of_class class)) o) is.written
     ∙ ap (λ (b : Bool).
     if b then classed stations (i + 1) (class_of (number_of_class class)) octets else None)
-    (le-leb (length octets) (longest_report size) is.fits)
+    (le-leb (length octets) (longest_report size) (has_room size octets is.fits))
     ∙ ap (λ (m : Option Class). classed stations (i + 1) m octets) (class_has class)
     ∙ ap (λ (b : Bool). if b then Some (Report (i + 1 - 1) class octets) else None) within
     ∙ ap (λ (k : ℕ). Some (Report k class octets)) same

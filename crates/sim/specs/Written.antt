@@ -4,6 +4,7 @@ use Rattle.std.specs.Prelude.{◌≡◌, ◌⊎◌, ◌≤◌, ◌<◌, ℕ, ◌
 use Rattle.std.specs.Prelude.{length, All, Contains, Some, None, ◌==◌}
 use Rattle.std.specs.List.{filter, filter_map}
 use Rattle.ft12.specs.declared.frame.LinkSize.{LinkSize}
+use Rattle.link.specs.Requests.{FitsFrame}
 use Rattle.traces.specs.Fields.{decimal_of, octets_of}
 use Rattle.traces.specs.Trace.{is_skipped}
 use Rattle.sim.specs.declared.directive.Class.{Class}
@@ -12,7 +13,7 @@ use Rattle.sim.specs.declared.directive.Directive.{Directive}
 use Rattle.sim.specs.declared.directive.Directive.TheVariants.{Turns, Ack, Wall, Report}
 use Rattle.sim.specs.declared.directive.Directive.TheVariants.{LoseRequest, LoseAnswer, SpoilAnswer}
 use Rattle.sim.specs.declared.directive.Directive.TheVariants.{Cut, Send}
-use Rattle.sim.specs.Directives.{directive_in, longest_report}
+use Rattle.sim.specs.Directives.{directive_in}
 
 -- One line
 
@@ -40,7 +41,7 @@ pub record IsReportLine (size : LinkSize) (stations index : ℕ) (class : Class)
   pub there : index < stations
   pub classed : IsNumber kind (number_of_class class)
   pub written : octets_of text ≡ Some octets
-  pub fits : length octets ≤ longest_report size
+  pub fits : FitsFrame size octets
 
 -- the fields of a line that says this, where there are so many stations
 abbrev pub IsWritten : LinkSize → (stations : ℕ) → Directive → (fields : List (List ℕ)) → Type 0

@@ -18,6 +18,7 @@ use Rattle.ft12.specs.declared.frame.Why.{Why}
 use Rattle.ft12.specs.declared.frame.LinkSize.{LinkSize}
 use Rattle.ft12.specs.declared.frame.LinkSize.TheVariants as sizes
 use Rattle.gateway.specs.Config.{Settings}
+use Rattle.link.specs.Requests.{FitsFrame}
 use Rattle.link.specs.Secondary.{Secondary}
 use Rattle.live.specs.OctetStreams.{Happening, StreamHistory, Wrote}
 use Rattle.sim.specs.Lives.{IsPutOut}
@@ -468,4 +469,17 @@ short_fits sizes.One command long short =
 short_fits sizes.Two command long short =
     let e = le-leb 3 (length command) long in
     let f = le-leb (length command) 252 short in
+    rw (e, f) refl
+
+pub frame_fits : (size : LinkSize) (command : List ℕ) → 3 ≤ length command
+    → FitsFrame size command → fits_line size command ≡ true
+frame_fits sizes.One command long fits =
+    let e = le-leb 3 (length command) long in
+    let lt : 2 + length command < 256 = fits in
+    let f = le-leb (length command) 253 (omega (arith, lt)) in
+    rw (e, f) refl
+frame_fits sizes.Two command long fits =
+    let e = le-leb 3 (length command) long in
+    let lt : 3 + length command < 256 = fits in
+    let f = le-leb (length command) 252 (omega (arith, lt)) in
     rw (e, f) refl

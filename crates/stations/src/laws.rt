@@ -8,7 +8,7 @@ ghost use Rattle.ft12.specs.Spelling.{spelling};
 ghost use Rattle.ft12.specs.declared.frame.Frame.{Frame};
 ghost use Rattle.ft12.specs.declared.frame.LinkSize.{LinkSize};
 ghost use Rattle.gateway.specs.Config.{Settings};
-ghost use Rattle.link.specs.Requests.{reading_of};
+ghost use Rattle.link.specs.Requests.{FitsFrame, reading_of};
 ghost use Rattle.link.specs.declared.request.Reading.TheVariants.{Foreign};
 ghost use Rattle.link.specs.Secondary.{Secondary, ReceivesOctets};
 ghost use Rattle.live.specs.OctetStreams.{Happening, StreamHistory};
@@ -212,7 +212,7 @@ pub fn reports_are_counted()
 /// confirmation, which is negative if the station refuses, or of the termination. T stays as it is.
 /// An activation is confirmed, and then terminated, unless it is refused or selects. A deactivation
 /// is confirmed. To any other cause, to another type and to octets that are no ASDU nothing is
-/// replied. Replies are reports of class 1.
+/// replied. No command is too long that a frame has room for. Replies are reports of class 1.
 pub fn replies_answer_their_commands()
     ensures replies { (size : LinkSize) (sizes : Sizes) (refuses is_confirmed : Bool)
         (command reply : List ℕ) (v : AsduValue) → IsAsdu sizes v command →
@@ -236,6 +236,8 @@ pub fn replies_answer_their_commands()
         IsReply size sizes refuses is_confirmed command reply → reply ≡ None }
     ensures fits { (size : LinkSize) (command : List ℕ) → 3 ≤ length command →
         length command ≤ 252 → fits_line size command ≡ true }
+    ensures room { (size : LinkSize) (command : List ℕ) → 3 ≤ length command →
+        FitsFrame size command → fits_line size command ≡ true }
     ensures urgent { (i : ℕ) (old new : OutstationsState) → Replies i old new →
         map (λ (s : Secondary). s.class2) new.stations
         ≡ map (λ (s : Secondary). s.class2) old.stations }
