@@ -6,7 +6,7 @@ ghost use Rattle.segments.specs.Crashes.{AreBoth, AreOlder, AreShutOr, IsThatOf,
 ghost use Rattle.segments.specs.Crashes.{Survives};
 ghost use Rattle.segments.specs.Crashes.{lines_behind};
 ghost use Rattle.segments.specs.Head.{Fits, head_for, head_of, whole_text};
-ghost use Rattle.segments.specs.Starts.{IsAbove, IsBacked, IsFoundIn, IsNewest, IsNext};
+ghost use Rattle.segments.specs.Starts.{BeginsNewer, IsAbove, IsBacked, IsFoundIn, IsNewest, IsNext};
 ghost use Rattle.segments.specs.declared.head.SegmentHead.{SegmentHead};
 ghost use Rattle.sqlite_disk.specs.Disk.{Holds};
 ghost use Rattle.statetext.specs.Sum.{sum_of};
@@ -93,6 +93,14 @@ pub fn the_next_number_is_new()
         1 < number → (head : SegmentHead) × Fits head
         × (Holds newest 0 (head_of head) ⊎ Holds other 0 (head_of head))
         × (number ≤ head.number + 1) }
+{}
+
+/// Only a newer segment is in the way of the next log. Where it is told that the other file may not
+/// be written over, or that a file isn't below a number, the first line of such a segment stands
+/// there: so no log is held up by a file that is shut, by an older segment, or by none.
+pub fn only_a_newer_segment_is_in_the_way()
+    ensures { (number : ℕ) (file : List ℕ) → BeginsNewer number file →
+        (head : SegmentHead) × Fits head × Holds file 0 (head_of head) × (number < head.number) }
 {}
 
 /// The first line of a segment, by literal numbers: states that older versions wrote are read.

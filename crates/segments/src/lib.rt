@@ -31,8 +31,8 @@ pub use gate::shut;
 pub use head::SegmentHead;
 pub use laws::{
     a_start_finds_what_was_synced, first_lines_by_example, no_crash_takes_both_files,
-    no_file_is_written_over_but_beside_one_as_new, the_next_number_is_new,
-    the_other_file_has_older_segments,
+    no_file_is_written_over_but_beside_one_as_new, only_a_newer_segment_is_in_the_way,
+    the_next_number_is_new, the_other_file_has_older_segments,
 };
 pub use segment::Segment;
 pub use start::{FoundHead, Side, Start, is_below, is_sound, newest_side};

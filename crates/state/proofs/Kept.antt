@@ -2,7 +2,8 @@
 use Rattle.std.proofs.Common.{◌≡◌, ◌∙◌, ℕ, ◌+◌, ◌<◌, ◌≤◌, ◌^◌, Bool, true, false, [], ◌∷◌, ◌++◌}
 use Rattle.std.proofs.Common.{map, length, List, Option, Some, None, ap, sym, subst, refl, inl, inr}
 use Rattle.std.proofs.Common.{arith}
-use Rattle.std.proofs.Common.{if◌then◌else◌}
+use Rattle.std.proofs.Common.{if◌then◌else◌, ◌⊎◌}
+use Rattle.std.specs.Option.{is_some}
 use Rattle.gateway.specs.Log.{Log}
 use Rattle.gateway.specs.Log.{LogEntry, with_news}
 use Rattle.gateway.specs.Ports.{faults_of, logged_by}
@@ -10,7 +11,7 @@ use Rattle.gateway.specs.State.{State}
 use Rattle.gateway.specs.declared.ports.Next.{Next}
 use Rattle.gateway.specs.declared.ports.Next.TheVariants as answers
 use Rattle.state.specs.Deeds.{Begun, Deeds, GivenUp, AreRight, IsInTime, MayBe, Received, PutOut}
-use Rattle.state.specs.Deeds.{HasPassed, arrived}
+use Rattle.state.specs.Deeds.{HasPassed, IsAllOnDisk, arrived, loss_of}
 use Rattle.state.specs.Deeds.{grown, is_kept, latest, passed, waiting}
 use Rattle.state.specs.Keeping.{IsOrderly}
 use Rattle.state.specs.Lines.{IsRefusedBy, is_renewal_due}
@@ -224,3 +225,11 @@ has_failed settings stored fault events loss old new are kept failed refused = r
   refused = subst (λ (n : ℕ). IsRefusedBy fault events n)
       (stored_grown settings old stored are kept) refused;
 }
+
+-- Where none waits
+
+pub settled_all : (s : Standing) (deeds : Deeds) → IsSettled s → IsStanding s deeds
+    → IsAllOnDisk deeds ⊎ (is_some (loss_of deeds) ≡ true)
+settled_all Synced deeds settled stands = inl stands.disk
+settled_all (Waiting moment) deeds settled stands = absurd settled
+settled_all (Lost loss) deeds settled stands = inr (ap is_some stands)

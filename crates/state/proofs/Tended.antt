@@ -1,7 +1,7 @@
 -- When a log is begun between two steps.
-use Rattle.std.proofs.Common.{◌≡◌, ◌∙◌, ◌⊎◌, ◌<◌, ◌≤◌, true, false, ◌∷◌, length}
+use Rattle.std.proofs.Common.{◌≡◌, ◌∙◌, ◌⊎◌, ◌<◌, ◌≤◌, Bool, true, false, List, ◌∷◌, length}
 use Rattle.std.proofs.Common.{Option}
-use Rattle.std.proofs.Common.{sym, ap, subst}
+use Rattle.std.proofs.Common.{sym, ap, subst, inl, inr}
 use Rattle.std.proofs.lemmas.Bool.{le-ltb, lt-ltb}
 use Rattle.gateway.specs.Log.{Log}
 use Rattle.gateway.specs.State.{State}
@@ -9,10 +9,12 @@ use Rattle.live.specs.declared.watched.Notice.{Notice}
 use Rattle.traces.specs.Printed.{lines_of_log}
 use Rattle.state.specs.Deeds.{Begun, Deeds, GivenUp, written}
 use Rattle.state.specs.Keeping.{HasTended, Keeping}
-use Rattle.state.specs.Renewals.{is_try_due}
+use Rattle.state.specs.Notices.{Asked, Call, Tried, patience_behind}
+use Rattle.state.specs.Renewals.{after_notice, after_try, is_try_due, notice_of}
 use Rattle.state.specs.Standings.{Renews, is_lost}
 use Rattle.state.specs.declared.loss.Loss.{Loss}
 use Rattle.state.specs.declared.loss.StoreFault.TheVariants.{Failed}
+use Rattle.state.specs.declared.renewal.Patience.{Patience}
 
 module _ {E : Type 0} (log : E → Option Log) (deeds : E → Deeds) (old new : Keeping E)
     (state : State) (notice : Option Notice) (tended : HasTended log deeds old state new notice)
@@ -46,3 +48,63 @@ module _ {E : Type 0} (log : E → Option Log) (deeds : E → Deeds) (old new : 
         → deeds new.ends ≡ deeds old.ends
     kept_waiting lost not_due =
         sym same ∙ ap (λ (k : Keeping E). deeds k.ends) (tended.looks.waits lost not_due)
+
+-- What is remembered behind a look
+
+asked_by : (l m : Bool) (p q after : Patience) (notice : Option Notice) → notice ≡ notice_of l p
+    → after ≡ after_notice notice p → l ≡ m → p ≡ q
+    → (notice ≡ notice_of m q) × (after ≡ after_notice (notice_of m q) q)
+asked_by l m p q after notice told then same is =
+    let so : notice ≡ notice_of m q =
+    told ∙ (ap (λ b. notice_of b p) same ∙ ap (λ r. notice_of m r) is) in
+    (so, then ∙ (ap (λ n. after_notice n p) so ∙ ap (λ r. after_notice (notice_of m q) r) is))
+
+module _ {E : Type 0} (log : E → Option Log) (deeds : E → Deeds) (old new : Keeping E)
+    (state : State) (notice : Option Notice) (calls : List Call)
+    (tended : HasTended log deeds old state new notice)
+    (was : old.patience ≡ patience_behind calls)
+  where
+    stands : is_lost tended.looked.standing ≡ is_lost new.standing
+    stands = sym (ap (λ (k : Keeping E). is_lost k.standing) tended.after)
+
+    left : new.patience ≡ after_notice notice tended.looked.patience
+    left = ap (λ (k : Keeping E). k.patience) tended.after
+
+    -- so the store is as it was
+    untouched : tended.looked ≡ old → deeds new.ends ≡ deeds old.ends
+    untouched is = ap (λ (k : Keeping E). deeds k.ends) tended.after
+        ∙ ap (λ (k : Keeping E). deeds k.ends) is
+
+    by_tries : (tended.looked ≡ old)
+        ⊎ (tended.looked.patience ≡ after_try (is_lost tended.looked.standing) old.patience)
+        → ((deeds new.ends ≡ deeds old.ends)
+        × (notice ≡ notice_of (is_lost new.standing) (patience_behind calls))
+        × (new.patience ≡ patience_behind (Asked (is_lost new.standing) ∷ calls)))
+        ⊎ ((notice ≡ notice_of (is_lost new.standing)
+        (patience_behind (Tried (is_lost new.standing) ∷ calls)))
+        × (new.patience ≡ patience_behind (Asked (is_lost new.standing)
+        ∷ (Tried (is_lost new.standing) ∷ calls))))
+    by_tries (inl is) =
+        let before : tended.looked.patience ≡ patience_behind calls =
+        ap (λ (k : Keeping E). k.patience) is ∙ was in
+        let here = asked_by (is_lost tended.looked.standing) (is_lost new.standing)
+        tended.looked.patience (patience_behind calls) new.patience notice tended.logs left stands
+        before in
+        inl (untouched is, here.0, here.1)
+    by_tries (inr tried) =
+        let before : tended.looked.patience
+        ≡ patience_behind (Tried (is_lost new.standing) ∷ calls) =
+        tried ∙ (ap (λ b. after_try b old.patience) stands
+        ∙ ap (λ p. after_try (is_lost new.standing) p) was) in
+        inr (asked_by (is_lost tended.looked.standing) (is_lost new.standing)
+        tended.looked.patience (patience_behind (Tried (is_lost new.standing) ∷ calls))
+        new.patience notice tended.logs left stands before)
+
+    pub remembered : ((deeds new.ends ≡ deeds old.ends)
+        × (notice ≡ notice_of (is_lost new.standing) (patience_behind calls))
+        × (new.patience ≡ patience_behind (Asked (is_lost new.standing) ∷ calls)))
+        ⊎ ((notice ≡ notice_of (is_lost new.standing)
+        (patience_behind (Tried (is_lost new.standing) ∷ calls)))
+        × (new.patience ≡ patience_behind (Asked (is_lost new.standing)
+        ∷ (Tried (is_lost new.standing) ∷ calls))))
+    remembered = by_tries tended.looks.tried

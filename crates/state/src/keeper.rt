@@ -5,7 +5,7 @@ ghost use Rattle.std.specs.Option.{is_some};
 ghost use Rattle.gateway.specs.Log.{Went, with_news};
 ghost use Rattle.gateway.specs.Ports.{FitsBuffer, faults_of, output_of, logged_by};
 ghost use Rattle.gateway.specs.declared.ports.Next.TheVariants.{Done, Fault};
-ghost use Rattle.state.specs.Deeds.{HasPassed, grown, passed};
+ghost use Rattle.state.specs.Deeds.{HasPassed, IsAllOnDisk, grown, loss_of, passed};
 ghost use Rattle.state.specs.Keeping.{IsOrderly, failure_of, unlooked_fixture};
 ghost use Rattle.state.specs.Lines.{is_renewal_due};
 ghost use Rattle.state.specs.Renewals.{after_notice, after_try, is_try_due, moment_after};
@@ -267,6 +267,10 @@ impl<E: Ends + Drop> Port for Keeper<E> {
         ensures stops { is_stopped self.old.standing self.old.bears_loss ≡ true →
             (result ≡ Fault) × (self.new ≡ record self.old { stops = self.old.stops + 1 }) }
         ensures left { self.new.bears_loss ≡ self.old.bears_loss }
+        // Where no event comes any more, as where the device has failed, no received one waits for
+        // the disk: all are there, or the store has failed.
+        ensures settled { logged_by result buf.new ≡ [] → IsAllOnDisk (E.deeds self.new.ends)
+            ⊎ (is_some (loss_of (E.deeds self.new.ends)) ≡ true) }
     {
         if is_stopped(self.standing, self.bears_loss) {
             self.stops += 1;

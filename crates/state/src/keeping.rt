@@ -1,5 +1,5 @@
 //! What is appended and when it is synced.
-ghost use Rattle.std.specs.Prelude.{◌≡◌, ℕ, Bool, false, List};
+ghost use Rattle.std.specs.Prelude.{◌≡◌, ℕ, Bool, false, List, []};
 ghost use Rattle.gateway.specs.Ports.{FitsBuffer, logged_by};
 ghost use Rattle.state.specs.Deeds.{AreRight, IsSafe, heads, passed};
 ghost use Rattle.state.specs.Keeping.{IsOrderly};
@@ -62,6 +62,7 @@ pub(crate) fn keep<E: Ends>(
     ensures passed { passed (E.deeds ends.new) ≡ passed (E.deeds ends.old) }
     ensures heads { heads (E.deeds ends.new) ≡ heads (E.deeds ends.old) }
     ensures port { IsPortLeft E.log E.failed E.ended E.script ends.old ends.new }
+    ensures settled { logged_by next buf.now ≡ [] → IsSettled result }
 {
     let Some(now) = moment_of(next) else {
         return settle(ends, standing);

@@ -37,16 +37,18 @@ ghost use Rattle.state.specs.Keeping.{HasTended, IsOrderly, Keeping, failure_of}
 ghost use Rattle.state.specs.Lines.{IsWritable, is_renewal_due};
 ghost use Rattle.state.specs.Logs.{IsOlderBeside};
 ghost use Rattle.state.specs.Origins.{IsBegun};
-ghost use Rattle.state.specs.Notices.{Call, latest, patience_behind, told, tries};
+ghost use Rattle.state.specs.Notices.{Asked, Call, Tried, latest, patience_behind, told, tries};
 ghost use Rattle.state.specs.Renewals.{is_try_due, notice_of};
 ghost use Rattle.state.specs.Replays.{IsQuiet, last_gap, whole_lines};
 ghost use Rattle.state.specs.Returns.{GoesOnOver};
+ghost use Rattle.state.specs.Sights.{IsSight};
 ghost use Rattle.state.specs.Standings.{is_lost, is_stopped};
 ghost use Rattle.state.specs.Stores.{led_to_head, safe};
 ghost use Rattle.state.specs.Unread.{IsUnread, WasAside};
 ghost use Rattle.state.specs.declared.beginning.Origin.{Origin};
 ghost use Rattle.state.specs.declared.loss.Loss.{Loss};
 ghost use Rattle.state.specs.declared.loss.Loss.TheVariants.{Marked, Unmarked};
+ghost use Rattle.state.specs.declared.looking.Sight.{Sight};
 ghost use Rattle.state.specs.declared.loss.StoreFault.TheVariants.{Failed, Full, Unwritable};
 ghost use Rattle.state.specs.declared.opened.Opened.{Opened};
 ghost use Rattle.state.specs.declared.standing.Standing.{Standing};
@@ -163,15 +165,34 @@ pub fn a_loss_is_reported_each_minute_until_it_is_over()
         notice_of false (patience_behind calls) ≡ None }
 {}
 
+/// What a keeper remembers is that of the calls on it, over which the two laws above say when a new
+/// log is tried and what is reported. A look asks once what is to be reported, and reports that. It
+/// is noted that a new log was tried wherever something was done at the store.
+pub fn a_keeper_remembers_what_it_tried_and_reported<E: Ends + Drop>()
+    ensures { (old new : Keeping E) (state : State) (notice : Option Notice)
+        (calls : List Call) → HasTended E.log E.deeds old state new notice →
+        old.patience ≡ patience_behind calls →
+        ((E.deeds new.ends ≡ E.deeds old.ends)
+        × (notice ≡ notice_of (is_lost new.standing) (patience_behind calls))
+        × (new.patience ≡ patience_behind (Asked (is_lost new.standing) ∷ calls)))
+        ⊎ ((notice ≡ notice_of (is_lost new.standing)
+        (patience_behind (Tried (is_lost new.standing) ∷ calls)))
+        × (new.patience ≡ patience_behind (Asked (is_lost new.standing)
+        ∷ (Tried (is_lost new.standing) ∷ calls)))) }
+{}
+
 /// What becomes of a run whose store has failed, case by case. It goes on where the loss is borne
 /// and the state on the disk is marked as stale, and else it is stopped. Once it was stopped, what
-/// has failed is the state, whatever the port says.
+/// has failed is the state, whatever the port says. A store that has failed counts as lost, whether
+/// the mark stands or not, and no other does.
 pub fn losses_by_example()
     ensures kept { (moment : ℕ) (bears : Bool) → (is_stopped Standing.Synced bears ≡ false)
         × (is_stopped (Standing.Waiting moment) bears ≡ false) }
     ensures marked { (is_stopped (Standing.Lost Marked) true ≡ false)
         × (is_stopped (Standing.Lost Marked) false ≡ true) }
     ensures unmarked { (bears : Bool) → is_stopped (Standing.Lost Unmarked) bears ≡ true }
+    ensures lost { (moment : ℕ) (loss : Loss) → (is_lost Standing.Synced ≡ false)
+        × (is_lost (Standing.Waiting moment) ≡ false) × (is_lost (Standing.Lost loss) ≡ true) }
     ensures going { (of_port : Option Failure) → failure_of 0 of_port ≡ of_port }
     ensures stopped { (stops : ℕ) (of_port : Option Failure) → 0 < stops →
         failure_of stops of_port ≡ Some Failure.State }
@@ -340,7 +361,8 @@ pub fn no_link_is_up_behind_a_reset<D: Disk + Drop>()
 /// A state that a run has written is never put aside by one with the same settings: a checkpoint
 /// that is whole and says the settings, a file of settings that can be read, and the state of a
 /// gateway with these. And both files are never put aside where they are shut. So it is of what a
-/// start has put aside, where each read of the two files has gone well.
+/// start has put aside, where each read of the two files has gone well, and of what is shown to who
+/// looks at a directory: a good state isn't shown as one that can't be read.
 pub fn a_state_that_can_be_read_is_not_put_aside<F: Folder + Drop>()
     ensures kept { (c : Settings) (text newest other : List ℕ) (head : SegmentHead)
         (body : List ℕ) (state : State) → Fits head → IsFoundIn newest head body →
@@ -356,4 +378,13 @@ pub fn a_state_that_can_be_read_is_not_put_aside<F: Folder + Drop>()
         IsFoundIn (F.File.seen was.newest) head body → lines_in body ≡ text ∷ state_lines state →
         IsOctetLine text → IsReadOfText text (Ok c) → IsSavable state →
         ((by : Settings) → IsReadOfText text (Ok by) → HasSettings by state) → ⊥ }
+    ensures shown { (log : Log) (is_stale : Bool) (first second text : List ℕ) (s : Sight)
+        (shown : IsSight log is_stale first second s) (c : Settings) (head : SegmentHead)
+        (body : List ℕ) (state : State) → s.beginning ≡ Beginning.PutAside → Fits head →
+        IsFoundIn shown.newest head body → lines_in body ≡ text ∷ state_lines state →
+        IsOctetLine text → IsReadOfText text (Ok c) → IsSavable state →
+        ((by : Settings) → IsReadOfText text (Ok by) → HasSettings by state) → ⊥ }
+    ensures shown_shut { (log : Log) (is_stale : Bool) (first second : List ℕ) (s : Sight)
+        (shown : IsSight log is_stale first second s) → s.beginning ≡ Beginning.PutAside →
+        IsShut shown.newest → IsShut shown.other → ⊥ }
 {}

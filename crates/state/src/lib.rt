@@ -36,8 +36,8 @@ pub use form_laws::{
 pub use keeper::Keeper;
 pub use laws::{
     a_clock_goes_on_where_the_gateway_stood, a_damaged_state_never_goes_on_as_whole,
-    a_gap_of_the_last_step_is_reported_again, a_line_can_hold_each_event,
-    a_log_has_room_for_each_line, a_log_is_begun_where_one_is_due,
+    a_gap_of_the_last_step_is_reported_again, a_keeper_remembers_what_it_tried_and_reported,
+    a_line_can_hold_each_event, a_log_has_room_for_each_line, a_log_is_begun_where_one_is_due,
     a_log_that_could_not_be_begun_is_tried_each_ten_seconds,
     a_loss_is_reported_each_minute_until_it_is_over, a_start_goes_on_behind_a_crash,
     a_state_that_can_be_read_is_not_put_aside, losses_by_example, no_crash_leaves_another_line,
@@ -56,7 +56,7 @@ pub use start_laws::{
     a_gap_is_told_of_its_own_station, a_log_ends_before_its_first_unread_line,
     each_log_is_received_again_under_its_settings, no_command_outlives_a_start,
     nothing_is_gone_on_with_but_a_state, the_first_log_of_a_run_has_its_own_number,
-    what_is_shown_is_what_a_start_finds,
+    what_is_shown_is_what_a_start_finds, what_was_found_says_how_a_run_begins,
 };
 pub use store::Store;
 pub use trail::{Done, Trail};

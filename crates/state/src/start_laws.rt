@@ -23,6 +23,7 @@ ghost use Rattle.state.specs.Directories.{BeginsOver};
 ghost use Rattle.state.specs.Origins.{IsNumbered};
 ghost use Rattle.state.specs.Replays.{events_in_front, last_gap, whole_lines};
 ghost use Rattle.state.specs.Sights.{IsSight};
+ghost use Rattle.state.specs.Starts.{beginning_of};
 ghost use Rattle.state.specs.declared.beginning.Origin.{Origin};
 ghost use Rattle.state.specs.declared.looking.Seen.{Seen};
 ghost use Rattle.state.specs.declared.looking.Sight.{Sight};
@@ -32,7 +33,7 @@ ghost use Rattle.traces.specs.Progress.{came};
 ghost use Rattle.traces.specs.Trace.{logged};
 
 use crate::opened::Opened;
-use crate::start::Beginning;
+use crate::start::{Beginning, Found};
 use link::giving_up_is_for_one_station;
 use segments::the_next_number_is_new;
 use sqlite_disk::Disk;
@@ -169,6 +170,18 @@ pub fn a_log_ends_before_its_first_unread_line()
         events_in_front (line ∷ lines) ≡ came event ∷ events_in_front lines }
     ensures unread { (lines behind : List (List ℕ)) (line : List ℕ) → logged line ≡ None →
         events_in_front (lines ++ line ∷ behind) ≡ events_in_front lines }
+{}
+
+/// How a run begins by what was found. It begins anew where no log was ever begun, and where what is
+/// there can't be read, which is put aside. Each link is reset where the state is stale, and where
+/// the log is one of other rules with events behind its head. Else it goes on.
+pub fn what_was_found_says_how_a_run_begins()
+    ensures { (beginning_of Found.Nothing ≡ Beginning.Anew)
+        × (beginning_of Found.Unread ≡ Beginning.PutAside)
+        × (beginning_of Found.Stale ≡ Beginning.LinksReset)
+        × (beginning_of (Found.OtherRules true) ≡ Beginning.LinksReset)
+        × (beginning_of (Found.OtherRules false) ≡ Beginning.GoesOn)
+        × (beginning_of Found.Whole ≡ Beginning.GoesOn) }
 {}
 
 /// A gap that the last step reported is told of its own station, where the settings have changed

@@ -1,6 +1,6 @@
 use Rattle.std.proofs.Common.{◌+◌, ◌<◌, sym, subst}
 use Rattle.state.specs.Keeping.{Keeping}
-use Rattle.state.proofs.Kept.{came_passed, received_right, few_faults, few_more}
+use Rattle.state.proofs.Kept.{came_passed, received_right, few_faults, few_more, settled_all}
 use Rattle.state.proofs.keeper.KeeperPort.next.Goals as goal
 
 pub invariant_of-self-2 : goal.invariant_of-self-2
@@ -16,3 +16,11 @@ invariant_of-self-2 g c = record {
       (subst (λ (k : Keeping _). g.E.Ends.failed k.ends + k.stops < 18446744073709551615)
       (sym c.self.view_is) c.requires);
 }
+
+pub returns-clause-settled : goal.returns-clause-settled
+returns-clause-settled g c none =
+    let right = received_right _ _ _ _ c.next-next.ensures.arrived c.self.invariant.orderly.time
+    c.self.invariant.orderly.right in
+    settled_all c.keep-self-inside.result (g.E.Ends.deeds c.keep-self-inside.new.ends)
+    (c.keep-self-inside.ensures.settled none)
+    (c.keep-self-inside.ensures.orderly c.self.inside.bears_loss right).stands
