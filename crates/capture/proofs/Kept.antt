@@ -1,13 +1,15 @@
 -- Which lines of a record are captured, and as what.
-use Rattle.std.specs.Prelude.{◌==◌, ◌||◌, if◌then◌else◌, nat_le, option_map}
+use Rattle.std.specs.Prelude.{◌==◌, ◌&&◌, ◌||◌, ◌<◌, ◌⊎◌, if◌then◌else◌, nat_le, option_map}
 use Rattle.std.proofs.Common.{◌≡◌, ◌+◌, ◌-◌, ℕ, Bool, true, false, List, [], ◌∷◌, ◌++◌, codes, map}
-use Rattle.std.proofs.Common.{Option, Some, None, refl, ap, sym, subst, ◌∙◌, arith}
+use Rattle.std.proofs.Common.{Option, Some, None, refl, ap, sym, subst, ◌∙◌, arith, inl, inr}
 use Rattle.std.proofs.lemmas.Bool.{le-leb}
+use Rattle.std.proofs.lemmas.Bool.Decides.{nat_tests}
 use Rattle.std.proofs.lemmas.Slice.Eq.{bytes_eq-Decides}
 use Rattle.std.specs.List.{AllByRecursion, flat_map, slice_split}
 use Rattle.std.specs.Option.{is_some, option_and_then}
 use Rattle.std.specs.Str.{bytes_eq}
 use Rattle.session.specs.declared.kinds.Close.{Close}
+use Rattle.gateway.specs.Entries.{cause_of}
 use Rattle.gateway.specs.Log.{LogEntry, Output, Went, LineOut, TcpOut, Closed, GapOut}
 use Rattle.record.specs.Examples.{line}
 use Rattle.record.specs.Law.{HasNone}
@@ -150,6 +152,58 @@ gap_kept text moment place digits now station session is are at n m =
     ∙ went_so moment (codes "G" ∷ place ∷ digits ∷ []) now (GapOut station session) at
     (ap (λ (o : Option ℕ). gap_at o (decimal_of digits)) n
     ∙ ap (λ (o : Option ℕ). gap_at (Some (station + 1)) o) m ∙ gap_is station session)
+
+-- ---- what is no action
+
+unless_none : (b : Bool) (fields : List (List ℕ)) → entry_from fields ≡ None
+    → (if b then None else entry_from fields) ≡ None
+unless_none true fields none = refl
+unless_none false fields none = none
+
+none_went : (moment : Option ℕ) → went_at moment None ≡ None
+none_went None = refl
+none_went (Some now) = refl
+
+no_action : (text moment : List ℕ) (fields : List (List ℕ))
+    → slice_split (λ b. b == 32) text ≡ moment ∷ codes ">" ∷ fields → action_from fields ≡ None
+    → entry_logged text ≡ None
+no_action text moment fields are none =
+    let marked : entry_from (moment ∷ codes ">" ∷ fields) ≡ None =
+    ap (λ (o : Option Output). went_at (decimal_of moment) o) none
+    ∙ none_went (decimal_of moment) in
+    unless_none (is_skipped text) (slice_split (λ b. b == 32) text) (ap entry_from are ∙ marked)
+
+no_cause : (number : ℕ) → (number ≡ 0) ⊎ (7 < number) → cause_numbered number ≡ None
+no_cause number (inl is) = ap cause_numbered is
+no_cause number (inr above) =
+    let no : nat_le number 7 ≡ false = grind (arith, nat_tests, above) in
+    ap (λ (b : Bool). if nat_le 1 number && b then Some (cause_of number) else None) no
+    ∙ either_way (nat_le 1 number)
+  where
+    either_way : (b : Bool) → (if b && false then Some (cause_of number) else None) ≡ None
+    either_way true = refl
+    either_way false = refl
+
+pub no_close : (text moment digits : List ℕ) (number : ℕ)
+    → slice_split (λ b. b == 32) text ≡ moment ∷ codes ">" ∷ codes "X" ∷ digits ∷ []
+    → decimal_of digits ≡ Some number → (number ≡ 0) ⊎ (7 < number)
+    → entry_logged text ≡ None
+no_close text moment digits number are n outside =
+    no_action text moment (codes "X" ∷ digits ∷ []) are
+    (ap (λ (o : Option ℕ). option_map Closed (option_and_then cause_numbered o)) n
+    ∙ ap (λ (o : Option Close). option_map Closed o) (no_cause number outside))
+
+no_station : (session : Option ℕ) → gap_at (Some 0) session ≡ None
+no_station None = refl
+no_station (Some session) = refl
+
+pub no_gap : (text moment place digits : List ℕ)
+    → slice_split (λ b. b == 32) text
+    ≡ moment ∷ codes ">" ∷ codes "G" ∷ place ∷ digits ∷ []
+    → decimal_of place ≡ Some 0 → entry_logged text ≡ None
+no_gap text moment place digits are n =
+    no_action text moment (codes "G" ∷ place ∷ digits ∷ []) are
+    (ap (λ (o : Option ℕ). gap_at o (decimal_of digits)) n ∙ no_station (decimal_of digits))
 
 -- ---- other lines
 

@@ -1,7 +1,7 @@
 //! What holds of every capture.
 ghost use Rattle.std.specs.Prelude.{◌≡◌, ◌+◌, ◌*◌, ◌^◌, ◌<◌, ◌==◌, ◌++◌, ◌∷◌, [], ℕ, List, Bool};
 ghost use Rattle.std.specs.Prelude.{true, false, None, Some, codes, map, option_map, Option, Ok};
-ghost use Rattle.std.specs.Prelude.{Err};
+ghost use Rattle.std.specs.Prelude.{Err, ◌⊎◌};
 ghost use Rattle.std.specs.List.{AllByRecursion, filter_map, flat_map, slice_split};
 ghost use Rattle.ft12.specs.declared.frame.LinkSize.{LinkSize};
 ghost use Rattle.gateway.specs.Log.{Log, LogEntry, Input, Output, Came, Went, LineOut, TcpOut};
@@ -86,7 +86,7 @@ pub fn lines_are_captured()
 /// (`printed_lines_read_back` of `traces`), or as that event which a trace would log by it. Each
 /// line is captured that a trace would take for an event, or that has the fields of an action, with
 /// a moment of 15 digits at most. No other line is passed over but an empty one or a comment, and
-/// none of these is wrong.
+/// none of these is wrong. A close has one of seven causes, and stations count from 1.
 pub fn lines_are_read_as_recorded()
     ensures actions { (line : List ℕ) (now : ℕ) (action : Output) →
         entry_logged line ≡ Some (Went now action) → entry_in line ≡ Some (Went now action) }
@@ -115,6 +115,12 @@ pub fn lines_are_read_as_recorded()
         decimal_of moment ≡ Some now → decimal_of place ≡ Some (station + 1) →
         decimal_of text ≡ Some session →
         entry_logged line ≡ Some (Went now (GapOut station session)) }
+    ensures no_closes { (line moment text : List ℕ) (number : ℕ) →
+        slice_split (λ b. b == 32) line ≡ moment ∷ codes ">" ∷ codes "X" ∷ text ∷ [] →
+        decimal_of text ≡ Some number → (number ≡ 0) ⊎ (7 < number) → entry_logged line ≡ None }
+    ensures no_gaps { (line moment place text : List ℕ) →
+        slice_split (λ b. b == 32) line ≡ moment ∷ codes ">" ∷ codes "G" ∷ place ∷ text ∷ [] →
+        decimal_of place ≡ Some 0 → entry_logged line ≡ None }
     ensures others { (line : List ℕ) → is_line line ≡ true → entry_logged line ≡ None →
         is_skipped line ≡ true }
     ensures right { (line : List ℕ) (entry : LogEntry) → entry_logged line ≡ Some entry →

@@ -80,7 +80,7 @@ pub fn each_entry_has_its_own_lines()
 /// is no request. The lines of each entry stand behind those of the entries before. A piece of the
 /// line, or of the connection, goes on from what came of it before. Each APDU has its line, and
 /// what follows it in the piece has its own. Nothing else changes what came of the connection but
-/// its begin and its end.
+/// its begin and its end, and nothing the size of link addresses.
 pub fn runs_are_put_into_words_in_their_order()
     ensures nothing { (style : Style) (mind : Remembered) (text : List ℕ) →
         IsLoggedTo style [] mind text → (text ≡ []) × (mind ≡ record {
@@ -110,4 +110,7 @@ pub fn runs_are_put_into_words_in_their_order()
     ensures others { (style : Style) (before after : Remembered) (entry : LogEntry)
         (lines : List ℕ) → (IsOfTheConnection entry → ⊥) →
         IsEntryLogged style before entry after lines → after.centre ≡ before.centre }
+    ensures sizes { (style : Style) (before after : Remembered) (entry : LogEntry)
+        (lines : List ℕ) → IsEntryLogged style before entry after lines →
+        after.size ≡ before.size }
 {}

@@ -9,8 +9,10 @@ ghost use Rattle.ft12.specs.declared.frame.Frame.TheVariants.{Fixed, Data};
 ghost use Rattle.ft12.specs.declared.frame.Front.TheVariants.{Whole, More, Never};
 ghost use Rattle.ft12.specs.declared.frame.Why.{Why};
 ghost use Rattle.apci.specs.declared.apdu.Apdu.{Apdu};
-ghost use Rattle.apci.specs.declared.apdu.Apdu.TheVariants.{I, S};
+ghost use Rattle.apci.specs.declared.apdu.Apdu.TheVariants.{I, S, U};
 ghost use Rattle.apci.specs.declared.apdu.Front.TheVariants as apci;
+ghost use Rattle.apci.specs.declared.apdu.Uf.TheVariants.{StartAct, StartCon, StopAct, StopCon};
+ghost use Rattle.apci.specs.declared.apdu.Uf.TheVariants.{TestAct, TestCon};
 ghost use Rattle.apci.specs.declared.apdu.Why.{Why as ApduWhy};
 ghost use Rattle.asdu.specs.Asdu.{AsduValue, Info, IsAsdu};
 ghost use Rattle.asdu.specs.Sizes.{tcp};
@@ -185,14 +187,17 @@ pub fn frames_are_told_field_by_field()
     ensures rest { (n : ℕ) → rest_words (n + 1) ≡ codes "  rest " ++ decimal (n + 1) }
 {}
 
-/// An APDU is told by its numbers, N(S) first (IEC 60870-5-104, 5.1). What it carries stands behind
-/// them, and then how many octets follow.
+/// An APDU is told by its numbers, N(S) first (IEC 60870-5-104, 5.1), or by its function. What it
+/// carries stands behind them, and then how many octets follow.
 pub fn apdus_are_told_field_by_field()
     ensures apdus { (ns nr first : ℕ) (octets : List ℕ) →
         (apdu_words (I ns nr (record { items = first ∷ octets }))
         ≡ (codes "I " ++ (decimal ns ++ (codes " " ++ decimal nr)))
         ++ (codes "  " ++ asdu_words tcp (first ∷ octets)))
         × (apdu_words (S nr) ≡ codes "S " ++ decimal nr) }
+    ensures functions { map apdu_words (U StartAct ∷ U StartCon ∷ U StopAct ∷ U StopCon ∷ U TestAct ∷ U TestCon ∷ [])
+        ≡ codes "STARTDT act" ∷ codes "STARTDT con" ∷ codes "STOPDT act" ∷ codes "STOPDT con"
+        ∷ codes "TESTFR act" ∷ codes "TESTFR con" ∷ [] }
     ensures fronts { (n len place : ℕ) (apdu : Apdu) (why : ApduWhy) →
         (apdu_front n (apci.Whole apdu len) ≡ apdu_words apdu ++ rest_words (n - len))
         × (apdu_front n apci.More ≡ codes "octets of a frame (" ++ (decimal n ++ codes ")"))
@@ -201,8 +206,8 @@ pub fn apdus_are_told_field_by_field()
 {}
 
 /// The types that are carried are told by their labels (IEC 60870-5-101, 7.2.1, and IEC
-/// 60870-5-104, 8), and so are the other types of system information in control direction. Causes
-/// are told by their names (7.2.3), and those of a group with its number: no two are exchanged.
+/// 60870-5-104, 8), and so are all others. Causes are told by their names (7.2.3), and those of a
+/// group with its number: no two are exchanged.
 pub fn types_and_causes_are_told_by_name()
     ensures reports { map type_text (1 ∷ 3 ∷ 5 ∷ 7 ∷ 9 ∷ 11 ∷ 13 ∷ 15 ∷ 70 ∷ [])
         ≡ codes "M_SP_NA_1" ∷ codes "M_DP_NA_1" ∷ codes "M_ST_NA_1" ∷ codes "M_BO_NA_1"
@@ -235,4 +240,17 @@ pub fn types_and_causes_are_told_by_name()
     ensures not_carried { map type_text (101 ∷ 102 ∷ 103 ∷ 104 ∷ 105 ∷ 106 ∷ 107 ∷ [])
         ≡ codes "C_CI_NA_1" ∷ codes "C_RD_NA_1" ∷ codes "C_CS_NA_1" ∷ codes "C_TS_NA_1"
         ∷ codes "C_RP_NA_1" ∷ codes "C_CD_NA_1" ∷ codes "C_TS_TA_1" ∷ [] }
+    ensures short_tags { map type_text (2 ∷ 4 ∷ 6 ∷ 8 ∷ 10 ∷ 12 ∷ 14 ∷ 16 ∷ [])
+        ≡ codes "M_SP_TA_1" ∷ codes "M_DP_TA_1" ∷ codes "M_ST_TA_1" ∷ codes "M_BO_TA_1"
+        ∷ codes "M_ME_TA_1" ∷ codes "M_ME_TB_1" ∷ codes "M_ME_TC_1" ∷ codes "M_IT_TA_1" ∷ [] }
+    ensures protection { map type_text (17 ∷ 18 ∷ 19 ∷ 20 ∷ 21 ∷ 38 ∷ 39 ∷ 40 ∷ [])
+        ≡ codes "M_EP_TA_1" ∷ codes "M_EP_TB_1" ∷ codes "M_EP_TC_1" ∷ codes "M_PS_NA_1"
+        ∷ codes "M_ME_ND_1" ∷ codes "M_EP_TD_1" ∷ codes "M_EP_TE_1" ∷ codes "M_EP_TF_1" ∷ [] }
+    ensures other_commands { map type_text (50 ∷ 51 ∷ 63 ∷ 64 ∷ [])
+        ≡ codes "C_SE_NC_1" ∷ codes "C_BO_NA_1" ∷ codes "C_SE_TC_1" ∷ codes "C_BO_TA_1" ∷ [] }
+    ensures parameters { map type_text (110 ∷ 111 ∷ 112 ∷ 113 ∷ [])
+        ≡ codes "P_ME_NA_1" ∷ codes "P_ME_NB_1" ∷ codes "P_ME_NC_1" ∷ codes "P_AC_NA_1" ∷ [] }
+    ensures files { map type_text (120 ∷ 121 ∷ 122 ∷ 123 ∷ 124 ∷ 125 ∷ 126 ∷ 127 ∷ [])
+        ≡ codes "F_FR_NA_1" ∷ codes "F_SR_NA_1" ∷ codes "F_SC_NA_1" ∷ codes "F_LS_NA_1"
+        ∷ codes "F_AF_NA_1" ∷ codes "F_SG_NA_1" ∷ codes "F_DR_TA_1" ∷ codes "F_SC_NB_1" ∷ [] }
 {}

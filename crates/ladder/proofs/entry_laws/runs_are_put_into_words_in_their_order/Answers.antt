@@ -138,6 +138,45 @@ centre_kept style before after (Went at (Closed cause)) lines other h = absurd (
 centre_kept style before after (Went at (GapOut station session)) lines other h =
     ap (λ (m : Remembered). m.centre) h.remembered.0
 
+-- ---- the size of link addresses
+
+frames_sized : (style : Style) (now : ℕ) (before after : Remembered) (octets lines : List ℕ)
+    → AreFramesReceived style now before octets after lines → after.size ≡ before.size
+frames_sized style now before after octets lines (no_more mind) = refl
+frames_sized style now before after octets lines
+    (one_more mind last all rest n arrived later some listens more) =
+    frames_sized style now (record mind {
+      line = later;
+      is_awaited = still_awaited mind.is_awaited arrived;
+    }) last _ rest more
+
+apdus_sized : (style : Style) (now : ℕ) (before after : Remembered) (octets lines : List ℕ)
+    → AreApdusReceived style now before octets after lines → after.size ≡ before.size
+apdus_sized style now before after octets lines (no_more_apdus mind) = refl
+apdus_sized style now before after octets lines
+    (one_more_apdu mind last all rest n arrived whole later some listens more) =
+    apdus_sized style now (record mind { centre = later }) last _ rest more
+
+size_kept : (style : Style) (before after : Remembered) (entry : LogEntry) (lines : List ℕ)
+    → IsEntryLogged style before entry after lines → after.size ≡ before.size
+size_kept style before after (Came at (LineIn octets)) lines h =
+    frames_sized style at before after octets lines h
+size_kept style before after (Came at Opened) lines h = ap (λ (m : Remembered). m.size) h.0
+size_kept style before after (Came at (TcpIn octets)) lines h =
+    apdus_sized style at before after octets lines h
+size_kept style before after (Came at CutOff) lines h = ap (λ (m : Remembered). m.size) h.0
+size_kept style before after (Came at Ticked) lines h = ap (λ (m : Remembered). m.size) h.0
+size_kept style before after (Came at (WallIs wall)) lines h = ap (λ (m : Remembered). m.size) h.0
+size_kept style before after (Came at Restarted) lines h = ap (λ (m : Remembered). m.size) h.0
+size_kept style before after (Went at (LineOut octets)) lines h =
+    ap (λ (m : Remembered). m.size) h.remembered.0
+size_kept style before after (Went at (TcpOut octets)) lines h =
+    ap (λ (m : Remembered). m.size) h.remembered.0
+size_kept style before after (Went at (Closed cause)) lines h =
+    ap (λ (m : Remembered). m.size) h.remembered.0
+size_kept style before after (Went at (GapOut station session)) lines h =
+    ap (λ (m : Remembered). m.size) h.remembered.0
+
 -- ---- the log
 
 behind_log : (style : Style) (entry : LogEntry) (log : Log) (mind : Remembered) (text : List ℕ)
@@ -164,4 +203,5 @@ returns c = record {
   apdus = first_apdu;
   others = λ style before after entry lines other h.
       centre_kept style before after entry lines other h;
+  sizes = size_kept;
 }

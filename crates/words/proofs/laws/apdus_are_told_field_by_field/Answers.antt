@@ -9,3 +9,7 @@ returns-clause-apdus c = λ ns nr first octets. (refl, refl)
 pub returns-clause-fronts : goal.returns-clause-fronts
 unfolding frames_open
 returns-clause-fronts c = λ n len place apdu why. (refl, refl, refl)
+
+pub returns-clause-functions : goal.returns-clause-functions
+unfolding frames_open
+returns-clause-functions c = refl

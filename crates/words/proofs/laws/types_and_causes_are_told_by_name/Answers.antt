@@ -89,3 +89,23 @@ returns-clause-counters c = (general, told_of_counters)
 pub returns-clause-not_carried : goal.returns-clause-not_carried
 unfolding units_open other_name
 returns-clause-not_carried c = refl
+
+pub returns-clause-short_tags : goal.returns-clause-short_tags
+unfolding units_open report_name
+returns-clause-short_tags c = refl
+
+pub returns-clause-protection : goal.returns-clause-protection
+unfolding units_open report_name
+returns-clause-protection c = refl
+
+pub returns-clause-other_commands : goal.returns-clause-other_commands
+unfolding units_open other_name
+returns-clause-other_commands c = refl
+
+pub returns-clause-parameters : goal.returns-clause-parameters
+unfolding units_open other_name
+returns-clause-parameters c = refl
+
+pub returns-clause-files : goal.returns-clause-files
+unfolding units_open other_name
+returns-clause-files c = refl
