@@ -195,7 +195,8 @@ pub fn apdus_are_told_field_by_field()
         ≡ (codes "I " ++ (decimal ns ++ (codes " " ++ decimal nr)))
         ++ (codes "  " ++ asdu_words tcp (first ∷ octets)))
         × (apdu_words (S nr) ≡ codes "S " ++ decimal nr) }
-    ensures functions { map apdu_words (U StartAct ∷ U StartCon ∷ U StopAct ∷ U StopCon ∷ U TestAct ∷ U TestCon ∷ [])
+    ensures functions { map apdu_words (U StartAct ∷ U StartCon ∷ U StopAct ∷ U StopCon
+        ∷ U TestAct ∷ U TestCon ∷ [])
         ≡ codes "STARTDT act" ∷ codes "STARTDT con" ∷ codes "STOPDT act" ∷ codes "STOPDT con"
         ∷ codes "TESTFR act" ∷ codes "TESTFR con" ∷ [] }
     ensures fronts { (n len place : ℕ) (apdu : Apdu) (why : ApduWhy) →
