@@ -148,9 +148,9 @@ pub fn a_cut_shuts_the_connection()
 {}
 
 /// A cut that is due is the next event but for the wall clock, also where no connection is open.
-/// Until it is given it stays due, whatever is put out, unless the connection is shut: by a request,
-/// an APDU, a gap, and the close of a connection that another has replaced. So a write that failed
-/// is always followed by a cut.
+/// Until it is given it stays due, whatever is put out, unless the connection is shut. A request,
+/// an APDU and a gap shut none, nor does the close of one that another has replaced. So a write
+/// that failed is always followed by a cut.
 pub fn a_cut_that_is_due_comes_next()
     ensures next { (old new : LiveEnds) (event : Next) (buf : List ℕ) →
         LogsTurn old event buf new → old.is_cut_due ≡ true → is_wall event ≡ false →

@@ -14,8 +14,8 @@ ghost use Rattle.live.specs.OctetStreams.{IsNew, StreamHistory, looked, noted, D
 /// about a try that goes on, and no other begins. Meanwhile the stream is quiet, and takes and
 /// drops nothing. Each look waits once, so that who looks doesn't spin. One that is there gives,
 /// takes and drops what its stream does. Then nothing is asked of the dialler, so that no second
-/// stream is reached beside it, and no look waits. One that has gone is kept no longer, and one that
-/// is reached begins with nothing in it.
+/// stream is reached beside it, and no look waits. One that has gone is kept no longer, and one
+/// that is reached begins with nothing in it.
 pub fn a_stream_that_is_away_is_tried_when_due()
     ensures first { (old new : Redial) (got : Got) (buf : List ℕ) → IsRedialled old got buf new →
         old.stream ≡ None → old.is_trying ≡ false → old.tried ≡ None →
