@@ -6,7 +6,7 @@ use Rattle.std.specs.Time.{instant_nanos, system_time_nanos}
 use Rattle.std.specs.declared.io.Error.{Error}
 use Rattle.std.specs.declared.time.Instant.{Instant}
 use Rattle.std.specs.declared.time.SystemTime.{SystemTime}
-use Rattle.live.specs.Clocks.{BeginsAt, StartsNow, moment_by, wall_by}
+use Rattle.live.specs.Clocks.{BeginsAt, GoesOn, ShowsWall, StartsNow, moment_by, wall_by}
 
 capped : (first ms : ℕ) → first + ms < 2 ^ 64
     → min (first + min ms (2 ^ 64 - 1)) (2 ^ 64 - 1) ≡ first + ms
@@ -47,3 +47,22 @@ begins moment first now ms before start shown later b s least most few =
     (subst (λ i. instant_nanos i + ms * 1000000 ≤ instant_nanos later) same least)
     (subst (λ i. instant_nanos later < instant_nanos i + (ms + 1) * 1000000) same most)
     (subst (λ m. m + ms < 2 ^ 64) (sym b.0) few) ∙ ap (λ m. m + ms) b.0
+
+-- one answer more, and what follows from it
+noted_so : {A : Type 0} (answer : A) (before after : List A)
+    → Some after ≡ Some (answer ∷ before) → after ≡ answer ∷ before
+noted_so answer before after e = cc
+
+pub read_so : (first last moment : ℕ) (start : Instant)
+    (before after : List (Result Instant Error))
+    → GoesOn first start (Some before) last (Some after) moment
+    → (answer : Result Instant Error) × (after ≡ answer ∷ before)
+    × (moment ≡ moment_by first start last answer)
+read_so first last moment start before after goes =
+    (goes.answer, noted_so goes.answer before after goes.asked, goes.given)
+
+pub shown_so : (before after : List (Result SystemTime Error)) (shown : ℕ)
+    → ShowsWall (Some before) (Some after) shown
+    → (answer : Result SystemTime Error) × (after ≡ answer ∷ before) × (shown ≡ wall_by answer)
+shown_so before after shown shows =
+    (shows.answer, noted_so shows.answer before after shows.asked, shows.given)

@@ -1,6 +1,6 @@
 -- A cut that is due comes next, and the log of a run in which one was due at first cuts first.
 use Rattle.std.proofs.Common.{◌≡◌, ℕ, true, false, Bool, not, ◌&&◌, ◌||◌, List, [], ◌∷◌, ◌++◌, All}
-use Rattle.std.proofs.Common.{take, refl, sym, ap, subst, ◌∙◌, inl, inr}
+use Rattle.std.proofs.Common.{take, refl, sym, ap, subst, ◌∙◌, inl, inr, Option, Some, None}
 use Rattle.std.proofs.lemmas.Bool.{and_from, and_parts}
 use Rattle.std.proofs.lemmas.List.Elements.{All-head, All-tail}
 use Rattle.gateway.specs.Log.{Log, LogEntry, Came, Went, Input, LineIn, Opened, TcpIn, CutOff}
@@ -11,8 +11,8 @@ use Rattle.gateway.specs.declared.ports.Next.TheVariants as next
 use Rattle.session.specs.declared.kinds.Close.TheVariants as close
 use Rattle.live.specs.Cuts.{CutsFirst, all_leave_due, begins_so, cuts_first, is_next_of_due}
 use Rattle.live.specs.Cuts.{is_wall_in, leaves_due, shuts_nothing}
-use Rattle.live.specs.Ends.{LiveEnds, LogsPut, LogsTurn, Turns, as_logged, written_open}
-use Rattle.live.specs.Law.{is_cut}
+use Rattle.live.specs.Ends.{LiveEnds, LogsPut, LogsTurn, Peer, Turns, as_logged, written_open}
+use Rattle.live.specs.Law.{IsLost, is_cut}
 use Rattle.live.specs.Passed.{LiveRun, Begun, Turned, Put}
 use Rattle.live.specs.Walls.{is_wall}
 use Rattle.live.proofs.Reasons.{reasoned}
@@ -53,6 +53,46 @@ put_due old new moment (Closed close.Stopped) l due stays = absurd (cc)
 put_due old new moment (Closed close.Timeout) l due stays = absurd (cc)
 put_due old new moment (Closed close.OwnAnswers) l due stays = absurd (cc)
 put_due old new moment (GapOut station session) l due stays = ap due_of l.puts.done ∙ due
+
+-- a cut comes to be due by octets that the stream of the open connection didn't take
+lost_octets : (octets : List ℕ) (taken : Bool) (c : Option Peer) (old new : LiveEnds)
+    → new.is_cut_due ≡ (written_open false octets taken c old).is_cut_due
+    → new.connection ≡ (written_open false octets taken c old).connection
+    → old.is_cut_due ≡ false → new.is_cut_due ≡ true → IsLost c (TcpOut octets) new.connection
+lost_octets octets taken None old new due conn free is =
+    let no : true ≡ false = sym is ∙ (due ∙ free) in absurd (cc)
+lost_octets octets true (Some peer) old new due conn free is =
+    let no : true ≡ false = sym is ∙ due in absurd (cc)
+lost_octets octets false (Some peer) old new due conn free is = conn
+
+pub lost_by : (old new : LiveEnds) (moment : ℕ) (action : Output) → LogsPut old moment action new
+    → old.is_cut_due ≡ false → new.is_cut_due ≡ true
+    → IsLost old.connection action new.connection
+unfolding due_of
+lost_by old new moment (LineOut octets) l free is =
+    let no : true ≡ false = sym is ∙ (ap due_of l.puts.done ∙ free) in absurd (cc)
+lost_by old new moment (TcpOut octets) l free is =
+    let p = l.puts in
+    let written = p.done
+    ∙ ap (λ b. written_open b octets p.taken old.connection old) free in
+    lost_octets octets p.taken old.connection old new (ap due_of written)
+    (ap (λ (e : LiveEnds). e.connection) written) free is
+lost_by old new moment (Closed close.Replaced) l free is =
+    let no : true ≡ false = sym is ∙ (ap due_of l.puts.done ∙ free) in absurd (cc)
+lost_by old new moment (Closed close.Grammar) l free is =
+    let no : true ≡ false = sym is ∙ ap due_of l.puts.done in absurd (cc)
+lost_by old new moment (Closed close.SendNumber) l free is =
+    let no : true ≡ false = sym is ∙ ap due_of l.puts.done in absurd (cc)
+lost_by old new moment (Closed close.ReceiveNumber) l free is =
+    let no : true ≡ false = sym is ∙ ap due_of l.puts.done in absurd (cc)
+lost_by old new moment (Closed close.Stopped) l free is =
+    let no : true ≡ false = sym is ∙ ap due_of l.puts.done in absurd (cc)
+lost_by old new moment (Closed close.Timeout) l free is =
+    let no : true ≡ false = sym is ∙ ap due_of l.puts.done in absurd (cc)
+lost_by old new moment (Closed close.OwnAnswers) l free is =
+    let no : true ≡ false = sym is ∙ ap due_of l.puts.done in absurd (cc)
+lost_by old new moment (GapOut station session) l free is =
+    let no : true ≡ false = sym is ∙ (ap due_of l.puts.done ∙ free) in absurd (cc)
 
 -- One entry more: whether those before cut first, whether all of them leave a cut due, whether this
 -- one may follow them and leaves it due, and whether one is due before and behind it.
@@ -200,3 +240,13 @@ run_cuts_first start end none due run =
     let so = run_so start end (begins_by true start.is_cut_due start.log refl due none) run in
     meant end.log
     (and_parts (cuts_first end.log) (not (all_leave_due end.log) || end.is_cut_due) so).0
+
+-- which event says what the wall clock shows
+pub wall_of : (event : Input) → is_wall_in event ≡ true → (shown : ℕ) × (event ≡ WallIs shown)
+wall_of (LineIn octets) is = absurd (cc)
+wall_of Opened is = absurd (cc)
+wall_of (TcpIn octets) is = absurd (cc)
+wall_of CutOff is = absurd (cc)
+wall_of Ticked is = absurd (cc)
+wall_of (WallIs number) is = (number, refl)
+wall_of Restarted is = absurd (cc)

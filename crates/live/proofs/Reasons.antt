@@ -301,6 +301,38 @@ given_reasoned false w n now (Some found.Cut) e h = record {
 given_reasoned false w n now (Some (found.Line len)) e h = free_one w n _ e refl h.1
 given_reasoned false w n now (Some found.Fault) e h = free_one w n _ e refl h.1
 
+-- no event makes a cut due
+due_before : (d : Bool) (w : CutCause) (n : Option Bool) (f : Option SourceEvent) (e : LiveEnds)
+    → IsReasoned d w n f e → e.is_cut_due ≡ true → d ≡ true
+unfolding IsReasoned
+due_before true w n f e h due = refl
+due_before false w n None e h due = sym h.0 ∙ due
+due_before false w n (Some found.Open) e h due = sym h.0 ∙ due
+due_before false w n (Some (found.Bytes len)) e h due = sym h.0 ∙ due
+due_before false w n (Some found.Cut) e h due = sym h.1.2 ∙ due
+due_before false w n (Some (found.Line len)) e h due = sym h.0 ∙ due
+due_before false w n (Some found.Fault) e h due = sym h.0 ∙ due
+
+turns_due : (old new : LiveEnds) (event : Next) (buf : List ℕ) → Turns old event buf new
+    → new.is_cut_due ≡ true → old.is_cut_due ≡ true
+unfolding Reasoned
+turns_due old new event buf (inl t) due =
+    sym (ap (λ (e : LiveEnds). e.is_cut_due) t.given.ends) ∙ due
+turns_due old new event buf (inr t) due =
+    let d = old.is_cut_due in
+    let n = notes_of old.connection in
+    let Q : Option SourceEvent × LiveEnds → Type 0 = λ p. Reasoned d old.why_cut n p in
+    let found = looks_reasoned t.first (looking (clock_read_at t.first old)) t.now t.f buf t.found
+    t.looks in
+    let given : IsReasoned d old.why_cut n t.given.taken new =
+    subst Q (sym t.given.ends)
+    (taken_reasoned d old.why_cut n (is_behind t.found.timing t.now) buf t.f t.found found) in
+    due_before d old.why_cut n t.given.taken new given due
+
+pub was_due : (old new : LiveEnds) (event : Next) (buf : List ℕ) → LogsTurn old event buf new
+    → new.is_cut_due ≡ true → old.is_cut_due ≡ true
+was_due old new event buf l due = turns_due old (as_logged old.log new) event buf l.turns due
+
 turns_reasoned : (old new : LiveEnds) (event : Next) (buf : List ℕ) → Turns old event buf new
     → HasReason old.is_cut_due old.why_cut (notes_of old.connection) event new
 unfolding Reasoned

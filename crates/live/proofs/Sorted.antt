@@ -166,6 +166,18 @@ enough g old new said says newest n all s = record {
   counted_up = s.counted_up;
 }
 
+-- each one who was refused is counted
+same_calls : (answers old new : List Arrival) → Some new ≡ arrived answers (Some old)
+    → new ≡ answers ++ old
+same_calls answers old new e = cc
+
+pub all_counted : (g : AllowList) (old new : List Arrival) (said says : RefusedPeers)
+    (newest : Option Comer) → TakesWaiting g (Some old) said newest (Some new) says
+    → (answers : List Arrival) × (refused : List IpAddr) × (new ≡ answers ++ old)
+    × Sorts g answers refused newest × (says ≡ counted refused said)
+all_counted g old new said says newest t =
+    (t.answers, t.refused, same_calls t.answers old new t.asked, t.sorted, t.counted_up)
+
 -- who stays is allowed, and his address plain
 sorted_newest : (g : AllowList) (answers : List Arrival) (refused : List IpAddr)
     (newest : Option Comer) → Sorts g answers refused newest

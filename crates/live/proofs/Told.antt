@@ -57,3 +57,14 @@ no_more t (answer ∷ answers) shut none =
 pub in_turn : (t : Telling) (later answers : List Arrival)
     → told_by (later ++ answers) t ≡ told_by later (told_by answers t)
 in_turn t later answers = sym (told_twice later answers t)
+
+-- a look tells by all of its answers
+same_calls : (answers old new : List Arrival) → Some new ≡ arrived answers (Some old)
+    → new ≡ answers ++ old
+same_calls answers old new e = cc
+
+pub at_look : (old new : List Arrival) (before after : Telling)
+    → Tells (Some old) before (Some new) after → (answers : List Arrival)
+    × (new ≡ answers ++ old) × (after ≡ told_by answers before)
+at_look old new before after tells =
+    (tells.answers, same_calls tells.answers old new tells.asked, tells.told)

@@ -1,6 +1,6 @@
 -- A stream that is reached again.
 use Rattle.std.proofs.Common.{◌≡◌, ℕ, ◌+◌, ◌≤◌, Bool, true, false, Some, None, List, [], ◌∷◌}
-use Rattle.std.proofs.Common.{length}
+use Rattle.std.proofs.Common.{Option, length}
 use Rattle.std.proofs.Common.{IfSome, refl, sym, ap, subst, arith, ◌∙◌}
 use Rattle.live.specs.Timing.{Moments, read_at}
 use Rattle.live.specs.OctetStreams.{StreamHistory, IsNew, Attempts, looked, noted}
@@ -282,3 +282,24 @@ pub looks_there : (old new : Redial) (got : Got) (buf : List ℕ) (h : StreamHis
 looks_there old new got buf h l there =
     there_by l.found got buf h old new
     (l.looked ∙ ap (λ s. looked_by s l.now l.answer l.found buf old) there)
+
+-- then nothing is asked of the dialler
+abbrev IsAlone : (old new : Redial) → Type 0
+IsAlone old new = (new.calls ≡ old.calls) × (new.tries ≡ old.tries)
+    × (new.pauses ≡ old.pauses) × (new.tried ≡ old.tried) × (new.is_trying ≡ old.is_trying)
+
+alone_at : (found : Got) (stream gone : Option StreamHistory) (old : Redial)
+    → IsAlone old (known_by found (record old { stream = stream; gone = gone }))
+alone_at (Octets len) stream gone old = (refl, refl, refl, refl, refl)
+alone_at Quiet stream gone old = (refl, refl, refl, refl, refl)
+alone_at Gone stream gone old = (refl, refl, refl, refl, refl)
+
+pub looks_alone : (old new : Redial) (got : Got) (buf : List ℕ) (h : StreamHistory)
+    → IsRedialled old got buf new → old.stream ≡ Some h
+    → (new.calls ≡ old.calls) × (new.tries ≡ old.tries) × (new.pauses ≡ old.pauses)
+    × (new.tried ≡ old.tried) × (new.is_trying ≡ old.is_trying)
+looks_alone old new got buf h l there =
+    let is = l.looked ∙ ap (λ s. looked_by s l.now l.answer l.found buf old) there in
+    let P : Got × Redial → Type 0 = λ p. IsAlone old p.1 in
+    subst P (sym is)
+    (alone_at l.found (read_open h l.found buf) (gone_by h l.found old.gone) old)

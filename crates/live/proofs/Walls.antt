@@ -1,11 +1,12 @@
 -- The ends are looked at between two events that give the wall clock.
-use Rattle.std.proofs.Common.{◌≡◌, ◌≢◌, ℕ, ◌+◌, ◌-◌, ◌<◌, nat_le, ◌&&◌, ◌||◌, not, Bool, true}
+use Rattle.std.proofs.Common.{◌≡◌, ◌≢◌, ℕ, ◌+◌, ◌-◌, ◌<◌, ◌≤◌, nat_le, ◌&&◌, ◌||◌, not, Bool}
+use Rattle.std.proofs.Common.{true}
 use Rattle.std.proofs.Common.{false, List, Option, Some, None, IfSome, arith, refl, sym, ap, subst}
 use Rattle.std.proofs.Common.{◌∙◌, inl, inr}
 use Rattle.gateway.specs.declared.ports.Next.{Next}
 use Rattle.live.specs.Timing.{Moments, read_at, moment_at, is_behind, is_awaited}
 use Rattle.live.specs.Walls.{is_wall, is_wall_due, is_due_since}
-use Rattle.live.specs.Law.{AtBegun}
+use Rattle.live.specs.Law.{AtBegun, AtClock}
 use Rattle.live.proofs.Apart.{walled_of, walled_apart, clock_of, clock_apart, taken_same}
 use Rattle.live.proofs.Rounds.{walled_aside, turn_kept, quiet_kept, looks_kept}
 use Rattle.live.specs.Ends.{LiveEnds, QuietRounds, NoRound, OneRound, Turns, LogsTurn, as_logged}
@@ -172,3 +173,35 @@ pub was_given : (a b c : LiveEnds) (first second : Next) (buf more : List ℕ)
 was_given a b c first second buf more l m dark other =
     (second_by a (as_logged a.log b) b (as_logged b.log c) first second buf more refl l.turns
     m.turns dark other).1
+
+-- it is given, and due, a second behind the time before
+due_by : (given : Option ℕ) (has_looked : Bool) (now : ℕ)
+    → is_due_since given has_looked now ≡ true → IfSome given (λ t. t + 1000 ≤ now)
+due_by None has_looked now due = tt
+due_by (Some t) false now due = absurd (cc)
+due_by (Some t) true now due = grind (arith, due)
+
+pub second_due : (w : Walled) (now : ℕ) → is_wall_due w now ≡ true
+    → IfSome w.given (λ t. t + 1000 ≤ now)
+second_due w now due = due_by w.given w.has_looked now due
+
+at_clock : (given : Moments) (now : ℕ) (Holds : ℕ → Type 0) → Holds now
+    → AtClock (read_at given now) Holds
+at_clock None now Holds h = tt
+at_clock (Some before) now Holds h = h
+
+again_by : (old new : LiveEnds) (event : Next) (buf : List ℕ) → Turns old event buf new
+    → is_wall event ≡ true
+    → AtClock new.clock (λ now. IfSome old.walled.given (λ t. t + 1000 ≤ now))
+again_by old new event buf (inl t) wall =
+    let Holds : ℕ → Type 0 = λ now. IfSome old.walled.given (λ t. t + 1000 ≤ now) in
+    let P : Moments → Type 0 = λ c. AtClock c Holds in
+    subst P (sym (ap clock_of t.given.ends))
+    (at_clock old.clock t.begun Holds (second_due old.walled t.begun t.due))
+again_by old new event buf (inr t) wall =
+    let no : false ≡ true = sym (of_ends old new event buf t) ∙ wall in absurd (cc)
+
+pub second_apart : (old new : LiveEnds) (event : Next) (buf : List ℕ) → LogsTurn old event buf new
+    → is_wall event ≡ true
+    → AtClock new.clock (λ now. IfSome old.walled.given (λ t. t + 1000 ≤ now))
+second_apart old new event buf l wall = again_by old (as_logged old.log new) event buf l.turns wall

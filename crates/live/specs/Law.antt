@@ -4,7 +4,7 @@ use Rattle.std.specs.Prelude.{◌⊎◌, Bool, Option, Some, None, option_map, i
 use Rattle.std.specs.declared.net.ip_addr.IpAddr.{IpAddr}
 use Rattle.live.specs.Ends.{LiveEnds, Peer}
 use Rattle.live.specs.AllowLists.{Allows}
-use Rattle.live.specs.OctetStreams.{Happening, StreamHistory, Dropped, WasGone, Wrote}
+use Rattle.live.specs.OctetStreams.{Happening, StreamHistory, Dropped, WasGone, Wrote, noted}
 use Rattle.live.specs.Timing.{Moments, is_awaited, is_behind}
 use Rattle.live.specs.Walls.{is_wall_due}
 use Rattle.live.specs.declared.timing.Timing.{Timing}
@@ -172,6 +172,12 @@ is_cut next.Fault = false
 -- whether the stream of the connection notes what happens at it, where one is open
 abbrev pub notes_of : Option Peer → Option Bool
 notes_of connection = option_map (λ (p : Peer). is_some p.stream) connection
+
+-- These octets were put on the open connection, whose stream didn't take them all.
+abbrev pub IsLost : (before : Option Peer) → Output → (now : Option Peer) → Type 0
+IsLost (Some peer) (TcpOut octets) now =
+    now ≡ Some (record peer { stream = noted peer.stream (Wrote octets false) })
+IsLost connection action now = ⊥
 
 -- There was such a connection, and the last look at its stream found it gone.
 abbrev pub IsFoundGone : (notes : Option Bool) → (left : Option StreamHistory) → Type 0

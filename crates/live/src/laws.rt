@@ -7,7 +7,7 @@ pub(crate) mod tries;
 
 ghost use Rattle.std.specs.Prelude.{◌⊎◌, ◌≡◌, ◌≢◌, All, IfSome, None, ◌+◌, ◌-◌, ◌<◌, ◌≤◌, ℕ, List};
 ghost use Rattle.std.specs.Prelude.{[], ◌∷◌, length, take, Some, true, false};
-ghost use Rattle.std.specs.Prelude.{◌*◌, ◌^◌, min, Ok, Err};
+ghost use Rattle.std.specs.Prelude.{◌*◌, ◌^◌, min, Ok, Err, Result};
 ghost use Rattle.std.specs.Time.{instant_nanos, system_time_nanos};
 ghost use Rattle.std.specs.declared.io.Error.{Error};
 ghost use Rattle.std.specs.declared.time.Instant.{Instant};
@@ -16,12 +16,13 @@ ghost use Rattle.gateway.specs.declared.ports.Next.{Next};
 ghost use Rattle.live.specs.Ends.{LiveEnds, LogsTurn, LogsPut};
 ghost use Rattle.live.specs.Law.{AtMoment, AtBytes, AtClock, AtBegun, IsWaitedOut, AtRounds};
 ghost use Rattle.live.specs.Law.{first_of, IsTickDue, IfTick, AtWall, IsEve, IsOneOf};
-ghost use Rattle.live.specs.Law.{IsWrittenBehind, AsksNothing, IsFoundGone, is_cut, notes_of};
-ghost use Rattle.live.specs.Clocks.{moment_by, wall_by};
-ghost use Rattle.live.specs.Cuts.{CutsFirst, shuts_nothing};
-ghost use Rattle.live.specs.Runs.{HasPassed, IsInRun, WallFirst};
+ghost use Rattle.live.specs.Law.{IsWrittenBehind, AsksNothing, IsFoundGone, IsLost, is_cut};
+ghost use Rattle.live.specs.Law.{notes_of};
+ghost use Rattle.live.specs.Clocks.{GoesOn, ShowsWall, moment_by, wall_by};
+ghost use Rattle.live.specs.Cuts.{CutsFirst, is_wall_in, shuts_nothing};
+ghost use Rattle.live.specs.Runs.{HasPassed, IsInRun, WallFirst, is_action};
 ghost use Rattle.live.specs.declared.ends.CutCause.TheVariants.{Gone, NotTaken};
-ghost use Rattle.gateway.specs.Log.{Closed, LineOut, Output};
+ghost use Rattle.gateway.specs.Log.{Closed, GapOut, Input, LineOut, Output, TcpOut, WallIs, Went};
 ghost use Rattle.live.specs.InTurn.{BeginsBehind, LooksBefore, IsLookedAt, begins_behind};
 ghost use Rattle.live.specs.InTurn.{EachRoundLooks, GivesOctets, HoldsFound, HoldsOctets};
 ghost use Rattle.live.specs.InTurn.{level_rounds};
@@ -34,11 +35,12 @@ ghost use Rattle.live.specs.Passed.{taken_of, example_log, example_line};
 ghost use Rattle.live.specs.Late.{dropped_of, gone_of, CountsLate};
 ghost use Rattle.live.specs.Streams.{Calls, Came, ReadsLine, ReadsOnce, octets_of};
 ghost use Rattle.live.specs.Timing.{is_behind};
-ghost use Rattle.live.specs.Walls.{is_wall};
+ghost use Rattle.live.specs.Walls.{is_wall, is_wall_due};
 ghost use Rattle.live.specs.declared.ends.Got.{Got};
 ghost use Rattle.live.specs.OctetStreams.{Dropped, Happening, IsNew, WasGone, WasQuiet, looked};
 ghost use Rattle.live.specs.declared.timing.Timing.{Timing};
 ghost use Rattle.live.specs.declared.timing.WrittenRequest.{WrittenRequest};
+ghost use Rattle.live.specs.declared.walled.Walled.{Walled};
 
 /// Where an event's moment lets an exchange end (`answer_ms` or more after its request's), a look
 /// at the line has begun `answer_ms` or more after that request was written: a stall of the gateway
@@ -146,7 +148,8 @@ pub fn a_cut_shuts_the_connection()
 {}
 
 /// A cut that is due is the next event but for the wall clock, also where no connection is open.
-/// Until it is given it stays due, whatever is put out, unless the connection is shut. So a write
+/// Until it is given it stays due, whatever is put out, unless the connection is shut. A request,
+/// an APDU and a gap shut none, nor does the close of one that another has replaced. So a write
 /// that failed is always followed by a cut.
 pub fn a_cut_that_is_due_comes_next()
     ensures next { (old new : LiveEnds) (event : Next) (buf : List ℕ) →
@@ -157,6 +160,10 @@ pub fn a_cut_that_is_due_comes_next()
     ensures put { (old new : LiveEnds) (moment : ℕ) (action : Output) →
         LogsPut old moment action new → old.is_cut_due ≡ true → shuts_nothing action ≡ true →
         new.is_cut_due ≡ true }
+    ensures words { (octets : List ℕ) (station session : ℕ) →
+        (shuts_nothing (LineOut octets) ≡ true) × (shuts_nothing (TcpOut octets) ≡ true)
+        × (shuts_nothing (GapOut station session) ≡ true)
+        × (shuts_nothing (Closed Replaced) ≡ true) }
 {}
 
 /// A run that goes on after a restart begins with the cut of the connection of then. The first
@@ -168,15 +175,20 @@ pub fn a_run_that_goes_on_begins_with_a_cut()
         CutsFirst ends.log }
 {}
 
-/// Each run begins with the wall clock: so the gateway knows it before anything else has come.
+/// Each run begins with the wall clock: so the gateway knows it before anything else has come. That
+/// is the event that says what the wall clock shows, and no other one.
 pub fn a_run_begins_with_the_wall_clock()
-    ensures { (ends : LiveEnds) → IsInRun ends → WallFirst ends.log }
+    ensures run { (ends : LiveEnds) → IsInRun ends → WallFirst ends.log }
+    ensures words { (now number : ℕ) (event : Input) (action : Output) →
+        (is_wall_in (WallIs number) ≡ true) × (is_action (Went now action) ≡ true)
+        × (is_wall_in event ≡ true → (shown : ℕ) × (event ≡ WallIs shown)) }
 {}
 
 /// Why a connection was cut. A cut that wasn't due is that of an open connection whose stream was
 /// found gone: none that is quiet is cut. A cut comes to be due by a write that failed, and then
-/// that is its reason. No other event and no other action changes the reason: so a cut that is due
-/// has the one for which it came to be due.
+/// that is its reason: octets were put on the open connection, whose stream didn't take them. By no
+/// event does one come to be due. No other event and no other action changes the reason: so a cut
+/// that is due has the one for which it came to be due.
 pub fn a_cut_has_its_reason()
     ensures gone { (old new : LiveEnds) (event : Next) (buf : List ℕ) →
         LogsTurn old event buf new →
@@ -193,10 +205,17 @@ pub fn a_cut_has_its_reason()
     ensures put { (old new : LiveEnds) (moment : ℕ) (action : Output) →
         LogsPut old moment action new → new.is_cut_due ≡ old.is_cut_due →
         new.why_cut ≡ old.why_cut }
+    ensures lost { (old new : LiveEnds) (moment : ℕ) (action : Output) →
+        LogsPut old moment action new → old.is_cut_due ≡ false → new.is_cut_due ≡ true →
+        IsLost old.connection action new.connection }
+    ensures events { (old new : LiveEnds) (event : Next) (buf : List ℕ) →
+        LogsTurn old event buf new → new.is_cut_due ≡ true → old.is_cut_due ≡ true }
 {}
 
 /// Of two events that follow each other, neither of which is the wall clock, the looks for the
-/// second begin less than a second after the wall clock was given: so it is given each second.
+/// second begin less than a second after the wall clock was given: so it is given each second. It
+/// isn't given again within a second, nor is it due, so that no tick is given for it: each of
+/// these is a line of the log on disk.
 pub fn the_wall_clock_is_given_each_second()
     ensures second { (a b c : LiveEnds) (first second : Next) (buf more : List ℕ) →
         LogsTurn a first buf b → LogsTurn b second more c → is_wall first ≡ false →
@@ -205,6 +224,11 @@ pub fn the_wall_clock_is_given_each_second()
     ensures given { (a b c : LiveEnds) (first second : Next) (buf more : List ℕ) →
         LogsTurn a first buf b → LogsTurn b second more c → is_wall first ≡ false →
         is_wall second ≡ false → b.walled.given ≢ None }
+    ensures apart { (old new : LiveEnds) (event : Next) (buf : List ℕ) →
+        LogsTurn old event buf new → is_wall event ≡ true → AtClock new.clock (λ now.
+        IfSome old.walled.given (λ given. given + 1000 ≤ now)) }
+    ensures due { (walled : Walled) (now : ℕ) → is_wall_due walled now ≡ true →
+        IfSome walled.given (λ given. given + 1000 ≤ now) }
 {}
 
 /// An event that bears what a control centre sent bears a moment at most 50 ms before the one that
@@ -341,7 +365,8 @@ pub fn a_look_gives_what_its_calls_brought()
 
 /// The system's clock has gone on by so many ms where the system's own has, since the start. Where
 /// that can't be read, the moment before is given again. The wall clock shows as many ms as the
-/// system's own does since 1970, and 0 where that can't be read.
+/// system's own does since 1970, and 0 where that can't be read. Each reading asks the system once,
+/// and what it gives follows from that very answer.
 pub fn a_clock_goes_on_with_the_systems()
     ensures goes_on { (first ms last : ℕ) (start now : Instant) →
         instant_nanos start + ms * 1000000 ≤ instant_nanos now →
@@ -352,6 +377,15 @@ pub fn a_clock_goes_on_with_the_systems()
     ensures wall { (ms : ℕ) (shown : SystemTime) → ms * 1000000 ≤ system_time_nanos shown →
         system_time_nanos shown < (ms + 1) * 1000000 → ms < 2 ^ 64 → wall_by (Ok shown) ≡ ms }
     ensures no_wall { (fault : Error) → wall_by (Err fault) ≡ 0 }
+    ensures read { (first last moment : ℕ) (start : Instant)
+        (before after : List (Result Instant Error)) →
+        GoesOn first start (Some before) last (Some after) moment →
+        (answer : Result Instant Error) × (after ≡ answer ∷ before)
+        × (moment ≡ moment_by first start last answer) }
+    ensures wall_read { (before after : List (Result SystemTime Error)) (shown : ℕ) →
+        ShowsWall (Some before) (Some after) shown →
+        (answer : Result SystemTime Error) × (after ≡ answer ∷ before)
+        × (shown ≡ wall_by answer) }
 {}
 
 /// What the words of these laws count, by worked examples: the octets and requests of a log, those

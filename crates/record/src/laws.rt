@@ -1,5 +1,6 @@
 //! What holds of every record.
-ghost use Rattle.std.specs.Prelude.{◌≡◌, ◌≢◌, ◌==◌, ◌++◌, ◌∷◌, [], ℕ, List, None, Some, true};
+ghost use Rattle.std.specs.Prelude.{◌≡◌, ◌≢◌, ◌==◌, ◌++◌, ◌∷◌, [], ℕ, List, None, Option, Some};
+ghost use Rattle.std.specs.Prelude.{true};
 ghost use Rattle.std.specs.Prelude.{false, codes, Err, Ok};
 ghost use Rattle.std.specs.List.{AllByRecursion, flat_map, slice_split};
 ghost use Rattle.gateway.specs.Config.{Settings};
@@ -12,7 +13,8 @@ ghost use Rattle.record.specs.Law.{BeginsWith, HasNone, IsFirstOff, IsFirstUnkno
 ghost use Rattle.record.specs.Law.{IsSameRun, grows_by, uncut};
 ghost use Rattle.record.specs.Lines.{event_line, first_difference, is_action, is_cut, whole_lines};
 ghost use Rattle.record.specs.Recording.{Recording, Gives, Receives, Notes, Puts, added, passed};
-ghost use Rattle.record.specs.Recording.{text_of};
+ghost use Rattle.record.specs.Recording.{log_of, logged_first, text_of};
+ghost use Rattle.record.specs.Written.{log_in};
 ghost use Rattle.record.specs.declared.audit.Comparison.TheVariants.{Differs, Same};
 ghost use Rattle.record.specs.declared.audit.RecordFault.TheVariants.{Line};
 ghost use Rattle.traces.specs.Printed.{lines_of_log};
@@ -21,7 +23,9 @@ ghost use Rattle.traces.specs.Printed.{lines_of_log};
 /// over it stays as it is, nothing more is given to the sheet, and what passes is missed; until
 /// then, when an event is passed on, the sheet has taken the text of all that passed before, and
 /// the event's line. An action that goes out is written down, whichever it is, and one that doesn't
-/// changes nothing.
+/// changes nothing. What a sheet says that it took and missed is the log of the port: what the text
+/// logs, and behind that what was missed. Where it says neither, that is the log of the port
+/// inside.
 pub fn a_record_is_the_text_of_what_passed()
     ensures notes { (old new : Recording) (news : Log) → Notes old news new →
         grows_by new.is_over old (lines_of_log news) new }
@@ -39,6 +43,10 @@ pub fn a_record_is_the_text_of_what_passed()
     ensures puts { (old new : Recording) (news : Log) → Puts true old news new →
         grows_by new.is_over old (lines_of_log news) new }
     ensures stays { (old new : Recording) (news : Log) → Puts false old news new → new ≡ old }
+    ensures log { (r : Recording) (taken : List ℕ) (missed log : Log) (port : Option Log) →
+        r.taken ≡ Some taken → r.missed ≡ Some missed →
+        (log_of r ≡ Some (missed ++ log_in (taken ++ r.held)))
+        × (logged_first (Some log) port ≡ Some log) × (logged_first None port ≡ port) }
 {}
 
 /// The lines of a record are those that a line feed ends, as many as there are, and however long;

@@ -6,7 +6,8 @@ ghost use Rattle.segments.specs.Crashes.{AreBoth, AreOlder, AreShutOr, IsThatOf,
 ghost use Rattle.segments.specs.Crashes.{Survives};
 ghost use Rattle.segments.specs.Crashes.{lines_behind};
 ghost use Rattle.segments.specs.Head.{Fits, head_for, head_of, whole_text};
-ghost use Rattle.segments.specs.Starts.{BeginsNewer, IsAbove, IsBacked, IsFoundIn, IsNewest, IsNext};
+ghost use Rattle.segments.specs.Starts.{BeginsNewer, IsAbove, IsBacked, IsFoundIn, IsNewest};
+ghost use Rattle.segments.specs.Starts.{IsNext};
 ghost use Rattle.segments.specs.declared.head.SegmentHead.{SegmentHead};
 ghost use Rattle.sqlite_disk.specs.Disk.{Holds};
 ghost use Rattle.statetext.specs.Sum.{sum_of};

@@ -172,9 +172,9 @@ pub fn a_log_ends_before_its_first_unread_line()
         events_in_front (lines ++ line ∷ behind) ≡ events_in_front lines }
 {}
 
-/// How a run begins by what was found. It begins anew where no log was ever begun, and where what is
-/// there can't be read, which is put aside. Each link is reset where the state is stale, and where
-/// the log is one of other rules with events behind its head. Else it goes on.
+/// How a run begins by what was found. It begins anew where no log was ever begun, and where what
+/// is there can't be read, which is put aside. Each link is reset where the state is stale, and
+/// where the log is one of other rules with events behind its head. Else it goes on.
 pub fn what_was_found_says_how_a_run_begins()
     ensures { (beginning_of Found.Nothing ≡ Beginning.Anew)
         × (beginning_of Found.Unread ≡ Beginning.PutAside)

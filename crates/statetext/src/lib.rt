@@ -12,7 +12,7 @@ mod lines;
 mod sheet;
 mod sum;
 
-pub use laws::{a_line_of_numbers_has_one_text, no_sum_hides_a_rotten_octet};
+pub use laws::{a_line_of_numbers_has_one_text, no_sum_hides_a_rotten_octet, sums_by_example};
 pub use lines::TextLines;
 pub use sheet::{Octets, TextSheet, put_hexadecimal};
 pub use sum::Sum;

@@ -8,11 +8,11 @@ ghost use Rattle.gateway.specs.declared.ports.Next.{Next};
 ghost use Rattle.live.specs.Ends.{LiveEnds, LogsTurn, LogsPut};
 ghost use Rattle.live.specs.Law.{KeepsOut, peer_of};
 ghost use Rattle.live.specs.Cuts.{shuts_nothing};
-ghost use Rattle.live.specs.AllowLists.{Allows, IsPlain, RefusesStrangers, nobody};
+ghost use Rattle.live.specs.AllowLists.{Allows, IsPlain, RefusesStrangers, counted, nobody};
 ghost use Rattle.live.specs.Arrivals.{AcceptsNewest, Arrival, Arrivals, Comer, GoesOn, IsPeerOf};
 ghost use Rattle.live.specs.Arrivals.{Sorts, TakesWaiting};
 ghost use Rattle.live.specs.declared.ends.RefusedPeers.{RefusedPeers};
-ghost use Rattle.live.specs.Telling.{IsNoComer, ShutsOut, Telling, one_more_told, told_by};
+ghost use Rattle.live.specs.Telling.{IsNoComer, ShutsOut, Telling, Tells, one_more_told, told_by};
 ghost use Rattle.std.specs.IoError.{error_kind};
 ghost use Rattle.std.specs.Net.Addr.{IsIpv4Mapped, ipv4_octets, ipv6_segments, low_octets};
 ghost use Rattle.std.specs.Net.Socket.{socket_ip};
@@ -75,7 +75,7 @@ pub fn who_was_refused_is_shown()
 /// system alone. Of those who may the newest stays. He is accepted, unless his stream can't be
 /// used. Where nobody's is opened there is no such one. Who comes has his own address, but an IPv4
 /// address that is written as an IPv6 one counts as that IPv4 address. At each look all are asked
-/// for who wait, up to 256 of them.
+/// for who wait, up to 256 of them. Each one who was refused is counted, and nobody else.
 pub fn who_comes_is_refused_or_let_in()
     ensures nobody { (allow_list : AllowList) (refused : List IpAddr) (newest : Option Comer) →
         Sorts allow_list [] refused newest → (refused ≡ []) × (newest ≡ None) }
@@ -116,6 +116,10 @@ pub fn who_comes_is_refused_or_let_in()
         (answers : List Arrival) × (new ≡ answers ++ old) × ((length answers ≡ 256)
         ⊎ (fault : Error) × (before : List Arrival) × (answers ≡ Err fault ∷ before)
         × (error_kind fault ≢ Interrupted) × (error_kind fault ≢ ConnectionAborted)) }
+    ensures counted { (allow_list : AllowList) (old new : List Arrival) (said says : RefusedPeers)
+        (newest : Option Comer) → TakesWaiting allow_list (Some old) said newest (Some new) says →
+        (answers : List Arrival) × (refused : List IpAddr) × (new ≡ answers ++ old)
+        × Sorts allow_list answers refused newest × (says ≡ counted refused said) }
 {}
 
 /// Who may connect: anyone where that is said. Else who has an address of the list, whichever of
@@ -131,7 +135,8 @@ pub fn who_is_on_the_list_may_connect()
 
 /// That nobody can be accepted is told at the first fault that says so, and not again until
 /// somebody has come. Nothing is told where nobody waits, where somebody came, where he has gone
-/// again and where a signal broke the call off. So it is answer by answer, in their order.
+/// again and where a signal broke the call off. So it is answer by answer, in their order. At each
+/// look it follows from all answers of that look, and from what was told before.
 pub fn that_nobody_can_be_accepted_is_told_once()
     ensures first { (t : Telling) (fault : Error) → t.is_shut ≡ false → ShutsOut fault →
         told_by (Err fault ∷ []) t ≡ record {
@@ -148,4 +153,7 @@ pub fn that_nobody_can_be_accepted_is_told_once()
         told_by (Err fault ∷ []) t ≡ t }
     ensures in_turn { (t : Telling) (later answers : List Arrival) →
         told_by (later ++ answers) t ≡ told_by later (told_by answers t) }
+    ensures look { (old new : List Arrival) (before after : Telling) →
+        Tells (Some old) before (Some new) after → (answers : List Arrival)
+        × (new ≡ answers ++ old) × (after ≡ told_by answers before) }
 {}

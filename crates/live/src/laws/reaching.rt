@@ -24,8 +24,8 @@ ghost use Rattle.live.specs.declared.redial.Dialled.{Dialled};
 ghost use Rattle.live.specs.declared.redial.Dialled.TheVariants.{Failed, Pending};
 
 /// A try reaches a line exactly where its connect came through and the stream can be used. So it is
-/// at the socket of a path. A connect that is under way to an address goes on for 5 s and no
-/// longer, and is kept.
+/// at the socket of a path. A connect that is under way to an address goes on for 5 s and is kept.
+/// Behind that, or where the clock can't be read, it doesn't: then more is asked for.
 pub fn a_try_ends_as_its_connect_does()
     ensures reached { (connecting : Connecting) (steps after : List ReachStep)
         (answer : Dialled StreamHistory) (new : Option Connecting) →
@@ -38,6 +38,13 @@ pub fn a_try_ends_as_its_connect_does()
         (Some (Showed (Ok now) ∷ Stood connecting.stream UnderWay ∷ steps)) →
         instant_nanos now - instant_nanos connecting.since ≤ 5000 * 1000000 →
         (answer ≡ Pending) × (new ≡ Some connecting) }
+    ensures no_longer { (connecting : Connecting) (steps : List ReachStep)
+        (shown : Result Instant Error) (answer : Dialled StreamHistory)
+        (new : Option Connecting) →
+        AsksOn (Some connecting) (Some steps) answer new
+        (Some (Showed shown ∷ Stood connecting.stream UnderWay ∷ steps)) →
+        (now : Instant) × (shown ≡ Ok now)
+        × (instant_nanos now - instant_nanos connecting.since ≤ 5000 * 1000000) }
     ensures within { (since now : Instant) → (is_in_time since (Ok now) ≡ true)
         ↔ (instant_nanos now - instant_nanos since ≤ 5000 * 1000000) }
     ensures kept { (old new : Option Connecting) (steps after : List ReachStep)

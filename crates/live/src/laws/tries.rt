@@ -13,8 +13,9 @@ ghost use Rattle.live.specs.OctetStreams.{IsNew, StreamHistory, looked, noted, D
 /// try began, but never before. For each try the dialler is called once. At each look it is asked
 /// about a try that goes on, and no other begins. Meanwhile the stream is quiet, and takes and
 /// drops nothing. Each look waits once, so that who looks doesn't spin. One that is there gives,
-/// takes and drops what its stream does. One that has gone is kept no longer, and one that is
-/// reached begins with nothing in it.
+/// takes and drops what its stream does. Then nothing is asked of the dialler, so that no second
+/// stream is reached beside it, and no look waits. One that has gone is kept no longer, and one
+/// that is reached begins with nothing in it.
 pub fn a_stream_that_is_away_is_tried_when_due()
     ensures first { (old new : Redial) (got : Got) (buf : List ℕ) → IsRedialled old got buf new →
         old.stream ≡ None → old.is_trying ≡ false → old.tried ≡ None →
@@ -41,6 +42,10 @@ pub fn a_stream_that_is_away_is_tried_when_due()
     ensures there { (old new : Redial) (got : Got) (buf : List ℕ) (history : StreamHistory) →
         IsRedialled old got buf new → old.stream ≡ Some history →
         IfSome new.stream (λ now. now ≡ noted history (looked got buf)) }
+    ensures alone { (old new : Redial) (got : Got) (buf : List ℕ) (history : StreamHistory) →
+        IsRedialled old got buf new → old.stream ≡ Some history → (new.calls ≡ old.calls)
+        × (new.tries ≡ old.tries) × (new.pauses ≡ old.pauses) × (new.tried ≡ old.tried)
+        × (new.is_trying ≡ old.is_trying) }
     ensures written { (old new : Redial) (octets : List ℕ) (is_taken : Bool)
         (history : StreamHistory) → IsPut old octets is_taken new → old.stream ≡ Some history →
         new ≡ record old { stream = Some (noted history (Wrote octets is_taken)) } }

@@ -1,5 +1,6 @@
 use Rattle.live.proofs.Sorted.{fault_came, guest_came, nobody_came, nobody_opened, peer_plain}
-use Rattle.live.proofs.Sorted.{all_asked, peer_mapped, peer_own, stranger_came, usable_accepted}
+use Rattle.live.proofs.Sorted.{all_asked, all_counted, peer_mapped, peer_own, stranger_came}
+use Rattle.live.proofs.Sorted.{usable_accepted}
 use Rattle.live.proofs.laws.arriving.who_comes_is_refused_or_let_in.Goals as goal
 
 pub returns-clause-nobody : goal.returns-clause-nobody
@@ -31,3 +32,6 @@ returns-clause-mapped c = peer_mapped
 
 pub returns-clause-all : goal.returns-clause-all
 returns-clause-all c = all_asked
+
+pub returns-clause-counted : goal.returns-clause-counted
+returns-clause-counted c = all_counted

@@ -1,6 +1,6 @@
 use Rattle.live.proofs.Redials.{asks_on, begins_at_once, begins_later, drops_away, puts_away}
 use Rattle.live.proofs.Redials.{drops_there, puts_there, reached_new, waits_undue}
-use Rattle.live.proofs.Tries.{away_pauses, away_quiet, looks_there}
+use Rattle.live.proofs.Tries.{away_pauses, away_quiet, looks_alone, looks_there}
 use Rattle.live.proofs.laws.tries.a_stream_that_is_away_is_tried_when_due.Goals as goal
 
 pub returns-clause-first : goal.returns-clause-first
@@ -29,6 +29,9 @@ returns-clause-dropped c = drops_away
 
 pub returns-clause-there : goal.returns-clause-there
 returns-clause-there c = looks_there
+
+pub returns-clause-alone : goal.returns-clause-alone
+returns-clause-alone c = looks_alone
 
 pub returns-clause-written : goal.returns-clause-written
 returns-clause-written c = puts_there
