@@ -58,7 +58,8 @@
 //! [`turns_go_on_where_they_began_with_a_held_service`], [`turns_go_on_behind_new_settings`],
 //! [`links_given_up_begin_with_the_status`]). Of commands it is said how many find places
 //! ([`sixty_four_commands_find_places`]) and how many keep their tags
-//! ([`sixteen_commands_keep_their_tags`]), and which calls their laws pass over
+//! ([`sixteen_commands_keep_their_tags`]), how many own answers wait
+//! ([`sixteen_own_answers_wait`]), and which calls their laws pass over
 //! ([`calls_are_passed_over_by_their_names`]).
 //!
 //! The premises of the laws on a log are of the line alone: serial answers are neither late nor
@@ -134,7 +135,9 @@ pub use received::{
     pieces_are_acknowledged_with_their_frames, what_has_come_is_one_run,
 };
 pub use restarting::no_command_is_sent_again_behind_a_restart;
-pub use room::{sixteen_commands_keep_their_tags, sixty_four_commands_find_places};
+pub use room::{
+    sixteen_commands_keep_their_tags, sixteen_own_answers_wait, sixty_four_commands_find_places,
+};
 pub use sending::{each_step_asks_and_closes_once, frames_go_out_in_their_order};
 pub use waiting::{
     a_line_rests_only_for_want_of_room, commands_wait_for_each_station,
