@@ -57,7 +57,8 @@
 //! ([`answers_in_pieces_are_whole_answers`]), and which request is next
 //! ([`unanswered_services_go_out_again`], [`polls_come_behind_commands`],
 //! [`polls_of_class_1_go_on_while_data_wait`],
-//! [`turns_go_on_where_they_began_with_a_held_service`], [`turns_go_on_behind_new_settings`],
+//! [`turns_go_on_where_they_began_with_a_held_service`],
+//! [`turns_go_on_where_a_held_service_begins_them`], [`turns_go_on_behind_new_settings`],
 //! [`links_given_up_begin_with_the_status`]). Of commands it is said how many find places
 //! ([`sixty_four_commands_find_places`]) and how many keep their tags
 //! ([`sixteen_commands_keep_their_tags`]), and which calls their laws pass over
@@ -119,7 +120,8 @@ pub use of_the_line::{
     links_that_stay_up_are_steady, only_the_latest_service_has_no_outcome,
     polls_come_behind_commands, polls_of_class_1_go_on_while_data_wait,
     requests_are_looked_back_at, stations_want_what_is_left, turns_go_on_behind_new_settings,
-    turns_go_on_where_they_began_with_a_held_service, unanswered_services_go_out_again,
+    turns_go_on_where_a_held_service_begins_them, turns_go_on_where_they_began_with_a_held_service,
+    unanswered_services_go_out_again,
 };
 pub use passed_on::{
     answers_are_passed_on_as_they_came, answers_bear_the_tag_of_their_command,

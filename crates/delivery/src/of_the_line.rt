@@ -354,6 +354,29 @@ pub fn turns_go_on_where_they_began_with_a_held_service()
     new_settings_keep_the_procedures();
 }
 
+/// A turn goes on so, too, where a held service begins it that has repeats left, as at each station
+/// behind new settings: it goes to another station than the one whose turn it was. Once it is
+/// answered, its station has the command that waits, or else the poll that ACD asks for.
+pub fn turns_go_on_where_a_held_service_begins_them()
+    ensures command { (p q : Primary) (s : Sending) (leave bit : Bool) (asdu : List ℕ)
+        (waiting : CommandsWaiting) → IsOutNoMore p q s → s.station ≢ p.turn →
+        is_held (station_at p.stations s.station).link ≡ true →
+        (station_at q.stations s.station).link ≡ Up bit → waiting s.station ≡ Some asdu →
+        (station_at q.stations s.station).dfc ≡ false →
+        sending q leave waiting
+        ≡ Some (record { station = s.station; request = Counted bit (Command asdu) }) }
+    ensures poll { (p q : Primary) (s : Sending) (bit : Bool) (waiting : CommandsWaiting) →
+        IsOutNoMore p q s → s.station ≢ p.turn →
+        is_held (station_at p.stations s.station).link ≡ true →
+        (station_at q.stations s.station).link ≡ Up bit →
+        (waiting s.station ≡ None) ⊎ ((station_at q.stations s.station).dfc ≡ true) →
+        sending q true waiting
+        ≡ Some (record {
+          station = s.station;
+          request = Counted bit (if (station_at q.stations s.station).acd then Class1 else Class2);
+        }) }
+{}
+
 /// Behind new settings the first station's turn goes on likewise, once the single character answers
 /// its held service. That is so where repeats of that were left, too.
 pub fn turns_go_on_behind_new_settings()

@@ -1,4 +1,4 @@
-use Rattle.std.proofs.Common.{ℕ, true, false, List, [], ◌∷◌, ap}
+use Rattle.std.proofs.Common.{ℕ, true, List, [], ◌∷◌, ap}
 use Rattle.link.specs.declared.procedure.Link.{Link}
 use Rattle.link.specs.Bursts.{is_answered, HasMore, AlwaysHasMore}
 use Rattle.link.specs.Primary.{Primary}
