@@ -67,3 +67,4 @@ pub mod NextRequests
 pub mod GivenUpFirst
 pub mod InPieces
 pub mod FirstAnswered
+pub mod BegunHeld

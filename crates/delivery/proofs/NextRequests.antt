@@ -1,19 +1,21 @@
 -- What goes out next behind a request, by what the laws of the line say of whole lists of calls.
-use Rattle.std.specs.Prelude.{◌||◌}
-use Rattle.std.proofs.Common.{◌≡◌, ℕ, Bool, true, false, List, [], ◌∷◌, ◌++◌, Option, Some}
-use Rattle.std.proofs.Common.{None, refl, sym, ap, subst, ◌∙◌, ◌⊎◌, inl, inr, if◌then◌else◌}
+use Rattle.std.specs.Prelude.{◌||◌, ◌==◌}
+use Rattle.std.proofs.Common.{◌≡◌, ◌≢◌, ℕ, suc, Bool, true, false, List, [], ◌∷◌, ◌++◌, Option}
+use Rattle.std.proofs.Common.{Some, None, refl, sym, ap, subst, ◌∙◌, ◌⊎◌, inl, inr, if◌then◌else◌}
+use Rattle.std.proofs.lemmas.Bool.{eq-eqb, eqb-true}
 use Rattle.link.specs.declared.procedure.Link.{Link}
 use Rattle.link.specs.declared.procedure.Link.TheVariants.{Next as Up}
 use Rattle.link.specs.declared.service.Asked.{Asked}
 use Rattle.link.specs.declared.service.Asked.TheVariants.{Counted}
 use Rattle.link.specs.declared.service.Service.{Service}
-use Rattle.link.specs.declared.service.Service.TheVariants.{Command}
+use Rattle.link.specs.declared.service.Service.TheVariants.{Class1, Class2, Command}
 use Rattle.link.specs.declared.settings.LinkSettings.{LinkSettings}
 use Rattle.link.specs.declared.turn.StationState.{StationState}
 use Rattle.link.specs.AtOnce.{latest_by, latest_after, RepeatIsNext, RepeatsComeAtOnce}
 use Rattle.link.specs.AtOnce.{first_service, is_spent, began_by, began_out, began_after, may_go}
 use Rattle.link.specs.AtOnce.{first_of_turn, TurnIsNext, TurnsGoOn}
-use Rattle.link.specs.Bursts.{Row, Commanded, Other, row_by, row_by_request, row_out, row_after}
+use Rattle.link.specs.Bursts.{Row, Polls, Commanded, Other, one_more, row_by_repeat}
+use Rattle.link.specs.Bursts.{row_by, row_by_request, row_out, row_after}
 use Rattle.link.specs.Bursts.{is_answered, poll_by, IsSent, PollsGoOn, BurstsGoOn}
 use Rattle.link.specs.Exchanges.{Sending}
 use Rattle.link.specs.Primary.{Outstanding, Primary, start, sending, sending_from}
@@ -66,6 +68,12 @@ latest_goes : (p : Primary) (now : ℕ) (may_poll : Bool) (waiting : CommandsWai
 latest_goes p now may_poll waiting s latest goes =
     ap (λ (o : Option Outstanding). latest_by p o may_poll waiting latest)
     (free p p.outstanding may_poll waiting s goes) ∙ goes
+
+pub latest_is : (p : Primary) (now : ℕ) (may_poll : Bool) (waiting : CommandsWaiting)
+    (latest : Option Sending) → p.outstanding ≡ None
+    → latest_after p (Next now may_poll waiting) latest ≡ sending p may_poll waiting
+latest_is p now may_poll waiting latest out =
+    ap (λ (o : Option Outstanding). latest_by p o may_poll waiting latest) out
 
 -- on each line that begins
 abbrev pub Repeats : Type 0
@@ -133,7 +141,7 @@ passing_bursts p row (Due now ∷ calls) last passing all =
     passing_bursts (called p (Due now)) row calls last passing all.1
 passing_bursts p row (GivesUp station ∷ calls) last passing all = absurd passing
 
-row_goes : (p : Primary) (now : ℕ) (may_poll : Bool) (waiting : CommandsWaiting)
+pub row_goes : (p : Primary) (now : ℕ) (may_poll : Bool) (waiting : CommandsWaiting)
     (station : ℕ) (fcb : Bool) (asdu : List ℕ) (row : Row)
     → sending p may_poll waiting
     ≡ Some (record { station = station; request = Counted fcb (Command asdu) })
@@ -147,6 +155,105 @@ row_goes p now may_poll waiting station fcb asdu row goes new =
     ∙ ap (λ (b : Bool). row_by_request b
     (has_repeats p.settings (station_at p.stations station).link) station
     (Counted fcb (Command asdu)) row) new)
+
+-- the row behind a new poll
+new_row : (p : Primary) (now : ℕ) (may_poll : Bool) (waiting : CommandsWaiting) (station : ℕ)
+    (request : Asked) (row : Row)
+    → sending p may_poll waiting ≡ Some (record { station = station; request = request })
+    → is_held (station_at p.stations station).link ≡ false
+    → row_after p (Next now may_poll waiting) row
+    ≡ row_by_request false (has_repeats p.settings (station_at p.stations station).link) station
+    request row
+new_row p now may_poll waiting station request row goes new =
+    let s : Sending = record { station = station; request = request } in
+    ap (λ (o : Option Outstanding). row_out p o may_poll waiting row)
+    (free p p.outstanding may_poll waiting s goes)
+    ∙ (ap (λ (x : Option Sending). row_by p x row) goes
+    ∙ ap (λ (b : Bool). row_by_request b
+    (has_repeats p.settings (station_at p.stations station).link) station request row) new)
+
+pub class2_row : (p : Primary) (now : ℕ) (may_poll : Bool) (waiting : CommandsWaiting)
+    (station : ℕ) (fcb : Bool) (row : Row)
+    → sending p may_poll waiting
+    ≡ Some (record { station = station; request = Counted fcb Class2 })
+    → is_held (station_at p.stations station).link ≡ false
+    → row_after p (Next now may_poll waiting) row ≡ Polls station 0
+class2_row p now may_poll waiting station fcb row goes new =
+    new_row p now may_poll waiting station (Counted fcb Class2) row goes new
+
+pub class1_row : (p : Primary) (now : ℕ) (may_poll : Bool) (waiting : CommandsWaiting)
+    (station many : ℕ) (fcb : Bool)
+    → sending p may_poll waiting
+    ≡ Some (record { station = station; request = Counted fcb Class1 })
+    → is_held (station_at p.stations station).link ≡ false
+    → row_after p (Next now may_poll waiting) (Polls station many) ≡ Polls station (suc many)
+class1_row p now may_poll waiting station many fcb goes new =
+    new_row p now may_poll waiting station (Counted fcb Class1) (Polls station many) goes new
+    ∙ ap (λ (b : Bool). if b then Polls station (suc many) else Polls station 1)
+    (eq-eqb station station refl)
+
+one_only : (station : ℕ) (row : Row) → ((many : ℕ) → row ≢ Polls station many)
+    → one_more station row ≡ Polls station 1
+one_only station Other none = refl
+one_only station (Commanded other) none = refl
+one_only station (Polls other many) none = go (other == station) refl
+  where
+    go : (b : Bool) → (other == station) ≡ b
+        → (if b then Polls station (suc many) else Polls station 1) ≡ Polls station 1
+    go true e = absurd (none many (ap (λ (k : ℕ). Polls k many) (eqb-true other station e)))
+    go false e = refl
+
+pub first_row : (p : Primary) (now : ℕ) (may_poll : Bool) (waiting : CommandsWaiting)
+    (station : ℕ) (fcb : Bool) (row : Row)
+    → sending p may_poll waiting
+    ≡ Some (record { station = station; request = Counted fcb Class1 })
+    → is_held (station_at p.stations station).link ≡ false
+    → ((many : ℕ) → row ≢ Polls station many)
+    → row_after p (Next now may_poll waiting) row ≡ Polls station 1
+first_row p now may_poll waiting station fcb row goes new other =
+    new_row p now may_poll waiting station (Counted fcb Class1) row goes new
+    ∙ one_only station row other
+
+-- a repeat that is left
+repeat_row : (p : Primary) (now : ℕ) (may_poll : Bool) (waiting : CommandsWaiting) (s : Sending)
+    (row : Row) → sending p may_poll waiting ≡ Some s
+    → is_held (station_at p.stations s.station).link ≡ true
+    → has_repeats p.settings (station_at p.stations s.station).link ≡ true
+    → row_after p (Next now may_poll waiting) row ≡ row_by_repeat row true s.station
+repeat_row p now may_poll waiting s row goes held has =
+    ap (λ (o : Option Outstanding). row_out p o may_poll waiting row)
+    (free p p.outstanding may_poll waiting s goes)
+    ∙ (ap (λ (x : Option Sending). row_by p x row) goes
+    ∙ (ap (λ (b : Bool). row_by_request b
+    (has_repeats p.settings (station_at p.stations s.station).link) s.station s.request row) held
+    ∙ ap (λ (b : Bool). row_by_repeat row b s.station) has))
+
+pub again_row : (p : Primary) (now many : ℕ) (may_poll : Bool) (waiting : CommandsWaiting)
+    (s : Sending) → sending p may_poll waiting ≡ Some s
+    → is_held (station_at p.stations s.station).link ≡ true
+    → has_repeats p.settings (station_at p.stations s.station).link ≡ true
+    → (row_after p (Next now may_poll waiting) (Polls s.station many) ≡ Polls s.station many)
+    × (row_after p (Next now may_poll waiting) (Commanded s.station) ≡ Commanded s.station)
+again_row p now many may_poll waiting s goes held has = (
+  repeat_row p now may_poll waiting s (Polls s.station many) goes held has
+      ∙ ap (λ (b : Bool). if b then Polls s.station many else Other)
+      (eq-eqb s.station s.station refl),
+  repeat_row p now may_poll waiting s (Commanded s.station) goes held has
+      ∙ ap (λ (b : Bool). if b then Commanded s.station else Other)
+      (eq-eqb s.station s.station refl),
+)
+
+pub nothing_new : (p : Primary) (now : ℕ) (may_poll : Bool) (waiting : CommandsWaiting)
+    (o : Outstanding) (row : Row) (latest : Option Sending) (began : Option ℕ)
+    → p.outstanding ≡ Some o
+    → (row_after p (Next now may_poll waiting) row ≡ row)
+    × (latest_after p (Next now may_poll waiting) latest ≡ latest)
+    × (began_after p (Next now may_poll waiting) began ≡ began)
+nothing_new p now may_poll waiting o row latest began out = (
+  ap (λ (x : Option Outstanding). row_out p x may_poll waiting row) out,
+  ap (λ (x : Option Outstanding). latest_by p x may_poll waiting latest) out,
+  ap (λ (x : Option Outstanding). began_out p x may_poll waiting began) out,
+)
 
 -- on each line that begins
 abbrev pub Bursts : Type 0
@@ -223,7 +330,7 @@ spent : (p : Primary) (station : ℕ) → is_held (station_at p.stations station
     → is_spent p station ≡ true
 spent p station held none = rw (held, none) refl
 
-began_goes : (p : Primary) (now : ℕ) (may_poll : Bool) (waiting : CommandsWaiting) (s : Sending)
+pub began_goes : (p : Primary) (now : ℕ) (may_poll : Bool) (waiting : CommandsWaiting) (s : Sending)
     (began : Option ℕ) → sending p may_poll waiting ≡ Some s
     → is_held (station_at p.stations s.station).link ≡ true
     → has_repeats p.settings (station_at p.stations s.station).link ≡ false

@@ -49,13 +49,16 @@
 //!
 //! What the premises leave free is said, too: of an outstation ([`honest_outstations_are_free`],
 //! [`honest_outstations_go_on`]), of a link ([`links_that_stay_up_are_steady`]), of its exchanges
-//! ([`exchanges_count_as_they_ended`]) and its turns ([`stations_want_what_is_left`]), of a log
-//! ([`a_log_without_a_restart_is_one_life`]), of a step ([`each_action_is_of_its_step`]), and of
-//! what comes by TCP ([`any_beginning_may_have_come`]). Of the line it is said which service can
-//! have no outcome ([`only_the_latest_service_has_no_outcome`]), how an answer comes
+//! ([`exchanges_count_as_they_ended`]) and its turns ([`stations_want_what_is_left`],
+//! [`requests_are_looked_back_at`]), of a log ([`a_log_without_a_restart_is_one_life`]), of a step
+//! ([`each_action_is_of_its_step`]), and of what comes by TCP ([`any_beginning_may_have_come`]). Of
+//! the line it is said which service can have no outcome
+//! ([`only_the_latest_service_has_no_outcome`]), how an answer comes
 //! ([`answers_in_pieces_are_whole_answers`]), and which request is next
 //! ([`unanswered_services_go_out_again`], [`polls_come_behind_commands`],
-//! [`turns_go_on_where_they_began_with_a_held_service`], [`turns_go_on_behind_new_settings`],
+//! [`polls_of_class_1_go_on_while_data_wait`],
+//! [`turns_go_on_where_they_began_with_a_held_service`],
+//! [`turns_go_on_where_a_held_service_begins_them`], [`turns_go_on_behind_new_settings`],
 //! [`links_given_up_begin_with_the_status`]). Of commands it is said how many find places
 //! ([`sixty_four_commands_find_places`]) and how many keep their tags
 //! ([`sixteen_commands_keep_their_tags`]), how many own answers wait
@@ -116,8 +119,10 @@ pub use of_the_line::{
     answers_in_pieces_are_whole_answers, exchanges_count_as_they_ended,
     honest_outstations_are_free, honest_outstations_go_on, links_given_up_begin_with_the_status,
     links_that_stay_up_are_steady, only_the_latest_service_has_no_outcome,
-    polls_come_behind_commands, stations_want_what_is_left, turns_go_on_behind_new_settings,
-    turns_go_on_where_they_began_with_a_held_service, unanswered_services_go_out_again,
+    polls_come_behind_commands, polls_of_class_1_go_on_while_data_wait,
+    requests_are_looked_back_at, stations_want_what_is_left, turns_go_on_behind_new_settings,
+    turns_go_on_where_a_held_service_begins_them, turns_go_on_where_they_began_with_a_held_service,
+    unanswered_services_go_out_again,
 };
 pub use passed_on::{
     answers_are_passed_on_as_they_came, answers_bear_the_tag_of_their_command,

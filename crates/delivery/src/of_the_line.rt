@@ -1,7 +1,7 @@
 //! What the laws on the line take for granted: what an honest outstation may do, when a link is
 //! steady, and which service can have no outcome. How an answer comes, and what goes out next.
-ghost use Rattle.std.specs.Prelude.{◌≡◌, ◌≢◌, ◌⊎◌, ◌++◌, [], ◌∷◌, ℕ, Bool, true, false, not};
-ghost use Rattle.std.specs.Prelude.{List, Option, Some, None, if◌then◌else◌};
+ghost use Rattle.std.specs.Prelude.{◌≡◌, ◌≢◌, ◌⊎◌, ◌++◌, [], ◌∷◌, ℕ, suc, Bool, true, false, not};
+ghost use Rattle.std.specs.Prelude.{List, Option, Some, None, if◌then◌else◌, take};
 ghost use Rattle.std.specs.List.{AllByRecursion};
 ghost use Rattle.arrayvec.specs.ArrayVec.{ArrayVec};
 ghost use Rattle.ft12.specs.declared.frame.Frame.{Frame};
@@ -18,6 +18,8 @@ ghost use Rattle.link.specs.declared.service.Asked.TheVariants.{Status, Reset, C
 ghost use Rattle.link.specs.declared.service.Service.{Service};
 ghost use Rattle.link.specs.declared.service.Service.TheVariants.{Class1, Class2, Command};
 ghost use Rattle.link.specs.declared.settings.LinkSettings.{LinkSettings};
+ghost use Rattle.link.specs.AtOnce.{latest_after, began_after};
+ghost use Rattle.link.specs.Bursts.{Row, Polls, Commanded, is_answered, row_after};
 ghost use Rattle.link.specs.Carried.{reseated};
 ghost use Rattle.link.specs.Delivery.{IsHonest, IsLatestAnswered, pending_after};
 ghost use Rattle.link.specs.Delivery.{is_command_pending};
@@ -25,19 +27,20 @@ ghost use Rattle.link.specs.Exchanges.{Exchange, Sending, answer_to};
 ghost use Rattle.link.specs.Gaps.{is_by_the_way};
 ghost use Rattle.link.specs.Outstation.{Given, Accepted, Outstation, OutstationStep, Turn};
 ghost use Rattle.link.specs.Answers.{answer_of};
-ghost use Rattle.link.specs.Primary.{Outstanding, Primary, received, sending};
+ghost use Rattle.link.specs.Primary.{Outstanding, Primary, received, sending, start};
 ghost use Rattle.link.specs.Procedure.{IsSteady, IsUp, KeepsFrameCountBit};
 ghost use Rattle.link.specs.Procedure.{has_repeats, is_held};
 ghost use Rattle.link.specs.Repeats.{IsMissed};
-ghost use Rattle.link.specs.Runs.{Call, Next, Octets, Due, GivesUp, called};
+ghost use Rattle.link.specs.Runs.{Call, Next, Octets, Due, GivesUp, called, called_all};
+ghost use Rattle.link.specs.Sent.{Sent, sent};
 ghost use Rattle.link.specs.Turns.{CommandsWaiting, station_at};
 ghost use Rattle.link.specs.Waits.{WantsAt, AlwaysWants};
 ghost use Rattle.delivery.specs.Freedom.{HasFunction, IsShort, answering, behind, IsBesides};
-ghost use Rattle.delivery.specs.NextRequests.{IsOutNoMore, first_answered};
+ghost use Rattle.delivery.specs.NextRequests.{IsOutNoMore, AlwaysHasData, first_answered};
 
 use link::{
-    answers_are_whole, new_settings_keep_the_procedures, polls_go_on, repeats_come_at_once,
-    turns_go_on_behind_held_services,
+    answers_are_whole, bursts_are_as_long_as_set, new_settings_keep_the_procedures, polls_go_on,
+    repeats_come_at_once, turns_go_on_behind_held_services,
 };
 
 /// An outstation is honest whatever it does that the standard leaves to it (IEC 60870-5-2, the
@@ -235,6 +238,92 @@ pub fn polls_come_behind_commands()
     new_settings_keep_the_procedures();
 }
 
+/// Behind a new poll of class 2 come as many polls of class 1 as the settings say, to the same
+/// station and before any other request, as long as there is leave and each poll is answered with
+/// ACD set. So class 1 data don't wait for the station's next turn, whatever was called before, and
+/// whatever the answers are.
+pub fn polls_of_class_1_go_on_while_data_wait()
+    ensures { (settings : LinkSettings) (addresses : List ℕ) (first later : List Call)
+        (p : Primary) (station now : ℕ) (waiting : CommandsWaiting) (fcb : Bool) →
+        p ≡ called_all (start settings addresses) first →
+        sending p true waiting
+        ≡ Some (record { station = station; request = Counted fcb Class2 }) →
+        is_held (station_at p.stations station).link ≡ false →
+        AlwaysHasData (called p (Next now true waiting)) station later →
+        AllByRecursion (λ (s : Sent). (s.station ≡ station)
+        × ((bit : Bool) × (s.request ≡ Counted bit Class1)))
+        (take p.settings.burst (sent (called p (Next now true waiting)) later)) }
+{
+    bursts_are_as_long_as_set();
+}
+
+/// `polls_go_on`, `repeats_come_at_once` and `turns_go_on_behind_held_services` look back at what
+/// went out last. A link that is up and holds no service is answered. Each request is the latest
+/// once it goes out, and a held service without repeats begins a turn. A new command begins a row
+/// in which a poll is next, a new poll of class 2 one without polls of class 1, and a new poll of
+/// class 1 one more or the first of a row. Repeats that are left, and calls at which nothing may go
+/// out, change nothing of it.
+pub fn requests_are_looked_back_at()
+    ensures answered { (fcb : Bool) → is_answered (Up fcb) ≡ true }
+    ensures latest { (p : Primary) (now : ℕ) (may_poll : Bool) (waiting : CommandsWaiting)
+        (latest : Option Sending) → p.outstanding ≡ None →
+        latest_after p (Next now may_poll waiting) latest ≡ sending p may_poll waiting }
+    ensures turn { (p : Primary) (now : ℕ) (may_poll : Bool) (waiting : CommandsWaiting)
+        (s : Sending) (began : Option ℕ) → sending p may_poll waiting ≡ Some s →
+        is_held (station_at p.stations s.station).link ≡ true →
+        has_repeats p.settings (station_at p.stations s.station).link ≡ false →
+        began_after p (Next now may_poll waiting) began ≡ Some s.station }
+    ensures command { (p : Primary) (now station : ℕ) (may_poll fcb : Bool)
+        (waiting : CommandsWaiting) (asdu : List ℕ) (row : Row) →
+        sending p may_poll waiting
+        ≡ Some (record { station = station; request = Counted fcb (Command asdu) }) →
+        is_held (station_at p.stations station).link ≡ false →
+        row_after p (Next now may_poll waiting) row ≡ Commanded station }
+    ensures class2 { (p : Primary) (now station : ℕ) (may_poll fcb : Bool)
+        (waiting : CommandsWaiting) (row : Row) →
+        sending p may_poll waiting
+        ≡ Some (record { station = station; request = Counted fcb Class2 }) →
+        is_held (station_at p.stations station).link ≡ false →
+        row_after p (Next now may_poll waiting) row ≡ Polls station 0 }
+    ensures class1 { (p : Primary) (now station many : ℕ) (may_poll fcb : Bool)
+        (waiting : CommandsWaiting) →
+        sending p may_poll waiting
+        ≡ Some (record { station = station; request = Counted fcb Class1 }) →
+        is_held (station_at p.stations station).link ≡ false →
+        row_after p (Next now may_poll waiting) (Polls station many)
+        ≡ Polls station (suc many) }
+    ensures first { (p : Primary) (now station : ℕ) (may_poll fcb : Bool)
+        (waiting : CommandsWaiting) (row : Row) →
+        sending p may_poll waiting
+        ≡ Some (record { station = station; request = Counted fcb Class1 }) →
+        is_held (station_at p.stations station).link ≡ false →
+        ((many : ℕ) → row ≢ Polls station many) →
+        row_after p (Next now may_poll waiting) row ≡ Polls station 1 }
+    ensures again { (p : Primary) (now many : ℕ) (may_poll : Bool) (waiting : CommandsWaiting)
+        (s : Sending) → sending p may_poll waiting ≡ Some s →
+        is_held (station_at p.stations s.station).link ≡ true →
+        has_repeats p.settings (station_at p.stations s.station).link ≡ true →
+        (row_after p (Next now may_poll waiting) (Polls s.station many)
+        ≡ Polls s.station many)
+        × (row_after p (Next now may_poll waiting) (Commanded s.station)
+        ≡ Commanded s.station) }
+    ensures out { (p : Primary) (now : ℕ) (may_poll : Bool) (waiting : CommandsWaiting)
+        (o : Outstanding) (row : Row) (latest : Option Sending) (began : Option ℕ) →
+        p.outstanding ≡ Some o →
+        (row_after p (Next now may_poll waiting) row ≡ row)
+        × (latest_after p (Next now may_poll waiting) latest ≡ latest)
+        × (began_after p (Next now may_poll waiting) began ≡ began) }
+    ensures others { (p : Primary) (at station : ℕ) (octets : List ℕ) (row : Row)
+        (latest : Option Sending) (began : Option ℕ) →
+        ((row_after p (Octets octets) row ≡ row) × (latest_after p (Octets octets) latest ≡ latest)
+        × (began_after p (Octets octets) began ≡ began))
+        × ((row_after p (Due at) row ≡ row) × (latest_after p (Due at) latest ≡ latest)
+        × (began_after p (Due at) began ≡ began))
+        × ((row_after p (GivesUp station) row ≡ row)
+        × (latest_after p (GivesUp station) latest ≡ latest)
+        × (began_after p (GivesUp station) began ≡ began)) }
+{}
+
 /// Where a turn began with a service that was held, and had no repeat left, and that was answered,
 /// the same station comes next: the command that waits for it where DFC is clear, whether there is
 /// leave to poll or not; or else, if there is leave, the poll that ACD asks for.
@@ -264,6 +353,29 @@ pub fn turns_go_on_where_they_began_with_a_held_service()
     turns_go_on_behind_held_services();
     new_settings_keep_the_procedures();
 }
+
+/// A turn goes on so, too, where a held service begins it that has repeats left, as at each station
+/// behind new settings: it goes to another station than the one whose turn it was. Once it is
+/// answered, its station has the command that waits, or else the poll that ACD asks for.
+pub fn turns_go_on_where_a_held_service_begins_them()
+    ensures command { (p q : Primary) (s : Sending) (leave bit : Bool) (asdu : List ℕ)
+        (waiting : CommandsWaiting) → IsOutNoMore p q s → s.station ≢ p.turn →
+        is_held (station_at p.stations s.station).link ≡ true →
+        (station_at q.stations s.station).link ≡ Up bit → waiting s.station ≡ Some asdu →
+        (station_at q.stations s.station).dfc ≡ false →
+        sending q leave waiting
+        ≡ Some (record { station = s.station; request = Counted bit (Command asdu) }) }
+    ensures poll { (p q : Primary) (s : Sending) (bit : Bool) (waiting : CommandsWaiting) →
+        IsOutNoMore p q s → s.station ≢ p.turn →
+        is_held (station_at p.stations s.station).link ≡ true →
+        (station_at q.stations s.station).link ≡ Up bit →
+        (waiting s.station ≡ None) ⊎ ((station_at q.stations s.station).dfc ≡ true) →
+        sending q true waiting
+        ≡ Some (record {
+          station = s.station;
+          request = Counted bit (if (station_at q.stations s.station).acd then Class1 else Class2);
+        }) }
+{}
 
 /// Behind new settings the first station's turn goes on likewise, once the single character answers
 /// its held service. That is so where repeats of that were left, too.
