@@ -1,10 +1,11 @@
 //! At which moments what comes is taken.
-ghost use Rattle.std.specs.Prelude.{◌≡◌, ◌∷◌, ◌+◌, ◌<◌, ◌≤◌, ◌^◌, ℕ, List, [], Some};
+ghost use Rattle.std.specs.Prelude.{◌≡◌, ◌∷◌, ◌++◌, ◌+◌, ◌<◌, ◌≤◌, ◌^◌, ℕ, List, [], Some};
 ghost use Rattle.session.specs.History as talk;
 ghost use Rattle.gateway.specs.Course.{Course, Runs};
 ghost use Rattle.gateway.specs.Log.{Log, LogEntry, Came, Went, Opened, TcpIn, TcpOut, WallIs};
 ghost use Rattle.gateway.specs.Log.{Input, Output, latest};
 ghost use Rattle.gateway.specs.Reports.{Setup};
+ghost use Rattle.gateway.specs.Traffic.{IsFaithful};
 ghost use Rattle.gateway.specs.Walls.{wall_on};
 ghost use Rattle.delivery.specs.Moments.{AddsAt};
 
@@ -16,7 +17,8 @@ ghost use Rattle.delivery.specs.Moments.{AddsAt};
 ///
 /// The moment of a step is the number that the port gave with its event, whatever event that is. A
 /// number that goes back counts as the greatest before it, and one past 999999999999999 as that. An
-/// action changes no moment. So time goes on with each event, however long a run lasts (profile).
+/// action changes no moment, and bears that of its step. So time goes on with each event, however
+/// long a run lasts (profile).
 pub fn what_comes_is_taken_at_its_own_moment()
     ensures came { (p : Setup) (log : Log) (now : ℕ) (octets : List ℕ) (c : Course) →
         Runs p (Came now (TcpIn octets) ∷ log) c → (before : Course) × Runs p log before
@@ -35,6 +37,8 @@ pub fn what_comes_is_taken_at_its_own_moment()
         999999999999999 ≤ now → latest (Came now event ∷ log) ≡ 999999999999999 }
     ensures stays { (log : Log) (now : ℕ) (action : Output) →
         latest (Went now action ∷ log) ≡ latest log }
+    ensures acts { (p : Setup) (newer log : Log) (now : ℕ) (action : Output) →
+        IsFaithful p (newer ++ Went now action ∷ log) → now ≡ latest log }
     ensures first { latest [] ≡ 0 }
 {}
 
