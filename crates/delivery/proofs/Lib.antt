@@ -67,3 +67,8 @@ pub mod NextRequests
 pub mod GivenUpFirst
 pub mod InPieces
 pub mod FirstAnswered
+pub mod Changes
+pub mod Heeding
+pub mod Functions
+pub mod SpoiltEach
+pub mod Giving
