@@ -1,14 +1,13 @@
 -- What an exchange makes of its station.
-use Rattle.std.specs.Prelude.{nat_le, nat_lt, length, slice_set, if◌then◌else◌}
+use Rattle.std.specs.Prelude.{nat_lt, length, slice_set, if◌then◌else◌}
 use Rattle.std.proofs.Common.{◌≡◌, ◌≢◌, ℕ, suc, ◌+◌, ◌<◌, ◌≤◌, Bool, true, false, List, [], ◌∷◌}
-use Rattle.std.proofs.Common.{◌++◌, Option, Some, None, option_and_then, refl, sym, ap, subst, ◌∙◌}
-use Rattle.std.proofs.Common.{arith}
+use Rattle.std.proofs.Common.{◌++◌, Option, Some, None, refl, sym, ap, subst, ◌∙◌}
 use Rattle.std.proofs.lemmas.Bool.{le-leb, lt-leb}
 use Rattle.std.proofs.lemmas.List.{get_or-set_same, get_or-set_other}
 use Rattle.ft12.specs.declared.frame.Frame.{Frame}
 use Rattle.ft12.specs.declared.frame.Frame.TheVariants.{Single, Fixed, Data}
 use Rattle.ft12.specs.declared.frame.Front.{Front}
-use Rattle.ft12.specs.declared.frame.Front.TheVariants.{Whole, More, Never}
+use Rattle.ft12.specs.declared.frame.Front.TheVariants.{Whole}
 use Rattle.link.specs.declared.answer.Answer.{Answer}
 use Rattle.link.specs.declared.procedure.Link.{Link}
 use Rattle.link.specs.declared.procedure.Link.TheVariants.{Down, Held}
@@ -23,7 +22,7 @@ use Rattle.link.specs.declared.turn.Phase.{Phase}
 use Rattle.link.specs.declared.turn.Phase.TheVariants.{Starting, Commanding, Polling}
 use Rattle.link.specs.declared.turn.Phase.TheVariants.{Class1Polling, Over}
 use Rattle.link.specs.Exchanges.{Exchange, Sending, answer_to, whole_of}
-use Rattle.link.specs.Flags.{Flags, flags_by, flags_in}
+use Rattle.link.specs.Flags.{flags_by, flags_in}
 use Rattle.link.specs.Primary.{Outstanding, Primary, acd_of, after_choice, answer_at, answered}
 use Rattle.link.specs.Primary.{asked, asked_from, choice, dfc_of, due_from, is_late, open_octets}
 use Rattle.link.specs.Primary.{received, received_after, received_from, said_by, session_answered}

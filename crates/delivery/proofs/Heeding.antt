@@ -1,9 +1,7 @@
 -- What a request of a log heeds.
-use Rattle.std.proofs.Common.{◌≡◌, ℕ, Bool, true, false, List, ◌∷◌, Some, refl, sym, subst}
+use Rattle.std.proofs.Common.{◌≡◌, ℕ, Bool, false, List, Some, sym, subst}
 use Rattle.ft12.specs.Fronts.{front_of}
 use Rattle.link.specs.declared.service.Asked.{Asked}
-use Rattle.link.specs.declared.service.Asked.TheVariants.{Counted}
-use Rattle.link.specs.declared.service.Service.TheVariants.{Class1, Class2, Command}
 use Rattle.link.specs.declared.settings.LinkSettings.{LinkSettings}
 use Rattle.link.specs.Exchanges.{Exchanges, Sending}
 use Rattle.link.specs.Flags.{Flags, Heeds, flags_at, link_at}

@@ -1,5 +1,5 @@
 use Rattle.std.proofs.Common.{◌∷◌, []}
-use Rattle.gateway.specs.Log.{Log, Went, LineOut}
+use Rattle.gateway.specs.Log.{Went, LineOut}
 use Rattle.gateway.specs.Traffic.{IsFaithful}
 use Rattle.delivery.specs.Joined.{IsJoined}
 use Rattle.delivery.proofs.Heeding.{request_heeds}
