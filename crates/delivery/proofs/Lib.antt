@@ -68,3 +68,8 @@ pub mod GivenUpFirst
 pub mod InPieces
 pub mod FirstAnswered
 pub mod BegunHeld
+pub mod Changes
+pub mod Heeding
+pub mod Functions
+pub mod SpoiltEach
+pub mod Giving

@@ -17,3 +17,4 @@ pub mod Meanings
 pub mod LinkLaws
 pub mod Freedom
 pub mod NextRequests
+pub mod Changes

@@ -59,7 +59,13 @@
 //! [`polls_of_class_1_go_on_while_data_wait`],
 //! [`turns_go_on_where_they_began_with_a_held_service`],
 //! [`turns_go_on_where_a_held_service_begins_them`], [`turns_go_on_behind_new_settings`],
-//! [`links_given_up_begin_with_the_status`]). Of commands it is said how many find places
+//! [`links_given_up_begin_with_the_status`]). In each state of a line an exchange changes its own
+//! station ([`exchanges_change_their_station_alone`]), by the functions that answer its request
+//! ([`functions_answer_their_requests`]). Requests heed ACD and DFC
+//! ([`requests_heed_the_latest_answer`]), spoilt exchanges count
+//! ([`spoilt_exchanges_count_at_each_station`]), stations wait
+//! ([`stations_wait_no_longer_than_set`]), and secondary ones give
+//! ([`stations_give_what_they_were_handed`]). Of commands it is said how many find places
 //! ([`sixty_four_commands_find_places`]) and how many keep their tags
 //! ([`sixteen_commands_keep_their_tags`]), how many own answers wait
 //! ([`sixteen_own_answers_wait`]), and which calls their laws pass over
@@ -86,6 +92,7 @@ mod laws;
 mod logged;
 mod moments;
 mod new_settings;
+mod of_stations;
 mod of_the_line;
 mod passed_on;
 mod premises;
@@ -115,6 +122,11 @@ pub use logged::{
 };
 pub use moments::{the_wall_clock_goes_on_with_the_moments, what_comes_is_taken_at_its_own_moment};
 pub use new_settings::{new_settings_are_taken_up, what_stands_on_a_line_goes_on_with_its_station};
+pub use of_stations::{
+    exchanges_change_their_station_alone, functions_answer_their_requests,
+    requests_heed_the_latest_answer, spoilt_exchanges_count_at_each_station,
+    stations_give_what_they_were_handed, stations_wait_no_longer_than_set,
+};
 pub use of_the_line::{
     answers_in_pieces_are_whole_answers, exchanges_count_as_they_ended,
     honest_outstations_are_free, honest_outstations_go_on, links_given_up_begin_with_the_status,
