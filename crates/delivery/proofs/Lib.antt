@@ -67,3 +67,8 @@ pub mod NextRequests
 pub mod GivenUpFirst
 pub mod InPieces
 pub mod FirstAnswered
+pub mod OwnSelects
+pub mod ComeBack
+pub mod TagAges
+pub mod Through
+pub mod Bodies
