@@ -273,28 +273,28 @@ module _ (p : Setup) where
       ∷ (waited ++ Judged came clock ys None ∷ earlier))))
   goes_through xs ys came con now clock answer octets later between stood waited earlier faultless
       asks t = record {
-    select = z;
-    stands =
-        stays xs later (Mirrored con answer ∷ confirmed_then) t.apart_later
-        ∙ ap (λ (b : Bool). if b then None else stands xs confirmed_then)
-        (not_refused xs ys answer t.confirms)
-        ∙ stays xs between (Accepted k ∷ accepted_then) t.apart_between
-        ∙ stays xs stood (Sent k octets ∷ sent_then) t.apart_stood
-        ∙ stays xs waited (Judged came clock ys None ∷ earlier) t.apart_waited
-        ∙ begins xs earlier came clock ys faultless t.target
-        (asks_alike p.stations xs ys t.target asks) t.selecting;
-    received = t.received;
-    element = t.element;
-    test = t.test;
-    moment = con;
-    confirmed =
-        same xs z t.target later (Mirrored con answer ∷ confirmed_then) t.apart_later
-        ∙ at_once xs z t.target con answer confirmed_then t.confirms t.in_time
-        (taken xs k z.place between (Accepted k ∷ accepted_then) t.apart_between
-        (accepts k z.place accepted_then
-        (there k octets sent_then stood t.on_line ∙ ap (λ (n : ℕ). Some n) t.in_turn)));
-    in_time = t.lasts;
-  }
+        select = z;
+        stands =
+            stays xs later (Mirrored con answer ∷ confirmed_then) t.apart_later
+            ∙ ap (λ (b : Bool). if b then None else stands xs confirmed_then)
+            (not_refused xs ys answer t.confirms)
+            ∙ stays xs between (Accepted k ∷ accepted_then) t.apart_between
+            ∙ stays xs stood (Sent k octets ∷ sent_then) t.apart_stood
+            ∙ stays xs waited (Judged came clock ys None ∷ earlier) t.apart_waited
+            ∙ begins xs earlier came clock ys faultless t.target
+            (asks_alike p.stations xs ys t.target asks) t.selecting;
+        received = t.received;
+        element = t.element;
+        test = t.test;
+        moment = con;
+        confirmed =
+            same xs z t.target later (Mirrored con answer ∷ confirmed_then) t.apart_later
+            ∙ at_once xs z t.target con answer confirmed_then t.confirms t.in_time
+            (taken xs k z.place between (Accepted k ∷ accepted_then) t.apart_between
+            (accepts k z.place accepted_then
+            (there k octets sent_then stood t.on_line ∙ ap (λ (n : ℕ). Some n) t.in_turn)));
+        in_time = t.lasts;
+      }
     where
       k : ℕ
       k = station_of p.stations ys
