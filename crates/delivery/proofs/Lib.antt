@@ -73,3 +73,8 @@ pub mod Heeding
 pub mod Functions
 pub mod SpoiltEach
 pub mod Giving
+pub mod OwnSelects
+pub mod ComeBack
+pub mod TagAges
+pub mod Through
+pub mod Bodies

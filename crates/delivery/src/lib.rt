@@ -9,7 +9,12 @@
 //! centre is one run, over closes and new connections: [`what_has_come_is_one_run`]. A piece is
 //! acknowledged with its frame: [`pieces_are_acknowledged_with_their_frames`]. Downwards:
 //! [`each_command_is_given_once`], and [`faultless_commands_are_forwarded`]. What isn't given is
-//! answered ([`what_is_refused_is_answered`]). Between them: [`the_course_is_the_logs`], that what
+//! answered ([`what_is_refused_is_answered`], [`refused_commands_come_back_with_their_cause`],
+//! [`unknown_common_addresses_are_answered`]). An execute needs a select of its own
+//! ([`each_execute_has_a_select_of_its_own`]), and that is enough
+//! ([`selects_let_their_execute_through`], [`sixteen_selections_find_places`]). A command with a
+//! time tag is as old as its tag says ([`tags_are_as_old_as_the_moment_that_they_name`]). Between
+//! them: [`the_course_is_the_logs`], that what
 //! the gateway's course logs of the line and of commands is what the octets of the log show; and
 //! [`selections_end_in_time`], by the log's moments, and that what comes is taken at its own
 //! ([`what_comes_is_taken_at_its_own_moment`]), and by the wall clock of that moment
@@ -21,7 +26,8 @@
 //! ([`answers_bear_the_tag_of_their_command`]), once ([`each_answer_is_given_once`]; on each log
 //! [`answers_of_stations_are_heeded`]) and in ASDUs of as many objects as fit
 //! ([`pieces_bear_as_many_objects_as_fit`]). What stations report goes on by its type
-//! ([`reports_of_monitor_types_are_passed_on`]).
+//! ([`reports_of_monitor_types_are_passed_on`]) and octet by octet
+//! ([`reports_go_on_octet_by_octet`]).
 //!
 //! A log has what comes and goes under its own name
 //! ([`events_and_actions_stand_under_their_names`]), and gives each request its time
@@ -85,6 +91,7 @@
 
 // Apart from the gateway, of which it needs the log and `IsFaithful` alone: so the gateway's chain
 // stays short (docs/DECISIONS.md, "`delivery` stands apart").
+mod ages;
 mod commands;
 mod counting;
 mod exchanges;
@@ -97,11 +104,14 @@ mod of_the_line;
 mod passed_on;
 mod premises;
 mod received;
+mod refusing;
 mod restarting;
 mod room;
+mod selecting;
 mod sending;
 mod waiting;
 
+pub use ages::tags_are_as_old_as_the_moment_that_they_name;
 pub use commands::{
     each_command_is_given_once, faultless_commands_are_forwarded, selections_end_in_time,
     settings_are_set_up, stations_are_told_apart, the_course_is_the_logs,
@@ -139,7 +149,7 @@ pub use of_the_line::{
 pub use passed_on::{
     answers_are_passed_on_as_they_came, answers_bear_the_tag_of_their_command,
     answers_of_stations_are_heeded, each_answer_is_given_once, pieces_bear_as_many_objects_as_fit,
-    reports_of_monitor_types_are_passed_on,
+    reports_go_on_octet_by_octet, reports_of_monitor_types_are_passed_on,
 };
 pub use premises::{
     a_log_without_a_restart_is_one_life, any_beginning_may_have_come,
@@ -151,9 +161,16 @@ pub use received::{
     frames_have_the_faults_of_their_history, octets_are_those_of_their_connection,
     pieces_are_acknowledged_with_their_frames, what_has_come_is_one_run,
 };
+pub use refusing::{
+    refused_commands_come_back_with_their_cause, unknown_common_addresses_are_answered,
+};
 pub use restarting::no_command_is_sent_again_behind_a_restart;
 pub use room::{
     sixteen_commands_keep_their_tags, sixteen_own_answers_wait, sixty_four_commands_find_places,
+};
+pub use selecting::{
+    each_execute_has_a_select_of_its_own, selects_let_their_execute_through,
+    sixteen_selections_find_places,
 };
 pub use sending::{each_step_asks_and_closes_once, frames_go_out_in_their_order};
 pub use waiting::{

@@ -1,13 +1,15 @@
 //! What a station says of a command, as it goes to the control centre.
-ghost use Rattle.std.specs.Prelude.{◌≡◌, ◌<◌, ◌≤◌, ◌+◌, ◌%◌, ◌⊎◌, ℕ, List, [], ◌∷◌, ◌++◌};
-ghost use Rattle.std.specs.Prelude.{length, drop, slice_get, slice_index, Some, None, true, false};
+ghost use Rattle.std.specs.Prelude.{◌≡◌, ◌<◌, ◌≤◌, ◌+◌, ◌/◌, ◌%◌, ◌⊎◌, ℕ, List, [], ◌∷◌, ◌++◌};
+ghost use Rattle.std.specs.Prelude.{length, drop, take, slice_get, slice_index, Some, None, true};
+ghost use Rattle.std.specs.Prelude.{false};
 ghost use Rattle.std.specs.List.{flat_map, AllByRecursion};
 ghost use Rattle.arrayvec.specs.ArrayVec.{ArrayVec};
 ghost use Rattle.elements.specs.declared.tag.Cp56.{Cp56};
 ghost use Rattle.asdu.specs.Asdu.{AsduValue, Info, IsAsdu, IsNoAsdu};
 ghost use Rattle.elements.specs.Octets.{AreOctets};
 ghost use Rattle.asdu.specs.InformationObjects.{InformationObject, objects_of};
-ghost use Rattle.asdu.specs.Layout.{HaveOneHead, IsObjectOf};
+ghost use Rattle.asdu.specs.Layout.{HaveOneHead, IsObjectOf, address_octets, content_octets};
+ghost use Rattle.asdu.specs.Layout.{common_address_place, object_address_at, objects_place};
 ghost use Rattle.asdu.specs.Sizes.{tcp};
 ghost use Rattle.asdu.specs.declared.sizes.Sizes.{Sizes};
 ghost use Rattle.asdu.specs.Translation.{report_pieces, AllButLast};
@@ -26,7 +28,8 @@ ghost use Rattle.gateway.specs.Tags.{AreTagged};
 ghost use Rattle.gateway.specs.Works.{IsPassedOn};
 ghost use Rattle.delivery.specs.Answers.{answer_form, answer_in, most_objects, IsGivenOnce};
 ghost use Rattle.delivery.specs.Answers.{IsHeeded};
-ghost use Rattle.delivery.specs.Answers.{IsGivenInPieces};
+ghost use Rattle.delivery.specs.Answers.{IsGivenInPieces, cause_in_two, common_address_in_two};
+ghost use Rattle.delivery.specs.Bodies.{BeginAt, wide_objects};
 
 use asdu::{
     monitor_reports_are_passed_on, objects_are_those_of_the_asdu, objects_have_all_their_parts,
@@ -184,4 +187,46 @@ pub fn reports_of_monitor_types_are_passed_on()
     objects_are_those_of_the_asdu();
     objects_have_all_their_parts();
     octets_stand_where_the_standard_has_them();
+}
+
+/// A report goes on octet by octet, whatever its type, its cause, its addresses and its values. One
+/// with one object is one ASDU in the sizes of IEC 60870-5-104. Its element, its quality and its
+/// time tag are as they came. Of a report with more objects each ASDU has the type, the SQ, the
+/// cause octet, the originator and the common address, and at most 249 octets. What stands behind their headers is, joined, what stands behind the
+/// report's, but for the size of the addresses. With SQ 1 each begins at the address behind the
+/// objects of those before (IEC 60870-5-101, 7.1 and 7.2).
+pub fn reports_go_on_octet_by_octet()
+    ensures one { (sizes : Sizes) (u : AsduValue) (report : List ℕ) → IsAsdu sizes u report →
+        (row u.kind).monitor ≡ true → (slice_index report 2 % 128 ≡ 108 → ⊥) →
+        slice_index report 1 % 128 ≡ 1 →
+        pieces_of_report sizes report ≡ answer_form sizes report ∷ [] }
+    ensures heads { (sizes : Sizes) (u : AsduValue) (report : List ℕ) → IsAsdu sizes u report →
+        (row u.kind).monitor ≡ true → (slice_index report 2 % 128 ≡ 108 → ⊥) →
+        AllByRecursion (λ piece. (slice_index piece 0 ≡ slice_index report 0)
+        × (slice_index piece 1 / 128 ≡ slice_index report 1 / 128)
+        × (slice_index piece 2 ≡ slice_index report 2) × (length piece ≤ 249))
+        (pieces_of_report sizes report) }
+    ensures addresses { (sizes : Sizes) (u : AsduValue) (report : List ℕ) → IsAsdu sizes u report →
+        (row u.kind).monitor ≡ true → (slice_index report 2 % 128 ≡ 108 → ⊥) →
+        AllByRecursion (λ piece. take 4 (drop 2 piece) ≡ cause_in_two sizes.cause report
+        ++ common_address_in_two sizes.ca (common_address_place sizes.cause) report)
+        (pieces_of_report sizes report) }
+    ensures apart { (sizes : Sizes) (u : AsduValue) (report : List ℕ) → IsAsdu sizes u report →
+        (row u.kind).monitor ≡ true → (slice_index report 2 % 128 ≡ 108 → ⊥) →
+        slice_index report 1 < 128 →
+        flat_map (λ piece. drop 6 piece) (pieces_of_report sizes report)
+        ≡ wide_objects sizes.ioa (content_octets u.kind) (slice_index report 1)
+        (drop (objects_place sizes.cause sizes.ca) report) }
+    ensures together { (sizes : Sizes) (u : AsduValue) (report : List ℕ) → IsAsdu sizes u report →
+        (row u.kind).monitor ≡ true → (slice_index report 2 % 128 ≡ 108 → ⊥) →
+        128 ≤ slice_index report 1 →
+        (flat_map (λ piece. drop 9 piece) (pieces_of_report sizes report)
+        ≡ drop (address_octets sizes.ioa) (drop (objects_place sizes.cause sizes.ca) report))
+        × BeginAt (object_address_at sizes.ioa (objects_place sizes.cause sizes.ca) report)
+        (pieces_of_report sizes report) }
+{
+    answers_are_passed_on_as_they_came();
+    octets_stand_where_the_standard_has_them();
+    pieces_carry_the_report();
+    reports_of_monitor_types_are_passed_on();
 }
