@@ -1,7 +1,7 @@
 //! What the control centre has received, over closes and new connections.
 ghost use Rattle.std.specs.Prelude.{◌≡◌, ◌⊎◌, ◌+◌, ◌%◌, ◌<◌, ◌≤◌, ℕ, List, [], ◌∷◌, ◌++◌, length};
 ghost use Rattle.std.specs.Prelude.{take, true, false, None, Some};
-ghost use Rattle.std.specs.List.{flat_map};
+ghost use Rattle.std.specs.List.{AllByRecursion, flat_map};
 ghost use Rattle.arrayvec.specs.ArrayVec.{ArrayVec};
 ghost use Rattle.apci.specs.declared.apdu.Apdu.{Apdu};
 ghost use Rattle.apci.specs.declared.apdu.Apdu.TheVariants.{I, S, U};
@@ -293,9 +293,10 @@ pub fn closes_stand_in_the_octets()
 {}
 
 /// TCP cuts octets anywhere, so a part of an APDU waits for its rest, at each place where it may be
-/// cut: it is neither an APDU yet, nor refused. So no connection is closed for it
-/// (`closes_stand_in_the_octets`). With its last octet the APDU is there, whatever stands behind
-/// it (IEC 60870-5-104, 5; that TCP cuts so is this gateway's own profile).
+/// cut: it is neither an APDU yet, nor refused. With its last octet the APDU is there, whatever
+/// stands behind it. So where the octets that came on a connection are whole APDUs and a part of
+/// one more, or nothing, it isn't closed with cause 1 (IEC 60870-5-104, 5; that TCP cuts so is this
+/// gateway's own profile).
 pub fn parts_of_frames_wait_for_their_rest()
     ensures waits { (frame : Apdu) (part rest : List ℕ) (octet : ℕ) → Fits frame →
         spelling frame ≡ part ++ octet ∷ rest → IsFront part More × IsMore part }
@@ -304,4 +305,9 @@ pub fn parts_of_frames_wait_for_their_rest()
     ensures whole { (frame : Apdu) (more : List ℕ) → Fits frame →
         IsFront (spelling frame ++ more) (Whole frame (length (spelling frame)))
         × (IsMore (spelling frame ++ more) → ⊥) }
+    ensures not_closed { (p : Setup) (newer log : Log) (now : ℕ) (frames : List Apdu)
+        (frame : Apdu) (part rest : List ℕ) →
+        IsFaithful p (newer ++ Went now (Closed Grammar) ∷ log) → AllByRecursion Fits frames →
+        Fits frame → spelling frame ≡ part ++ rest →
+        (present log).received ≡ flat_map spelling frames ++ part → ⊥ }
 {}
