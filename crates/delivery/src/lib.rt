@@ -49,9 +49,10 @@
 //! are its own ([`octets_are_those_of_their_connection`]), what its frames bear
 //! ([`frames_go_out_whole_and_with_their_counts`]), in which order they go
 //! ([`frames_go_out_in_their_order`]), what closes it
-//! ([`frames_have_the_faults_of_their_history`], [`a_replaced_connection_is_reported`],
-//! [`connections_are_closed_for_the_cause_that_is_told`]), and that it keeps the rules and leaves
-//! nothing undone ([`connections_keep_the_rules_of_the_session`]).
+//! ([`frames_have_the_faults_of_their_history`], [`receive_numbers_count_up_to_the_frames_sent`],
+//! [`a_replaced_connection_is_reported`], [`connections_are_closed_for_the_cause_that_is_told`],
+//! [`closes_stand_in_the_octets`], [`parts_of_frames_wait_for_their_rest`]), and that it keeps the rules and leaves nothing undone
+//! ([`connections_keep_the_rules_of_the_session`], [`steps_leave_nothing_due`]).
 //!
 //! What the premises leave free is said, too: of an outstation ([`honest_outstations_are_free`],
 //! [`honest_outstations_go_on`]), of a link ([`links_that_stay_up_are_steady`]), of its exchanges
@@ -75,7 +76,8 @@
 //! ([`sixty_four_commands_find_places`]) and how many keep their tags
 //! ([`sixteen_commands_keep_their_tags`]), how many own answers wait
 //! ([`sixteen_own_answers_wait`]), and which calls their laws pass over
-//! ([`calls_are_passed_over_by_their_names`]).
+//! ([`calls_are_passed_over_by_their_names`]). So it is of what is said on a connection
+//! ([`what_is_said_is_told_entry_by_entry`]).
 //!
 //! The premises of the laws on a log are of the line alone: serial answers are neither late nor
 //! altered unseen (`IsHonest`), and for the first law no link reset is caused (`IsSteady`; the
@@ -154,12 +156,15 @@ pub use passed_on::{
 pub use premises::{
     a_log_without_a_restart_is_one_life, any_beginning_may_have_come,
     calls_are_passed_over_by_their_names, each_action_is_of_its_step,
+    what_is_said_is_told_entry_by_entry,
 };
 pub use received::{
-    a_replaced_connection_is_reported, connections_are_closed_for_the_cause_that_is_told,
-    connections_keep_the_rules_of_the_session, frames_go_out_whole_and_with_their_counts,
-    frames_have_the_faults_of_their_history, octets_are_those_of_their_connection,
-    pieces_are_acknowledged_with_their_frames, what_has_come_is_one_run,
+    a_replaced_connection_is_reported, closes_stand_in_the_octets,
+    connections_are_closed_for_the_cause_that_is_told, connections_keep_the_rules_of_the_session,
+    frames_go_out_whole_and_with_their_counts, frames_have_the_faults_of_their_history,
+    octets_are_those_of_their_connection, parts_of_frames_wait_for_their_rest,
+    pieces_are_acknowledged_with_their_frames, receive_numbers_count_up_to_the_frames_sent,
+    steps_leave_nothing_due, what_has_come_is_one_run,
 };
 pub use refusing::{
     refused_commands_come_back_with_their_cause, unknown_common_addresses_are_answered,

@@ -1,12 +1,15 @@
-//! What the premises of the laws leave free: of what has come by TCP, of a log, of a step, and of
-//! calls.
-ghost use Rattle.std.specs.Prelude.{◌≡◌, ◌⊎◌, ◌≤◌, ◌++◌, [], ◌∷◌, ℕ, true, false, List, length};
-ghost use Rattle.std.specs.Prelude.{Option};
+//! What the premises of the laws leave free: of what has come by TCP, of a log, of a step, of
+//! calls, and of what is said on a connection.
+ghost use Rattle.std.specs.Prelude.{◌≡◌, ◌⊎◌, ◌≤◌, ◌++◌, [], ◌∷◌, ℕ, true, false, Bool, List};
+ghost use Rattle.std.specs.Prelude.{length, Option};
+ghost use Rattle.std.specs.List.{AllByRecursion};
 ghost use Rattle.apci.specs.declared.apdu.Apdu.{Apdu};
 ghost use Rattle.asdu.specs.declared.sizes.Sizes.{Sizes};
 ghost use Rattle.command.specs.CallByCall.{goes_out, is_cut, is_judge, is_own, is_put};
 ghost use Rattle.command.specs.Calls.{Call, Cut, Judge, Own, PutOnLine, SendOwn};
 ghost use Rattle.command.specs.declared.station.StationInfo.{StationInfo};
+ghost use Rattle.session.specs.History.{Happened, History};
+ghost use Rattle.session.specs.Said.{HasNo, IsOneOf};
 ghost use Rattle.gateway.specs.Connections.{Channel};
 ghost use Rattle.gateway.specs.Frames.{Connection, Sent, acknowledged_count, data_frames};
 ghost use Rattle.gateway.specs.Log.{Log, Input, Output, Came, Went, Restarted, TcpIn};
@@ -65,4 +68,19 @@ pub fn calls_are_passed_over_by_their_names()
         (call : Call) (earlier : List Call) →
         goes_out stations sizes select_ms max_age_ms station call earlier ≡ true →
         call ≡ PutOnLine station }
+{}
+
+/// The laws of `session` on what is said on a connection pass over what doesn't matter, however
+/// much of it was said: `HasNo` asks of each entry alone that it isn't what is meant. And where
+/// they say that an entry is one of some (`IsOneOf`), it is one of those that they list, and no
+/// other.
+pub fn what_is_said_is_told_entry_by_entry()
+    ensures none { (says : Happened → Bool) (since : History) →
+        AllByRecursion (λ entry. says entry ≡ false) since → HasNo says since }
+    ensures only { (says : Happened → Bool) (since : History) → HasNo says since →
+        AllByRecursion (λ entry. says entry ≡ false) since }
+    ensures one { (kind : ℕ → Happened) (kinds : List (ℕ → Happened)) (entry : Happened) →
+        (IsOneOf [] entry → ⊥)
+        × (IsOneOf (kind ∷ kinds) entry →
+        ((now : ℕ) × (entry ≡ kind now)) ⊎ IsOneOf kinds entry) }
 {}

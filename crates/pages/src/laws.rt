@@ -1,6 +1,7 @@
 //! What the percent mean that a long run shows.
 ghost use Rattle.std.specs.Prelude.{◌≡◌, ◌+◌, ◌*◌, ◌<◌, ◌≤◌, ℕ, List, [], ◌∷◌, ◌++◌, length, Some};
 ghost use Rattle.std.specs.Prelude.{codes, true, false};
+ghost use Rattle.std.specs.Fmt.{decimal};
 ghost use Rattle.pages.specs.Percent.{blank_text, percent_of, percent_text};
 ghost use Rattle.pages.specs.Pouring.{IsPoured};
 
@@ -15,12 +16,15 @@ pub fn percents_are_whole()
     ensures whole { (all : ℕ) → 0 < all → percent_of all all ≡ 100 }
 {}
 
-/// Each percent that is shown stands at the beginning of its line, in five columns at most. At the
-/// end these five are blank, so that nothing of it is left there.
+/// Each percent that is shown stands at the beginning of its line, in five columns at most: it is
+/// the number itself, a space and the sign. At the end these five are blank, so that nothing of it
+/// is left there.
 pub fn what_is_shown_is_blanked()
     ensures shown { (done all : ℕ) → 0 < all → done ≤ all →
         (shown : List ℕ) × (percent_text (percent_of done all) ≡ 13 ∷ shown)
         × (length shown ≤ 5) }
+    ensures itself { (percent : ℕ) →
+        percent_text percent ≡ 13 ∷ decimal percent ++ codes " %" }
     ensures blanked { blank_text ≡ 13 ∷ codes "     " ++ 13 ∷ [] }
 {}
 

@@ -169,7 +169,7 @@ first_unknown lines number first =
 -- ---- What is answered
 
 -- a reader that says what it will give gives that
-of_known : (text : List ℕ) (IsSo : List ℕ → Type 0) → OfGiven (Some text) IsSo → IsSo text
+pub of_known : (text : List ℕ) (IsSo : List ℕ → Type 0) → OfGiven (Some text) IsSo → IsSo text
 of_known text IsSo given = subst IsSo (sym given.given) given.so
 
 pub same_told : (settings : Settings) (text : List ℕ) (events actions : ℕ)

@@ -29,6 +29,7 @@ pub use examples::{records_by_example, texts_are_read_by_example};
 pub use laws::{
     a_record_is_the_text_of_what_passed, audits_say_what_a_record_has,
     comparisons_find_the_first_difference, lines_of_a_record_are_told_apart,
+    records_are_compared_line_by_line,
 };
 pub use pen::Pen;
 pub use record_sheet::{RecordSheet, StandardOutput};

@@ -154,7 +154,7 @@ number_read n lt =
 
 -- Octets
 
-hex_plain : (c : ℕ) → is_hex_digit c ≡ true → 33 < c
+pub hex_plain : (c : ℕ) → is_hex_digit c ≡ true → 33 < c
 hex_plain c is = go (nat_le 65 c && nat_le c 70) (nat_le 97 c && nat_le c 102) (nat_le 48 c
     && nat_le c 57) refl refl refl
   where

@@ -34,7 +34,7 @@ after_digits n m (d ∷ ds) e =
     by true is same rest = ap (λ (b : Bool). b && list_all is_ascii_digit ds) is ∙ rest same
     by false is same rest = cc
 
-digits_are : (ds : List ℕ) (n : ℕ) → decimal_of ds ≡ Some n → AreDigitsOf ds n
+pub digits_are : (ds : List ℕ) (n : ℕ) → decimal_of ds ≡ Some n → AreDigitsOf ds n
 digits_are ds n e = by (nat_le 1 (length ds) && nat_le (length ds) 15) refl e
   where
     by : (b : Bool) → (nat_le 1 (length ds) && nat_le (length ds) 15) ≡ b
@@ -48,7 +48,7 @@ digits_are ds n e = by (nat_le 1 (length ds) && nat_le (length ds) 15) refl e
         }
     by false is same = cc
 
-hex_is : (text octets : List ℕ) → octets_of text ≡ Some octets → AreHexOf text octets
+pub hex_is : (text octets : List ℕ) → octets_of text ≡ Some octets → AreHexOf text octets
 hex_is text octets e =
     let is = are_octets text octets e in
     let digits : list_all is_hex_digit text ≡ true =

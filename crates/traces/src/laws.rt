@@ -24,7 +24,7 @@ ghost use Rattle.traces.specs.Printed.{actions_of};
 ghost use Rattle.traces.specs.LineByLine.{AreSaid, IsFirstWrong};
 ghost use Rattle.traces.specs.Progress.{came, events_in, script_in, IsJudgement};
 ghost use Rattle.traces.specs.Saying.{IsHexDigitOf, Says};
-ghost use Rattle.traces.specs.Trace.{logged, IsTraceOf};
+ghost use Rattle.traces.specs.Trace.{logged, first_wrong, IsTraceOf};
 ghost use Rattle.traces.specs.declared.reading.TextFault.TheVariants.{Line};
 
 /// What is printed reads back: the line of an event or an action, with its line feed, is read as
@@ -108,6 +108,47 @@ pub fn texts_are_read_line_by_line()
         script_in text ≡ Came 0 Ticked ∷ events_in (slice_split (λ b. b == 10) text) }
 {}
 
+/// Each event has its line, whatever its moment, its octets and its number are: the digits of the
+/// moment, a space and its letter, and behind another space its octets or its number. The line
+/// gives that event under its own name, whatever lines stand before and behind it. An empty line
+/// and a comment give none, however long. Each other line that gives no event is wrong, and the
+/// first of these is named. No other is, so a whole text gives the events of all of its lines.
+pub fn each_line_gives_its_own_event()
+    ensures octets { (moment text octets : List ℕ) (now : ℕ) → decimal_of moment ≡ Some now →
+        octets_of text ≡ Some octets →
+        (events_in ((moment ++ (codes " S " ++ text)) ∷ []) ≡ Came now (LineIn octets) ∷ [])
+        × (events_in ((moment ++ (codes " R " ++ text)) ∷ []) ≡ Came now (TcpIn octets) ∷ []) }
+    ensures wall { (moment text : List ℕ) (now number : ℕ) → decimal_of moment ≡ Some now →
+        decimal_of text ≡ Some number →
+        events_in ((moment ++ (codes " W " ++ text)) ∷ []) ≡ Came now (WallIs number) ∷ [] }
+    ensures others { (moment : List ℕ) (now : ℕ) → decimal_of moment ≡ Some now →
+        (events_in ((moment ++ codes " O") ∷ []) ≡ Came now Opened ∷ [])
+        × (events_in ((moment ++ codes " C") ∷ []) ≡ Came now CutOff ∷ [])
+        × (events_in ((moment ++ codes " T") ∷ []) ≡ Came now Ticked ∷ []) }
+    ensures none { (comment : List ℕ) →
+        (events_in ([] ∷ []) ≡ []) × (events_in ((35 ∷ comment) ∷ []) ≡ []) }
+    ensures joined { (before behind : List (List ℕ)) →
+        events_in (before ++ behind) ≡ events_in before ++ events_in behind }
+    ensures right { (first : ℕ) (line : List ℕ) (behind : List (List ℕ)) (entry : LogEntry) →
+        events_in (line ∷ []) ≡ entry ∷ [] →
+        first_wrong first (line ∷ behind) ≡ first_wrong (first + 1) behind }
+    ensures passed_over { (first : ℕ) (comment : List ℕ) (behind : List (List ℕ)) →
+        (first_wrong first ([] ∷ behind) ≡ first_wrong (first + 1) behind)
+        × (first_wrong first ((35 ∷ comment) ∷ behind) ≡ first_wrong (first + 1) behind) }
+    ensures wrong { (first octet : ℕ) (octets : List ℕ) (behind : List (List ℕ)) →
+        (octet ≡ 35 → ⊥) → events_in ((octet ∷ octets) ∷ []) ≡ [] →
+        first_wrong first ((octet ∷ octets) ∷ behind) ≡ Some first }
+    ensures last { (first : ℕ) → first_wrong first [] ≡ None }
+    ensures read { (text : List ℕ) (entries : Vec Entry Global) → IsTraceOf text (Ok entries) →
+        let lines = slice_split (λ b. b == 10) text in
+        (map event_of entries.items ≡ events_in lines) × (first_wrong 1 lines ≡ None) }
+    ensures refused { (text : List ℕ) (number : ℕ) → IsTraceOf text (Err (Line number)) →
+        first_wrong 1 (slice_split (λ b. b == 10) text) ≡ Some number }
+    ensures judged { (first number : ℕ) (text : List ℕ) →
+        IsJudgement first text (Err (Line number)) →
+        first_wrong first (slice_split (λ b. b == 10) text) ≡ Some number }
+{}
+
 /// A number is read digit by digit: one digit is its own value, and each further one counts what
 /// stood before it ten times. A zero in front changes nothing. So 1 to 15 digits are a number, and
 /// no digit, more digits, or any other octet among them are none.
@@ -124,14 +165,18 @@ pub fn numbers_are_read_digit_by_digit()
         is_ascii_digit (slice_index text k) ≡ false → decimal_of text ≡ None }
 {}
 
-/// Octets are read two digits each, of which the first counts 16, up to 1,024 octets. No digit, an
-/// odd number of digits, more digits, or any other character among them are none.
+/// Octets are read two digits each, of which the first counts 16, up to 1,024 octets. Each digit
+/// may be written in capital or small letters. No digit, an odd number of digits, more digits, or
+/// any other character among them are none.
 pub fn octets_are_read_two_digits_each()
     ensures one { (high low h l : ℕ) → IsHexDigitOf h high → IsHexDigitOf l low →
         octets_of (high ∷ low ∷ []) ≡ Some ((16 * h + l) ∷ []) }
     ensures further { (text octets : List ℕ) (high low h l : ℕ) → octets_of text ≡ Some octets →
         length octets ≤ 1023 → IsHexDigitOf h high → IsHexDigitOf l low →
         octets_of (text ++ high ∷ low ∷ []) ≡ Some (octets ++ (16 * h + l) ∷ []) }
+    ensures digits { (value : ℕ) → value < 16 →
+        IsHexDigitOf value (slice_index (codes "0123456789ABCDEF") value)
+        × IsHexDigitOf value (slice_index (codes "0123456789abcdef") value) }
     ensures none { octets_of [] ≡ None }
     ensures odd { (text : List ℕ) → length text % 2 ≡ 1 → octets_of text ≡ None }
     ensures long { (text : List ℕ) → 2048 < length text → octets_of text ≡ None }

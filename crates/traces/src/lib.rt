@@ -47,8 +47,9 @@ pub use blocks::{BlockFault, Blocks};
 pub use decimal::decimal as read_decimal;
 pub use judging::judge;
 pub use laws::{
-    lines_say_what_they_log, numbers_are_read_digit_by_digit, octets_are_read_two_digits_each,
-    printed_lines_have_these_fields, printed_lines_read_back, texts_are_read_line_by_line,
+    each_line_gives_its_own_event, lines_say_what_they_log, numbers_are_read_digit_by_digit,
+    octets_are_read_two_digits_each, printed_lines_have_these_fields, printed_lines_read_back,
+    texts_are_read_line_by_line,
 };
 pub use lines::{cut, is_skipped, parts};
 pub use moments::Moment;

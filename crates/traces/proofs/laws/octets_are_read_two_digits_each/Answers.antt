@@ -1,4 +1,4 @@
-use Rattle.std.proofs.Common.{[], refl}
+use Rattle.std.proofs.Common.{[], inl, inr, refl}
 use Rattle.traces.proofs.OctetLemmas.{other_octet, wrong_length}
 use Rattle.traces.proofs.PairLemmas.{long_digits}
 use Rattle.traces.proofs.ReadLemmas.{one_octet, further_octet, odd_number}
@@ -11,6 +11,9 @@ pub returns-clause-further : goal.returns-clause-further
 returns-clause-further c =
     λ text octets high low h l e room first second.
     further_octet text octets high low h l e room first second
+
+pub returns-clause-digits : goal.returns-clause-digits
+returns-clause-digits c = λ value few. ((few, inl refl), (few, inr refl))
 
 pub returns-clause-none : goal.returns-clause-none
 returns-clause-none c = wrong_length [] refl
