@@ -35,6 +35,9 @@ ghost use Rattle.link.specs.Runs.{Call, Next, Octets, Due, GivesUp, called, call
 ghost use Rattle.link.specs.Sent.{Sent, sent};
 ghost use Rattle.link.specs.Turns.{CommandsWaiting, station_at};
 ghost use Rattle.link.specs.Waits.{WantsAt, AlwaysWants};
+ghost use Rattle.gateway.specs.Log.{Log};
+ghost use Rattle.gateway.specs.Reports.{Setup, address_at, exchanges_with};
+ghost use Rattle.delivery.specs.Delivery as by_log;
 ghost use Rattle.delivery.specs.Freedom.{HasFunction, IsShort, answering, behind, IsBesides};
 ghost use Rattle.delivery.specs.NextRequests.{IsOutNoMore, AlwaysHasData, first_answered};
 
@@ -90,7 +93,8 @@ pub fn honest_outstations_are_free()
 /// Exchanges are those of an honest outstation from the first on, and with each that follows: what
 /// it does is a step of its own, and a frame at the front of the exchange is its answer. Where no
 /// frame stands there, its answer was lost on the way, or there was none. Before the first exchange
-/// it has no frame count bit.
+/// it has no frame count bit. By a log an outstation is honest where it is by the exchanges with
+/// its station: of what else stands in the log, and of the settings, nothing is asked.
 pub fn honest_outstations_go_on()
     ensures begins { (station : ℕ) →
         (h : IsHonest station [] []) × (h.end ≡ record { bit = None; last = None }) }
@@ -99,15 +103,24 @@ pub fn honest_outstations_go_on()
         OutstationStep station h.end x.request turn new →
         ((frame : Frame) → x.front ≡ Some frame → turn.answer ≡ Some frame) →
         (g : IsHonest station (xs ++ x ∷ []) (turns ++ turn ∷ [])) × (g.end ≡ new) }
+    ensures of_a_log { (p : Setup) (log : Log) (i : ℕ) (turns : List Turn) →
+        IsHonest (address_at p.addresses i) (exchanges_with p i log) turns →
+        by_log.IsHonest p log i turns }
 {}
 
 /// A link is steady where it stays up once it is: whatever comes behind exchanges that leave it up
-/// leaves it up, too, whether unanswered services are held or not. Nothing else is asked of it.
+/// leaves it up, too, whether unanswered services are held or not. Nothing else is asked of it, and
+/// by a log nothing but this of the exchanges with its station.
 pub fn links_that_stay_up_are_steady()
-    ensures { (settings : LinkSettings) (station : ℕ) (xs : List Exchange) →
+    ensures each { (settings : LinkSettings) (station : ℕ) (xs : List Exchange) →
         ((before since later : List Exchange) → before ++ (since ++ later) ≡ xs →
         IsUp settings station before → IsUp settings station (before ++ since)) →
         IsSteady settings station Down xs }
+    ensures of_a_log { (p : Setup) (log : Log) (i : ℕ) →
+        ((before since later : List Exchange) →
+        before ++ (since ++ later) ≡ exchanges_with p i log →
+        IsUp p.link (address_at p.addresses i) before →
+        IsUp p.link (address_at p.addresses i) (before ++ since)) → by_log.IsSteady p log i }
 {}
 
 /// Behind a link that was given up the status comes first, whatever the latest exchange was: no

@@ -6,4 +6,5 @@ returns c = record {
   begins = begins;
   one_more = λ station xs turns x turn new h step fits.
       one_more station x turn new xs turns h step fits;
+  of_a_log = λ p log i turns honest. honest;
 }
