@@ -32,4 +32,28 @@ returns c =
           (places (seats before now))
           (sides goes_on before now s (length s.serial.line.stations)).commands i
           (place_there before now i station None there place));
+      as_it_was = λ before now place u. (
+        u.was,
+        u.is,
+        u.stood,
+        u.found,
+        u.ca,
+        u.select,
+        u.link_size,
+        u.cause_size,
+        u.ca_size,
+        u.ioa_size,
+      );
+      so_set = λ before now place was is stood found ca select link cause common object. record {
+        was = was;
+        stood = stood;
+        is = is;
+        found = found;
+        ca = ca;
+        select = select;
+        link_size = link;
+        cause_size = cause;
+        ca_size = common;
+        ioa_size = object;
+      };
     }
