@@ -48,10 +48,10 @@
 //! What the gateway's definitions take for granted of a connection is said here too: which octets
 //! are its own ([`octets_are_those_of_their_connection`]), what its frames bear
 //! ([`frames_go_out_whole_and_with_their_counts`]), in which order they go
-//! ([`frames_go_out_in_their_order`]), what closes it
-//! ([`frames_have_the_faults_of_their_history`], [`receive_numbers_count_up_to_the_frames_sent`],
-//! [`a_replaced_connection_is_reported`], [`connections_are_closed_for_the_cause_that_is_told`],
-//! [`closes_stand_in_the_octets`], [`parts_of_frames_wait_for_their_rest`]), and that it keeps the rules and leaves nothing undone
+//! ([`frames_go_out_in_their_order`]), what closes it ([`frames_have_the_faults_of_their_history`],
+//! [`receive_numbers_count_up_to_the_frames_sent`], [`a_replaced_connection_is_reported`],
+//! [`connections_are_closed_for_the_cause_that_is_told`], [`closes_stand_in_the_octets`],
+//! [`parts_of_frames_wait_for_their_rest`]), and that it keeps the rules and leaves nothing undone
 //! ([`connections_keep_the_rules_of_the_session`], [`steps_leave_nothing_due`]).
 //!
 //! What the premises leave free is said, too: of an outstation ([`honest_outstations_are_free`],

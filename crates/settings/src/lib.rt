@@ -25,7 +25,9 @@ pub use fault::{ConfigFault, WrongKey};
 pub use keys::{Flag, Whole, given, section};
 pub use live::{LiveSettings, is_address, is_here};
 pub use named::{
-    faults_name_the_first_wrong_key, lines_are_here_by_their_names, named_settings_are_read,
-    other_keys_are_refused, settings_are_named, words_are_those_of_the_rows,
+    each_setting_has_its_key_and_its_bounds, faults_name_the_first_wrong_key,
+    files_may_have_these_keys_and_stations, lines_are_here_by_their_names, named_settings_are_read,
+    other_keys_are_refused, settings_are_named, values_are_those_under_their_keys,
+    words_are_those_of_the_rows,
 };
 pub use wanted::wanted_values;

@@ -37,3 +37,5 @@ pub mod WrittenLines
 pub mod WrongLines
 pub mod Beginnings
 pub mod PrintedRuns
+pub mod WholeDirectives
+pub mod Supposing

@@ -20,7 +20,8 @@ ghost use Rattle.gateway.specs.declared.settings.StationSettings.{StationSetting
 ghost use Rattle.gateway.specs.Config.{Settings, AreDistinct};
 ghost use Rattle.gateway.specs.Log.{Log, Input, Came, Went, LineIn, Opened, TcpIn, CutOff, Ticked};
 ghost use Rattle.gateway.specs.Log.{Output};
-ghost use Rattle.gateway.specs.Log.{WallIs, LineOut, TcpOut, Closed, events_of, last_moment};
+ghost use Rattle.gateway.specs.Log.{WallIs, LineOut, TcpOut, Closed, GapOut, events_of};
+ghost use Rattle.gateway.specs.Log.{last_moment};
 ghost use Rattle.gateway.specs.Log.{latest};
 ghost use Rattle.gateway.specs.Reports.{Setup, exchanges_of};
 ghost use Rattle.gateway.specs.Setups.{setup_of};
@@ -32,7 +33,8 @@ ghost use Rattle.sim.specs.declared.directive.Directive.{Directive};
 ghost use Rattle.sim.specs.declared.directive.Directive.TheVariants.{LoseRequest, LoseAnswer};
 ghost use Rattle.sim.specs.declared.directive.Directive.TheVariants.{SpoilAnswer, Cut, Send};
 ghost use Rattle.sim.specs.declared.directive.Directive.TheVariants.{Report};
-ghost use Rattle.sim.specs.declared.directive.RequestFate.TheVariants.{AnswerLost};
+ghost use Rattle.sim.specs.declared.directive.RequestFate.TheVariants.{AnswerLost, AnswerSpoilt};
+ghost use Rattle.sim.specs.declared.directive.RequestFate.TheVariants.{Answered, RequestLost};
 ghost use Rattle.sim.specs.declared.directive.Class.{Class};
 ghost use Rattle.sim.specs.declared.directive.Class.TheVariants.{One, Two};
 ghost use Rattle.sim.specs.declared.tally.StationTally.{StationTally};
@@ -383,4 +385,41 @@ pub fn runs_are_printed_to_their_end()
         ++ lines_of_connections (connections_in log (here_of run.delivers.course)
         run.delivers.course.earlier) ++ session_lines 0 run.tallies)
         × HaveServed c ds log 0 run.stations run.tallies × (calls_in log ≡ turns_of ds) }
+{}
+
+/// What the laws on a run suppose, in other words. A call finds the connection open where no wall
+/// clock is given, it is open and isn't cut. It runs where STARTDT act was sent, too, and is quiet
+/// where nothing is to be sent then, and nothing to be acknowledged. A connection goes on until it
+/// is opened, cut or closed, whatever else comes or goes. And a request fares as its lines say: it
+/// is lost by a line that loses it. Else its answer is lost, or spoilt by one of the lines that
+/// spoil it, or comes where no line has its number.
+pub fn laws_of_a_run_suppose_no_more()
+    ensures stays { (ds : List Directive) (call : ℕ) (c : Centre) → wall_at ds call ≡ None →
+        c.is_open ≡ true → is_cut_at ds call ≡ false → StaysOpen ds call c }
+    ensures runs { (ds : List Directive) (call : ℕ) (c : Centre) → StaysOpen ds call c →
+        c.is_started ≡ true → Runs ds call c }
+    ensures quiet { (ds : List Directive) (call : ℕ) (c : Centre) → Runs ds call c →
+        sent_at ds call ≡ None → c.received - c.acknowledged < ack_of ds → IsQuiet ds call c }
+    ensures comes { (now number : ℕ) (octets : List ℕ) → AllByRecursion
+        (λ entry. goes_on entry ≡ true) (Came now (LineIn octets) ∷ Came now (TcpIn octets)
+        ∷ Came now Ticked ∷ Came now (WallIs number) ∷ []) }
+    ensures goes { (now station session : ℕ) (octets : List ℕ) → AllByRecursion
+        (λ entry. goes_on entry ≡ true) (Went now (LineOut octets) ∷ Went now (TcpOut octets)
+        ∷ Went now (GapOut station session) ∷ []) }
+    ensures beside { (now number station session : ℕ) (octets : List ℕ) (cause : Close) →
+        AllByRecursion (λ entry. is_of_line entry ≡ false) (Came now Opened ∷ Came now CutOff
+        ∷ Came now (TcpIn octets) ∷ Came now Ticked ∷ Came now (WallIs number)
+        ∷ Went now (TcpOut octets) ∷ Went now (Closed cause)
+        ∷ Went now (GapOut station session) ∷ []) }
+    ensures lost { (ds : List Directive) (request : ℕ) → Contains ds (LoseRequest request) →
+        fate_of ds request ≡ RequestLost }
+    ensures spoilt { (ds : List Directive) (request place : ℕ) →
+        (Contains ds (LoseRequest request) → ⊥) → (Contains ds (LoseAnswer request) → ⊥) →
+        Contains ds (SpoilAnswer request place) →
+        (other : ℕ) × (fate_of ds request ≡ AnswerSpoilt other)
+        × Contains ds (SpoilAnswer request other) }
+    ensures answered { (ds : List Directive) (request : ℕ) →
+        (Contains ds (LoseRequest request) → ⊥) → (Contains ds (LoseAnswer request) → ⊥) →
+        ((place : ℕ) → Contains ds (SpoilAnswer request place) → ⊥) →
+        fate_of ds request ≡ Answered }
 {}

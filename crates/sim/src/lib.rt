@@ -83,15 +83,16 @@ pub use laws::{
     answers_wait_until_they_are_given, calls_give_the_first_that_applies,
     closing_lines_tell_of_all, connections_are_counted, each_beginning_of_a_run_is_a_run,
     each_line_is_about_its_number, each_request_fares_by_its_lines, events_have_their_moments,
-    reports_are_those_of_their_lines, runs_are_printed_to_their_end, stations_are_honest,
-    the_centre_counts_the_frames_of_its_connection,
+    laws_of_a_run_suppose_no_more, reports_are_those_of_their_lines, runs_are_printed_to_their_end,
+    stations_are_honest, the_centre_counts_the_frames_of_its_connection,
 };
 pub use line::read_line;
 pub use reading::read_script;
 pub use receiving::{arriving, put_out};
 pub use script::Script;
 pub use script_laws::{
-    lines_say_what_they_write, texts_are_read_line_by_line, what_is_said_once_holds,
+    each_directive_has_its_line, lines_say_what_they_write, texts_are_read_line_by_line,
+    what_is_said_once_holds,
 };
 pub use sim::Sim;
 pub use simulating::{simulate, simulate_watched};

@@ -1,18 +1,23 @@
 //! What holds of every script, and of every text of one.
-ghost use Rattle.std.specs.Prelude.{◌≡◌, ◌⊎◌, ◌<◌, ◌==◌, ◌++◌, ◌∷◌, [], ℕ, true, false, List};
-ghost use Rattle.std.specs.Prelude.{length};
+ghost use Rattle.std.specs.Prelude.{◌≡◌, ◌⊎◌, ◌<◌, ◌≤◌, ◌+◌, ◌==◌, ◌++◌, ◌∷◌, [], ℕ, true, false};
+ghost use Rattle.std.specs.Prelude.{List, codes, length};
 ghost use Rattle.std.specs.Prelude.{Contains, Some, None, Ok, Err};
 ghost use Rattle.std.specs.List.{AllByRecursion, flat_map, slice_split};
+ghost use Rattle.ft12.specs.Spelling.{address_len};
 ghost use Rattle.ft12.specs.declared.frame.LinkSize.{LinkSize};
 ghost use Rattle.gateway.specs.Config.{Settings};
+ghost use Rattle.sim.specs.declared.directive.Class.TheVariants.{One, Two};
 ghost use Rattle.sim.specs.declared.directive.Directive.{Directive};
-ghost use Rattle.sim.specs.declared.directive.Directive.TheVariants.{Turns, Ack, Wall};
+ghost use Rattle.sim.specs.declared.directive.Directive.TheVariants.{Turns, Ack, Wall, Report};
+ghost use Rattle.sim.specs.declared.directive.Directive.TheVariants.{LoseRequest, LoseAnswer};
+ghost use Rattle.sim.specs.declared.directive.Directive.TheVariants.{SpoilAnswer, Cut, Send};
 ghost use Rattle.sim.specs.Directives.{directive_in};
 ghost use Rattle.sim.specs.Examples.{line};
 ghost use Rattle.sim.specs.Losses.{turns_of, ack_of, wall_at};
 ghost use Rattle.sim.specs.Scripts.{IsScript, IsScriptOf, AreSaidBy, first_wrong, lines_of};
 ghost use Rattle.sim.specs.Written.{IsWritten, Collide, HasNoFeed, HasTurns, AreRight, said_by};
 ghost use Rattle.sim.specs.Written.{IsFirstWrong, LacksTurns};
+ghost use Rattle.traces.specs.Fields.{decimal_of, octets_of};
 ghost use Rattle.traces.specs.Trace.{is_skipped};
 ghost use Rattle.traces.specs.declared.reading.TextFault.TheVariants.{Line};
 
@@ -26,6 +31,42 @@ pub fn lines_say_what_they_write()
     ensures only { (size : LinkSize) (stations : ℕ) (text : List ℕ) (directive : Directive) →
         directive_in size stations text ≡ Some directive →
         IsWritten size stations directive (slice_split (λ b. b == 32) text) }
+{}
+
+/// Each thing that a script can say has its line, whatever its numbers and its octets are: its
+/// words, and these, each behind one space. A number has 1 to 9 digits, and a wall clock up to 15.
+/// A station is named by its place, from 1, and what it reports is of the class that is named.
+pub fn each_directive_has_its_line()
+    ensures turns { (size : LinkSize) (stations : ℕ) (digits : List ℕ) (n : ℕ) →
+        length digits ≤ 9 → decimal_of digits ≡ Some n →
+        (directive_in size stations (codes "turns " ++ digits) ≡ Some (Turns n))
+        × (directive_in size stations (codes "cut " ++ digits) ≡ Some (Cut n))
+        × (1 ≤ n → n ≤ 32767 →
+        directive_in size stations (codes "ack " ++ digits) ≡ Some (Ack n)) }
+    ensures wall { (size : LinkSize) (stations : ℕ) (digits : List ℕ) (n : ℕ) →
+        decimal_of digits ≡ Some n →
+        directive_in size stations (codes "wall " ++ digits) ≡ Some (Wall n) }
+    ensures lost { (size : LinkSize) (stations : ℕ) (digits : List ℕ) (n : ℕ) →
+        length digits ≤ 9 → decimal_of digits ≡ Some n →
+        (directive_in size stations (codes "lose request " ++ digits) ≡ Some (LoseRequest n))
+        × (directive_in size stations (codes "lose answer " ++ digits) ≡ Some (LoseAnswer n)) }
+    ensures spoilt { (size : LinkSize) (stations : ℕ) (digits places : List ℕ)
+        (n place : ℕ) → length digits ≤ 9 → decimal_of digits ≡ Some n → length places ≤ 9 →
+        decimal_of places ≡ Some place →
+        directive_in size stations (codes "spoil answer " ++ digits ++ 32 ∷ places)
+        ≡ Some (SpoilAnswer n place) }
+    ensures sent { (size : LinkSize) (stations : ℕ) (digits text octets : List ℕ) (n : ℕ) →
+        length digits ≤ 9 → decimal_of digits ≡ Some n → octets_of text ≡ Some octets →
+        9 ≤ length octets → length octets ≤ 249 →
+        directive_in size stations (codes "send " ++ digits ++ 32 ∷ text)
+        ≡ Some (Send n octets) }
+    ensures report { (size : LinkSize) (stations index : ℕ) (digits text octets : List ℕ) →
+        length digits ≤ 9 → decimal_of digits ≡ Some (index + 1) → index < stations →
+        octets_of text ≡ Some octets → 1 + address_len size + length octets < 256 →
+        (directive_in size stations (codes "report " ++ digits ++ (codes " 1 " ++ text))
+        ≡ Some (Report index One octets))
+        × (directive_in size stations (codes "report " ++ digits ++ (codes " 2 " ++ text))
+        ≡ Some (Report index Two octets)) }
 {}
 
 /// A text that is read has lines that line feeds end, and what follows the last. None of them is

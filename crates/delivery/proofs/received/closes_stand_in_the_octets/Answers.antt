@@ -1,10 +1,10 @@
-use Rattle.std.proofs.Common.{◌≡◌, ◌⊎◌, ℕ, List, ◌++◌, ◌∷◌, inl, inr, refl, sym, subst}
+use Rattle.std.proofs.Common.{◌≡◌, ◌⊎◌, ℕ, List, ◌++◌, ◌∷◌, inl, inr}
 use Rattle.apci.specs.declared.apdu.Apdu.{Apdu}
 use Rattle.apci.specs.Spelling.{Fits, spelling}
 use Rattle.session.specs.History as talk
 use Rattle.session.specs.declared.kinds.Close.{Close}
 use Rattle.session.specs.declared.kinds.Close.TheVariants.{Grammar, SendNumber, ReceiveNumber}
-use Rattle.session.specs.declared.kinds.Close.TheVariants.{Stopped, Timeout, Replaced}
+use Rattle.session.specs.declared.kinds.Close.TheVariants.{Stopped, Timeout}
 use Rattle.session.specs.declared.kinds.Taken.TheVariants.{Close as Closes}
 use Rattle.gateway.specs.Connections.{present}
 use Rattle.gateway.specs.Course.{Course, Runs, came_frames}
@@ -12,7 +12,7 @@ use Rattle.gateway.specs.Log.{Log, Went, Closed}
 use Rattle.gateway.specs.Reports.{Setup}
 use Rattle.gateway.specs.Streams.{spelled}
 use Rattle.gateway.specs.Traffic.{ActsRightly}
-use Rattle.delivery.specs.Closing.{IsAtFault, IsClosedFor}
+use Rattle.delivery.specs.Closing.{IsAtFault}
 use Rattle.delivery.proofs.Closing.{closed_so}
 use Rattle.delivery.proofs.received.closes_stand_in_the_octets.Goals as goal
 

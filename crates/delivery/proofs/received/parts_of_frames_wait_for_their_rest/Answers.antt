@@ -11,7 +11,7 @@ use Rattle.apci.specs.Spelling.{Fits, spelling}
 use Rattle.apci.proofs.Apdus.{one_spelling}
 use Rattle.apci.proofs.Exact.{one_front}
 use Rattle.apci.proofs.Fronts.{nothing}
-use Rattle.session.specs.declared.kinds.Close.TheVariants.{Grammar, Replaced}
+use Rattle.session.specs.declared.kinds.Close.TheVariants.{Grammar}
 use Rattle.gateway.specs.Connections.{present}
 use Rattle.gateway.specs.Course.{came_frames}
 use Rattle.gateway.specs.Log.{Log, Went, Closed}

@@ -1,9 +1,8 @@
 use Rattle.std.proofs.Common.{◌≡◌, ◌≢◌, ℕ, ◌+◌, Bool, true, false, List, [], ◌∷◌, Some, refl}
 use Rattle.std.proofs.lemmas.Slice.Eq.{bytes_eq-Decides}
-use Rattle.std.specs.Prelude.{if◌then◌else◌}
 use Rattle.std.specs.Str.{bytes_eq}
 use Rattle.record.specs.Audit.{IsAudit, IsWrongLine}
-use Rattle.record.specs.Lines.{behind_first, first_difference, is_cut, is_first}
+use Rattle.record.specs.Lines.{first_difference, is_cut}
 use Rattle.record.specs.declared.audit.Comparison.TheVariants.{Differs, Same}
 use Rattle.record.proofs.AuditLaw.{of_known}
 use Rattle.record.proofs.laws.records_are_compared_line_by_line.Goals as goal
