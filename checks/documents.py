@@ -36,8 +36,8 @@ PLAIN = ["README.md", "CONTRIBUTING.md", "SECURITY.md", "packaging/README.md", "
 PLAIN += [f"docs/{name}.md" for name in ("COMMISSIONING", "RUNNING", "TROUBLE", "GLOSSARY")]
 PLAIN += [f"docs/{name}.md" for name in ("SETTINGS", "SITE", "STATUS", "TEXTS", "STATIONS")]
 PLAIN += [f"docs/{name}.md" for name in ("PROFILE", "INTEROPERABILITY", "LIBRARY", "PERFORMANCE")]
-PLAIN += [f"docs/{name}.md" for name in ("PROOFS", "MISREADINGS", "MISREADINGS_PROGRAM")]
-PLAIN += [f"docs/{name}.md" for name in ("ARCHITECTURE", "CHANGING", "DECISIONS", "TESTS", "GATE")]
+PLAIN += [f"docs/{name}.md" for name in ("PROOFS", "MISREADINGS", "MISREADINGS_GATEWAY", "CHANGING")]
+PLAIN += [f"docs/{name}.md" for name in ("ARCHITECTURE", "DECISIONS", "MISREADINGS_PROGRAM", "TESTS", "GATE")]
 # What a sentence names as a file: a path with one of these endings, or in one of these folders.
 NAMED = re.compile(r"`?(?<![\w/])((?:bench|checks|crates|docs|examples|packaging|tools|specs|src|\.ci)/[\w./*-]*\w|[\w-]+\.(?:md|txt|py))`?")
 

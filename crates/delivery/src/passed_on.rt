@@ -192,9 +192,10 @@ pub fn reports_of_monitor_types_are_passed_on()
 /// A report goes on octet by octet, whatever its type, its cause, its addresses and its values. One
 /// with one object is one ASDU in the sizes of IEC 60870-5-104. Its element, its quality and its
 /// time tag are as they came. Of a report with more objects each ASDU has the type, the SQ, the
-/// cause octet, the originator and the common address, and at most 249 octets. What stands behind their headers is, joined, what stands behind the
-/// report's, but for the size of the addresses. With SQ 1 each begins at the address behind the
-/// objects of those before (IEC 60870-5-101, 7.1 and 7.2).
+/// cause octet, the originator and the common address, and at most 249 octets. What stands behind
+/// their headers is, joined, what stands behind the report's, but for the size of the addresses.
+/// With SQ 1 each begins at the address behind the objects of those before (IEC 60870-5-101, 7.1
+/// and 7.2).
 pub fn reports_go_on_octet_by_octet()
     ensures one { (sizes : Sizes) (u : AsduValue) (report : List ℕ) → IsAsdu sizes u report →
         (row u.kind).monitor ≡ true → (slice_index report 2 % 128 ≡ 108 → ⊥) →
