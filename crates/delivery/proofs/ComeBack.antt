@@ -13,10 +13,11 @@ use Rattle.command.specs.Standard.{cause_of_fault, common_address, is_activation
 use Rattle.command.specs.Standard.{is_for_station, negative_of, unknown_cause, unknown_station}
 use Rattle.command.specs.Standard.{unknown_type}
 use Rattle.command.specs.History.{History, HistoryEntry, Judged, Sent, Accepted, Refused, GivenUp}
-use Rattle.command.specs.History.{Mirrored, Offered, Answered, Ended, GivesOwnAnswers}
+use Rattle.command.specs.History.{Mirrored, Offered, Answered, Ended}
 use Rattle.command.specs.History.{cause_given, busy_answer, on_line, next_for}
 use Rattle.gateway.specs.Reports.{Setup}
 use Rattle.delivery.specs.Refusing.{refused_octet, refused_as, StaysOnLine}
+use Rattle.delivery.proofs.AnyPlace.{Answers, answers_then}
 
 no_truth : {A : Type 0} → true ≡ false → A
 no_truth e = absurd (search (rules, e))
@@ -46,34 +47,18 @@ pub other_is : (xs : List ℕ) → slice_index xs 2 % 64 ≡ 8 → negative_of x
 other_is xs e = ap (λ (n : ℕ). if n == 6 then 7 else 9) e
 
 module _ (p : Setup) where
-  abbrev Answers : History → Type 0
-  Answers h = GivesOwnAnswers p.sizes p.stations p.select_ms p.max_age_ms h
-
   abbrev fault_of : Option ℕ → List ℕ → Option ℕ
   fault_of wall xs = cause_of_fault p.sizes p.stations p.max_age_ms wall xs
 
-  answers_then : (newer older : History) → Answers (newer ++ older) → Answers older
-  answers_then [] older h = h
-  answers_then (Judged now wall xs None ∷ newer) older h = answers_then newer older h.1
-  answers_then (Judged now wall xs (Some a) ∷ newer) older h = answers_then newer older h.1
-  answers_then (Sent k octets ∷ newer) older h = answers_then newer older h
-  answers_then (Accepted k ∷ newer) older h = answers_then newer older h
-  answers_then (Refused k answer ∷ newer) older h = answers_then newer older h.1
-  answers_then (GivenUp k was ∷ newer) older h = answers_then newer older h.1
-  answers_then (Mirrored now v ∷ newer) older h = answers_then newer older h
-  answers_then (Offered octets kept ∷ newer) older h = answers_then newer older h
-  answers_then (Answered octets ∷ newer) older h = answers_then newer older h
-  answers_then (Ended ∷ newer) older h = answers_then newer older h
-
-  module _ (history : History) (answers : Answers history) (newer : History) where
+  module _ (history : History) (answers : Answers p history) (newer : History) where
     -- ---- an ASDU that isn't forwarded
 
     given : (older : History) (now : ℕ) (wall : Option ℕ) (xs a : List ℕ)
         → history ≡ newer ++ Judged now wall xs (Some a) ∷ older
         → a ≡ answer (cause_given p.sizes p.stations p.select_ms p.max_age_ms wall xs) xs
     given older now wall xs a is =
-        (answers_then newer (Judged now wall xs (Some a) ∷ older)
-        (subst Answers is answers)).0
+        (answers_then p newer (Judged now wall xs (Some a) ∷ older)
+        (subst (Answers p) is answers)).0
 
     pub with_cause : (older : History) (now : ℕ) (wall : Option ℕ) (xs a : List ℕ) (why : ℕ)
         → history ≡ newer ++ Judged now wall xs (Some a) ∷ older
@@ -104,7 +89,7 @@ module _ (p : Setup) where
         → 3 ≤ length xs → slice_index xs 2 < 256 → fault_of wall xs ≡ Some why
         → a ≡ Some (refused_as why xs)
     answered older now wall xs None why is long fits so = absurd (none (
-        sym (answers_then newer (Judged now wall xs None ∷ older) (subst Answers is answers)).0
+        sym (answers_then p newer (Judged now wall xs None ∷ older) (subst (Answers p) is answers)).0
         ∙ so))
       where
         none : None ≡ Some why → ⊥
@@ -153,8 +138,8 @@ module _ (p : Setup) where
         → 3 ≤ length xs → slice_index xs 2 < 256 → negative_of xs ≡ why
         → a ≡ Some (refused_as why xs)
     busy since older k octets xs a why is line next long fits so =
-        (answers_then newer (Refused k a ∷ (since ++ Sent k octets ∷ older))
-        (subst Answers is answers)).0
+        (answers_then p newer (Refused k a ∷ (since ++ Sent k octets ∷ older))
+        (subst (Answers p) is answers)).0
         ∙ ap (λ (o : Option (List ℕ)). option_map (λ ys. answer (negative_of ys) ys) o)
         (stays k octets older since line ∙ next)
         ∙ ap (λ (n : ℕ). Some (answer n xs)) so

@@ -73,6 +73,7 @@ pub mod Heeding
 pub mod Functions
 pub mod SpoiltEach
 pub mod Giving
+pub mod AnyPlace
 pub mod OwnSelects
 pub mod ComeBack
 pub mod TagAges

@@ -18,11 +18,12 @@ use Rattle.command.specs.Standard.{plain_type, refuses_command, selects, station
 use Rattle.command.specs.History.{History, HistoryEntry, Judged, Sent, Accepted, Refused, GivenUp}
 use Rattle.command.specs.History.{Mirrored, Offered, Answered, Ended, Select, first, is_for}
 use Rattle.command.specs.History.{forwarded_to, sent_count, next_for, next_octets, is_place}
-use Rattle.command.specs.History.{ForwardsCommands, GivesOwnAnswers, ExecutesAreSelected}
 use Rattle.command.specs.History.{IsSelected, is_of_target, begins_selection, standing}
 use Rattle.command.specs.History.{place_on_line, is_accepted_at, confirmed_at}
 use Rattle.gateway.specs.Reports.{Setup}
 use Rattle.delivery.specs.Selecting.{EndsSelection, SelectsNothing, IsSelectedBy}
+use Rattle.delivery.proofs.AnyPlace.{Forwards, Answers, Selected, selected_then, forwards_then}
+use Rattle.delivery.proofs.AnyPlace.{answers_then}
 
 -- ---- small facts
 
@@ -102,15 +103,6 @@ module _ (p : Setup) where
   abbrev is_taken : ℕ → ℕ → History → Bool
   is_taken k place h = is_accepted_at p.sizes p.stations p.select_ms p.max_age_ms k place h
 
-  abbrev Forwards : History → Type 0
-  Forwards h = ForwardsCommands p.sizes p.stations p.select_ms p.max_age_ms h
-
-  abbrev pub Answers : History → Type 0
-  Answers h = GivesOwnAnswers p.sizes p.stations p.select_ms p.max_age_ms h
-
-  abbrev Selected : History → Type 0
-  Selected h = ExecutesAreSelected p.sizes p.stations p.select_ms p.max_age_ms h
-
   -- a select that came behind these
   abbrev selected_as : ℕ → List ℕ → History → Select
   selected_as came ys earlier = record {
@@ -118,46 +110,6 @@ module _ (p : Setup) where
     came = came;
     place = length (to_station (station_of p.stations ys) earlier);
   }
-
-  -- ---- what holds at any place of what became of commands
-
-  selected_then : (newer older : History) → Selected (newer ++ older) → Selected older
-  selected_then [] older h = h
-  selected_then (Judged now wall xs None ∷ newer) older h = selected_then newer older h.1
-  selected_then (Judged now wall xs (Some a) ∷ newer) older h = selected_then newer older h
-  selected_then (Sent k octets ∷ newer) older h = selected_then newer older h
-  selected_then (Accepted k ∷ newer) older h = selected_then newer older h
-  selected_then (Refused k answer ∷ newer) older h = selected_then newer older h
-  selected_then (GivenUp k was ∷ newer) older h = selected_then newer older h
-  selected_then (Mirrored now v ∷ newer) older h = selected_then newer older h
-  selected_then (Offered octets kept ∷ newer) older h = selected_then newer older h
-  selected_then (Answered octets ∷ newer) older h = selected_then newer older h
-  selected_then (Ended ∷ newer) older h = selected_then newer older h
-
-  forwards_then : (newer older : History) → Forwards (newer ++ older) → Forwards older
-  forwards_then [] older h = h
-  forwards_then (Judged now wall xs answer ∷ newer) older h = forwards_then newer older h
-  forwards_then (Sent k octets ∷ newer) older h = forwards_then newer older h.1
-  forwards_then (Accepted k ∷ newer) older h = forwards_then newer older h
-  forwards_then (Refused k answer ∷ newer) older h = forwards_then newer older h
-  forwards_then (GivenUp k was ∷ newer) older h = forwards_then newer older h
-  forwards_then (Mirrored now v ∷ newer) older h = forwards_then newer older h
-  forwards_then (Offered octets kept ∷ newer) older h = forwards_then newer older h
-  forwards_then (Answered octets ∷ newer) older h = forwards_then newer older h
-  forwards_then (Ended ∷ newer) older h = forwards_then newer older h
-
-  pub answers_then : (newer older : History) → Answers (newer ++ older) → Answers older
-  answers_then [] older h = h
-  answers_then (Judged now wall xs None ∷ newer) older h = answers_then newer older h.1
-  answers_then (Judged now wall xs (Some a) ∷ newer) older h = answers_then newer older h.1
-  answers_then (Sent k octets ∷ newer) older h = answers_then newer older h
-  answers_then (Accepted k ∷ newer) older h = answers_then newer older h
-  answers_then (Refused k answer ∷ newer) older h = answers_then newer older h.1
-  answers_then (GivenUp k was ∷ newer) older h = answers_then newer older h.1
-  answers_then (Mirrored now v ∷ newer) older h = answers_then newer older h
-  answers_then (Offered octets kept ∷ newer) older h = answers_then newer older h
-  answers_then (Answered octets ∷ newer) older h = answers_then newer older h
-  answers_then (Ended ∷ newer) older h = answers_then newer older h
 
   -- ---- which select stands
 
@@ -317,7 +269,7 @@ module _ (p : Setup) where
   some_first f None octets e = absurd (no_entry e)
   some_first f (Some x) octets e = (x, refl)
 
-  few_out : (k : ℕ) (h : History) → Forwards h → sent_at k h ≤ length (to_station k h)
+  few_out : (k : ℕ) (h : History) → Forwards p h → sent_at k h ≤ length (to_station k h)
   few_out k [] f = omega arith
   few_out k (Judged now wall ys None ∷ h) f =
       by (is_for p.sizes p.stations p.select_ms p.max_age_ms k ys) (few_out k h f)
@@ -404,14 +356,14 @@ module _ (p : Setup) where
   taken_below k n (Ended ∷ h) e = no_truth (sym e)
 
   -- nothing of a later place was accepted, stands there, or was confirmed
-  not_taken : (k n : ℕ) (h : History) → Forwards h → length (to_station k h) ≤ n
+  not_taken : (k n : ℕ) (h : History) → Forwards p h → length (to_station k h) ≤ n
       → is_taken k n h ≡ true → ⊥
   not_taken k n h f past e =
       let below : n < sent_at k h = taken_below k n h e in
       let few : sent_at k h ≤ length (to_station k h) = few_out k h f in
       omega (arith, below, few, past)
 
-  not_there : (k n : ℕ) (h : History) → Forwards h → length (to_station k h) ≤ n
+  not_there : (k n : ℕ) (h : History) → Forwards p h → length (to_station k h) ≤ n
       → place_at k h ≡ Some n → ⊥
   not_there k n h f past e =
       let below : n < sent_at k h = line_below k h n e in
@@ -428,7 +380,7 @@ module _ (p : Setup) where
     abbrev confirms_so : ℕ → AsduValue → Bool
     confirms_so now v = confirms_command z.octets v && nat_lt (now - z.came) p.select_ms
 
-    not_confirmed : (h : History) (m : ℕ) → Forwards h → length (to_station home h) ≤ z.place
+    not_confirmed : (h : History) (m : ℕ) → Forwards p h → length (to_station home h) ≤ z.place
         → confirmed h ≡ Some m → ⊥
     not_confirmed [] m f past e = no_entry e
     not_confirmed (Judged now wall ys None ∷ h) m f past e =
@@ -602,14 +554,14 @@ module _ (p : Setup) where
 
   -- ---- the laws
 
-  module _ (history : History) (selected : Selected history) (forwards : Forwards history)
-      (answers : Answers history) (xs : List ℕ) (now : ℕ) (wall : Option ℕ)
+  module _ (history : History) (selected : Selected p history) (forwards : Forwards p history)
+      (answers : Answers p history) (xs : List ℕ) (now : ℕ) (wall : Option ℕ)
       (asks : must_be_selected p.stations xs ≡ true) (executing : executes xs ≡ true) where
     is_selected : (newer older : History) → history ≡ newer ++ Judged now wall xs None ∷ older
         → IsSelected p.sizes p.stations p.select_ms p.max_age_ms xs now older
     is_selected newer older is =
-        (selected_then newer (Judged now wall xs None ∷ older)
-        (subst Selected is selected)).0 asks executing
+        (selected_then p newer (Judged now wall xs None ∷ older)
+        (subst (Selected p) is selected)).0 asks executing
 
     pub not_before : (newer older : History)
         → history ≡ newer ++ Judged now wall xs None ∷ older → SelectsNothing xs older → ⊥
@@ -662,15 +614,15 @@ module _ (p : Setup) where
 
         faultless : cause_of_fault p.sizes p.stations p.max_age_ms clock ys ≡ None
         faultless =
-            (answers_then since behind
-            (answers_then newer (Judged now wall xs None ∷ (since ++ behind))
-            (subst Answers is answers)).1).0
+            (answers_then p since behind
+            (answers_then p newer (Judged now wall xs None ∷ (since ++ behind))
+            (subst (Answers p) is answers)).1).0
 
-        before : Forwards earlier
+        before : Forwards p earlier
         before =
-            forwards_then since behind
-            (forwards_then newer (Judged now wall xs None ∷ (since ++ behind))
-            (subst Forwards is forwards))
+            forwards_then p since behind
+            (forwards_then p newer (Judged now wall xs None ∷ (since ++ behind))
+            (subst (Forwards p) is forwards))
 
         same : z ≡ s.select
         same = latest_is xs earlier came clock ys s.select faultless one
