@@ -1,10 +1,16 @@
 -- What holds of all that became of commands held at any place of it.
-use Rattle.std.proofs.Common.{List, [], ◌∷◌, ◌++◌}
+use Rattle.std.proofs.Common.{◌≡◌, true, false, List, [], ◌∷◌, ◌++◌, rules}
 use Rattle.std.specs.Prelude.{Some, None}
 use Rattle.command.specs.History.{History, Judged, Sent, Accepted, Refused, GivenUp, Mirrored}
 use Rattle.command.specs.History.{Offered, Answered, Ended, ForwardsCommands, GivesOwnAnswers}
 use Rattle.command.specs.History.{ExecutesAreSelected}
 use Rattle.gateway.specs.Reports.{Setup}
+
+pub no_entry : {A : Type 0} {z : A} → None ≡ Some z → ⊥
+no_entry e = search (rules, e)
+
+pub no_truth : {A : Type 0} → true ≡ false → A
+no_truth e = absurd (search (rules, e))
 
 module _ (p : Setup) where
   abbrev pub Forwards : History → Type 0

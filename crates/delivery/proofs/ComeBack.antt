@@ -17,10 +17,7 @@ use Rattle.command.specs.History.{Mirrored, Offered, Answered, Ended}
 use Rattle.command.specs.History.{cause_given, busy_answer, on_line, next_for}
 use Rattle.gateway.specs.Reports.{Setup}
 use Rattle.delivery.specs.Refusing.{refused_octet, refused_as, StaysOnLine}
-use Rattle.delivery.proofs.AnyPlace.{Answers, answers_then}
-
-no_truth : {A : Type 0} → true ≡ false → A
-no_truth e = absurd (search (rules, e))
+use Rattle.delivery.proofs.AnyPlace.{Answers, answers_then, no_truth}
 
 -- ---- octets
 

@@ -74,6 +74,7 @@ pub mod Functions
 pub mod SpoiltEach
 pub mod Giving
 pub mod AnyPlace
+pub mod WentOut
 pub mod OwnSelects
 pub mod ComeBack
 pub mod TagAges

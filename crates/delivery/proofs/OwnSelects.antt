@@ -23,15 +23,11 @@ use Rattle.command.specs.History.{place_on_line, is_accepted_at, confirmed_at}
 use Rattle.gateway.specs.Reports.{Setup}
 use Rattle.delivery.specs.Selecting.{EndsSelection, SelectsNothing, IsSelectedBy}
 use Rattle.delivery.proofs.AnyPlace.{Forwards, Answers, Selected, selected_then, forwards_then}
-use Rattle.delivery.proofs.AnyPlace.{answers_then}
+use Rattle.delivery.proofs.AnyPlace.{answers_then, no_entry, no_truth}
+use Rattle.delivery.proofs.WentOut.{sent_at, to_station, place_at, is_taken, below_left, place_is}
+use Rattle.delivery.proofs.WentOut.{not_taken, not_there}
 
 -- ---- small facts
-
-no_entry : {A : Type 0} {z : A} → None ≡ Some z → ⊥
-no_entry e = search (rules, e)
-
-no_truth : {A : Type 0} → true ≡ false → A
-no_truth e = absurd (search (rules, e))
 
 none_is : {A : Type 0} (o : Option A) → o ≡ None → is_none o ≡ true
 none_is None e = refl
@@ -91,24 +87,12 @@ asks_alike stations xs ys h asks =
     (eqb-true (common_address xs) (common_address ys) q.1) asks
 
 module _ (p : Setup) where
-  abbrev sent_at : ℕ → History → ℕ
-  sent_at k h = sent_count p.sizes p.stations p.select_ms p.max_age_ms k h
-
-  abbrev to_station : ℕ → History → List (List ℕ)
-  to_station k h = forwarded_to p.sizes p.stations p.select_ms p.max_age_ms k h
-
-  abbrev place_at : ℕ → History → Option ℕ
-  place_at k h = place_on_line p.sizes p.stations p.select_ms p.max_age_ms k h
-
-  abbrev is_taken : ℕ → ℕ → History → Bool
-  is_taken k place h = is_accepted_at p.sizes p.stations p.select_ms p.max_age_ms k place h
-
   -- a select that came behind these
   abbrev selected_as : ℕ → List ℕ → History → Select
   selected_as came ys earlier = record {
     octets = ys;
     came = came;
-    place = length (to_station (station_of p.stations ys) earlier);
+    place = length (to_station p (station_of p.stations ys) earlier);
   }
 
   -- ---- which select stands
@@ -133,7 +117,7 @@ module _ (p : Setup) where
         newer = record {
           octets = ys;
           came = now;
-          place = length (to_station (station_of p.stations ys) (since ++ rest));
+          place = length (to_station p (station_of p.stations ys) (since ++ rest));
         }
 
         by : (stood (since ++ rest) ≡ Some z → stood rest ≡ Some z)
@@ -203,7 +187,7 @@ module _ (p : Setup) where
         newer = record {
           octets = ys;
           came = now;
-          place = length (to_station (station_of p.stations ys) earlier);
+          place = length (to_station p (station_of p.stations ys) earlier);
         }
 
         by : (n : Bool) → n ≡ true → (m : Bool) → m ≡ false → (d : Bool) → d ≡ true
@@ -251,125 +235,6 @@ module _ (p : Setup) where
         by true i false s d f = no_truth (sym s)
         by true i true s d f = search (rules, f)
 
-  -- ---- how many went out
-
-  one_left : (n : ℕ) (fw : List (List ℕ)) (x : List ℕ) → first (drop n fw) ≡ Some x
-      → n < length fw
-  one_left n fw x e = by (drop n fw) refl e
-    where
-      by : (ys : List (List ℕ)) → drop n fw ≡ ys → first ys ≡ Some x → n < length fw
-      by [] is f = absurd (no_entry f)
-      by (y ∷ ys) is f =
-          let some : length (drop n fw) ≡ suc (length ys) =
-          ap (λ (zs : List (List ℕ)). length zs) is in
-          omega (arith, some, length-drop n fw)
-
-  some_first : (f : List ℕ → List ℕ) (o : Option (List ℕ)) (octets : List ℕ)
-      → option_map f o ≡ Some octets → (x : List ℕ) × (o ≡ Some x)
-  some_first f None octets e = absurd (no_entry e)
-  some_first f (Some x) octets e = (x, refl)
-
-  few_out : (k : ℕ) (h : History) → Forwards p h → sent_at k h ≤ length (to_station k h)
-  few_out k [] f = omega arith
-  few_out k (Judged now wall ys None ∷ h) f =
-      by (is_for p.sizes p.stations p.select_ms p.max_age_ms k ys) (few_out k h f)
-    where
-      by : (b : Bool) → sent_at k h ≤ length (to_station k h)
-          → sent_at k h ≤ length (if b then to_station k h ++ ys ∷ [] else to_station k h)
-      by true few = (
-          let more : length (to_station k h ++ ys ∷ []) ≡ length (to_station k h) + 1 =
-          length-append (to_station k h) (ys ∷ []) in
-          omega (arith, few, more))
-      by false few = few
-  few_out k (Judged now wall ys (Some a) ∷ h) f = few_out k h f
-  few_out k (Sent j octets ∷ h) f = by (few_out k h f.1) (k == j) refl
-    where
-      less : sent_at j h < length (to_station j h)
-      less =
-          let some = some_first _ (next_for p.sizes p.stations p.select_ms p.max_age_ms j h) octets
-          f.0 in
-          one_left (sent_at j h) (to_station j h) some.0 some.1
-
-      by : sent_at k h ≤ length (to_station k h) → (b : Bool) → (k == j) ≡ b
-          → (if b then suc (sent_at k h) else sent_at k h) ≤ length (to_station k h)
-      by few true is =
-          subst (λ (i : ℕ). suc (sent_at i h) ≤ length (to_station i h))
-          (sym (eqb-true k j is)) (omega (arith, less))
-      by few false is = few
-  few_out k (Accepted j ∷ h) f = few_out k h f
-  few_out k (Refused j answer ∷ h) f = few_out k h f
-  few_out k (GivenUp j was ∷ h) f = few_out k h f
-  few_out k (Mirrored now v ∷ h) f = few_out k h f
-  few_out k (Offered octets kept ∷ h) f = few_out k h f
-  few_out k (Answered octets ∷ h) f = few_out k h f
-  few_out k (Ended ∷ h) f = omega arith
-
-  below_left : (b : Bool) (o : Option ℕ) (n : ℕ) → (if b then None else o) ≡ Some n → o ≡ Some n
-  below_left true o n e = absurd (no_entry e)
-  below_left false o n e = e
-
-  line_below : (k : ℕ) (h : History) (n : ℕ) → place_at k h ≡ Some n → n < sent_at k h
-  line_below k [] n e = absurd (no_entry e)
-  line_below k (Judged now wall ys a ∷ h) n e = line_below k h n e
-  line_below k (Sent j octets ∷ h) n e = by (k == j) (line_below k h n) e
-    where
-      by : (b : Bool) → (place_at k h ≡ Some n → n < sent_at k h)
-          → (if b then Some (sent_at k h) else place_at k h) ≡ Some n
-          → n < (if b then suc (sent_at k h) else sent_at k h)
-      by true rest f = (let same : sent_at k h ≡ n = search (rules, f) in omega (arith, same))
-      by false rest f = rest f
-  line_below k (Accepted j ∷ h) n e = line_below k h n (below_left (k == j) (place_at k h) n e)
-  line_below k (Refused j a ∷ h) n e = line_below k h n (below_left (k == j) (place_at k h) n e)
-  line_below k (GivenUp j b ∷ h) n e = line_below k h n (below_left (k == j) (place_at k h) n e)
-  line_below k (Mirrored now v ∷ h) n e = line_below k h n e
-  line_below k (Offered octets b ∷ h) n e = line_below k h n e
-  line_below k (Answered octets ∷ h) n e = line_below k h n e
-  line_below k (Ended ∷ h) n e = absurd (no_entry e)
-
-  place_is : (n : ℕ) (o : Option ℕ) → is_place n o ≡ true → o ≡ Some n
-  place_is n None e = no_truth (sym e)
-  place_is n (Some m) e = ap (λ (k : ℕ). Some k) (eqb-true m n e)
-
-  taken_below : (k n : ℕ) (h : History) → is_taken k n h ≡ true → n < sent_at k h
-  taken_below k n [] e = no_truth (sym e)
-  taken_below k n (Judged now wall ys a ∷ h) e = taken_below k n h e
-  taken_below k n (Sent j octets ∷ h) e = by (k == j) (taken_below k n h e)
-    where
-      by : (b : Bool) → n < sent_at k h → n < (if b then suc (sent_at k h) else sent_at k h)
-      by true below = omega (arith, below)
-      by false below = below
-  taken_below k n (Accepted j ∷ h) e =
-      by (k == j && is_place n (place_at k h)) refl (taken_below k n h) e
-    where
-      by : (b : Bool) → (k == j && is_place n (place_at k h)) ≡ b
-          → (is_taken k n h ≡ true → n < sent_at k h)
-          → (b || is_taken k n h) ≡ true → n < sent_at k h
-      by true is rest f =
-          line_below k h n (place_is n (place_at k h)
-          (and_parts (k == j) (is_place n (place_at k h)) is).1)
-      by false is rest f = rest f
-  taken_below k n (Refused j a ∷ h) e = taken_below k n h e
-  taken_below k n (GivenUp j b ∷ h) e = taken_below k n h e
-  taken_below k n (Mirrored now v ∷ h) e = taken_below k n h e
-  taken_below k n (Offered octets b ∷ h) e = taken_below k n h e
-  taken_below k n (Answered octets ∷ h) e = taken_below k n h e
-  taken_below k n (Ended ∷ h) e = no_truth (sym e)
-
-  -- nothing of a later place was accepted, stands there, or was confirmed
-  not_taken : (k n : ℕ) (h : History) → Forwards p h → length (to_station k h) ≤ n
-      → is_taken k n h ≡ true → ⊥
-  not_taken k n h f past e =
-      let below : n < sent_at k h = taken_below k n h e in
-      let few : sent_at k h ≤ length (to_station k h) = few_out k h f in
-      omega (arith, below, few, past)
-
-  not_there : (k n : ℕ) (h : History) → Forwards p h → length (to_station k h) ≤ n
-      → place_at k h ≡ Some n → ⊥
-  not_there k n h f past e =
-      let below : n < sent_at k h = line_below k h n e in
-      let few : sent_at k h ≤ length (to_station k h) = few_out k h f in
-      omega (arith, below, few, past)
-
   module _ (z : Select) where
     abbrev home : ℕ
     home = station_of p.stations z.octets
@@ -380,7 +245,7 @@ module _ (p : Setup) where
     abbrev confirms_so : ℕ → AsduValue → Bool
     confirms_so now v = confirms_command z.octets v && nat_lt (now - z.came) p.select_ms
 
-    not_confirmed : (h : History) (m : ℕ) → Forwards p h → length (to_station home h) ≤ z.place
+    not_confirmed : (h : History) (m : ℕ) → Forwards p h → length (to_station p home h) ≤ z.place
         → confirmed h ≡ Some m → ⊥
     not_confirmed [] m f past e = no_entry e
     not_confirmed (Judged now wall ys None ∷ h) m f past e =
@@ -388,11 +253,11 @@ module _ (p : Setup) where
         (by (is_for p.sizes p.stations p.select_ms p.max_age_ms home ys) past) e
       where
         by : (b : Bool)
-            → length (if b then to_station home h ++ ys ∷ [] else to_station home h) ≤ z.place
-            → length (to_station home h) ≤ z.place
+            → length (if b then to_station p home h ++ ys ∷ [] else to_station p home h) ≤ z.place
+            → length (to_station p home h) ≤ z.place
         by true most = (
-            let more : length (to_station home h ++ ys ∷ []) ≡ length (to_station home h) + 1 =
-            length-append (to_station home h) (ys ∷ []) in
+            let more : length (to_station p home h ++ ys ∷ []) ≡ length (to_station p home h) + 1 =
+            length-append (to_station p home h) (ys ∷ []) in
             omega (arith, most, more))
         by false most = most
     not_confirmed (Judged now wall ys (Some a) ∷ h) m f past e = not_confirmed h m f past e
@@ -401,12 +266,12 @@ module _ (p : Setup) where
     not_confirmed (Refused j a ∷ h) m f past e = not_confirmed h m f past e
     not_confirmed (GivenUp j b ∷ h) m f past e = not_confirmed h m f past e
     not_confirmed (Mirrored now v ∷ h) m f past e =
-        by (confirms_so now v && is_taken home z.place h) refl (not_confirmed h m f past) e
+        by (confirms_so now v && is_taken p home z.place h) refl (not_confirmed h m f past) e
       where
-        by : (b : Bool) → (confirms_so now v && is_taken home z.place h) ≡ b
+        by : (b : Bool) → (confirms_so now v && is_taken p home z.place h) ≡ b
             → (confirmed h ≡ Some m → ⊥) → (if b then Some now else confirmed h) ≡ Some m → ⊥
-        by true is rest g = not_taken home z.place h f past
-            (and_parts (confirms_so now v) (is_taken home z.place h) is).1
+        by true is rest g = not_taken p home z.place h f past
+            (and_parts (confirms_so now v) (is_taken p home z.place h) is).1
         by false is rest g = rest g
     not_confirmed (Offered octets b ∷ h) m f past e = not_confirmed h m f past e
     not_confirmed (Answered octets ∷ h) m f past e = not_confirmed h m f past e
@@ -415,14 +280,14 @@ module _ (p : Setup) where
     -- ---- where it went out, was accepted, and was confirmed: behind its coming
 
     module _ (behind : History) (unconfirmed : (m : ℕ) → confirmed behind ≡ Some m → ⊥)
-        (untaken : is_taken home z.place behind ≡ true → ⊥)
-        (unsent : place_at home behind ≡ Some z.place → ⊥) where
+        (untaken : is_taken p home z.place behind ≡ true → ⊥)
+        (unsent : place_at p home behind ≡ Some z.place → ⊥) where
       record Gone (s : History) : Type 0 where
         stood_there : History
         octets : List ℕ
         waited : History
         is : s ≡ stood_there ++ Sent home octets ∷ waited
-        turn : sent_at home (waited ++ behind) ≡ z.place
+        turn : sent_at p home (waited ++ behind) ≡ z.place
 
       gone_on : (entry : HistoryEntry) (s : History) → Gone s → Gone (entry ∷ s)
       gone_on entry s g = record {
@@ -433,14 +298,14 @@ module _ (p : Setup) where
         turn = g.turn;
       }
 
-      gone : (s : History) → place_at home (s ++ behind) ≡ Some z.place → Gone s
+      gone : (s : History) → place_at p home (s ++ behind) ≡ Some z.place → Gone s
       gone [] e = absurd (unsent e)
       gone (Judged now wall ys a ∷ s) e = gone_on (Judged now wall ys a) s (gone s e)
       gone (Sent j octets ∷ s) e = by (home == j) refl (gone s) e
         where
           by : (b : Bool) → (home == j) ≡ b
-              → (place_at home (s ++ behind) ≡ Some z.place → Gone s)
-              → (if b then Some (sent_at home (s ++ behind)) else place_at home (s ++ behind))
+              → (place_at p home (s ++ behind) ≡ Some z.place → Gone s)
+              → (if b then Some (sent_at p home (s ++ behind)) else place_at p home (s ++ behind))
               ≡ Some z.place → Gone (Sent j octets ∷ s)
           by true at on f = record {
             stood_there = [];
@@ -451,11 +316,11 @@ module _ (p : Setup) where
           }
           by false at on f = gone_on (Sent j octets) s (on f)
       gone (Accepted j ∷ s) e = gone_on (Accepted j) s
-          (gone s (below_left (home == j) (place_at home (s ++ behind)) z.place e))
+          (gone s (below_left (home == j) (place_at p home (s ++ behind)) z.place e))
       gone (Refused j a ∷ s) e = gone_on (Refused j a) s
-          (gone s (below_left (home == j) (place_at home (s ++ behind)) z.place e))
+          (gone s (below_left (home == j) (place_at p home (s ++ behind)) z.place e))
       gone (GivenUp j b ∷ s) e = gone_on (GivenUp j b) s
-          (gone s (below_left (home == j) (place_at home (s ++ behind)) z.place e))
+          (gone s (below_left (home == j) (place_at p home (s ++ behind)) z.place e))
       gone (Mirrored now v ∷ s) e = gone_on (Mirrored now v) s (gone s e)
       gone (Offered octets b ∷ s) e = gone_on (Offered octets b) s (gone s e)
       gone (Answered octets ∷ s) e = gone_on (Answered octets) s (gone s e)
@@ -465,7 +330,7 @@ module _ (p : Setup) where
         between : History
         before : History
         is : s ≡ between ++ Accepted home ∷ before
-        there : place_at home (before ++ behind) ≡ Some z.place
+        there : place_at p home (before ++ behind) ≡ Some z.place
 
       taken_on : (entry : HistoryEntry) (s : History) → Taken s → Taken (entry ∷ s)
       taken_on entry s t = record {
@@ -475,24 +340,24 @@ module _ (p : Setup) where
         there = t.there;
       }
 
-      taken : (s : History) → is_taken home z.place (s ++ behind) ≡ true → Taken s
+      taken : (s : History) → is_taken p home z.place (s ++ behind) ≡ true → Taken s
       taken [] e = absurd (untaken e)
       taken (Judged now wall ys a ∷ s) e = taken_on (Judged now wall ys a) s (taken s e)
       taken (Sent j octets ∷ s) e = taken_on (Sent j octets) s (taken s e)
       taken (Accepted j ∷ s) e =
-          by (home == j && is_place z.place (place_at home (s ++ behind))) refl (taken s) e
+          by (home == j && is_place z.place (place_at p home (s ++ behind))) refl (taken s) e
         where
-          by : (b : Bool) → (home == j && is_place z.place (place_at home (s ++ behind))) ≡ b
-              → (is_taken home z.place (s ++ behind) ≡ true → Taken s)
-              → (b || is_taken home z.place (s ++ behind)) ≡ true → Taken (Accepted j ∷ s)
+          by : (b : Bool) → (home == j && is_place z.place (place_at p home (s ++ behind))) ≡ b
+              → (is_taken p home z.place (s ++ behind) ≡ true → Taken s)
+              → (b || is_taken p home z.place (s ++ behind)) ≡ true → Taken (Accepted j ∷ s)
           by true at on f =
               let parts : _ = and_parts (home == j)
-              (is_place z.place (place_at home (s ++ behind))) at in
+              (is_place z.place (place_at p home (s ++ behind))) at in
               record {
                 between = [];
                 before = s;
                 is = ap (λ (i : ℕ). Accepted i ∷ s) (sym (eqb-true home j parts.0));
-                there = place_is z.place (place_at home (s ++ behind)) parts.1;
+                there = place_is z.place (place_at p home (s ++ behind)) parts.1;
               }
           by false at on f = taken_on (Accepted j) s (on f)
       taken (Refused j a ∷ s) e = taken_on (Refused j a) s (taken s e)
@@ -508,7 +373,7 @@ module _ (p : Setup) where
         before : History
         is : s ≡ later ++ Mirrored m answer ∷ before
         so : confirms_so m answer ≡ true
-        accepted : is_taken home z.place (before ++ behind) ≡ true
+        accepted : is_taken p home z.place (before ++ behind) ≡ true
 
       confirmed_on : (entry : HistoryEntry) (s : History) (m : ℕ) → Confirmed s m
           → Confirmed (entry ∷ s) m
@@ -529,15 +394,15 @@ module _ (p : Setup) where
       found (Refused j a ∷ s) m e = confirmed_on (Refused j a) s m (found s m e)
       found (GivenUp j b ∷ s) m e = confirmed_on (GivenUp j b) s m (found s m e)
       found (Mirrored now v ∷ s) m e =
-          by (confirms_so now v && is_taken home z.place (s ++ behind)) refl (found s m) e
+          by (confirms_so now v && is_taken p home z.place (s ++ behind)) refl (found s m) e
         where
-          by : (b : Bool) → (confirms_so now v && is_taken home z.place (s ++ behind)) ≡ b
+          by : (b : Bool) → (confirms_so now v && is_taken p home z.place (s ++ behind)) ≡ b
               → (confirmed (s ++ behind) ≡ Some m → Confirmed s m)
               → (if b then Some now else confirmed (s ++ behind)) ≡ Some m
               → Confirmed (Mirrored now v ∷ s) m
           by true at on f =
               let parts : _ = and_parts (confirms_so now v)
-              (is_taken home z.place (s ++ behind)) at in
+              (is_taken p home z.place (s ++ behind)) at in
               let same : now ≡ m = search (rules, f) in
               subst (λ (n : ℕ). Confirmed (Mirrored now v ∷ s) n) same (record {
                 later = [];
@@ -629,17 +494,17 @@ module _ (p : Setup) where
             (asks_alike p.stations xs ys one asks) selecting
             (still xs since behind s.select none s.stands)
 
-        as_many : length (to_station (home z) earlier) ≤ z.place
+        as_many : length (to_station p (home z) earlier) ≤ z.place
         as_many = omega arith
 
         unconfirmed : (m : ℕ) → confirmed z behind ≡ Some m → ⊥
         unconfirmed m e = not_confirmed z earlier m before as_many e
 
-        untaken : is_taken (home z) z.place behind ≡ true → ⊥
-        untaken e = not_taken (home z) z.place earlier before as_many e
+        untaken : is_taken p (home z) z.place behind ≡ true → ⊥
+        untaken e = not_taken p (home z) z.place earlier before as_many e
 
-        unsent : place_at (home z) behind ≡ Some z.place → ⊥
-        unsent e = not_there (home z) z.place earlier before as_many e
+        unsent : place_at p (home z) behind ≡ Some z.place → ⊥
+        unsent e = not_there p (home z) z.place earlier before as_many e
 
         con : Confirmed z behind unconfirmed untaken unsent since s.moment
         con = found z behind unconfirmed untaken unsent since s.moment

@@ -26,11 +26,8 @@ use Rattle.gateway.specs.Reports.{Setup}
 use Rattle.delivery.specs.Refusing.{StaysOnLine}
 use Rattle.delivery.specs.Selecting.{IsApart, IsThrough}
 use Rattle.delivery.proofs.Forwarded.{forwarded}
-use Rattle.delivery.proofs.AnyPlace.{Answers, answers_then}
+use Rattle.delivery.proofs.AnyPlace.{Answers, answers_then, no_truth}
 use Rattle.delivery.proofs.OwnSelects.{asks_alike, of_object}
-
-no_truth : {A : Type 0} → true ≡ false → A
-no_truth e = absurd (search (rules, e))
 
 -- ---- one object
 
