@@ -1,5 +1,5 @@
 -- What holds of all that became of commands held at any place of it.
-use Rattle.std.proofs.Common.{◌≡◌, true, false, List, [], ◌∷◌, ◌++◌, rules}
+use Rattle.std.proofs.Common.{◌≡◌, true, false, [], ◌∷◌, ◌++◌, rules}
 use Rattle.std.specs.Prelude.{Some, None}
 use Rattle.command.specs.History.{History, Judged, Sent, Accepted, Refused, GivenUp, Mirrored}
 use Rattle.command.specs.History.{Offered, Answered, Ended, ForwardsCommands, GivesOwnAnswers}

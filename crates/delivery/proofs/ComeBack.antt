@@ -1,20 +1,19 @@
 -- The answers to what is refused, octet by octet.
 use Rattle.std.proofs.Common.{◌≡◌, ℕ, suc, ◌+◌, ◌*◌, ◌/◌, ◌<◌, ◌≤◌, ◌%◌, ◌&&◌, ◌||◌, Bool, true}
-use Rattle.std.proofs.Common.{false, not, List, [], ◌∷◌, ◌++◌, length, drop, take, refl, sym, subst}
+use Rattle.std.proofs.Common.{false, not, List, [], ◌∷◌, ◌++◌, length, refl, sym, subst}
 use Rattle.std.proofs.Common.{ap, ◌∙◌, arith, rules}
 use Rattle.std.specs.Prelude.{◌==◌, Option, Some, None, if◌then◌else◌, nat_lt, option_map}
 use Rattle.std.specs.Prelude.{slice_get, slice_index, unwrap_or}
 use Rattle.std.specs.List.{list_any}
-use Rattle.std.proofs.lemmas.Bool.{and_from, and_parts, eqb-true, eq-eqb, ltb-true, ltb-false}
+use Rattle.std.proofs.lemmas.Bool.{eqb-true, eq-eqb, ltb-true, ltb-false}
 use Rattle.std.proofs.lemmas.Bool.{ne_eqb}
 use Rattle.command.specs.declared.station.StationInfo.{StationInfo}
 use Rattle.command.specs.Octets.{answer, refused_cause}
-use Rattle.command.specs.Standard.{cause_of_fault, common_address, is_activation, is_for_each}
-use Rattle.command.specs.Standard.{is_for_station, negative_of, unknown_cause, unknown_station}
-use Rattle.command.specs.Standard.{unknown_type}
-use Rattle.command.specs.History.{History, HistoryEntry, Judged, Sent, Accepted, Refused, GivenUp}
+use Rattle.command.specs.Standard.{cause_of_fault, common_address, is_for_each}
+use Rattle.command.specs.Standard.{is_for_station, negative_of, unknown_station}
+use Rattle.command.specs.History.{History, Judged, Sent, Accepted, Refused, GivenUp}
 use Rattle.command.specs.History.{Mirrored, Offered, Answered, Ended}
-use Rattle.command.specs.History.{cause_given, busy_answer, on_line, next_for}
+use Rattle.command.specs.History.{cause_given, on_line, next_for}
 use Rattle.gateway.specs.Reports.{Setup}
 use Rattle.delivery.specs.Refusing.{refused_octet, refused_as, StaysOnLine}
 use Rattle.delivery.proofs.AnyPlace.{Answers, answers_then, no_truth}

@@ -1,14 +1,13 @@
 -- Each execute to a station that asks for selects has a select of its own.
-use Rattle.std.proofs.Common.{◌≡◌, ℕ, suc, ◌+◌, ◌-◌, ◌<◌, ◌≤◌, ◌%◌, inl, inr, ◌⊎◌, ◌&&◌, ◌||◌}
-use Rattle.std.proofs.Common.{Bool, true, false, not, List, [], ◌∷◌, ◌++◌, length, drop, refl, sym}
+use Rattle.std.proofs.Common.{◌≡◌, ℕ, ◌+◌, ◌-◌, ◌<◌, ◌≤◌, ◌%◌, inl, inr, ◌⊎◌, ◌&&◌, ◌||◌}
+use Rattle.std.proofs.Common.{Bool, true, false, not, List, [], ◌∷◌, ◌++◌, length, refl, sym}
 use Rattle.std.proofs.Common.{subst, ap, ◌∙◌, arith, rules}
 use Rattle.std.specs.Prelude.{◌==◌, Option, Some, None, if◌then◌else◌, is_none, nat_lt, nat_le}
-use Rattle.std.specs.Prelude.{option_map, slice_index}
+use Rattle.std.specs.Prelude.{slice_index}
 use Rattle.std.specs.List.{list_any}
 use Rattle.std.proofs.lemmas.Bool.{and_parts, and_from, eqb-true, eq-eqb, ltb-true, leb-true}
-use Rattle.std.proofs.lemmas.List.{append-nil, length-append, length-drop}
+use Rattle.std.proofs.lemmas.List.{append-nil, length-append}
 use Rattle.asdu.specs.Asdu.{AsduValue}
-use Rattle.asdu.specs.declared.sizes.Sizes.{Sizes}
 use Rattle.command.specs.declared.station.StationInfo.{StationInfo}
 use Rattle.command.specs.Standard.{cause_of_fault, common_address, confirms_command, executes}
 use Rattle.command.specs.Standard.{have_one_element, have_one_target, have_one_test_bit}
@@ -16,10 +15,10 @@ use Rattle.command.specs.Standard.{have_one_type, is_activation, is_deactivating
 use Rattle.command.specs.Standard.{last_octet, must_be_selected, object_address, operates}
 use Rattle.command.specs.Standard.{plain_type, refuses_command, selects, station_of}
 use Rattle.command.specs.History.{History, HistoryEntry, Judged, Sent, Accepted, Refused, GivenUp}
-use Rattle.command.specs.History.{Mirrored, Offered, Answered, Ended, Select, first, is_for}
-use Rattle.command.specs.History.{forwarded_to, sent_count, next_for, next_octets, is_place}
-use Rattle.command.specs.History.{IsSelected, is_of_target, begins_selection, standing}
-use Rattle.command.specs.History.{place_on_line, is_accepted_at, confirmed_at}
+use Rattle.command.specs.History.{Mirrored, Offered, Answered, Ended, Select, is_for}
+use Rattle.command.specs.History.{is_place}
+use Rattle.command.specs.History.{IsSelected, is_of_target, standing}
+use Rattle.command.specs.History.{confirmed_at}
 use Rattle.gateway.specs.Reports.{Setup}
 use Rattle.delivery.specs.Selecting.{EndsSelection, SelectsNothing, IsSelectedBy}
 use Rattle.delivery.proofs.AnyPlace.{Forwards, Answers, Selected, selected_then, forwards_then}

@@ -13,10 +13,10 @@ use Rattle.command.specs.Standard.{element_part, executes}
 use Rattle.command.specs.Standard.{have_one_target, is_deactivating, is_object_of}
 use Rattle.command.specs.Standard.{is_only_object_of, must_be_selected, object_address}
 use Rattle.command.specs.Standard.{plain_type, refuses_command, selects, station_of}
-use Rattle.command.specs.History.{History, HistoryEntry, Judged, Sent, Accepted, Refused, GivenUp}
+use Rattle.command.specs.History.{History, Judged, Sent, Accepted, Refused, GivenUp}
 use Rattle.command.specs.History.{Mirrored, Offered, Answered, Ended, Select, forwarded_to}
-use Rattle.command.specs.History.{sent_count, is_place, GivesOwnAnswers, IsSelected}
-use Rattle.command.specs.History.{is_of_target, standing, place_on_line, is_accepted_at}
+use Rattle.command.specs.History.{sent_count, is_place, IsSelected}
+use Rattle.command.specs.History.{standing, place_on_line, is_accepted_at}
 use Rattle.command.specs.History.{confirmed_at}
 use Rattle.command.specs.Passing.{FindsPlaces, of_others}
 use Rattle.command.specs.Selections.{is_of}
