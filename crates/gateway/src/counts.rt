@@ -2,7 +2,7 @@
 
 /// What didn't go as it should since the gateway was made. Each number stays at the greatest of its
 /// type once it is there.
-#[derive(Clone, Copy, Debug, PartialEq, Eq)]
+#[derive(Clone, Copy, PartialEq, Eq)]
 pub struct Counts {
     /// ASDUs of the line that can't be read, and monitor ASDUs with a negative 'unknown type'
     /// (cause octet 6C or EC): they are dropped.

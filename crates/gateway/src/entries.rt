@@ -9,7 +9,7 @@ use session::Close;
 use std::alloc::{AllocError, Global};
 
 /// An event with its moment, in milliseconds.
-#[derive(Debug, PartialEq, Eq, Drop)]
+#[derive(PartialEq, Eq, Drop)]
 pub enum Entry {
     /// Octets came from the line.
     Line(u64, Vec<u8>),
@@ -26,7 +26,7 @@ pub enum Entry {
 }
 
 /// An event that came in, or an action that went out, with its moment.
-#[derive(Debug, PartialEq, Eq, Drop)]
+#[derive(PartialEq, Eq, Drop)]
 pub enum StoredEntry {
     /// An event came in.
     Came(Entry),

@@ -19,7 +19,7 @@ use crate::ports::{Event, Next, Port};
 use std::alloc::Global;
 
 /// How a run ended: the port had no more events, the turns were used up, or the device failed.
-#[derive(Clone, Copy, Debug, PartialEq, Eq)]
+#[derive(Clone, Copy, PartialEq, Eq)]
 pub enum End {
     Finished,
     Turns,

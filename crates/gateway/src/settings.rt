@@ -6,7 +6,7 @@ use asdu::Sizes;
 use ft12::LinkSize;
 
 /// What silence of a station does after its repeats.
-#[derive(Clone, Copy, Debug, PartialEq, Eq)]
+#[derive(Clone, Copy, PartialEq, Eq)]
 pub enum Silence {
     /// The service is held, with its frame count bit, and the station stays up.
     Hold,
@@ -15,7 +15,7 @@ pub enum Silence {
 }
 
 /// A secondary station of the line.
-#[derive(Clone, Copy, Debug, PartialEq, Eq)]
+#[derive(Clone, Copy, PartialEq, Eq)]
 pub struct StationSettings {
     /// Its link address.
     pub address: u16,
@@ -26,7 +26,7 @@ pub struct StationSettings {
 }
 
 /// The settings of the line.
-#[derive(Clone, Copy, Debug, PartialEq, Eq)]
+#[derive(Clone, Copy, PartialEq, Eq)]
 pub struct LineSettings {
     /// How many octets a link address has.
     pub link: LinkSize,
@@ -49,7 +49,7 @@ pub struct LineSettings {
 }
 
 /// The settings of the connection (IEC 60870-5-104, 5.2, 5.5 and 9.6). Times are in milliseconds.
-#[derive(Clone, Copy, Debug, PartialEq, Eq)]
+#[derive(Clone, Copy, PartialEq, Eq)]
 pub struct TcpSettings {
     /// How many sent I frames may be unacknowledged: 1 to 32767.
     pub k: u16,

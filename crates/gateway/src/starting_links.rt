@@ -9,7 +9,7 @@ use asdu::{CaSize, CauseSize, IoaSize};
 use ft12::LinkSize;
 
 /// What becomes of a station's link at a start.
-#[derive(Clone, Copy, Debug, PartialEq, Eq)]
+#[derive(Clone, Copy, PartialEq, Eq)]
 pub enum LinkStart {
     /// The station is new: its link is down.
     Down,

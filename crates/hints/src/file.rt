@@ -6,7 +6,7 @@ use settings::wanted_values;
 use sitefile::site_values;
 
 /// A file whose faults are explained.
-#[derive(Clone, Copy, Debug, PartialEq, Eq)]
+#[derive(Clone, Copy, PartialEq, Eq)]
 pub(crate) enum File {
     /// The settings.
     Settings,

@@ -6,7 +6,7 @@ use std::alloc::{AllocError, Global};
 use toml_places::{Span, Spot, find_gap, find_value};
 
 /// Where the value of a key stands.
-#[derive(Clone, Copy, Debug, PartialEq, Eq)]
+#[derive(Clone, Copy, PartialEq, Eq)]
 pub(crate) enum KeyPlace {
     /// These octets write it.
     Value(Span),

@@ -27,7 +27,7 @@ pub(crate) enum Way {
 }
 
 /// How lines are written.
-#[derive(Clone, Copy, Debug, PartialEq, Eq)]
+#[derive(Clone, Copy, PartialEq, Eq)]
 pub struct Style {
     /// The sizes of addresses on the line.
     pub sizes: LineSizes,

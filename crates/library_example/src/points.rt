@@ -12,7 +12,7 @@ use elements::{Cp56, TypeId, Verdict, judge};
 use std::alloc::{AllocError, Global};
 
 /// What an information object shows.
-#[derive(Clone, Copy, Debug, PartialEq, Eq)]
+#[derive(Clone, Copy, PartialEq, Eq)]
 pub struct Point {
     /// The information object address.
     pub address: u32,

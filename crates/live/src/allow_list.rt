@@ -5,7 +5,7 @@ ghost use Rattle.live.specs.AllowLists.{Allows};
 use std::net::IpAddr;
 
 /// Who may connect.
-#[derive(Debug, PartialEq, Eq, Drop)]
+#[derive(PartialEq, Eq, Drop)]
 pub enum AllowList {
     /// Whoever connects.
     Anyone,

@@ -47,7 +47,7 @@ pub trait OctetStream: Drop {
 }
 
 /// Why a connection is cut.
-#[derive(Clone, Copy, Debug, PartialEq, Eq)]
+#[derive(Clone, Copy, PartialEq, Eq)]
 pub enum CutCause {
     /// Its stream is at its end, or broken.
     Gone,
@@ -117,7 +117,7 @@ pub trait Listener {
 }
 
 /// Those whom a listener refused.
-#[derive(Clone, Copy, Debug, PartialEq, Eq)]
+#[derive(Clone, Copy, PartialEq, Eq)]
 pub struct RefusedPeers {
     /// How many they are.
     pub count: u64,

@@ -6,7 +6,7 @@ ghost use Rattle.gateway.specs.Ports.{faults_of};
 use gateway::Next;
 
 /// What a look at a source finds.
-#[derive(Clone, Copy, Debug, PartialEq, Eq)]
+#[derive(Clone, Copy, PartialEq, Eq)]
 pub(crate) enum SourceEvent {
     /// A control centre connected.
     Open,

@@ -5,7 +5,7 @@ use arrayvec::ArrayVec;
 use std::marker::Model;
 
 /// Octets of the connection that came and haven't been given yet: at most 1,024.
-#[derive(Debug, Drop)]
+#[derive(Drop)]
 pub(crate) struct HeldOctets {
     octets: ArrayVec<u8, 1024>,
 }

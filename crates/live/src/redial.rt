@@ -17,7 +17,7 @@ const RETRY_MS: u64 = 1000;
 const LONGEST_RETRY_MS: u64 = 30_000;
 
 /// What has become of a try to reach a stream.
-#[derive(Debug, Drop)]
+#[derive(Drop)]
 pub enum Dialled<W> {
     /// This stream was reached.
     Reached(W),

@@ -9,14 +9,14 @@ ghost use Rattle.live.specs.Timing.{asked_at};
 const LAG_MS: u64 = 50;
 
 /// A request that went out, in ms: the moment of its step, and the clock's once it was written.
-#[derive(Clone, Copy, Debug, PartialEq, Eq)]
+#[derive(Clone, Copy, PartialEq, Eq)]
 pub(crate) struct WrittenRequest {
     pub(crate) moment: u64,
     pub(crate) written: u64,
 }
 
 /// What decides the moment of an event.
-#[derive(Clone, Copy, Debug, PartialEq, Eq)]
+#[derive(Clone, Copy, PartialEq, Eq)]
 pub(crate) struct Timing {
     /// How long an answer is awaited, in ms.
     pub(crate) answer_ms: u64,

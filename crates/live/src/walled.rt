@@ -6,7 +6,7 @@ ghost use Rattle.live.specs.Walls.{is_wall_due, never_given, given_at_moment};
 const APART_MS: u64 = 1000;
 
 /// When the wall clock was given last.
-#[derive(Clone, Copy, Debug, PartialEq, Eq)]
+#[derive(Clone, Copy, PartialEq, Eq)]
 pub(crate) struct Walled {
     /// The clock's moment then, in ms; none before the first time.
     given: Option<u64>,

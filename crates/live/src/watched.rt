@@ -10,7 +10,7 @@ use gateway::{Gateway, Port};
 use std::net::IpAddr;
 
 /// What is seen of a port's ends.
-#[derive(Clone, Copy, Debug, PartialEq, Eq)]
+#[derive(Clone, Copy, PartialEq, Eq)]
 pub struct EndsSight {
     /// Whether the line is there.
     pub line: Presence,
@@ -28,7 +28,7 @@ pub struct EndsSight {
 }
 
 /// What of a device has failed, so that the run ends.
-#[derive(Clone, Copy, Debug, PartialEq, Eq)]
+#[derive(Clone, Copy, PartialEq, Eq)]
 pub enum Failure {
     /// The line is at its end, or broken.
     Line,
@@ -37,7 +37,7 @@ pub enum Failure {
 }
 
 /// What is reported of the state on the disk.
-#[derive(Clone, Copy, Debug, PartialEq, Eq)]
+#[derive(Clone, Copy, PartialEq, Eq)]
 pub enum Notice {
     /// It isn't kept: what is polled now is lost if the gateway stops.
     NotKept,

@@ -8,7 +8,7 @@ use runlog::{NamedStation, name_of};
 use std::alloc::{AllocError, Global};
 
 /// A station of the settings, with the name that the site gives it.
-#[derive(Debug, Drop)]
+#[derive(Drop)]
 pub(crate) struct Known {
     /// Empty where it has none.
     pub(crate) name: String,

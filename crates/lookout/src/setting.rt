@@ -11,7 +11,7 @@ use std::alloc::{AllocError, Global};
 const MOST_SETTINGS: usize = 16;
 
 /// A setting in force.
-#[derive(Debug, Drop)]
+#[derive(Drop)]
 pub(crate) struct ChosenSetting {
     key: &'static str,
     value: String,

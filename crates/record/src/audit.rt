@@ -35,7 +35,7 @@ use thiserror::Error;
 use traces::{BlockFault, Blocks, TextFault};
 
 /// What an audit finds.
-#[derive(Clone, Copy, Debug, PartialEq, Eq)]
+#[derive(Clone, Copy, PartialEq, Eq)]
 pub enum Comparison {
     /// The record is that of the run over its events, as far as it goes.
     Same {

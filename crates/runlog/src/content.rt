@@ -8,7 +8,7 @@ use asdu::{Sizes, read};
 use elements::TypeId;
 
 /// Why a report isn't passed on.
-#[derive(Clone, Copy, Debug, PartialEq, Eq)]
+#[derive(Clone, Copy, PartialEq, Eq)]
 pub enum Skip {
     /// It is too short for a header and an object address.
     TooShort,
@@ -25,7 +25,7 @@ pub enum Skip {
 }
 
 /// What a station's report holds.
-#[derive(Clone, Copy, Debug, PartialEq, Eq)]
+#[derive(Clone, Copy, PartialEq, Eq)]
 pub(crate) enum Content {
     /// What goes on to the control centre.
     Report,

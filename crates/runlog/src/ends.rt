@@ -38,7 +38,7 @@ pub(crate) fn changed(note: Note, limit: &mut Limit, now: u64) -> Option<LogLine
 }
 
 /// What was logged of the line last.
-#[derive(Clone, Copy, Debug, PartialEq, Eq)]
+#[derive(Clone, Copy, PartialEq, Eq)]
 pub(crate) enum LineLogged {
     Nothing,
     NotThere,
@@ -47,7 +47,7 @@ pub(crate) enum LineLogged {
 }
 
 /// What is logged of the line.
-#[derive(Clone, Copy, Debug, PartialEq, Eq)]
+#[derive(Clone, Copy, PartialEq, Eq)]
 pub(crate) struct LineWatch {
     logged: LineLogged,
     there: Limit,
@@ -165,7 +165,7 @@ fn line_change(
 }
 
 /// What is logged of those who are refused.
-#[derive(Clone, Copy, Debug, PartialEq, Eq)]
+#[derive(Clone, Copy, PartialEq, Eq)]
 pub(crate) struct ListenerWatch {
     /// How many of them were logged.
     logged: u64,
@@ -198,7 +198,7 @@ impl ListenerWatch {
 }
 
 /// The connection that is open.
-#[derive(Clone, Copy, Debug, PartialEq, Eq)]
+#[derive(Clone, Copy, PartialEq, Eq)]
 pub struct OpenConnection {
     /// When it was opened, in ms.
     pub since: u64,
@@ -207,7 +207,7 @@ pub struct OpenConnection {
 }
 
 /// What is logged of the connection.
-#[derive(Clone, Copy, Debug, PartialEq, Eq)]
+#[derive(Clone, Copy, PartialEq, Eq)]
 pub(crate) struct ConnectionWatch {
     /// How many were opened.
     count: u64,

@@ -12,7 +12,7 @@ use link::{Answer, Asked, CommandOctets, Control, PrimaryFunction, Service};
 use std::marker::Model;
 
 /// What is awaited of a station.
-#[derive(Clone, Copy, Debug, PartialEq, Eq)]
+#[derive(Clone, Copy, PartialEq, Eq)]
 pub(crate) enum AwaitedAnswer {
     /// Nothing that is logged.
     Nothing,

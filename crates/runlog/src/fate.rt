@@ -3,7 +3,7 @@
 use command::Refusal;
 
 /// Why a command of the control centre doesn't go on to its station.
-#[derive(Clone, Copy, Debug, PartialEq, Eq)]
+#[derive(Clone, Copy, PartialEq, Eq)]
 pub enum Reason {
     /// It is refused by this rule.
     Rule(Refusal),
@@ -12,7 +12,7 @@ pub enum Reason {
 }
 
 /// What became of a command at its station.
-#[derive(Clone, Copy, Debug, PartialEq, Eq)]
+#[derive(Clone, Copy, PartialEq, Eq)]
 pub enum CommandFate {
     /// It went out to the station for the first time.
     Sent,
@@ -29,7 +29,7 @@ pub enum CommandFate {
 }
 
 /// What befell a station, but for a report that was skipped and a command that it answered.
-#[derive(Clone, Copy, Debug, PartialEq, Eq)]
+#[derive(Clone, Copy, PartialEq, Eq)]
 pub(crate) enum Mishap {
     /// Its command was given up.
     GivenUp,

@@ -8,7 +8,7 @@ use crate::note::{LogLine, Note};
 
 /// What came of one kind and isn't logged yet: the last of it, and how many came before that since
 /// the last line of the kind.
-#[derive(Clone, Copy, Debug, PartialEq, Eq)]
+#[derive(Clone, Copy, PartialEq, Eq)]
 pub(crate) struct Gathered {
     limit: Limit,
     last: Option<Note>,

@@ -9,7 +9,7 @@ const APART_MS: u64 = 1000;
 const MINUTE_MS: u64 = 60_000;
 
 /// When a line of a kind was logged last, in ms, and how many have been left out since.
-#[derive(Clone, Copy, Debug, PartialEq, Eq)]
+#[derive(Clone, Copy, PartialEq, Eq)]
 pub struct Limit {
     logged: Option<u64>,
     left_out: u64,

@@ -8,21 +8,21 @@ use crate::note::{LogLine, Note};
 use std::fmt;
 
 /// What a site calls the station with this link address: up to 40 characters.
-#[derive(Clone, Copy, Debug)]
+#[derive(Clone, Copy)]
 pub struct NamedStation<'a> {
     pub link: u16,
     pub name: &'a str,
 }
 
 /// What a site calls its line, if it has a name, and its stations.
-#[derive(Clone, Copy, Debug)]
+#[derive(Clone, Copy)]
 pub struct LogNames<'a> {
     pub line: Option<&'a str>,
     pub stations: &'a [NamedStation<'a>],
 }
 
 /// What a line is about.
-#[derive(Clone, Copy, Debug, PartialEq, Eq)]
+#[derive(Clone, Copy, PartialEq, Eq)]
 pub(crate) enum Subject {
     Line,
     /// The station with this link address.
@@ -75,7 +75,7 @@ impl<'a> LogNames<'a> {
 }
 
 /// A line of the log, with the name of what it is about behind it, if that has one.
-#[derive(Clone, Copy, Debug)]
+#[derive(Clone, Copy)]
 pub struct NamedLine<'l, 'n> {
     pub line: &'l LogLine,
     pub names: LogNames<'n>,

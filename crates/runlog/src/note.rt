@@ -23,7 +23,7 @@ const MIRROR_DROPPED: &str = "answer to a command dropped: data transfer isn't r
 const SPOILT: &str = "answer spoilt: octets came, but no answer";
 
 /// What was counted since the run began.
-#[derive(Clone, Copy, Debug, PartialEq, Eq)]
+#[derive(Clone, Copy, PartialEq, Eq)]
 pub struct RunCounts {
     /// What the gateway counts.
     pub counts: Counts,
@@ -36,7 +36,7 @@ pub struct RunCounts {
 }
 
 /// Why a run can't begin, or go on.
-#[derive(Clone, Copy, Debug, PartialEq, Eq)]
+#[derive(Clone, Copy, PartialEq, Eq)]
 pub enum Trouble {
     /// Nobody listens where the line should be.
     LineRefused,
@@ -59,7 +59,7 @@ pub enum Trouble {
 }
 
 /// What a line says.
-#[derive(Clone, Copy, Debug, PartialEq, Eq)]
+#[derive(Clone, Copy, PartialEq, Eq)]
 pub enum Note {
     LineReached,
     /// After it was lost.
@@ -127,7 +127,7 @@ pub enum Note {
 }
 
 /// A line of the log.
-#[derive(Clone, Copy, Debug, PartialEq, Eq)]
+#[derive(Clone, Copy, PartialEq, Eq)]
 pub struct LogLine {
     /// The moment of the run, in ms.
     pub moment: u64,

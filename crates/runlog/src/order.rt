@@ -6,7 +6,7 @@ ghost use Rattle.runlog.specs.Orders as spec;
 use asdu::{CaSize, CauseSize, IoaSize, Sizes, head};
 
 /// What a command wants.
-#[derive(Clone, Copy, Debug, PartialEq, Eq)]
+#[derive(Clone, Copy, PartialEq, Eq)]
 pub enum OrderKind {
     /// The activation of types 45 to 49 with S/E 1.
     Select,
@@ -21,7 +21,7 @@ pub enum OrderKind {
 }
 
 /// The value of a command.
-#[derive(Clone, Copy, Debug, PartialEq, Eq)]
+#[derive(Clone, Copy, PartialEq, Eq)]
 pub enum Value {
     Off,
     On,
@@ -36,7 +36,7 @@ pub enum Value {
 }
 
 /// What a line says of a command.
-#[derive(Clone, Copy, Debug, PartialEq, Eq)]
+#[derive(Clone, Copy, PartialEq, Eq)]
 pub struct Order {
     /// Its type octet.
     pub kind: u8,

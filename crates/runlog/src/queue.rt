@@ -10,7 +10,7 @@ use crate::note::{LogLine, Note};
 const REPORT_PLACES: u64 = 3;
 
 /// What is logged of the queue.
-#[derive(Clone, Copy, Debug, PartialEq, Eq)]
+#[derive(Clone, Copy, PartialEq, Eq)]
 pub(crate) struct QueueWatch {
     /// What was logged last.
     is_full: bool,

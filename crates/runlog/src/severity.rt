@@ -7,7 +7,7 @@ use crate::note::Note;
 use live::Notice;
 
 /// How severe a line is.
-#[derive(Clone, Copy, Debug, PartialEq, Eq)]
+#[derive(Clone, Copy, PartialEq, Eq)]
 pub enum Severity {
     /// It wants somebody now: nothing is polled, or reports are lost or will be.
     Error,

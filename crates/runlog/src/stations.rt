@@ -11,7 +11,7 @@ use ft12::LinkSize;
 use link::{Control, PrimaryFunction};
 
 /// What is asked of a station, or logged of it.
-#[derive(Clone, Copy, Debug, PartialEq, Eq)]
+#[derive(Clone, Copy, PartialEq, Eq)]
 pub(crate) enum Asking {
     /// The status of its link.
     Status,
@@ -23,7 +23,7 @@ pub(crate) enum Asking {
 }
 
 /// What was logged of a station last.
-#[derive(Clone, Copy, Debug, PartialEq, Eq)]
+#[derive(Clone, Copy, PartialEq, Eq)]
 pub(crate) enum StationLogged {
     Nothing,
     Asked,
@@ -36,7 +36,7 @@ pub(crate) enum StationLogged {
 }
 
 /// How a station stands, by the requests that have gone out to it.
-#[derive(Clone, Copy, Debug, PartialEq, Eq)]
+#[derive(Clone, Copy, PartialEq, Eq)]
 pub enum StationStanding {
     /// None has gone out yet.
     NotAsked,
@@ -51,7 +51,7 @@ pub enum StationStanding {
 }
 
 /// What is logged of a station.
-#[derive(Clone, Copy, Debug, PartialEq, Eq)]
+#[derive(Clone, Copy, PartialEq, Eq)]
 pub struct StationWatch {
     /// Its link address.
     address: u16,

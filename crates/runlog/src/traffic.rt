@@ -13,7 +13,7 @@ use asdu::Sizes;
 use link::Answer;
 
 /// What has passed between the gateway and a station.
-#[derive(Clone, Copy, Debug, PartialEq, Eq)]
+#[derive(Clone, Copy, PartialEq, Eq)]
 pub struct Traffic {
     /// Its link address.
     address: u16,

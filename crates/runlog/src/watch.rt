@@ -31,7 +31,7 @@ const LOOK_MS: u64 = 1000;
 const COUNTS_MS: u64 = 60_000;
 
 /// What the wall clock showed.
-#[derive(Clone, Copy, Debug, PartialEq, Eq)]
+#[derive(Clone, Copy, PartialEq, Eq)]
 struct WallShown {
     /// The moment of the run, in ms.
     moment: u64,

@@ -14,7 +14,7 @@ type File = Fuse<Memory>;
 
 /// How many events were appended, how many of them a sync or a checkpoint has put on the disk, and
 /// whether a segment was finished.
-#[derive(Clone, Copy, Debug)]
+#[derive(Clone, Copy)]
 struct Written {
     appended: u64,
     synced: u64,

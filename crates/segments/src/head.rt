@@ -12,7 +12,7 @@ use statetext::put_hexadecimal;
 use std::alloc::{AllocError, Global};
 
 /// What the first line of a segment says.
-#[derive(Clone, Copy, Debug, PartialEq, Eq)]
+#[derive(Clone, Copy, PartialEq, Eq)]
 pub struct SegmentHead {
     /// Which segment it is: they count up.
     pub number: u64,

@@ -26,7 +26,7 @@ use std::alloc::Global;
 const PIECE: usize = 65_536;
 
 /// Which of the two files.
-#[derive(Clone, Copy, Debug, PartialEq, Eq)]
+#[derive(Clone, Copy, PartialEq, Eq)]
 pub enum Side {
     /// `log` of [`Files`].
     Log,

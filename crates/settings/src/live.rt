@@ -18,7 +18,7 @@ use toml::Table;
 use traces::read_decimal;
 
 /// Where a live run finds its ends.
-#[derive(Debug, PartialEq, Eq, Drop)]
+#[derive(PartialEq, Eq, Drop)]
 pub struct LiveSettings {
     /// The line: `tcp:HOST:PORT` or `unix:PATH`.
     pub line: String,

@@ -5,7 +5,7 @@ ghost use Rattle.show.specs.Condition.{rest_line, with_rest};
 use std::alloc::AllocError;
 
 /// Whether octets are as they should be.
-#[derive(Clone, Copy, Debug, PartialEq, Eq)]
+#[derive(Clone, Copy, PartialEq, Eq)]
 pub enum Condition {
     /// One whole frame, with no data or an ASDU that could be read, and nothing after it.
     Good,
@@ -14,7 +14,7 @@ pub enum Condition {
 }
 
 /// Octets in words.
-#[derive(Debug, PartialEq, Eq, Drop)]
+#[derive(PartialEq, Eq, Drop)]
 pub struct Shown {
     /// One fact a line, each ended by a line feed.
     pub lines: String,

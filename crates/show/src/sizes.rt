@@ -6,7 +6,7 @@ use asdu::{CaSize, CauseSize, IoaSize, Sizes};
 use ft12::LinkSize;
 
 /// How many octets the addresses of a line have, and the cause of its ASDUs.
-#[derive(Clone, Copy, Debug, PartialEq, Eq)]
+#[derive(Clone, Copy, PartialEq, Eq)]
 pub struct LineSizes {
     /// The link address.
     pub link: LinkSize,

@@ -9,7 +9,7 @@ use apci::{Apdu, Uf, encode};
 use arrayvec::ArrayVec;
 
 /// What the control centre knows of its connection, and of its frames on it.
-#[derive(Clone, Copy, Debug, PartialEq, Eq)]
+#[derive(Clone, Copy, PartialEq, Eq)]
 pub struct Centre {
     pub is_open: bool,
     /// It has sent STARTDT act.

@@ -9,14 +9,14 @@ use link::UserData;
 
 /// A class of user data (IEC 60870-5-2): what a station gives at requests of class 1, or of class
 /// 2.
-#[derive(Clone, Copy, Debug, PartialEq, Eq)]
+#[derive(Clone, Copy, PartialEq, Eq)]
 pub enum Class {
     One,
     Two,
 }
 
 /// What becomes of a request.
-#[derive(Clone, Copy, Debug, PartialEq, Eq)]
+#[derive(Clone, Copy, PartialEq, Eq)]
 pub enum RequestFate {
     /// No station receives it.
     RequestLost,

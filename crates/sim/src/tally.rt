@@ -8,7 +8,7 @@ use link::{Answer, Asked, ReceivedRequest, Service};
 
 /// What is counted of a station: of its link's sessions, each from one answered reset to the next,
 /// and of its reports. No count goes past `u64::MAX`.
-#[derive(Clone, Copy, Debug, PartialEq, Eq)]
+#[derive(Clone, Copy, PartialEq, Eq)]
 pub struct StationTally {
     /// How many resets of its link were answered.
     pub sessions: u64,

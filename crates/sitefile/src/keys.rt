@@ -9,7 +9,7 @@ use settings::{WrongKey, given, is_address};
 use toml::Table;
 
 /// What a text has to be.
-#[derive(Clone, Copy, Debug, PartialEq, Eq)]
+#[derive(Clone, Copy, PartialEq, Eq)]
 pub(crate) enum TextForm {
     /// 1 to 40 characters, and no control character.
     Name,

@@ -13,7 +13,7 @@ use std::alloc::{AllocError, Global};
 use toml::{Table, Value};
 
 /// The names that a site gives.
-#[derive(Debug, PartialEq, Eq, Drop)]
+#[derive(PartialEq, Eq, Drop)]
 pub struct Names {
     /// The line's, if it has one.
     pub line: Option<String>,
@@ -22,7 +22,7 @@ pub struct Names {
 }
 
 /// The name of the station with this link address: 1 to 40 characters.
-#[derive(Debug, PartialEq, Eq, Drop)]
+#[derive(PartialEq, Eq, Drop)]
 pub struct StationName {
     pub link: u16,
     pub name: String,

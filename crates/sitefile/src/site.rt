@@ -18,7 +18,7 @@ use std::alloc::{AllocError, Global};
 use toml::{Table, Value};
 
 /// What belongs to a site.
-#[derive(Debug, PartialEq, Eq, Drop)]
+#[derive(PartialEq, Eq, Drop)]
 pub struct Site {
     pub places: Places,
     pub flags: Flags,
@@ -26,7 +26,7 @@ pub struct Site {
 }
 
 /// What a site says of a live run's places.
-#[derive(Debug, PartialEq, Eq, Drop)]
+#[derive(PartialEq, Eq, Drop)]
 pub struct Places {
     /// The addresses of the control centres that may connect, as they are written, if not all may.
     pub allow: Option<Vec<String>>,
@@ -37,7 +37,7 @@ pub struct Places {
 }
 
 /// What a live run is to do.
-#[derive(Clone, Copy, Debug, PartialEq, Eq)]
+#[derive(Clone, Copy, PartialEq, Eq)]
 pub struct Flags {
     /// It ends where its state can't be kept any more.
     pub state_or_stop: bool,

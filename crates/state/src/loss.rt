@@ -1,7 +1,7 @@
 //! What is known where a store has failed.
 
 /// Why a store has failed.
-#[derive(Clone, Copy, Debug, PartialEq, Eq)]
+#[derive(Clone, Copy, PartialEq, Eq)]
 pub enum StoreFault {
     /// No line can hold the event.
     Unwritable,
@@ -12,7 +12,7 @@ pub enum StoreFault {
 }
 
 /// What is known of the state on the disk, where a store has failed.
-#[derive(Clone, Copy, Debug, PartialEq, Eq)]
+#[derive(Clone, Copy, PartialEq, Eq)]
 pub enum Loss {
     /// It is marked as stale.
     Marked,

@@ -3,7 +3,7 @@
 use crate::loss::Loss;
 
 /// How far the received events are on the disk.
-#[derive(Clone, Copy, Debug, PartialEq, Eq)]
+#[derive(Clone, Copy, PartialEq, Eq)]
 pub enum Standing {
     /// All of them are.
     Synced,

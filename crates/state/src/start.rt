@@ -3,7 +3,7 @@ ghost use Rattle.std.specs.Prelude.{◌≡◌};
 ghost use Rattle.state.specs.Starts.{beginning_of};
 
 /// What a start finds in the directory of the state.
-#[derive(Clone, Copy, Debug, PartialEq, Eq)]
+#[derive(Clone, Copy, PartialEq, Eq)]
 pub enum Found {
     /// No log was ever begun there.
     Nothing,
@@ -18,7 +18,7 @@ pub enum Found {
 }
 
 /// How a run begins.
-#[derive(Clone, Copy, Debug, PartialEq, Eq)]
+#[derive(Clone, Copy, PartialEq, Eq)]
 pub enum Beginning {
     /// With a new gateway.
     Anew,

@@ -3,7 +3,7 @@ ghost use Rattle.std.specs.Prelude.{◌≡◌, bit_xor};
 ghost use Rattle.statetext.specs.Sum.{divided, remainder_after};
 
 /// The sum of the octets that were added.
-#[derive(Clone, Copy, Debug)]
+#[derive(Clone, Copy)]
 pub struct Sum {
     remainder: u32,
 }

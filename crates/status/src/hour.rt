@@ -9,7 +9,7 @@ use std::marker::Model;
 const APART_MS: u64 = 60_000;
 
 /// The numbers of an hour, one a minute, the oldest first.
-#[derive(Debug, Drop)]
+#[derive(Drop)]
 pub struct Hour {
     numbers: ArrayVec<u64, 60>,
     /// When the last one was noted, in ms of the run.

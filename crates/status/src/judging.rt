@@ -12,7 +12,7 @@ const LINE_MS: u64 = 60_000;
 const REPORT_PLACES: u64 = 3;
 
 /// What the state calls for.
-#[derive(Clone, Copy, Debug, PartialEq, Eq)]
+#[derive(Clone, Copy, PartialEq, Eq)]
 pub enum Judgement {
     Ok,
     Warning,

@@ -10,7 +10,7 @@ use httparse::{Error, Status};
 const FIELDS: usize = 64;
 
 /// What can be looked at.
-#[derive(Clone, Copy, Debug, PartialEq, Eq)]
+#[derive(Clone, Copy, PartialEq, Eq)]
 pub(crate) enum View {
     /// `/`: a page for a person.
     Person,
@@ -23,7 +23,7 @@ pub(crate) enum View {
 }
 
 /// What a visitor asks.
-#[derive(Clone, Copy, Debug, PartialEq, Eq)]
+#[derive(Clone, Copy, PartialEq, Eq)]
 pub(crate) enum Inquiry {
     /// The request hasn't come whole.
     Nothing,

@@ -37,7 +37,7 @@ const PIECE: usize = 16_384;
 const STAY_MS: u64 = 2_000;
 
 /// How far a visitor has come.
-#[derive(Clone, Copy, Debug, PartialEq, Eq)]
+#[derive(Clone, Copy, PartialEq, Eq)]
 pub(crate) enum VisitStage {
     /// The request is coming.
     Receiving,

@@ -1,7 +1,7 @@
 //! What a page shows: plain data that the caller fills in and lends.
 
 /// How a station stands.
-#[derive(Clone, Copy, Debug, Default, PartialEq, Eq)]
+#[derive(Clone, Copy, Default, PartialEq, Eq)]
 pub enum LinkState {
     /// Nothing has been asked of it yet.
     #[default]
@@ -16,7 +16,7 @@ pub enum LinkState {
 }
 
 /// A station. Moments are those of the run, in ms.
-#[derive(Clone, Copy, Debug, Default)]
+#[derive(Clone, Copy, Default)]
 pub struct StationView<'a> {
     /// Up to 40 characters; empty where it has none.
     pub name: &'a str,
@@ -39,7 +39,7 @@ pub struct StationView<'a> {
 }
 
 /// The line.
-#[derive(Clone, Copy, Debug)]
+#[derive(Clone, Copy)]
 pub struct LineView {
     pub is_there: bool,
     /// Since when it is there or away.
@@ -47,7 +47,7 @@ pub struct LineView {
 }
 
 /// The control centre.
-#[derive(Clone, Copy, Debug)]
+#[derive(Clone, Copy)]
 pub struct CentreView<'a> {
     /// The address that it connects from; none where it isn't connected.
     pub peer: Option<&'a str>,
@@ -60,7 +60,7 @@ pub struct CentreView<'a> {
 }
 
 /// The queue of pieces that no connection has acknowledged.
-#[derive(Clone, Copy, Debug)]
+#[derive(Clone, Copy)]
 pub struct Queue<'a> {
     /// How many of its places are taken.
     pub taken: u64,
@@ -71,7 +71,7 @@ pub struct Queue<'a> {
 }
 
 /// Whether the state is kept on the disk.
-#[derive(Clone, Copy, Debug, PartialEq, Eq)]
+#[derive(Clone, Copy, PartialEq, Eq)]
 pub enum Keeping {
     /// It isn't to be kept.
     Off,
@@ -81,14 +81,14 @@ pub enum Keeping {
 }
 
 /// A setting in force.
-#[derive(Clone, Copy, Debug, Default)]
+#[derive(Clone, Copy, Default)]
 pub struct Setting<'a> {
     pub key: &'a str,
     pub value: &'a str,
 }
 
 /// What a page shows. Moments are those of the run, in ms.
-#[derive(Clone, Copy, Debug)]
+#[derive(Clone, Copy)]
 pub struct Snapshot<'a> {
     pub version: &'a str,
     /// The moment that it shows.

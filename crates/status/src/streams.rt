@@ -1,7 +1,7 @@
 //! Where visitors come from.
 
 /// What one look at a stream finds.
-#[derive(Clone, Copy, Debug, PartialEq, Eq)]
+#[derive(Clone, Copy, PartialEq, Eq)]
 pub enum StreamLook {
     /// So many octets, at the front of the buffer: 1 to 1,024.
     Octets(usize),
@@ -12,7 +12,7 @@ pub enum StreamLook {
 }
 
 /// What a stream did with octets.
-#[derive(Clone, Copy, Debug, PartialEq, Eq)]
+#[derive(Clone, Copy, PartialEq, Eq)]
 pub enum Took {
     /// It took so many, from the front; 0 where it has no room now.
     Octets(usize),

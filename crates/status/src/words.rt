@@ -12,7 +12,7 @@ use crate::snapshot::{Keeping, LinkState, StationView};
 use itoa::Buffer;
 
 /// What the text stands in, so which octets mean something else there.
-#[derive(Clone, Copy, Debug, PartialEq, Eq)]
+#[derive(Clone, Copy, PartialEq, Eq)]
 pub(crate) enum Marks {
     /// The quotation marks of a JSON string (RFC 8259, section 7).
     Json,
@@ -25,7 +25,7 @@ pub(crate) enum Marks {
 }
 
 /// What of a station is counted.
-#[derive(Clone, Copy, Debug, PartialEq, Eq)]
+#[derive(Clone, Copy, PartialEq, Eq)]
 pub(crate) enum Count {
     /// 1 where it is up.
     Up,
@@ -36,7 +36,7 @@ pub(crate) enum Count {
 }
 
 /// A word of a text.
-#[derive(Clone, Copy, Debug)]
+#[derive(Clone, Copy)]
 pub(crate) enum Word<'a> {
     Text(&'a str),
     /// A text, with other words for the octets that mean something else.

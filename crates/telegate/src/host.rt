@@ -39,7 +39,7 @@ pub(crate) const INPUT: &str = "-";
 const NOWHERE: &str = "/dev/null";
 
 /// Why the octets of a file, or of an answer, aren't had.
-#[derive(Clone, Copy, Debug, PartialEq, Eq)]
+#[derive(Clone, Copy, PartialEq, Eq)]
 pub(crate) enum Unread {
     /// There is no such file, or it can't be read; or nobody answers.
     Unreadable,
@@ -47,7 +47,7 @@ pub(crate) enum Unread {
 }
 
 /// What a live run is to do beside its settings.
-#[derive(Debug, Drop)]
+#[derive(Drop)]
 pub(crate) struct Wishes<'a> {
     /// A line that isn't there, or ends, is reached again.
     pub(crate) redial: bool,

@@ -17,7 +17,7 @@ pub const MOST_OCTETS: usize = 16384;
 const MARK: &[u8] = b"\"\\u0001\"";
 
 /// A key, by its table.
-#[derive(Clone, Copy, Debug, PartialEq, Eq)]
+#[derive(Clone, Copy, PartialEq, Eq)]
 pub struct Spot<'a> {
     /// The key of the table; none, where the document itself is meant.
     pub table: Option<&'a str>,
@@ -27,7 +27,7 @@ pub struct Spot<'a> {
 }
 
 /// What is looked for.
-#[derive(Clone, Copy, Debug, PartialEq, Eq)]
+#[derive(Clone, Copy, PartialEq, Eq)]
 enum Sought {
     /// The value of a key.
     Value,

@@ -4,7 +4,7 @@ ghost use Rattle.toml_places.specs.Lines.{first_place, next_place};
 
 /// A place in a text, as an editor shows it: both numbers begin with 1, and columns count
 /// characters.
-#[derive(Clone, Copy, Debug, PartialEq, Eq)]
+#[derive(Clone, Copy, PartialEq, Eq)]
 pub struct Place {
     pub line: usize,
     pub column: usize,

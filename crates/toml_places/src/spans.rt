@@ -6,7 +6,7 @@ ghost use Rattle.toml_places.specs.Spans.{gap_at, is_blank, is_plain, value_at, 
 ghost use Rattle.toml_places.specs.Spans.{value_end, equals_at};
 
 /// The octets of a text from `from` on to before `to`.
-#[derive(Clone, Copy, Debug, PartialEq, Eq)]
+#[derive(Clone, Copy, PartialEq, Eq)]
 pub struct Span {
     pub from: usize,
     pub to: usize,

@@ -1,7 +1,7 @@
 //! Why a port gave up.
 
 /// How a port over stored entries is.
-#[derive(Clone, Copy, Debug, PartialEq, Eq)]
+#[derive(Clone, Copy, PartialEq, Eq)]
 pub(crate) enum Health {
     Good,
     /// Memory was refused.

@@ -13,7 +13,7 @@ use std::alloc::Global;
 
 /// How far a station's replies are: all were given to so many commands, and to the next one the
 /// confirmation, or none.
-#[derive(Clone, Copy, Debug, PartialEq, Eq)]
+#[derive(Clone, Copy, PartialEq, Eq)]
 pub(crate) struct ReplyProgress {
     commands: usize,
     is_confirmed: bool,
