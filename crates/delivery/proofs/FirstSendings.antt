@@ -30,8 +30,8 @@ use Rattle.gateway.specs.Works.{Works, tasks_of, put_first, unless_silent_works,
 use Rattle.gateway.specs.Course.{Course, came_frames, HasTakenAll, SendsNext}
 use Rattle.delivery.specs.Arrivals.{Arrival, present_logs, arrivals_in}
 use Rattle.delivery.specs.Commands.{judged_here, asdus_in, sent_to, line_form, on_line_of}
-use Rattle.delivery.specs.FirstSendings.{SendsNoneFirst, SendsFirst, open_arrivals, IsBehind}
-use Rattle.delivery.specs.FirstSendings.{OpensNone}
+use Rattle.delivery.specs.FirstSendings.{first_sent, SendsNoneFirst, SendsFirst, open_arrivals}
+use Rattle.delivery.specs.FirstSendings.{IsBehind, OpensNone}
 use Rattle.delivery.specs.Joined.{IsJoined}
 use Rattle.delivery.specs.Merges.{IsSublist}
 use Rattle.delivery.specs.Octets.{is_opening}
@@ -307,7 +307,7 @@ of_the_open_one p k now octets log before c joined later sends forwards gives =
               goes = sym (later.sent k) ∙ goes
                   ∙ ap (λ (l : List (List ℕ)). l ++ on_line_of p k put.one.asdu ∷ [])
                   (joined.sent k)
-                  ∙ ap (λ (xs : List ℕ). _ ++ on_line_of p k xs ∷ []) same;
+                  ∙ ap (λ (xs : List ℕ). first_sent p k log ++ on_line_of p k xs ∷ []) same;
             }
         one (a ∷ b ∷ more) part is = cc
 

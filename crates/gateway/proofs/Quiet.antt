@@ -21,12 +21,13 @@ use Rattle.gateway.proofs.Carrying.{IsForOne}
 pub given_up : IsForOne → (p : Setup) (log : Log) (at : ℕ) (c : Course)
     → Runs p (Came at Restarted ∷ log) c
     → (before : Course) × (left : Course) × Runs p log before × IsLeft p log before left
-    × GivesUpCommands (present log).is_open left c
+    × (latest (Came at Restarted ∷ log) ≡ latest log) × GivesUpCommands (present log).is_open left c
 given_up law p log at c r = (
   r.0,
   r.1,
   r.2,
   r.4,
+  r.5.0,
   subst (GivesUpCommands (present log).is_open r.1) (sym r.5.1) (record {
     done = λ k lt.
         subst (λ s. awaits_command s.line k ≡ false) (sym is)

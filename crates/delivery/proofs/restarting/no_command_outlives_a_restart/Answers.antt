@@ -36,7 +36,7 @@ returns-clause-again c = λ p log at station f set within.
     (joins laws stay p set log gives.0 gives.2 f.acts)).1 in
     sym (c.giving_up_is_logged.ensures.awaits p.link p.addresses f.course.works.serial.line
     (exchanges_of p (Came at Restarted ∷ log)) station now.matches)
-    ∙ gives.4.done station (subst (λ (n : ℕ). station < n) (sym left.matches.count) within)
+    ∙ gives.5.done station (subst (λ (n : ℕ). station < n) (sym left.matches.count) within)
 
 pub returns-clause-polls : goal.returns-clause-polls
 returns-clause-polls c = λ p log at station other.
