@@ -231,9 +231,10 @@ all_arrived P [] logs h all = tt
 all_arrived P (I ns nr asdu ∷ older) logs h all =
     let longer = spelled_grows (I ns nr asdu) older in
     all_append (λ (x : Arrival). P x.log) (arrivals_in older logs) _
-    (all_arrived P older logs (omega (arith, h, longer)) all)
-    (all_got P (length (spelled (I ns nr asdu ∷ older)) - 1) logs all (omega (arith, h, longer)),
-    tt)
+    (all_arrived P older logs (omega (arith, h, longer)) all) (
+      all_got P (length (spelled (I ns nr asdu ∷ older)) - 1) logs all (omega (arith, h, longer)),
+      tt,
+    )
 all_arrived P (S nr ∷ older) logs h all =
     all_arrived P older logs (omega (arith, h, spelled_grows (S nr) older)) all
 all_arrived P (U u ∷ older) logs h all =
