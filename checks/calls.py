@@ -10,11 +10,11 @@ under a line on its contract.
   for a constant of the file.
 - Each public call of these crates has to be on the page: in a block, or by its name in the crate's
   line `Also in`.
-- The crate `specified` has a file for each heading, whose first line names the crate. The file
-  calls each call of the block, in the order of the page.
+- The folder tests/libraries/specified has a file for each heading, whose first line names the
+  crate. The file calls each call of the block, in the order of the page.
 
 Laws aren't calls: they are public functions without parameters and result. `rt check` proves what a
-call promises, and the tests of `specified` show it.
+call promises, and the tests of that folder show it: `tools/library_tests.py` runs them.
 
 With `--list` the script prints the calls of these crates and compares nothing. With `--mend` it
 writes the lines `Also in` anew from the sources, and never a block.
@@ -31,7 +31,7 @@ TOP = frame.TOP
 PAGE = os.path.join(TOP, "docs", "CALLS.md")
 COLUMNS = 100
 # Where each call of a block is made once. The program's calls are tested over the built program, by checks/shell.py.
-SPECIFIED = os.path.join(TOP, "crates", "specified", "src", "*.rt")
+SPECIFIED = os.path.join(TOP, "tests", "libraries", "specified", "*.rs")
 PROGRAM = "telegate"
 SECTION = re.compile(r"^## [^\n]*`(\w+)`\n(.*?)(?=^## |\Z)", re.M | re.S)
 ALSO = re.compile(r"^Also in `(\w+)`: (.*?)\.$", re.M | re.S)
@@ -180,7 +180,7 @@ def judge_crate(count, crate, rows, also, specified):
         elif not contract:
             fault = "nothing is said of it"
         elif behind is None:
-            fault = "crates/specified doesn't call it, or out of the order of the page"
+            fault = "tests/libraries/specified doesn't call it, or out of the order of the page"
         else:
             fault, place = None, behind
         count.judge(f"{crate}: {call}", fault is None, fault)

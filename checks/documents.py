@@ -14,7 +14,7 @@
 - The repository stands alone: no line of a document, of an example or of a crate cites a demand by
   a letter and a number.
 - The program, the man page, CHANGELOG.md and each document that names a version name the same one.
-- Lines of src/ and specs/ have at most 100 columns, except imports and attributes.
+- Lines of src/, specs/ and tests/ have at most 100 columns, except imports and attributes.
 - An entry of a document that a comment in src/ names, as `docs/NAME.md, "HEADING"`, is there.
 - The table of docs/TESTS.md has the scripts of checks/list.txt as those of the gate.
 - The pictures are those that docs/pictures/make.py makes.
@@ -39,7 +39,7 @@ PLAIN += [f"docs/{name}.md" for name in ("PROFILE", "INTEROPERABILITY", "LIBRARY
 PLAIN += [f"docs/{name}.md" for name in ("PROOFS", "MISREADINGS", "MISREADINGS_GATEWAY", "CHANGING")]
 PLAIN += [f"docs/{name}.md" for name in ("ARCHITECTURE", "DECISIONS", "MISREADINGS_PROGRAM", "TESTS", "GATE")]
 # What a sentence names as a file: a path with one of these endings, or in one of these folders.
-NAMED = re.compile(r"`?(?<![\w/])((?:bench|checks|crates|docs|examples|packaging|tools|specs|src|\.ci)/[\w./*-]*\w|[\w-]+\.(?:md|txt|py))`?")
+NAMED = re.compile(r"`?(?<![\w/])((?:bench|checks|crates|docs|examples|packaging|tests|tools|specs|src|\.ci)/[\w./*-]*\w|[\w-]+\.(?:md|txt|py))`?")
 
 # What cites a demand of another paper: a capital letter with a number (R32 is a type of the
 # standard), or a section or row of a paper that isn't here.
@@ -139,10 +139,12 @@ def is_one_line(line):
 
 
 def judge_sources(judge):
-    """What people read of the crates: its lines are short, and cite no paper."""
-    for crate in sorted(os.listdir(os.path.join(TOP, "crates"))):
+    """What people read of the crates and of their tests: its lines are short, and cite no paper."""
+    files = {crate: (f"crates/{crate}/src/**/*.rt", f"crates/{crate}/specs/**/*.antt") for crate in sorted(os.listdir(os.path.join(TOP, "crates")))}
+    files["tests"] = ("tests/**/*.rs",)
+    for crate, patterns in files.items():
         wide = []
-        for name in sorted(glob.glob(f"crates/{crate}/src/**/*.rt", root_dir=TOP, recursive=True) + glob.glob(f"crates/{crate}/specs/**/*.antt", root_dir=TOP, recursive=True)):
+        for name in sorted(found for pattern in patterns for found in glob.glob(pattern, root_dir=TOP, recursive=True)):
             text = read(name)
             judge_alone(judge, name, text)
             wide += [f"{name}:{number}" for number, line in enumerate(text.splitlines(), 1) if len(line) > COLUMNS and not is_one_line(line)]
@@ -152,7 +154,7 @@ def judge_sources(judge):
 def judge_entries(judge):
     """Each heading of a document that a comment names is there: a heading of a part, or the bold
     words that a point begins with."""
-    for name in sorted(glob.glob("crates/*/src/**/*.rt", root_dir=TOP, recursive=True)):
+    for name in sorted(glob.glob("crates/*/src/**/*.rt", root_dir=TOP, recursive=True) + glob.glob("tests/**/*.rs", root_dir=TOP, recursive=True)):
         comments = re.sub(r"\n\s*//[/!]? ", " ", read(name))
         for document, heading in re.findall(r'(docs/\w+\.md), "([^"]*)"', comments):
             headings = re.findall(r"^(?:- \*\*(.*?)\.\*\*|#+ (.*))", read(document), re.M)

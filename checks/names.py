@@ -3,7 +3,7 @@
 
     checks/names.py [--program FILE] [--only NAME] [--all]
 
-Prose is what stands behind `//` in src/ of a crate, and README.md, CONTRIBUTING.md, SECURITY.md,
+Prose is what stands behind `//` in src/ of a crate and in tests/, and README.md, CONTRIBUTING.md, SECURITY.md,
 docs/*.md, packaging/*.md and crates/*/README.md outside of their blocks. A name is what one can write in code:
 
 - `Owner::member` has to be a function, variant, field or constant of that type, trait or crate,
@@ -32,11 +32,13 @@ import subprocess
 import frame
 
 TOP = frame.TOP
+# Sources of crates, and those of their tests.
+SOURCE = (".rt", ".rs")
 WORD = re.compile(r"[A-Za-z_][A-Za-z0-9_]*")
 SPAN = re.compile(r"``?([^`\n]+?)``?(?!`)")
 PATH = re.compile(r"(?:[A-Za-z_][A-Za-z0-9_]*::)+[A-Za-z_][A-Za-z0-9_]*(?:\(\))?")
 NAME = re.compile(r"[A-Za-z][A-Za-z0-9_]*(?:\(\))?")
-FILE = re.compile(r"(?:bench|checks|crates|docs|examples|packaging|specs|src|tools)/[\w./-]+\.\w+")
+FILE = re.compile(r"(?:bench|checks|crates|docs|examples|packaging|specs|src|tests|tools)/[\w./-]+\.\w+")
 # A type of the standard (IEC 60870-5-101, 7.2.1), or an octet or a digit in hexadecimal.
 STANDARD = re.compile(r"[MCPF]_[A-Z]{2}_[A-Z]{2}_\d|[0-9A-F]{2}|[A-Z]\w?")
 # Where prose stands beside the crates, and where names stand that are no Rust.
@@ -125,6 +127,8 @@ def ours():
     names = Names()
     for path in glob.glob(os.path.join(TOP, "crates/*/src/**/*.rt"), recursive=True):
         names.add_rust(read(path), os.path.relpath(path, TOP).split("/")[1])
+    for path in glob.glob(os.path.join(TOP, "tests/**/*.rs"), recursive=True):
+        names.add_rust(read(path), "tests")
     for path in glob.glob(os.path.join(TOP, "crates/**/*.antt"), recursive=True):
         names.add_words(code_of(read(path), "--"))
     # Of what isn't Rust each word counts, in comments too: a script names its parts as it likes.
@@ -182,7 +186,7 @@ def known_gone():
 def prose_of(path):
     """The lines of prose of a file, with their numbers."""
     text = read(path)
-    if path.endswith(".rt"):
+    if path.endswith(SOURCE):
         for number, line in enumerate(text.splitlines(), 1):
             found = re.search(r"(?:^|\s)//[/!]?(.*)", line)
             if found:
@@ -202,7 +206,7 @@ def names_in(path):
     for number, line in prose_of(path):
         for span in SPAN.findall(line):
             yield number, span
-        if path.endswith(".rt"):
+        if path.endswith(SOURCE):
             for file in FILE.findall(re.sub(SPAN, "", line)):
                 yield number, file
 
@@ -236,6 +240,8 @@ def comments(count, _program, _folder):
     for crate in sorted(os.listdir(os.path.join(TOP, "crates"))):
         paths = sorted(glob.glob(os.path.join(TOP, "crates", crate, "src/**/*.rt"), recursive=True))
         judge_files(count, crate, f"crates/{crate}", paths)
+    paths = sorted(glob.glob(os.path.join(TOP, "tests/**/*.rs"), recursive=True))
+    judge_files(count, "tests", "tests", paths)
 
 
 def documents(count, _program, _folder):

@@ -1,5 +1,5 @@
 -- A look gives what its calls brought.
-use Rattle.std.proofs.Common.{◌≡◌, ℕ, ◌==◌, Bool, true, false, List, [], ◌∷◌, ◌++◌, length, take}
+use Rattle.std.proofs.Common.{◌≡◌, ℕ, ◌==◌, Bool, true, false, List, [], ◌∷◌, ◌++◌, take}
 use Rattle.std.proofs.Common.{Option, Some, None, Result, Ok, Err, refl, sym, ap, subst, ◌∙◌, arith}
 use Rattle.std.proofs.Common.{if◌then◌else◌}
 use Rattle.std.proofs.lemmas.List.{append_assoc, append-nil}
@@ -7,8 +7,7 @@ use Rattle.std.specs.declared.io.Error.{Error}
 use Rattle.std.specs.IoError.{error_kind}
 use Rattle.live.specs.Streams.{Calls, Came, Enough, IsReadOut, LooksOnwards, MeansFault, MeansGot}
 use Rattle.live.specs.Streams.{NoMore, NoneCame, OneMore, ReadsFrame, ReadsLine, ReadsOn, ReadsOnce}
-use Rattle.live.specs.Streams.{Received, SystemCall, Took, Whole, WritesInTwo, called, came}
-use Rattle.live.specs.Streams.{octets_of, taken_of, took}
+use Rattle.live.specs.Streams.{Received, Whole, called, came, octets_of, taken_of}
 use Rattle.live.specs.declared.ends.Got.{Got}
 use Rattle.live.specs.declared.ends.Got.TheVariants.{Octets, Quiet, Gone}
 
@@ -116,31 +115,3 @@ pub line_came : (old new : Calls) (got : Got) (buf : List ℕ) → ReadsLine old
 line_came old new got buf r =
     onwards_came r.first got r.before buf old r.mid new
     (once_came old r.mid r.first r.before r.once) r.onwards
-
--- where the calls were noted from the first one on
-noted_came : (new : Calls) (octets : List ℕ) → Came (Some []) octets new
-    → (calls : List SystemCall) × (new ≡ Some calls) × (came calls ≡ octets)
-noted_came None octets h = absurd h
-noted_came (Some calls) octets h = (calls, refl, h)
-
-pub noted_look : (old new : Calls) (got : Got) (buf : List ℕ) → old ≡ Some []
-    → ReadsLine old got buf new
-    → (calls : List SystemCall) × (new ≡ Some calls) × (came calls ≡ octets_of got buf)
-noted_look old new got buf first r =
-    let P : Calls → Type 0 = λ c. Came c (octets_of got buf) new in
-    noted_came new (octets_of got buf) (subst P first (line_came old new got buf r))
-
-noted_took : (new : Calls) (octets : List ℕ) → Took (Some []) octets new
-    → (calls : List SystemCall) × (new ≡ Some calls) × (took calls ≡ octets)
-noted_took None octets h = absurd h
-noted_took (Some calls) octets h = (calls, refl, h)
-
-pub noted_write : (old new : Calls) (octets : List ℕ) (is_taken : Bool) → old ≡ Some []
-    → WritesInTwo old octets is_taken new
-    → (calls : List SystemCall) × (count : ℕ) × (new ≡ Some calls)
-    × (took calls ≡ take count octets) × (is_taken ≡ (count == length octets))
-noted_write old new octets is_taken first w =
-    let f = w.front in
-    let P : Calls → Type 0 = λ c. Took c (take f.count octets) new in
-    let t = noted_took new (take f.count octets) (subst P first f.taken) in
-    (t.0, f.count, t.1, t.2, f.all)

@@ -1,11 +1,11 @@
 -- A stream that is reached again.
-use Rattle.std.proofs.Common.{◌≡◌, ℕ, ◌+◌, ◌≤◌, Bool, true, false, Some, None, List, [], ◌∷◌}
-use Rattle.std.proofs.Common.{Option, length}
-use Rattle.std.proofs.Common.{IfSome, refl, sym, ap, subst, arith, ◌∙◌}
+use Rattle.std.proofs.Common.{◌≡◌, ℕ, ◌+◌, Bool, true, false, Some, None, List}
+use Rattle.std.proofs.Common.{Option}
+use Rattle.std.proofs.Common.{IfSome, refl, sym, ap, subst, ◌∙◌}
 use Rattle.live.specs.Timing.{Moments, read_at}
 use Rattle.live.specs.OctetStreams.{StreamHistory, IsNew, Attempts, looked, noted}
 use Rattle.live.specs.Redial.{Redial, ended, IfReached, dialled_map, is_due, clock_read_at, settled}
-use Rattle.live.specs.Redial.{begun_by, tried_by, looked_by, is_due_by, IsTryAnswered, IsTriedOn}
+use Rattle.live.specs.Redial.{begun_by, tried_by, looked_by, IsTryAnswered, IsTriedOn}
 use Rattle.live.specs.Redial.{IsRedialled, answered, gone_by, known_by, quieted}
 use Rattle.live.specs.Redial.{Asked, DialCall, DialCalls, Dialed, Pauses, dial_noted, is_reached}
 use Rattle.live.specs.Redial.{paused, waited}
@@ -117,68 +117,10 @@ looked_away now buf old mid last new away given t once =
 abbrev finds : Got → Redial → Got × Redial
 finds got r = (got, r)
 
--- the first look, where tries and the clock are noted
-ended_once : {A : Type 0} (d : Dialled A) → (tries : List Bool) × (ended (Some []) d ≡ Some tries)
-    × (length tries ≤ 1)
-ended_once (Reached stream) = let one : 1 ≤ 1 = omega arith in (true ∷ [], refl, one)
-ended_once Pending = let one : 0 ≤ 1 = omega arith in ([], refl, one)
-ended_once Failed = let one : 1 ≤ 1 = omega arith in (false ∷ [], refl, one)
-
 settled_clock : (d : Dialled StreamHistory) (r : Redial) → (settled d r).clock ≡ r.clock
 settled_clock (Reached stream) r = refl
 settled_clock Pending r = refl
 settled_clock Failed r = refl
-
-settled_tried : (d : Dialled StreamHistory) (r : Redial) → (settled d r).tried ≡ r.tried
-settled_tried (Reached stream) r = refl
-settled_tried Pending r = refl
-settled_tried Failed r = refl
-
-settled_tries : (d : Dialled StreamHistory) (r : Redial) → (settled d r).tries ≡ r.tries
-settled_tries (Reached stream) r = refl
-settled_tries Pending r = refl
-settled_tries Failed r = refl
-
-settled_calls : (d : Dialled StreamHistory) (r : Redial) → (settled d r).calls ≡ r.calls
-settled_calls (Reached stream) r = refl
-settled_calls Pending r = refl
-settled_calls Failed r = refl
-
-pub first_try : (old new : Redial) (got : Got) (buf : List ℕ) → old.tries ≡ Some []
-    → old.calls ≡ Some [] → old.clock ≡ Some [] → old.stream ≡ None → old.is_trying ≡ false
-    → old.tried ≡ None → IsRedialled old got buf new
-    → (got ≡ Quiet) × (now : ℕ) × (new.clock ≡ Some (now ∷ [])) × (new.tried ≡ Some now)
-    × (tries : List Bool) × (new.tries ≡ Some tries) × (length tries ≤ 1)
-    × (reached : Bool) × (new.calls ≡ Some (Dialed reached ∷ []))
-first_try old new got buf none uncalled dark away idle untried l =
-    let now = l.now in
-    let seen = clock_read_at now old in
-    let begun : Redial = record seen { tried = Some now } in
-    let asked : Redial = record begun {
-      tries = ended begun.tries l.answer;
-      calls = dial_noted begun.calls (Dialed (is_reached l.answer));
-    } in
-    let tried : finds got new ≡ finds Quiet (waited (settled l.answer asked)) =
-    l.looked ∙ (ap (λ s. looked_by s now l.answer l.found buf old) away
-    ∙ (ap (λ b. finds Quiet (waited (tried_by b now l.answer seen))) idle
-    ∙ ap (λ b. finds Quiet (waited (begun_by b now l.answer seen)))
-    (ap (λ b. is_due_by b old.tried old.wait now) idle
-    ∙ ap (λ t. is_due_by false t old.wait now) untried))) in
-    let done = ap (λ (p : Got × Redial). p.1) tried in
-    let once = ended_once l.answer in (
-      ap (λ (p : Got × Redial). p.0) tried,
-      now,
-      ap (λ (r : Redial). r.clock) done ∙ (settled_clock l.answer asked
-          ∙ ap (λ c. read_at c now) dark),
-      ap (λ (r : Redial). r.tried) done ∙ settled_tried l.answer asked,
-      once.0,
-      ap (λ (r : Redial). r.tries) done ∙ (settled_tries l.answer asked
-          ∙ (ap (λ t. ended t l.answer) none ∙ once.1)),
-      once.2,
-      is_reached l.answer,
-      ap (λ (r : Redial). r.calls) done ∙ (settled_calls l.answer asked
-          ∙ ap (λ c. dial_noted c (Dialed (is_reached l.answer))) uncalled),
-    )
 
 -- a look at a stream that is away, by the try that it makes
 pub away_by : (old new : Redial) (got : Got) (buf : List ℕ) → (l : IsRedialled old got buf new)

@@ -61,13 +61,10 @@
 mod allow_list;
 mod arrivals;
 mod clock;
-#[cfg(test)]
-mod configured;
 mod ends;
 mod found;
 mod held;
 mod laws;
-#[cfg(test)]
 mod memory;
 mod port;
 mod reach;
@@ -77,8 +74,6 @@ mod sockets;
 mod source;
 mod stream;
 mod stream_laws;
-#[cfg(test)]
-mod timed;
 mod timing;
 mod walled;
 mod watched;

@@ -560,9 +560,4 @@ impl<S: OctetStream, L: Listener + Drop, C: RunClock + Drop> Port for Live<S, L,
     }
 }
 
-#[cfg(test)]
 mod noted;
-#[cfg(test)]
-mod stalls;
-#[cfg(test)]
-mod tests;

@@ -298,5 +298,4 @@ impl<D: Dialler + Drop, C: RunClock + Drop> OctetStream for Redialled<D, C> {
     }
 }
 
-#[cfg(test)]
-mod tests;
+mod noted;

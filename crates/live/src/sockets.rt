@@ -746,6 +746,3 @@ impl<R: std::rt::Clock, I: SystemInstants + Drop> RunClock for SystemClock<'_, R
         u64::try_from(passed.as_millis()).unwrap_or(u64::MAX)
     }
 }
-
-#[cfg(test)]
-mod tests;

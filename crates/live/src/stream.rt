@@ -333,5 +333,4 @@ fn drop_once<S: SystemStream>(stream: &mut S) -> u64
     receive_once(stream, &mut [0; 1024]) as u64
 }
 
-#[cfg(test)]
-mod tests;
+mod noted;

@@ -54,13 +54,10 @@ fn exchange<S: OctetStream, L: Listener + Drop, C: RunClock + Drop>(
     port.next(buf)
 }
 
-#[test]
-fn octets_of_the_line_stand_in_the_log(rt: HostRuntime) {
+/// What the laws ask can be met: such a run over ends in memory.
+pub(super) fn exchange_in_memory(buf: &mut [u8; 1024]) -> Next {
     let line = MemoryStream::busy();
     let listener = MemoryListener::new(None);
     let mut port = Live::awaiting(line, listener, MemoryClock::new(), AllowList::Anyone, 1000);
-    let mut buf = [0; 1024];
-    let event = exchange(&mut port, 7, &[0x10, 0x49, 0x01, 0x4A, 0x16], &mut buf);
-    assert!(rt; matches!(event, Next::Line(_, 1)));
-    assert_eq!(rt; buf[0], 0xE5);
+    exchange(&mut port, 7, &[0x10, 0x49, 0x01, 0x4A, 0x16], buf)
 }

@@ -1,0 +1,124 @@
+//! A stream of the system in memory, which notes its calls: an instance of what is asked of one.
+ghost use Rattle.std.specs.Prelude.{◌≡◌, [], ◌∷◌, Ok, Err, Some, true};
+ghost use Rattle.std.specs.declared.io.Error.{Error};
+ghost use Rattle.live.specs.Memory.{calls_in, setting_of};
+ghost use Rattle.live.specs.Streams.{Received, Sent, Sets, Waits};
+
+use super::SystemStream;
+use gateway::{Action, History, Next};
+use std::io;
+use std::io::ErrorKind;
+
+/// What no octets of a buffer are noted with.
+const NO_OCTETS: [u8; 1024] = [0; 1024];
+
+/// The calls of a stream, with one that brought so many octets.
+fn with_octets(log: &History, octets: &[u8], count: usize) -> History
+    ensures { (fault : Error) → calls_in fault result.entries
+        ≡ Received octets.now (Ok count) ∷ calls_in fault log.now.entries }
+{
+    log.went(&(count as u64), &Action::Line(octets))
+}
+
+/// The calls of a stream, with one that brought none.
+fn with_fault(log: &History) -> History
+    ensures { (fault : Error) → calls_in fault result.entries
+        ≡ Received [] (Err fault) ∷ calls_in fault log.now.entries }
+{
+    log.came(&Next::Tick(0), &NO_OCTETS)
+}
+
+/// The calls of a stream, with one that took so many of these octets.
+fn with_write(log: &History, octets: &[u8], count: usize) -> History
+    ensures { (fault : Error) → calls_in fault result.entries
+        ≡ Sent octets.now (Ok count) ∷ calls_in fault log.now.entries }
+{
+    log.went(&(count as u64), &Action::Tcp(octets))
+}
+
+/// The calls of a stream, with one that set whether it waits.
+fn with_waiting(log: &History, is_waiting: bool) -> History
+    ensures { (fault : Error) → calls_in fault result.entries
+        ≡ Waits is_waiting true ∷ calls_in fault log.now.entries }
+{
+    if is_waiting {
+        log.came(&Next::Wall(0, 1), &NO_OCTETS)
+    } else {
+        log.came(&Next::Wall(0, 0), &NO_OCTETS)
+    }
+}
+
+/// The calls of a stream, with one that set it otherwise.
+fn with_setting(log: &History, kind: u64, number: u64) -> History
+    ensures { (fault : Error) → calls_in fault result.entries
+        ≡ Sets (setting_of kind number) true ∷ calls_in fault log.now.entries }
+{
+    log.came(&Next::Wall(kind, number), &NO_OCTETS)
+}
+
+/// A stream that gives these octets, so many a call, and is quiet where they have all come. It
+/// takes so many a call, too.
+#[derive(Drop)]
+pub(super) struct PiecewiseStream<'a> {
+    octets: &'a [u8],
+    size: usize,
+    /// What it answers where none have come.
+    fault: io::Error,
+    /// Its calls.
+    log: History,
+}
+
+impl<'a> PiecewiseStream<'a> {
+    pub(super) fn new(octets: &'a [u8], size: usize) -> PiecewiseStream<'a>
+        ensures { calls_in result.fault result.log.entries ≡ [] }
+    {
+        PiecewiseStream {
+            octets,
+            size,
+            fault: io::Error::from(ErrorKind::WouldBlock),
+            log: History::new(),
+        }
+    }
+}
+
+impl SystemStream for PiecewiseStream<'_> {
+    ghost calls = { λ stream. Some (calls_in stream.fault stream.log.entries) };
+
+    fn receive(&mut self, buf: &mut [u8]) -> io::Result<usize> {
+        let count = self.size.min(self.octets.len()).min(buf.len());
+        if count == 0 {
+            self.log = with_fault(&self.log);
+            return Err(self.fault);
+        }
+        buf[..count].copy_from_slice(&self.octets[..count]);
+        self.octets = &self.octets[count..];
+        self.log = with_octets(&self.log, &buf[..count], count);
+        Ok(count)
+    }
+
+    fn send(&mut self, octets: &[u8]) -> io::Result<usize> {
+        let count = self.size.min(octets.len());
+        self.log = with_write(&self.log, octets, count);
+        Ok(count)
+    }
+
+    fn set_waiting(&mut self, is_waiting: bool) -> io::Result<()> {
+        self.log = with_waiting(&self.log, is_waiting);
+        Ok(())
+    }
+
+    fn limit_reads(&mut self, ms: u64) -> io::Result<()> {
+        self.log = with_setting(&self.log, 1, ms);
+        Ok(())
+    }
+
+    fn limit_writes(&mut self, ms: u64) -> io::Result<()> {
+        self.log = with_setting(&self.log, 2, ms);
+        Ok(())
+    }
+
+    fn send_at_once(&mut self) -> io::Result<()> {
+        self.log = with_setting(&self.log, 3, 0);
+        Ok(())
+    }
+}
