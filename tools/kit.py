@@ -10,7 +10,9 @@ import sys
 
 TOP = os.path.dirname(os.path.dirname(os.path.abspath(__file__)))
 PROGRAM = os.path.join(TOP, "crates", "telegate")
-PARTS = ("src", "specs", "proofs")
+# What of it is called here, in ./build and in tools/unproved.py.
+CALLED = ("in_lanes", "need", "share_work")
+CALLED_BELOW = ("Crate", "KIT", "guarded", "kit_sources", "lock", "stop_on_links")
 
 sys.dont_write_bytecode = True
 
@@ -29,9 +31,12 @@ def load():
     module = importlib.util.module_from_spec(importlib.util.spec_from_loader("kit_rt", loader))
     try:
         loader.exec_module(module)
-        module.rtlib.Crate, module.in_lanes, module.need, module.share_work  # noqa: B018
+        lacking = [name for name in CALLED if not hasattr(module, name)]
+        lacking += [name for name in CALLED_BELOW if not hasattr(module.rtlib, name)]
     except (SyntaxError, UnicodeDecodeError, AttributeError) as error:
         raise Lacking(f"{file} is no rt that this repository knows ({error})") from error
+    if lacking:
+        raise Lacking(f"{file} is of another kit: it lacks {', '.join(lacking)}")
     return module
 
 
