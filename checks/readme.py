@@ -10,8 +10,11 @@ brackets. A line `...` there stands for any lines. A command of README.md that i
 failure.
 
 `run` and `stations` don't end by themselves. For `run` the script runs README's `python3
-examples/live/try.py`, which has to end with 0; checks/stations.py has both. It doesn't run
-`./build`, since `rt ci` does the same. With `--program` it runs that file in place of `./telegate`.
+examples/live/try.py`, which has to end with 0; checks/stations.py has both. With `--program` it
+runs that file in place of `./telegate`.
+
+Of the commands that build, test, pack and install, it tries that `--help` prints help, that wrong
+words end with 2 and one line on standard error, and that neither does anything.
 """
 import os
 import re
@@ -22,6 +25,7 @@ import frame
 
 LIVE = "python3 examples/live/try.py"
 LASTING = ("./telegate run", "./telegate stations")
+TOOLS = ("build", "test", "packaging/deb", "packaging/install.sh")
 
 
 def commands_of(text):
@@ -83,5 +87,19 @@ def commands(count, _program, _folder):
         count.judge("README.md", False, f"it has {len(found)} commands")
 
 
+def tools(count, _program, folder):
+    """The other commands of README.md tell what they do, or refuse words, and do nothing else."""
+    elsewhere = {**os.environ, "DESTDIR": folder, "TELEGATE_PROGRAM": "/bin/true"}
+    for name in TOOLS:
+        for words, status in (("--help", 0), ("--bogus", 2), ("--help --bogus", 2), ("nowhere nowhere", 2)):
+            called = [os.path.join(frame.TOP, name), *words.split()]
+            how = {"env": elsewhere, "stdin": subprocess.DEVNULL, "capture_output": True, "text": True}
+            done = subprocess.run(called, cwd=folder, timeout=60, **how)
+            lines = len(done.stdout.splitlines()), len(done.stderr.splitlines())
+            holds = lines[0] > 5 and lines[1] == 0 if status == 0 else lines == (0, 1)
+            holds = holds and done.returncode == status and not os.listdir(folder)
+            count.judge(f"{name} {words}", holds, done)
+
+
 if __name__ == "__main__":
-    frame.main(commands, needs_program=False)
+    frame.main(commands, tools, needs_program=False)

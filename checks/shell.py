@@ -9,7 +9,7 @@
 - Colours, on a terminal alone, by NO_COLOR and `--color`.
 - A live run that asks its line for its status. It ends with 3 when the line ends, or reaches it
   again with --redial.
-- The script ./telegate, also through a link, and if nothing is built.
+- The script ./telegate, also through a link, and if nothing is built: which program it runs.
 - The man page and the completions of packaging/, which name what `--help` names.
 
 Sockets are on the loopback, the system chooses their ports, and each process has 20 seconds.
@@ -694,26 +694,43 @@ def helps(count, program, folder):
             count.judge(f"completion of {words}", want in text(done.stdout).split(), done)
 
 
-def scripts(count, program, folder):
-    """./telegate runs the built program, also through a link, and `run` never another."""
-    built = os.path.join(TOP, "crates/telegate/out/telegate")
+RUN_NEEDS = "telegate: run needs the proved program: ./build makes it (run --unproved tries the unproved one)\n"
+UNPROVED_RUNS = "telegate: an unproved program runs; ./build makes the proved one\n"
+
+
+def copied(count, program, folder):
+    """The script ./telegate in a folder of its own, which has no source and no program."""
     copy = os.path.join(folder, "copy")
-    os.makedirs(os.path.join(copy, "crates/telegate/out"))
+    for name in ("crates/telegate/out", ".unproved"):
+        os.makedirs(os.path.join(copy, name))
     for name in ("telegate", "crates.txt"):
         shutil.copy(os.path.join(TOP, name), copy)
+    return copy
+
+
+def put(program, copy, name, beside, text):
+    """The program, as a script of the copy finds it, and what stands beside it."""
+    place = os.path.join(copy, name)
+    shutil.copy2(program, place)
+    os.utime(place)
+    with open(os.path.join(copy, beside), "w") as file:
+        file.write(text)
+    return place
+
+
+def scripts(count, program, folder):
+    """./telegate runs the built program, also through a link, and `run` never another."""
+    copy = copied(count, program, folder)
     os.symlink("copy/telegate", os.path.join(folder, "link"))
     os.symlink(os.path.join(folder, "link"), os.path.join(folder, "second"))
-    for script in ("copy/telegate", "link", "second"):
-        script = os.path.join(folder, script)
+    called = [os.path.join(folder, script) for script in ("copy/telegate", "link", "second")]
+    for script in called:
         done = ran([script, "run", "good.toml"], folder)
-        is_right = done.returncode == 2 and done.stdout == b""
-        is_right &= text(done.stderr) == "telegate: run needs the proved program: ./build\n"
+        is_right = (done.returncode, text(done.stdout), text(done.stderr)) == (2, "", RUN_NEEDS)
         count.judge(f"{script} run, nothing built", is_right, done)
-    place = os.path.join(copy, "crates/telegate/out/telegate")
-    shutil.copy2(program if os.path.exists(program) else built, place)
-    os.utime(place)
-    for script in ("copy/telegate", "link", "second"):
-        done = ran([os.path.join(folder, script), "check", "good.toml"], folder)
+    place = put(program, copy, "crates/telegate/out/telegate", "crates/telegate/out/commit", "0123abc\n")
+    for script in called:
+        done = ran([script, "check", "good.toml"], folder)
         is_right = (done.returncode, text(done.stdout), text(done.stderr)) == (0, "ok\n", "")
         count.judge(f"{script} check", is_right, done)
     # A newer source makes the proved gateway no unproved one.
@@ -723,14 +740,47 @@ def scripts(count, program, folder):
         file.write("")
     late = os.stat(place).st_mtime + 60
     os.utime(newer, (late, late))
-    done = ran([os.path.join(copy, "telegate"), "run", "no-line.toml"], folder)
+    done = ran([called[0], "run", "no-line.toml"], folder)
     told = text(done.stderr)
     is_right = done.returncode == 3 and told.endswith("device failed\n") and "newer" in told
     count.judge("run with a newer source", is_right, done)
-    with open(os.path.join(copy, "crates/telegate/out/commit"), "w") as file:
-        file.write("0123abc\n")
-    done = ran([os.path.join(copy, "telegate"), "--version"], folder)
-    count.judge("the version with its commit", text(done.stdout).endswith("\ncommit 0123abc\n"), done)
+    done = ran([called[0], "--version"], folder)
+    count.judge("the version of the proved program", text(done.stdout).endswith("\nproved, commit 0123abc\n"), done)
+    os.remove(os.path.join(copy, "crates/telegate/out/commit"))
+    done = ran([called[0], "--version"], folder)
+    count.judge("the same without a commit", text(done.stdout).endswith("\nproved\n"), done)
+
+
+def unproved_scripts(count, program, folder):
+    """If nothing is built, ./telegate runs the unproved program that it keeps; `run` does so only
+    with the word for it."""
+    copy = copied(count, program, folder)
+    script = os.path.join(copy, "telegate")
+    put(program, copy, ".unproved/telegate", ".unproved/telegate.unproved", "Nothing is proved.\ncommit 0123abc\n")
+    shutil.copy(os.path.join(folder, "good.toml"), os.path.join(folder, "good  one.toml"))
+    rows = [
+        ("check good.toml", "ok\n", "", 0),
+        ("check nowhere", "", "cannot read nowhere\n", 3),
+        ("run good.toml", "", RUN_NEEDS, 2),
+        ("run good.toml --unproved", "", RUN_NEEDS, 2),
+        ("run --unproved good.toml", "", UNPROVED_RUNS + "config: live.line\n", 1),
+        ("--unproved run good.toml", "", UNPROVED_RUNS + "config: live.line\n", 1),
+        ("run --unproved --log no-line.toml", None, UNPROVED_RUNS, 3),
+    ]
+    for words, output, fault, status in rows:
+        done = ran([script, *words.split()], folder)
+        is_right = done.returncode == status and output in (None, text(done.stdout))
+        is_right &= text(done.stderr) == fault or (output is None and text(done.stderr).startswith(fault))
+        count.judge(f"unproved: {words}", is_right, done)
+    done = ran([script, "check", "good  one.toml"], folder)
+    count.judge("unproved: a word with blanks", (done.returncode, done.stdout, done.stderr) == (0, b"ok\n", b""), done)
+    piped = {"input": b"680443000000\n", "capture_output": True, "timeout": SECONDS}
+    done = subprocess.run([script, "show104", "-"], **piped)
+    count.judge("unproved: standard input", done.stdout == b"U TESTFR act\n", done)
+    done = ran([script, "--unproved", "check", "good.toml"], folder)
+    count.judge("unproved: the word is for run", done.returncode == 2 and b"--unproved" in done.stderr, done)
+    done = ran([script, "--version"], folder)
+    count.judge("the version of the unproved program", text(done.stdout).endswith("\nunproved, commit 0123abc\n"), done)
 
 
 def with_files(part):
@@ -746,5 +796,5 @@ def with_files(part):
 
 
 if __name__ == "__main__":
-    parts = (words_and_files, pipes, statuses, failing_outputs, colours, looks, live_runs, redialled_runs, versions, helps, scripts)
+    parts = (words_and_files, pipes, statuses, failing_outputs, colours, looks, live_runs, redialled_runs, versions, helps, scripts, unproved_scripts)
     frame.main(*map(with_files, parts))

@@ -1,21 +1,41 @@
 #!/bin/sh
-# Installs telegate, as root, once ./build has made it:
-#
-#     sudo packaging/install.sh              into /usr/local, /etc and systemd's folder
-#     DESTDIR=/tmp/image packaging/install.sh     the same under another root, for a package
-#     sudo packaging/install.sh --remove     takes it away again, but for /etc/telegate
-#
-#   PREFIX/bin/telegate                   the program (PREFIX is /usr/local)
-#   PREFIX/share/doc/telegate/            the documents, the licences and the examples
-#   PREFIX/share/man/man1/telegate.1      the man page, and shell completions
-#   PREFIX/lib/systemd/system/            telegate.service for one line, telegate@.service for several
-#   /etc/telegate/gateway.toml            settings to begin with
-#   /etc/telegate/site.toml               what belongs to this site: who may connect, names, the status port
-#   /etc/telegate/telegate.env            more words of `telegate run`: that file's name
-#
-# What stands in /etc is never written over, so a second call is an upgrade: it leaves what an
-# operator wrote. TELEGATE_PROGRAM is another file to be installed than the one that ./build made.
+# Installs telegate, as root, once ./build has made it; --help says where things go.
 set -eu
+
+tell_help() {
+    cat <<'HELP'
+Installs telegate once ./build has made it, which takes a second, or takes it away again.
+
+    sudo packaging/install.sh                   into /usr/local, /etc and systemd's folder
+    sudo packaging/install.sh --remove          takes it away again, but for /etc/telegate
+    DESTDIR=/tmp/image packaging/install.sh     the same under another root, for a package
+
+  PREFIX/bin/telegate                   the program (PREFIX is /usr/local)
+  PREFIX/share/doc/telegate/            the documents, the licences and the examples
+  PREFIX/share/man/man1/telegate.1      the man page, and shell completions
+  PREFIX/lib/systemd/system/            telegate.service for one line, telegate@.service for several
+  /etc/telegate/gateway.toml            settings to begin with
+  /etc/telegate/site.toml               what belongs to this site: who may connect, names, the status port
+  /etc/telegate/telegate.env            more words of `telegate run`: that file's name
+
+It never writes over what stands in /etc, so a second call is an upgrade: it leaves what an operator
+wrote. It starts nothing, and restarts nothing. TELEGATE_PROGRAM is another file to be installed
+than the one that ./build made. The exit status is 0 if all is installed, 1 if not, and 2 for wrong
+words.
+HELP
+}
+
+case $#,${1-} in
+    0, | 1,--remove) ;;
+    1,--help | 1,-h)
+        tell_help
+        exit 0
+        ;;
+    *)
+        echo "install.sh: it takes --remove or --help, one at most, and not: $*" >&2
+        exit 2
+        ;;
+esac
 here=$(cd "$(dirname "$0")/.." && pwd)
 prefix=${PREFIX:-/usr/local}
 root=${DESTDIR:-}

@@ -1,0 +1,58 @@
+"""The kit's command `rt` as a module, for what ./build and ./telegate need beyond its words: crates
+proved side by side in one checkout, and a program that is compiled with no proof and kept.
+"""
+import importlib.machinery
+import importlib.util
+import os
+import shutil
+import subprocess
+import sys
+
+TOP = os.path.dirname(os.path.dirname(os.path.abspath(__file__)))
+PROGRAM = os.path.join(TOP, "crates", "telegate")
+# What of it is called here, in ./build and in tools/unproved.py.
+CALLED = ("in_lanes", "need", "share_work")
+CALLED_BELOW = ("Crate", "KIT", "guarded", "kit_sources", "lock", "stop_on_links")
+
+sys.dont_write_bytecode = True
+
+
+class Lacking(Exception):
+    """The kit isn't there, or isn't one that this repository knows."""
+
+
+def load():
+    """The module of the `rt` that is on the path."""
+    found = shutil.which("rt")
+    if not found:
+        raise Lacking("the command rt isn't on the path: README.md says what it takes to build")
+    file = os.path.realpath(found)
+    loader = importlib.machinery.SourceFileLoader("kit_rt", file)
+    module = importlib.util.module_from_spec(importlib.util.spec_from_loader("kit_rt", loader))
+    try:
+        loader.exec_module(module)
+        lacking = [name for name in CALLED if not hasattr(module, name)]
+        lacking += [name for name in CALLED_BELOW if not hasattr(module.rtlib, name)]
+    except (SyntaxError, UnicodeDecodeError, AttributeError) as error:
+        raise Lacking(f"{file} is no rt that this repository knows ({error})") from error
+    if lacking:
+        raise Lacking(f"{file} is of another kit: it lacks {', '.join(lacking)}")
+    return module
+
+
+def program(rt):
+    """The crate of the program, with those below it, as crates.txt has them."""
+    return rt.rtlib.Crate(PROGRAM, TOP, {})
+
+
+def commit():
+    """The commit that is checked out, with a mark if crates differ from it; empty if git knows
+    none."""
+
+    def git(*words):
+        ran = subprocess.run(["git", "-C", TOP, *words], capture_output=True, text=True)
+        return ran.stdout.strip() if ran.returncode == 0 else ""
+
+    name = git("rev-parse", "--short", "HEAD")
+    differs = name and git("status", "--porcelain", "--", "crates", "crates.txt")
+    return f"{name}-dirty" if differs else name
