@@ -72,7 +72,9 @@ mod memory;
 mod port;
 mod reach;
 mod redial;
+mod room;
 mod run_port;
+mod silence;
 mod sockets;
 mod source;
 mod stream;
@@ -98,8 +100,9 @@ pub use laws::reaching::{
 };
 pub use laws::showing::the_ends_are_shown_as_they_are;
 pub use laws::tries::{
-    a_stream_that_is_away_is_tried_when_due, a_try_goes_on_until_it_ends,
-    tries_lie_farther_apart_while_nothing_comes, what_is_known_of_a_stream_is_what_was_seen,
+    a_stream_that_gives_nothing_is_closed, a_stream_that_is_away_is_tried_when_due,
+    a_try_goes_on_until_it_ends, tries_lie_farther_apart_while_nothing_comes,
+    what_is_known_of_a_stream_is_what_was_seen,
 };
 pub use laws::{
     a_clock_goes_on_with_the_systems, a_close_shuts_the_connection, a_cut_has_its_reason,
@@ -119,6 +122,7 @@ pub use laws::{
 };
 pub use port::Live;
 pub use redial::{Dialled, Dialler, Redialled};
+pub use room::{MOST_AT_ONCE, STANDARD_ERROR, STANDARD_OUTPUT, has_room};
 pub use run_port::RunPort;
 pub use sockets::{
     CentreListener, CentreSocket, LineDialler, LineSocket, LocalSocket, SystemClock,

@@ -36,16 +36,17 @@ pub(crate) fn subject_of(note: &Note) -> Subject
 {
     match note {
         Note::LineReached | Note::LineReachedAgain => Subject::Line,
-        Note::LineLost | Note::LineNotThere => Subject::Line,
+        Note::LineLost | Note::LineNotThere | Note::LineSilent => Subject::Line,
         Note::Asked(address) | Note::Up(address) | Note::Silent(address) => {
             Subject::Station(*address)
         }
-        Note::Again(address) | Note::Down(address) | Note::Gap(address) => {
+        Note::StillSilent(address) | Note::Again(address) | Note::Down(address) => {
             Subject::Station(*address)
         }
-        Note::MirrorDropped(address) | Note::Spoilt(address) | Note::Late(address) => {
+        Note::Gap(address) | Note::MirrorDropped(address) | Note::Spoilt(address) => {
             Subject::Station(*address)
         }
+        Note::Late(address) => Subject::Station(*address),
         Note::Fate(_, station, _) | Note::Skipped(station, _, _) => Subject::Station(*station),
         _ => Subject::Other,
     }
