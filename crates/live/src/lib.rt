@@ -42,8 +42,9 @@
 //! [`Redialled`] is a stream that is reached again where it has gone: proved, for any dialler that
 //! notes its tries, is that it is quiet and takes nothing while it is away; that a try begins at
 //! once and then every second, after each stream that was reached and gave nothing at twice the
-//! distance, up to 30 s; that no try begins while one goes on, and a look waits for none; and that
-//! it begins as a new stream each time.
+//! distance, up to 30 s; that no try begins while one goes on, and a look waits for none; that it
+//! begins as a new stream each time; and that one which gives nothing while requests go out to it
+//! is closed ([`a_stream_that_gives_nothing_is_closed`]).
 //!
 //! Before a request is written what has come from the line is dropped, since it is no answer to it,
 //! and how many octets that were is counted ([`late_octets_are_those_that_were_dropped`]).

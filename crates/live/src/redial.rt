@@ -3,7 +3,7 @@ ghost use Rattle.std.specs.Prelude.{◌≡◌, ◌≢◌, ℕ, List, Some, None,
 ghost use Rattle.live.specs.OctetStreams.{FitsBuffer};
 ghost use Rattle.live.specs.Redial.{IsRedialled, HasDropped, IsPut, IsTriedOn, IsTryAnswered};
 ghost use Rattle.live.specs.Redial.{clock_read_at, closed_by, dialled_map, is_due, grown, settled};
-ghost use Rattle.live.specs.Redial.{Asked, Dialed, known_reached, waited};
+ghost use Rattle.live.specs.Redial.{Asked, Dialed, waited};
 ghost use Rattle.live.specs.Silence.{no_silence};
 ghost use Rattle.live.specs.declared.ends.Got.TheVariants.{Quiet, Gone};
 ghost use Rattle.live.specs.declared.ends.Presence.TheVariants.{Untried};
@@ -235,7 +235,9 @@ impl<D: Dialler + Drop, C: RunClock + Drop> Redialled<D, C> {
                 self.is_trying = false;
                 self.wait = grown(self.wait);
                 self.silence.begin();
-                self.presence = known_reached(self.presence);
+                if !matches!(self.presence, Presence::Silent) {
+                    self.presence = Presence::There;
+                }
             }
             Dialled::Pending => self.is_trying = true,
             Dialled::Failed => {
@@ -251,16 +253,6 @@ fn grown(wait: u64) -> u64
     ensures { result ≡ grown wait }
 {
     wait.saturating_mul(2).min(LONGEST_RETRY_MS)
-}
-
-/// What is known of a stream that was just reached.
-fn known_reached(before: Presence) -> Presence
-    ensures { result ≡ known_reached before }
-{
-    match before {
-        Presence::Silent => Presence::Silent,
-        _ => Presence::There,
-    }
 }
 
 impl<D: Dialler + Drop, C: RunClock + Drop> Reached for Redialled<D, C> {
@@ -295,12 +287,11 @@ impl<D: Dialler + Drop, C: RunClock + Drop> OctetStream for Redialled<D, C> {
                 self.presence = Presence::Receiving;
                 Got::Octets(len)
             }
-            Got::Quiet => {
-                if self.silence.is_over() {
-                    self.close_silent();
-                }
+            Got::Quiet if self.silence.is_over() => {
+                self.close_silent();
                 Got::Quiet
             }
+            Got::Quiet => Got::Quiet,
             Got::Gone => {
                 // Kept until the next look, as a port does (docs/DECISIONS.md, "A stream that was
                 // found gone").
@@ -331,7 +322,8 @@ impl<D: Dialler + Drop, C: RunClock + Drop> OctetStream for Redialled<D, C> {
             return false;
         };
         let is_taken = stream.write(octets);
-        self.silence.ask(self.clock.now_ms());
+        let now = self.clock.now_ms();
+        self.silence.ask(now);
         is_taken
     }
 }

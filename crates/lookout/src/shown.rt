@@ -74,8 +74,9 @@ fn is_there(presence: Presence) -> bool
     ensures { result ≡ spec.is_there presence }
 {
     match presence {
-        Presence::Untried | Presence::Away | Presence::Silent => false,
+        Presence::Untried | Presence::Away => false,
         Presence::There | Presence::Receiving => true,
+        Presence::Silent => false,
     }
 }
 

@@ -154,8 +154,11 @@ silent_by true next now w = logged_silent next now w
 silent_by false next now w = (w, None)
 
 -- and again a minute after it was logged last
+abbrev pub still_silent : StationLogged → ℕ → StationWatch → StationWatch × Option LogLine
+still_silent next now w = silent_by (is_minute_after w.silent.logged now) next now w
+
 abbrev pub unanswered_by : (is_unanswered : Bool) → ℕ → StationWatch → StationWatch × Option LogLine
-unanswered_by true now w = silent_by (is_minute_after w.silent.logged now) Unanswered now w
+unanswered_by true now w = still_silent Unanswered now w
 unanswered_by false now w = (w, None)
 
 abbrev pub still_by : (is_minute : Bool) → ℕ → StationWatch → StationWatch × Option LogLine

@@ -40,13 +40,13 @@ pub(crate) fn subject_of(note: &Note) -> Subject
         Note::Asked(address) | Note::Up(address) | Note::Silent(address) => {
             Subject::Station(*address)
         }
-        Note::StillSilent(address) | Note::Again(address) | Note::Down(address) => {
+        Note::Again(address) | Note::Down(address) | Note::Gap(address) => {
             Subject::Station(*address)
         }
-        Note::Gap(address) | Note::MirrorDropped(address) | Note::Spoilt(address) => {
+        Note::MirrorDropped(address) | Note::Spoilt(address) | Note::Late(address) => {
             Subject::Station(*address)
         }
-        Note::Late(address) => Subject::Station(*address),
+        Note::StillSilent(address) => Subject::Station(*address),
         Note::Fate(_, station, _) | Note::Skipped(station, _, _) => Subject::Station(*station),
         _ => Subject::Other,
     }
