@@ -218,6 +218,7 @@ begun_waits false now answer r = (tt, λ gone. refl, tt)
 
 tried_waits : (b : Bool) (now : ℕ) (answer : Dialled StreamHistory) (r : Redial)
     → Waits r (tried_by b now answer (clock_read_at now (record r { stream = None })))
+unfolding Waits
 tried_waits true now answer r = answered_waits Asked answer (clock_read_at now r)
 tried_waits false now answer r =
     begun_waits (is_due (clock_read_at now (record r { stream = None })) now) now answer

@@ -5,7 +5,6 @@ use gateway::{Action, Next};
 use live::{MOST_AT_ONCE, STANDARD_ERROR, STANDARD_OUTPUT, has_room};
 use std::alloc::{AllocError, Global};
 use std::io::{Eprint, Print};
-use std::rt::AllocGlobal;
 
 /// So many octets wait at the most where there is no room for them.
 const MOST_WAITING: usize = 262_144;
