@@ -6,8 +6,12 @@ use Rattle.live.specs.OctetStreams.{StreamHistory, IsNew, noted, Wrote, Dropped}
 use Rattle.live.specs.Redial.{Redial, is_due, clock_read_at, begun_by, tried_by, is_due_by}
 use Rattle.live.specs.Redial.{IsRedialled, IsPut, HasDropped, answered, put_by, dropped_by}
 use Rattle.live.specs.Redial.{waited, IfReached, looked_by, Asked, DialCall, DialCalls, Dialed}
-use Rattle.live.specs.Redial.{BeginsTry}
+use Rattle.live.specs.Redial.{BeginsTry, closed_by, is_closed, known_by, known_reached}
+use Rattle.live.specs.OctetStreams.{WasQuiet}
+use Rattle.live.specs.Silence.{asked_at, begun_anew, borne_longer, counted_by, is_over, no_silence}
+use Rattle.live.specs.declared.silence.Silence.{Silence}
 use Rattle.live.specs.Law.{AtClock, IsFoundGone}
+use Rattle.live.specs.Timing.{read_at}
 use Rattle.live.proofs.Reasons.{gone_so}
 use Rattle.live.proofs.Tries.{away_by, away_clock}
 use Rattle.live.specs.declared.redial.Dialled.{Dialled}
@@ -15,7 +19,7 @@ use Rattle.live.specs.declared.redial.Dialled.TheVariants.{Reached, Pending, Fai
 use Rattle.live.specs.declared.ends.Got.{Got}
 use Rattle.live.specs.declared.ends.Got.TheVariants.{Octets, Quiet, Gone}
 use Rattle.live.specs.declared.ends.Presence.{Presence}
-use Rattle.live.specs.declared.ends.Presence.TheVariants.{Away, There, Receiving}
+use Rattle.live.specs.declared.ends.Presence.TheVariants.{Away, Receiving, Silent}
 
 -- a look at a stream that is away, by the try that it makes
 away_to : (old new : Redial) (got : Got) (buf : List ℕ) → (l : IsRedialled old got buf new)
@@ -123,7 +127,7 @@ asks_on old new got buf l away trying =
 pub puts_away : (old new : Redial) (octets : List ℕ) (is_taken : Bool)
     → IsPut old octets is_taken new → old.stream ≡ None → (is_taken ≡ false) × (new ≡ old)
 puts_away old new octets is_taken p away =
-    let is = p.put ∙ ap (λ s. put_by s octets p.taken old) away in
+    let is = p.put ∙ ap (λ s. put_by s octets p.taken p.now old) away in
     (ap (λ (q : Bool × Redial). q.0) is, ap (λ (q : Bool × Redial). q.1) is)
 
 pub drops_away : (old new : Redial) (count : ℕ) → HasDropped old count new → old.stream ≡ None
@@ -134,12 +138,20 @@ drops_away old new count d away =
 
 -- and one that is there
 pub puts_there : (old new : Redial) (octets : List ℕ) (is_taken : Bool) (h : StreamHistory)
-    → IsPut old octets is_taken new → old.stream ≡ Some h
-    → new ≡ record old { stream = Some (noted h (Wrote octets is_taken)) }
+    → (p : IsPut old octets is_taken new) → old.stream ≡ Some h
+    → new ≡ record old {
+      clock = read_at old.clock p.now;
+      stream = Some (noted h (Wrote octets is_taken));
+      silence = asked_at p.now old.silence;
+    }
 puts_there old new octets is_taken h p there =
-    let is = p.put ∙ ap (λ s. put_by s octets p.taken old) there in
+    let is = p.put ∙ ap (λ s. put_by s octets p.taken p.now old) there in
     ap (λ (q : Bool × Redial). q.1) is
-    ∙ ap (λ b. record old { stream = Some (noted h (Wrote octets b)) })
+    ∙ ap (λ b. record old {
+      clock = read_at old.clock p.now;
+      stream = Some (noted h (Wrote octets b));
+      silence = asked_at p.now old.silence;
+    })
     (sym (ap (λ (q : Bool × Redial). q.0) is))
 
 pub drops_there : (old new : Redial) (count : ℕ) (h : StreamHistory) → HasDropped old count new
@@ -180,37 +192,43 @@ reached_new old new got buf l away =
     (tried_new old.is_trying l.now l.answer old l.is_new)
 
 -- how long after it the next one begins, and what is known
-Waits : (wait : ℕ) → Redial → Type 0
-Waits wait new = IfSome new.stream (λ s. (wait ≤ 15000 → new.wait ≡ wait + wait)
-    × (15000 ≤ wait → new.wait ≡ 30000))
-    × (new.stream ≡ None → new.wait ≡ wait) × IfSome new.stream (λ s. new.presence ≡ There)
+Waits : (was new : Redial) → Type 0
+Waits was new = IfSome new.stream (λ s. (was.wait ≤ 15000 → new.wait ≡ was.wait + was.wait)
+    × (15000 ≤ was.wait → new.wait ≡ 30000))
+    × (new.stream ≡ None → new.wait ≡ was.wait)
+    × IfSome new.stream (λ s. (new.presence ≡ known_reached was.presence)
+    × (new.silence ≡ begun_anew was.silence))
 
 answered_waits : (call : Bool → DialCall) (answer : Dialled StreamHistory) (r : Redial)
-    → Waits r.wait (answered call answer (record r { stream = None }))
+    → Waits r (answered call answer (record r { stream = None }))
 unfolding Waits
-answered_waits call (Reached stream) r =
-    ((λ short. grind (arith, short), λ long. grind (arith, long)), λ gone. absurd (cc), refl)
+answered_waits call (Reached stream) r = (
+  (λ short. grind (arith, short), λ long. grind (arith, long)),
+  λ gone. absurd (cc),
+  (refl, refl),
+)
 answered_waits call Pending r = (tt, λ gone. refl, tt)
 answered_waits call Failed r = (tt, λ gone. refl, tt)
 
 begun_waits : (due : Bool) (now : ℕ) (answer : Dialled StreamHistory) (r : Redial)
-    → Waits r.wait (begun_by due now answer (record r { stream = None }))
+    → Waits r (begun_by due now answer (record r { stream = None }))
 unfolding Waits
 begun_waits true now answer r = answered_waits Dialed answer (record r { tried = Some now })
 begun_waits false now answer r = (tt, λ gone. refl, tt)
 
 tried_waits : (b : Bool) (now : ℕ) (answer : Dialled StreamHistory) (r : Redial)
-    → Waits r.wait (tried_by b now answer (clock_read_at now (record r { stream = None })))
+    → Waits r (tried_by b now answer (clock_read_at now (record r { stream = None })))
+unfolding Waits
 tried_waits true now answer r = answered_waits Asked answer (clock_read_at now r)
 tried_waits false now answer r =
     begun_waits (is_due (clock_read_at now (record r { stream = None })) now) now answer
     (clock_read_at now r)
 
 away_waits : (old new : Redial) (got : Got) (buf : List ℕ) → IsRedialled old got buf new
-    → old.stream ≡ None → Waits old.wait new
+    → old.stream ≡ None → Waits old new
 unfolding Waits
 away_waits old new got buf l away =
-    subst (Waits old.wait) (sym (away_to old new got buf l away))
+    subst (Waits old) (sym (away_to old new got buf l away))
     (tried_waits old.is_trying l.now l.answer old)
 
 pub reached_waits : (old new : Redial) (got : Got) (buf : List ℕ) → IsRedialled old got buf new
@@ -225,30 +243,62 @@ unfolding Waits
 still_waits old new got buf l away none = (away_waits old new got buf l away).1 none
 
 pub reached_there : (old new : Redial) (got : Got) (buf : List ℕ) → IsRedialled old got buf new
-    → old.stream ≡ None → IfSome new.stream (λ s. new.presence ≡ There)
+    → old.stream ≡ None → IfSome new.stream (λ s. (new.presence ≡ known_reached old.presence)
+    × (new.silence ≡ begun_anew old.silence))
 unfolding Waits
 reached_there old new got buf l away = (away_waits old new got buf l away).2
 
 -- what one that is there finds, and how it is left
+IsLeft : (h : StreamHistory) → (old new : Redial) → Type 0
+IsLeft h old new =
+    (new.presence ≢ Silent → (new.presence ≡ Away) × IsFoundGone (Some (is_some h)) new.gone)
+    × (new.presence ≡ Silent → (is_over old.silence ≡ true)
+    × (new.gone ≡ Some (noted h WasQuiet)) × (new.silence ≡ borne_longer old.silence))
+
 Finds : (got : Got) → (h : StreamHistory) → (old new : Redial) → Type 0
-Finds (Octets len) h old new =
-    (new.wait ≡ 1000) × (new.presence ≡ Receiving) × (new.stream ≢ None)
+Finds (Octets len) h old new = (new.wait ≡ 1000) × (new.presence ≡ Receiving)
+    × (new.silence ≡ no_silence) × (new.stream ≢ None)
 Finds Quiet h old new = (new.wait ≡ old.wait)
-    × (new.stream ≡ None → (new.presence ≡ Away) × IsFoundGone (Some (is_some h)) new.gone)
+    × (new.stream ≡ None → IsLeft h old new)
     × (new.stream ≢ None → new.presence ≡ old.presence)
+    × (is_over old.silence ≡ true → new.stream ≡ None)
 Finds Gone h old new = ⊥
+
+quiet_so : (b : Bool) (g h : StreamHistory) (r : Redial) → is_over r.silence ≡ b
+    → Some g ≡ Some h
+    → Finds Quiet h r (closed_by b (record r { stream = Some (noted g WasQuiet); gone = r.gone }))
+unfolding Finds IsLeft
+quiet_so true g h r over same = (
+  refl,
+  λ none. (
+    λ other. absurd (other refl),
+    λ silent. (over, ap (λ s. option_map (λ x. noted x WasQuiet) s) same, refl),
+  ),
+  λ some. absurd (some refl),
+  λ is. refl,
+)
+quiet_so false g h r not_over same = (
+  refl,
+  λ none. absurd (cc),
+  λ some. refl,
+  λ is. absurd (cc),
+)
 
 there_so : (s : Option StreamHistory) (now : ℕ) (answer : Dialled StreamHistory) (found : Got)
     (buf : List ℕ) (h : StreamHistory) (r : Redial) → s ≡ Some h
     → (let p = looked_by s now answer found buf r in Finds p.0 h r p.1)
-unfolding Finds
+unfolding Finds IsLeft
 there_so None now answer found buf h r there = absurd (cc)
-there_so (Some g) now answer (Octets len) buf h r there = (refl, refl, λ none. absurd (cc))
-there_so (Some g) now answer Quiet buf h r there = (refl, λ none. absurd (cc), λ some. refl)
+there_so (Some g) now answer (Octets len) buf h r there = (refl, refl, refl, λ none. absurd (cc))
+there_so (Some g) now answer Quiet buf h r there = quiet_so (is_over r.silence) g h r refl there
 there_so (Some g) now answer Gone buf h r there = (
   refl,
-  λ none. (refl, gone_so (Some (is_some h)) g (ap (λ s. option_map (λ x. is_some x) s) there)),
+  λ none. (
+    λ other. (refl, gone_so (Some (is_some h)) g (ap (λ s. option_map (λ x. is_some x) s) there)),
+    λ silent. absurd (cc),
+  ),
   λ some. absurd (some refl),
+  λ is. refl,
 )
 
 there_of : (old new : Redial) (got : Got) (buf : List ℕ) (h : StreamHistory)
@@ -275,6 +325,11 @@ pub octets_receiving : (old new : Redial) (len : ℕ) (buf : List ℕ)
 unfolding Finds
 octets_receiving old new len buf l = (octets_by old.stream old new len buf refl l).1.1
 
+pub octets_end_silence : (old new : Redial) (len : ℕ) (buf : List ℕ)
+    → IsRedialled old (Octets len) buf new → new.silence ≡ no_silence
+unfolding Finds
+octets_end_silence old new len buf l = (octets_by old.stream old new len buf refl l).1.2
+
 pub quiet_waits : (old new : Redial) (buf : List ℕ) (h : StreamHistory)
     → IsRedialled old Quiet buf new → old.stream ≡ Some h → new.wait ≡ old.wait
 unfolding Finds
@@ -287,28 +342,44 @@ unfolding Finds
 quiet_stays old new buf h l there some = (there_of old new Quiet buf h l there).2 some
 
 left_by : (got : Got) (h : StreamHistory) (old new : Redial) → new.stream ≡ None
-    → Finds got h old new
-    → (new.presence ≡ Away) × IsFoundGone (Some (is_some h)) new.gone
+    → Finds got h old new → IsLeft h old new
 unfolding Finds
-left_by (Octets len) h old new none k = absurd (k.2 none)
+left_by (Octets len) h old new none k = absurd (k.3 none)
 left_by Quiet h old new none k = k.1 none
 left_by Gone h old new none k = absurd k
 
 pub gone_away : (old new : Redial) (got : Got) (buf : List ℕ) (h : StreamHistory)
     → IsRedialled old got buf new → old.stream ≡ Some h → new.stream ≡ None
+    → new.presence ≢ Silent
     → (new.presence ≡ Away) × IsFoundGone (Some (is_some h)) new.gone
-gone_away old new got buf h l there none =
-    left_by got h old new none (there_of old new got buf h l there)
+unfolding IsLeft
+gone_away old new got buf h l there none other =
+    (left_by got h old new none (there_of old new got buf h l there)).0 other
 
-put_wait : (s : Option StreamHistory) (octets : List ℕ) (taken : Bool) (r : Redial)
-    → (put_by s octets taken r).1.wait ≡ r.wait
-put_wait None octets taken r = refl
-put_wait (Some h) octets taken r = refl
+pub closed_silent : (old new : Redial) (got : Got) (buf : List ℕ) (h : StreamHistory)
+    → IsRedialled old got buf new → old.stream ≡ Some h → new.stream ≡ None
+    → new.presence ≡ Silent
+    → (is_over old.silence ≡ true) × (new.gone ≡ Some (noted h WasQuiet))
+    × (new.silence ≡ borne_longer old.silence)
+unfolding IsLeft
+closed_silent old new got buf h l there none silent =
+    (left_by got h old new none (there_of old new got buf h l there)).1 silent
+
+pub over_closed : (old new : Redial) (buf : List ℕ) (h : StreamHistory)
+    → IsRedialled old Quiet buf new → old.stream ≡ Some h → is_over old.silence ≡ true
+    → new.stream ≡ None
+unfolding Finds
+over_closed old new buf h l there over = (there_of old new Quiet buf h l there).3 over
+
+put_wait : (s : Option StreamHistory) (octets : List ℕ) (taken : Bool) (now : ℕ) (r : Redial)
+    → (put_by s octets taken now r).1.wait ≡ r.wait
+put_wait None octets taken now r = refl
+put_wait (Some h) octets taken now r = refl
 
 pub put_waits : (old new : Redial) (octets : List ℕ) (is_taken : Bool)
     → IsPut old octets is_taken new → new.wait ≡ old.wait
 put_waits old new octets is_taken p =
-    ap (λ (q : Bool × Redial). q.1.wait) p.put ∙ put_wait old.stream octets p.taken old
+    ap (λ (q : Bool × Redial). q.1.wait) p.put ∙ put_wait old.stream octets p.taken p.now old
 
 drop_wait : (s : Option StreamHistory) (count : ℕ) (r : Redial)
     → (dropped_by s count r).1.wait ≡ r.wait
@@ -418,3 +489,21 @@ pub goes_on : (old new : Redial) (got : Got) (buf : List ℕ) (tries : List Bool
 unfolding Ended
 goes_on old new got buf tries calls call l away noted still told more =
     (away_ended old new got buf tries l away noted).1 calls call still told more
+
+-- what a request adds to the silence
+pub asked_first : (s : Silence) (now : ℕ) → s.asked ≡ None → s.counted ≤ 240000
+    → (asked_at now s).counted ≡ s.counted
+asked_first s now none le =
+    ap (λ o. counted_by s.counted o now) none
+    ∙ (let e : counted_by s.counted None now ≡ s.counted = grind (arith, le) in e)
+
+pub asked_later : (s : Silence) (now last : ℕ) → s.asked ≡ Some last
+    → ((asked_at now s).counted ≤ s.counted + 5000)
+    × ((asked_at now s).counted ≤ s.counted + (now - last))
+asked_later s now last is =
+    let e : (asked_at now s).counted ≡ counted_by s.counted (Some last) now =
+    ap (λ o. counted_by s.counted o now) is in
+    let most : counted_by s.counted (Some last) now ≤ s.counted + 5000 = grind arith in
+    let more : counted_by s.counted (Some last) now ≤ s.counted + (now - last) = grind arith in
+    let P : ℕ → Type 0 = λ n. (n ≤ s.counted + 5000) × (n ≤ s.counted + (now - last)) in
+    subst P (sym e) (most, more)

@@ -5,11 +5,12 @@ use Rattle.std.proofs.Common.{IfSome, refl, sym, ap, subst, ◌∙◌}
 use Rattle.live.specs.Timing.{Moments, read_at}
 use Rattle.live.specs.OctetStreams.{StreamHistory, IsNew, Attempts, looked, noted}
 use Rattle.live.specs.Redial.{Redial, ended, IfReached, dialled_map, is_due, clock_read_at, settled}
-use Rattle.live.specs.Redial.{begun_by, tried_by, looked_by, IsTryAnswered, IsTriedOn}
-use Rattle.live.specs.Redial.{IsRedialled, answered, gone_by, known_by, quieted}
+use Rattle.live.specs.Redial.{begun_by, tried_by, looked_by, IsTryAnswered, IsTriedOn, IsRedialled}
+use Rattle.live.specs.Redial.{answered, closed_by, gone_by, is_closed, known_by, quieted}
 use Rattle.live.specs.Redial.{Asked, DialCall, DialCalls, Dialed, Pauses, dial_noted, is_reached}
 use Rattle.live.specs.Redial.{paused, waited}
 use Rattle.live.specs.Ends.{read_open}
+use Rattle.live.specs.Silence.{is_over}
 use Rattle.live.specs.Law.{AtClock}
 use Rattle.live.specs.declared.ends.Got.{Got}
 use Rattle.live.specs.declared.redial.Dialled.{Dialled}
@@ -197,22 +198,29 @@ away_pauses old new got buf l away =
     ∙ ap paused (tried_pauses old.is_trying l.now l.answer (clock_read_at l.now old)))
 
 -- a look at one that is there
+closed_there : (b : Bool) (h : StreamHistory) (r : Redial) → r.stream ≡ Some h
+    → IfSome (closed_by b r).stream (λ s. s ≡ h)
+closed_there true h r is = tt
+closed_there false h r is =
+    let P : Option StreamHistory → Type 0 = λ o. IfSome o (λ s. s ≡ h) in subst P (sym is) refl
+
 there_at : (found : Got) (buf : List ℕ) (h : StreamHistory) (old : Redial)
-    → IfSome (known_by found (record old {
+    → IfSome (closed_by (is_closed found old.silence) (known_by found (record old {
       stream = read_open h found buf;
       gone = gone_by h found old.gone;
-    })).stream
+    }))).stream
     (λ s. s ≡ noted h (looked (quieted found) buf))
 there_at (Octets len) buf h old = refl
-there_at Quiet buf h old = refl
+there_at Quiet buf h old = closed_there (is_over old.silence) (noted h (looked Quiet buf))
+    (record old { stream = Some (noted h (looked Quiet buf)); gone = old.gone }) refl
 there_at Gone buf h old = tt
 
 there_by : (found got : Got) (buf : List ℕ) (h : StreamHistory) (old new : Redial)
     → finds got new
-    ≡ finds (quieted found) (known_by found (record old {
+    ≡ finds (quieted found) (closed_by (is_closed found old.silence) (known_by found (record old {
       stream = read_open h found buf;
       gone = gone_by h found old.gone;
-    }))
+    })))
     → IfSome new.stream (λ s. s ≡ noted h (looked got buf))
 there_by found got buf h old new is =
     let Q : Got × Redial → Type 0 = λ p. IfSome p.1.stream (λ s. s ≡ noted h (looked p.0 buf)) in
@@ -230,6 +238,10 @@ abbrev IsAlone : (old new : Redial) → Type 0
 IsAlone old new = (new.calls ≡ old.calls) × (new.tries ≡ old.tries)
     × (new.pauses ≡ old.pauses) × (new.tried ≡ old.tried) × (new.is_trying ≡ old.is_trying)
 
+alone_closed : (b : Bool) (old r : Redial) → IsAlone old r → IsAlone old (closed_by b r)
+alone_closed true old r is = is
+alone_closed false old r is = is
+
 alone_at : (found : Got) (stream gone : Option StreamHistory) (old : Redial)
     → IsAlone old (known_by found (record old { stream = stream; gone = gone }))
 alone_at (Octets len) stream gone old = (refl, refl, refl, refl, refl)
@@ -244,4 +256,7 @@ looks_alone old new got buf h l there =
     let is = l.looked ∙ ap (λ s. looked_by s l.now l.answer l.found buf old) there in
     let P : Got × Redial → Type 0 = λ p. IsAlone old p.1 in
     subst P (sym is)
-    (alone_at l.found (read_open h l.found buf) (gone_by h l.found old.gone) old)
+    (alone_closed (is_closed l.found old.silence) old
+    (known_by l.found
+    (record old { stream = read_open h l.found buf; gone = gone_by h l.found old.gone }))
+    (alone_at l.found (read_open h l.found buf) (gone_by h l.found old.gone) old))

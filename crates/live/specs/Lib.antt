@@ -7,6 +7,7 @@ pub mod Ends
 pub mod Looks
 pub mod Streams
 pub mod Sockets
+pub mod Silence
 pub mod Redial
 pub mod InTurn
 pub mod Law

@@ -6,12 +6,14 @@ use Rattle.live.specs.OctetStreams.{StreamHistory, Dropped, WasGone, Wrote, note
 use Rattle.live.specs.OctetStreams.{attempted}
 use Rattle.live.specs.Timing.{Moments, read_at}
 use Rattle.live.specs.Ends.{read_open}
+use Rattle.live.specs.Silence.{asked_at, begun_anew, borne_longer, is_over, no_silence}
+use Rattle.live.specs.declared.silence.Silence.{Silence}
 use Rattle.live.specs.declared.redial.Dialled.{Dialled}
 use Rattle.live.specs.declared.redial.Dialled.TheVariants.{Reached, Pending, Failed}
 use Rattle.live.specs.declared.ends.Got.{Got}
 use Rattle.live.specs.declared.ends.Got.TheVariants.{Octets, Quiet, Gone}
 use Rattle.live.specs.declared.ends.Presence.{Presence}
-use Rattle.live.specs.declared.ends.Presence.TheVariants.{Away, There, Receiving}
+use Rattle.live.specs.declared.ends.Presence.TheVariants.{Away, Silent, There, Receiving}
 
 -- a call of a dialler, and whether it reached a stream: to begin a try, or to ask what has become
 -- of
@@ -44,7 +46,7 @@ is_reached Failed = false
 -- Whether each try that ended reached a stream, the dialler's calls, how often it has waited, what
 -- the clock gave, what happened at the stream, if there is one, and at one that was found gone,
 -- until the next look, when the last try began, whether it goes on, how long after it the next one
--- begins, in ms, and what is known of the stream.
+-- begins, in ms, how long requests have gone out for nothing, and what is known of the stream.
 pub record Redial : Type 0 where
   pub tries : Attempts
   pub calls : DialCalls
@@ -55,6 +57,7 @@ pub record Redial : Type 0 where
   pub tried : Option ℕ
   pub is_trying : Bool
   pub wait : ℕ
+  pub silence : Silence
   pub presence : Presence
 
 -- a try that ended is noted
@@ -92,13 +95,19 @@ dialled_map f (Reached stream) = Reached (f stream)
 dialled_map f Pending = Pending
 dialled_map f Failed = Failed
 
+-- what is known of a stream that was just reached
+abbrev pub known_reached : Presence → Presence
+known_reached Silent = Silent
+known_reached before = There
+
 -- A stream that is reached is there; if it gives nothing the next try is farther away.
 abbrev pub settled : Dialled StreamHistory → Redial → Redial
 settled (Reached stream) r = record r {
   stream = Some stream;
   is_trying = false;
   wait = grown r.wait;
-  presence = There;
+  silence = begun_anew r.silence;
+  presence = known_reached r.presence;
 }
 settled Pending r = record r { is_trying = true }
 settled Failed r = record r { is_trying = false; presence = Away }
@@ -138,7 +147,7 @@ quieted Gone = Quiet
 
 -- once it has given octets the next try follows within a second again
 abbrev pub known_by : Got → Redial → Redial
-known_by (Octets len) r = record r { wait = 1000; presence = Receiving }
+known_by (Octets len) r = record r { wait = 1000; silence = no_silence; presence = Receiving }
 known_by Quiet r = r
 known_by Gone r = record r { presence = Away }
 
@@ -146,6 +155,20 @@ known_by Gone r = record r { presence = Away }
 abbrev pub gone_by : StreamHistory → Got → (before : Option StreamHistory) → Option StreamHistory
 gone_by stream Gone before = Some (noted stream WasGone)
 gone_by stream got before = before
+
+-- one that has given nothing for too long is closed, and kept until the next look
+abbrev pub closed_by : Bool → Redial → Redial
+closed_by false r = r
+closed_by true r = record r {
+  stream = None;
+  gone = r.stream;
+  silence = borne_longer r.silence;
+  presence = Silent;
+}
+
+abbrev pub is_closed : Got → Silence → Bool
+is_closed Quiet s = is_over s
+is_closed got s = false
 
 -- it has waited once more
 abbrev pub waited : Redial → Redial
@@ -160,10 +183,10 @@ looked_by None now answer got buf r =
     (Quiet, waited (tried_by r.is_trying now answer (clock_read_at now r)))
 looked_by (Some stream) now answer got buf r = (
   quieted got,
-  known_by got (record r {
+  closed_by (is_closed got r.silence) (known_by got (record r {
     stream = read_open stream got buf;
     gone = gone_by stream got r.gone;
-  }),
+  })),
 )
 
 pub record IsRedialled (old : Redial) (got : Got) (buf : List ℕ) (new : Redial) : Type 0 where
@@ -183,15 +206,23 @@ pub record HasDropped (old : Redial) (count : ℕ) (new : Redial) : Type 0 where
   pub waiting : ℕ
   pub dropped : (count, new) ≡ dropped_by old.stream waiting old
 
--- octets are put on the stream, if there is one; else they aren't taken
-abbrev pub put_by : Option StreamHistory → List ℕ → Bool → Redial → Bool × Redial
-put_by None octets taken r = (false, r)
-put_by (Some stream) octets taken r =
-    (taken, record r { stream = Some (noted stream (Wrote octets taken)) })
+-- Octets are put on the stream, if there is one; else they aren't taken. The clock gives this
+-- moment behind that.
+abbrev pub put_by : Option StreamHistory → List ℕ → Bool → (now : ℕ) → Redial → Bool × Redial
+put_by None octets taken now r = (false, r)
+put_by (Some stream) octets taken now r = (
+  taken,
+  record r {
+    clock = read_at r.clock now;
+    stream = Some (noted stream (Wrote octets taken));
+    silence = asked_at now r.silence;
+  },
+)
 
 pub record IsPut (old : Redial) (octets : List ℕ) (is_taken : Bool) (new : Redial) : Type 0 where
   pub taken : Bool
-  pub put : (is_taken, new) ≡ put_by old.stream octets taken old
+  pub now : ℕ
+  pub put : (is_taken, new) ≡ put_by old.stream octets taken now old
 
 -- A try begins at this moment, by one call of the dialler.
 abbrev pub BeginsTry : (now : ℕ) → (old new : Redial) → Type 0

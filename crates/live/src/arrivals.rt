@@ -1,5 +1,6 @@
 //! Who comes to a listener of the system.
 
+use crate::room::{STANDARD_ERROR, has_room};
 use crate::sockets::CentreSocket;
 use std::io;
 use std::io::Eprint;
@@ -95,7 +96,9 @@ impl SystemListener for TcpListener {
 
     // What stands on standard error no clause of the kit's call says either.
     fn tell<R: Eprint>(&mut self, rt: &R, fault: &io::Error) {
-        let _ = eprintln!(rt; "connections can't be accepted: {fault}");
+        if has_room(STANDARD_ERROR) {
+            let _ = eprintln!(rt; "connections can't be accepted: {fault}");
+        }
     }
 }
 

@@ -63,6 +63,9 @@ pub enum Presence {
     /// It isn't known yet: no try to reach it has ended.
     Untried,
     Away,
+    /// Requests went out to it and nothing came for so long that it was closed, or one that was
+    /// reached behind that has given nothing yet.
+    Silent,
     /// It is there, and nothing has come from it yet.
     There,
     /// It is there, and octets have come from it.

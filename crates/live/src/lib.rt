@@ -42,8 +42,9 @@
 //! [`Redialled`] is a stream that is reached again where it has gone: proved, for any dialler that
 //! notes its tries, is that it is quiet and takes nothing while it is away; that a try begins at
 //! once and then every second, after each stream that was reached and gave nothing at twice the
-//! distance, up to 30 s; that no try begins while one goes on, and a look waits for none; and that
-//! it begins as a new stream each time.
+//! distance, up to 30 s; that no try begins while one goes on, and a look waits for none; that it
+//! begins as a new stream each time; and that one which gives nothing while requests go out to it
+//! is closed ([`a_stream_that_gives_nothing_is_closed`]).
 //!
 //! Before a request is written what has come from the line is dropped, since it is no answer to it,
 //! and how many octets that were is counted ([`late_octets_are_those_that_were_dropped`]).
@@ -69,7 +70,9 @@ mod memory;
 mod port;
 mod reach;
 mod redial;
+mod room;
 mod run_port;
+mod silence;
 mod sockets;
 mod source;
 mod stream;
@@ -93,8 +96,9 @@ pub use laws::reaching::{
 };
 pub use laws::showing::the_ends_are_shown_as_they_are;
 pub use laws::tries::{
-    a_stream_that_is_away_is_tried_when_due, a_try_goes_on_until_it_ends,
-    tries_lie_farther_apart_while_nothing_comes, what_is_known_of_a_stream_is_what_was_seen,
+    a_stream_that_gives_nothing_is_closed, a_stream_that_is_away_is_tried_when_due,
+    a_try_goes_on_until_it_ends, tries_lie_farther_apart_while_nothing_comes,
+    what_is_known_of_a_stream_is_what_was_seen,
 };
 pub use laws::{
     a_clock_goes_on_with_the_systems, a_close_shuts_the_connection, a_cut_has_its_reason,
@@ -114,6 +118,7 @@ pub use laws::{
 };
 pub use port::Live;
 pub use redial::{Dialled, Dialler, Redialled};
+pub use room::{MOST_AT_ONCE, STANDARD_ERROR, STANDARD_OUTPUT, has_room};
 pub use run_port::RunPort;
 pub use sockets::{
     CentreListener, CentreSocket, LineDialler, LineSocket, LocalSocket, SystemClock,

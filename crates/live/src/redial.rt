@@ -1,13 +1,15 @@
 //! A stream that comes back.
-ghost use Rattle.std.specs.Prelude.{◌≡◌, ◌≢◌, ℕ, List, Some, None, IfSome, false};
+ghost use Rattle.std.specs.Prelude.{◌≡◌, ◌≢◌, ℕ, List, Some, None, IfSome, false, true};
 ghost use Rattle.live.specs.OctetStreams.{FitsBuffer};
 ghost use Rattle.live.specs.Redial.{IsRedialled, HasDropped, IsPut, IsTriedOn, IsTryAnswered};
-ghost use Rattle.live.specs.Redial.{dialled_map, is_due, grown, settled, clock_read_at};
+ghost use Rattle.live.specs.Redial.{clock_read_at, closed_by, dialled_map, is_due, grown, settled};
 ghost use Rattle.live.specs.Redial.{Asked, Dialed, waited};
+ghost use Rattle.live.specs.Silence.{no_silence};
 ghost use Rattle.live.specs.declared.ends.Got.TheVariants.{Quiet, Gone};
 ghost use Rattle.live.specs.declared.ends.Presence.TheVariants.{Untried};
 
 use crate::ends::{Got, OctetStream, Presence, Reached, RunClock};
+use crate::silence::Silence;
 use std::marker::Model;
 
 /// How long after a try began the next one follows, in ms.
@@ -71,7 +73,9 @@ pub trait Dialler {
 
 /// A stream that is reached again where it has gone: a try begins at once, then every second; after
 /// each stream that was reached and gave nothing at twice the distance, up to 30 s. While it is
-/// away it is quiet and takes nothing, and it begins with nothing in it each time.
+/// away it is quiet and takes nothing, and it begins with nothing in it each time. One to which
+/// requests have gone out for 30 s and that gave nothing is closed; if nothing comes from the next
+/// one either that is closed after 60 s, and so on up to 240 s.
 #[derive(Drop)]
 pub struct Redialled<D: Dialler + Drop, C: RunClock + Drop> {
     dialler: D,
@@ -85,6 +89,7 @@ pub struct Redialled<D: Dialler + Drop, C: RunClock + Drop> {
     is_trying: bool,
     /// How long after it the next one begins, in ms.
     wait: u64,
+    silence: Silence,
     presence: Presence,
 }
 
@@ -104,6 +109,7 @@ impl<D: Dialler + Drop, C: RunClock + Drop> Model for Redialled<D, C> {
       tried = a.tried;
       is_trying = a.is_trying;
       wait = a.wait;
+      silence = a.silence;
       presence = a.presence;
     } };
 }
@@ -121,6 +127,7 @@ impl<D: Dialler + Drop, C: RunClock + Drop> Redialled<D, C> {
           tried = None;
           is_trying = false;
           wait = 1000;
+          silence = no_silence;
           presence = Untried;
         } }
     {
@@ -132,6 +139,7 @@ impl<D: Dialler + Drop, C: RunClock + Drop> Redialled<D, C> {
             tried: None,
             is_trying: false,
             wait: RETRY_MS,
+            silence: Silence::new(),
             presence: Presence::Untried,
         }
     }
@@ -205,6 +213,17 @@ impl<D: Dialler + Drop, C: RunClock + Drop> Redialled<D, C> {
         self.clock.now_ms()
     }
 
+    /// Closes a stream that has given nothing for too long, which is kept until the next look.
+    // A device server that hangs keeps its connection open (docs/DECISIONS.md, "A line that is
+    // silent").
+    fn close_silent(&mut self)
+        ensures { self.new ≡ closed_by true self.old }
+    {
+        self.gone = self.stream.take();
+        self.silence.bear_longer();
+        self.presence = Presence::Silent;
+    }
+
     /// What has become of a try.
     fn settle(&mut self, answer: Dialled<D::Stream>)
         ensures { self.new
@@ -215,7 +234,10 @@ impl<D: Dialler + Drop, C: RunClock + Drop> Redialled<D, C> {
                 self.stream = Some(stream);
                 self.is_trying = false;
                 self.wait = grown(self.wait);
-                self.presence = Presence::There;
+                self.silence.begin();
+                if !matches!(self.presence, Presence::Silent) {
+                    self.presence = Presence::There;
+                }
             }
             Dialled::Pending => self.is_trying = true,
             Dialled::Failed => {
@@ -261,8 +283,13 @@ impl<D: Dialler + Drop, C: RunClock + Drop> OctetStream for Redialled<D, C> {
         match stream.read(buf) {
             Got::Octets(len) => {
                 self.wait = RETRY_MS;
+                self.silence = Silence::new();
                 self.presence = Presence::Receiving;
                 Got::Octets(len)
+            }
+            Got::Quiet if self.silence.is_over() => {
+                self.close_silent();
+                Got::Quiet
             }
             Got::Quiet => Got::Quiet,
             Got::Gone => {
@@ -291,10 +318,13 @@ impl<D: Dialler + Drop, C: RunClock + Drop> OctetStream for Redialled<D, C> {
         ensures stays { Some self.new.presence ≡ Some self.old.presence }
         ensures put { IsPut self.old octets.now result self.new }
     {
-        match &mut self.stream {
-            None => false,
-            Some(stream) => stream.write(octets),
-        }
+        let Some(stream) = &mut self.stream else {
+            return false;
+        };
+        let is_taken = stream.write(octets);
+        let now = self.clock.now_ms();
+        self.silence.ask(now);
+        is_taken
     }
 }
 

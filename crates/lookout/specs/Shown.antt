@@ -15,7 +15,7 @@ use Rattle.runlog.specs.declared.stations.StationStanding.TheVariants as stands
 use Rattle.runlog.specs.declared.stations.StationWatch.{StationWatch}
 use Rattle.runlog.specs.declared.traffic.Traffic.{Traffic}
 use Rattle.live.specs.declared.ends.Presence.{Presence}
-use Rattle.live.specs.declared.ends.Presence.TheVariants.{Untried, Away, There, Receiving}
+use Rattle.live.specs.declared.ends.Presence.TheVariants.{Untried, Away, Silent, There, Receiving}
 use Rattle.lookout.specs.declared.known.Known.{Known}
 use Rattle.lookout.specs.declared.setting.ChosenSetting.{ChosenSetting}
 use Rattle.runlog.specs.declared.ends.OpenConnection.{OpenConnection}
@@ -140,6 +140,7 @@ pub record IsCentre (opening : Option OpenConnection) (address : List ℕ) (gone
 abbrev pub is_there : Presence → Bool
 is_there Untried = false
 is_there Away = false
+is_there Silent = false
 is_there There = true
 is_there Receiving = true
 

@@ -76,6 +76,7 @@ fn is_there(presence: Presence) -> bool
     match presence {
         Presence::Untried | Presence::Away => false,
         Presence::There | Presence::Receiving => true,
+        Presence::Silent => false,
     }
 }
 

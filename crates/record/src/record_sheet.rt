@@ -2,7 +2,17 @@
 ghost use Rattle.std.specs.Prelude.{◌≡◌, None};
 
 use gateway::{Action, Next};
+use live::{MOST_AT_ONCE, STANDARD_ERROR, STANDARD_OUTPUT, has_room};
+use std::alloc::{AllocError, Global};
 use std::io::{Eprint, Print};
+
+/// So many octets wait at the most where there is no room for them.
+const MOST_WAITING: usize = 262_144;
+
+/// What waits goes out in so many pieces at the most.
+const MOST_PIECES: usize = 65;
+
+const LINE_FEED: u8 = b'\n';
 
 /// Where a text goes. A sheet that says what it took adds each text that it took. One that says
 /// what passed unwritten adds that.
@@ -42,18 +52,91 @@ pub trait RecordSheet {
             ≡ with_news (missed self.old) (Went now (output_of action.now) ∷ []) };
 }
 
-/// Standard output. If the record ends before the run, a line on standard error says so.
+/// Standard output. What finds no room there waits, and what finds none among that either is left
+/// out, which a comment tells where the record goes on. If the record ends before the run, a line
+/// on standard error says so.
 #[derive(Drop)]
 pub struct StandardOutput<'a, R> {
     rt: &'a R,
+    alloc: Global,
+    /// What waits for room.
+    waiting: Vec<u8>,
+    /// So many octets of it have gone out.
+    gone: usize,
+    /// So many lines were left out since.
+    left_out: u64,
 }
 
-impl<'a, R> StandardOutput<'a, R> {
+impl<'a, R: AllocGlobal> StandardOutput<'a, R> {
     /// That of this process.
     pub fn new(rt: &'a R) -> StandardOutput<'a, R>
         ensures { result.rt.now ≡ rt.entry.now }
     {
-        StandardOutput { rt }
+        StandardOutput {
+            rt,
+            alloc: rt.alloc(),
+            waiting: Vec::new(rt.alloc()),
+            gone: 0,
+            left_out: 0,
+        }
+    }
+}
+
+/// How many lines a text has.
+fn lines_in(text: &[u8]) -> u64 {
+    let mut lines = 0u64;
+    for octet in text {
+        if *octet == LINE_FEED {
+            lines = lines.saturating_add(1);
+        }
+    }
+    lines
+}
+
+/// The line of a record that tells how many are left out there. Readers of traces skip it.
+fn hole_of(alloc: Global, left_out: u64) -> Result<String, AllocError> {
+    let mut line = String::new(alloc);
+    if left_out > 0 {
+        writeln!(line, "# left out: {left_out} lines")?;
+    }
+    Ok(line)
+}
+
+impl<R: Print + Eprint> StandardOutput<'_, R> {
+    /// Gives what waits, as far as there is room. `false` says that it can't be written.
+    fn give(&mut self) -> bool {
+        for _ in 0..MOST_PIECES {
+            let Some(left) = self.waiting.get(self.gone..) else {
+                return true;
+            };
+            // A write that waited would hold up the line and the control centre (docs/DECISIONS.md,
+            // "Nobody who reads holds a run up").
+            if left.is_empty() || !has_room(STANDARD_OUTPUT) {
+                return true;
+            }
+            let len = left.len().min(MOST_AT_ONCE);
+            if self.rt.write_all(&left[..len]).is_err() {
+                return false;
+            }
+            self.gone = self.gone.saturating_add(len);
+        }
+        true
+    }
+
+    /// Puts a text behind what waits, if there is place for it; else it is left out.
+    fn keep(&mut self, text: &[u8]) -> Result<(), AllocError> {
+        if self.waiting.len() <= self.gone {
+            self.waiting.clear();
+            self.gone = 0;
+        }
+        if MOST_WAITING.saturating_sub(self.waiting.len()) < text.len() {
+            self.left_out = self.left_out.saturating_add(lines_in(text));
+            return Ok(());
+        }
+        let hole = hole_of(self.alloc, self.left_out)?;
+        self.waiting.extend_from_slice(hole.as_bytes())?;
+        self.left_out = 0;
+        self.waiting.extend_from_slice(text)
     }
 }
 
@@ -64,11 +147,13 @@ impl<R: Print + Eprint> RecordSheet for StandardOutput<'_, R> {
     ghost missed = { λ _. None };
 
     fn take(&mut self, text: &[u8]) -> bool {
-        self.rt.write_all(text).is_ok()
+        self.give() && self.keep(text).is_ok() && self.give()
     }
 
     fn end(&mut self) {
-        let _ = eprintln!(self.rt; "the record ends here: it can't be written");
+        if has_room(STANDARD_ERROR) {
+            let _ = eprintln!(self.rt; "the record ends here: it can't be written");
+        }
     }
 
     fn miss_event(&mut self, _next: Next, _buf: &[u8; 1024]) {}

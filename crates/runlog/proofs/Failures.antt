@@ -121,6 +121,20 @@ lost_so w now is second =
     (away_look logged.There now w is
     ∙ line_of_away logged.Lost note.LineLost now (presence_noted presence.Away now w) second)
 
+silent_seen : (b : Bool) → seen_as b presence.Silent ≡ presence.Silent
+silent_seen true = refl
+silent_seen false = refl
+
+pub silent_so : (w : LineWatch) (now : ℕ) → w.logged ≡ logged.There
+    → IsSecondAfter w.away.logged now
+    → IsLoggedAway now note.LineSilent logged.Lost w (line_seen presence.Silent now w)
+silent_so w now is second =
+    let noted = presence_noted presence.Silent now w in
+    away_told presence.Silent logged.Lost note.LineSilent now w _
+    (ap (λ p. line_seen_so p now w) (silent_seen w.is_receiving)
+    ∙ (ap (λ l. line_changed (line_change l presence.Silent (is_minute_after w.away.logged now))
+    true now noted) is ∙ line_of_away logged.Lost note.LineSilent now noted second))
+
 pub first_so : (w : LineWatch) (now : ℕ) → w.logged ≡ logged.Nothing
     → IsSecondAfter w.away.logged now
     → IsLoggedAway now note.LineNotThere logged.NotThere w (line_seen presence.Away now w)

@@ -189,6 +189,7 @@ other_subject note.LineReached station line = absurd (line Reached)
 other_subject note.LineReachedAgain station line = absurd (line ReachedAgain)
 other_subject note.LineLost station line = absurd (line Lost)
 other_subject note.LineNotThere station line = absurd (line NotThere)
+other_subject note.LineSilent station line = absurd (line Silent)
 other_subject (note.Listening a) station line = refl
 other_subject (note.Opened a) station line = refl
 other_subject note.Started station line = refl
@@ -199,6 +200,7 @@ other_subject (note.RefusedPeers a b) station line = refl
 other_subject (note.Asked a) station line = absurd (station a (Asked a))
 other_subject (note.Up a) station line = absurd (station a (Up a))
 other_subject (note.Silent a) station line = absurd (station a (Silent a))
+other_subject (note.StillSilent a) station line = absurd (station a (StillSilent a))
 other_subject (note.Again a) station line = absurd (station a (Again a))
 other_subject (note.Down a) station line = absurd (station a (Down a))
 other_subject (note.Gap a) station line = absurd (station a (Gap a))
@@ -219,6 +221,7 @@ other_subject (note.Skipped a b c) station line = absurd (station a (Skipped a b
 other_subject (note.MirrorDropped a) station line = absurd (station a (MirrorDropped a))
 other_subject (note.Spoilt a) station line = absurd (station a (Spoilt a))
 other_subject (note.Late a) station line = absurd (station a (Late a))
+other_subject (note.LeftOut a) station line = refl
 
 pub others_so : (names : LogNames) (l : LogLine) → ((link : ℕ) → IsAbout link l.note → ⊥)
     → (IsAboutTheLine l.note → ⊥) → named_text names l ≡ line_text l

@@ -21,7 +21,7 @@ use Rattle.runlog.specs.Stations as stations
 use Rattle.runlog.specs.Stations.{again_by, counted, gap_at, is_unanswered, line_in}
 use Rattle.runlog.specs.Stations.{logged_asked, logged_down, logged_missed}
 use Rattle.runlog.specs.Stations.{logged_up, silent_by, station_asked, station_by}
-use Rattle.runlog.specs.Stations.{station_logged, unanswered_by}
+use Rattle.runlog.specs.Stations.{station_logged, still_by, unanswered_by}
 use Rattle.runlog.specs.Watching.{Watching, at, late_noted, line_received, received, seen}
 use Rattle.runlog.specs.Watching.{unless_logged, walled, with_line, exchanged}
 use Rattle.runlog.specs.declared.ends.LineLogged.{LineLogged}
@@ -71,6 +71,8 @@ change_apart logged.Nothing presence.Untried true = tt
 change_apart logged.Nothing presence.Untried false = tt
 change_apart logged.Nothing presence.Away true = refl
 change_apart logged.Nothing presence.Away false = refl
+change_apart logged.Nothing presence.Silent true = refl
+change_apart logged.Nothing presence.Silent false = refl
 change_apart logged.Nothing presence.There true = refl
 change_apart logged.Nothing presence.There false = refl
 change_apart logged.Nothing presence.Receiving true = refl
@@ -79,6 +81,8 @@ change_apart logged.NotThere presence.Untried true = tt
 change_apart logged.NotThere presence.Untried false = tt
 change_apart logged.NotThere presence.Away true = refl
 change_apart logged.NotThere presence.Away false = tt
+change_apart logged.NotThere presence.Silent true = refl
+change_apart logged.NotThere presence.Silent false = refl
 change_apart logged.NotThere presence.There true = refl
 change_apart logged.NotThere presence.There false = refl
 change_apart logged.NotThere presence.Receiving true = refl
@@ -87,6 +91,8 @@ change_apart logged.There presence.Untried true = tt
 change_apart logged.There presence.Untried false = tt
 change_apart logged.There presence.Away true = refl
 change_apart logged.There presence.Away false = refl
+change_apart logged.There presence.Silent true = refl
+change_apart logged.There presence.Silent false = refl
 change_apart logged.There presence.There true = tt
 change_apart logged.There presence.There false = tt
 change_apart logged.There presence.Receiving true = tt
@@ -95,6 +101,8 @@ change_apart logged.Lost presence.Untried true = tt
 change_apart logged.Lost presence.Untried false = tt
 change_apart logged.Lost presence.Away true = refl
 change_apart logged.Lost presence.Away false = tt
+change_apart logged.Lost presence.Silent true = refl
+change_apart logged.Lost presence.Silent false = tt
 change_apart logged.Lost presence.There true = refl
 change_apart logged.Lost presence.There false = tt
 change_apart logged.Lost presence.Receiving true = refl
@@ -183,8 +191,13 @@ unanswered_apart true now w =
     silent_apart (is_minute_after w.silent.logged now) standing.Unanswered now w
 unanswered_apart false now w = tt
 
+still_apart : (b : Bool) (now : ℕ) (w : StationWatch) → IsOfOthers (still_by b now w).1
+still_apart true now w =
+    kept_apart _ _ _ (changed_apart (note.StillSilent w.address) w.silent now refl)
+still_apart false now w = tt
+
 again_apart : (b : Bool) (now : ℕ) (w : StationWatch) → IsOfOthers (again_by b now w).1
-again_apart true now w = silent_apart (is_minute_after w.silent.logged now) standing.Silent now w
+again_apart true now w = still_apart (is_minute_after w.silent.logged now) now w
 again_apart false now w =
     kept_apart _ _ _ (changed_apart (note.Again w.address) w.again now refl)
 

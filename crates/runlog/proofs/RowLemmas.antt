@@ -11,6 +11,7 @@ use Rattle.runlog.specs.declared.note.Note.TheVariants as note
 pub has_row : (n : Note) → HasRow n (number_of (severity_of n))
 has_row note.LineLost = row.LineLost
 has_row note.LineNotThere = row.LineNotThere
+has_row note.LineSilent = row.LineSilent
 has_row (note.Gap a) = row.Gap a
 has_row note.QueueFull = row.QueueFull
 has_row (note.State notices.NotKept) = row.NotKept
@@ -20,11 +21,13 @@ has_row (note.Cut cause) = row.Cut cause
 has_row (note.Closed cause) = row.Closed cause
 has_row (note.RefusedPeers n peer) = row.SentAway n peer
 has_row (note.Silent a) = row.Silent a
+has_row (note.StillSilent a) = row.StillSilent a
 has_row (note.Down a) = row.Down a
 has_row (note.Skipped a kind why) = row.Skipped a kind why
 has_row (note.MirrorDropped a) = row.MirrorDropped a
 has_row (note.Spoilt a) = row.Spoilt a
 has_row (note.Late a) = row.Late a
+has_row (note.LeftOut n) = row.LeftOut n
 has_row (note.Refused o peer why) = row.Refused o peer why
 has_row (note.Fate o a fate.Denied) = row.Denied o a
 has_row (note.Fate o a fate.Busy) = row.NotTaken o a
@@ -54,6 +57,7 @@ pub row_so : (what : Note) (number : ℕ) → HasRow what number
     → number ≡ number_of (severity_of what)
 row_so what number row.LineLost = refl
 row_so what number row.LineNotThere = refl
+row_so what number row.LineSilent = refl
 row_so what number (row.Gap a) = refl
 row_so what number row.QueueFull = refl
 row_so what number row.NotKept = refl
@@ -63,11 +67,13 @@ row_so what number (row.Cut cause) = refl
 row_so what number (row.Closed cause) = refl
 row_so what number (row.SentAway n peer) = refl
 row_so what number (row.Silent a) = refl
+row_so what number (row.StillSilent a) = refl
 row_so what number (row.Down a) = refl
 row_so what number (row.Skipped a kind why) = refl
 row_so what number (row.MirrorDropped a) = refl
 row_so what number (row.Spoilt a) = refl
 row_so what number (row.Late a) = refl
+row_so what number (row.LeftOut n) = refl
 row_so what number (row.Refused o peer why) = refl
 row_so what number (row.Denied o a) = refl
 row_so what number (row.NotTaken o a) = refl

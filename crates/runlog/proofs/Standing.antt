@@ -10,7 +10,7 @@ use Rattle.runlog.specs.Limits.{one_more, is_minute_after}
 use Rattle.runlog.specs.Standings.{after, answering, had_service, is_alike, missed, stands, tells}
 use Rattle.runlog.specs.Standings.{telling, times}
 use Rattle.runlog.specs.Stations.{again_by, counted, counting, is_again, is_same, is_unanswered}
-use Rattle.runlog.specs.Stations.{new_station, silent_by, standing_of, station_asked}
+use Rattle.runlog.specs.Stations.{new_station, silent_by, standing_of, station_asked, still_by}
 use Rattle.runlog.specs.Stations.{station_by, station_logged, unanswered_by}
 use Rattle.runlog.specs.Stations.{logged_up, logged_down}
 use Rattle.runlog.specs.declared.note.LogLine.{LogLine}
@@ -63,8 +63,13 @@ unanswered_kept true now w =
     silent_kept (is_minute_after w.silent.logged now) logged.Unanswered now w
 unanswered_kept false now w = refl
 
+still_kept : (is_so : Bool) (now : ℕ) (w : StationWatch) → shown (still_by is_so now w).0 ≡ shown w
+still_kept false now w = refl
+still_kept true now w = let x = changed (note.StillSilent w.address) w.silent now in
+    line_kept logged.Silent x.1 (record w { silent = x.0 })
+
 again_kept : (is_so : Bool) (now : ℕ) (w : StationWatch) → shown (again_by is_so now w).0 ≡ shown w
-again_kept true now w = silent_kept (is_minute_after w.silent.logged now) logged.Silent now w
+again_kept true now w = still_kept (is_minute_after w.silent.logged now) now w
 again_kept false now w = let x = changed (note.Again w.address) w.again now in
     line_kept logged.Up x.1 (record w { again = x.0 })
 

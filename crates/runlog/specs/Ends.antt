@@ -49,8 +49,8 @@ new_line = record {
   since = 0;
 }
 
--- A line is logged once it was tried, and that it isn't there again each minute. One that was lost
--- is there again once it has given octets, or is there for a minute.
+-- A line is logged once it was tried, and that it isn't there, or silent, again each minute. One
+-- that was lost is there again once it has given octets, or is there for a minute.
 abbrev pub line_change : LineLogged → Presence → (is_minute : Bool) → Option (LineLogged × Note)
 line_change logged Untried is_minute = None
 line_change Nothing Away is_minute = Some (NotThere, note.LineNotThere)
@@ -59,6 +59,8 @@ line_change NotThere Away false = None
 line_change There Away is_minute = Some (Lost, note.LineLost)
 line_change Lost Away true = Some (Lost, note.LineNotThere)
 line_change Lost Away false = None
+line_change Lost presence.Silent false = None
+line_change logged presence.Silent is_minute = Some (Lost, note.LineSilent)
 line_change There presence is_minute = None
 line_change Lost presence.Receiving is_minute = Some (There, note.LineReachedAgain)
 line_change Lost presence.There true = Some (There, note.LineReachedAgain)
@@ -72,6 +74,7 @@ line_logged logged (Some line) w = (record w { logged = logged }, Some line)
 
 abbrev pub is_away : Presence → Bool
 is_away Away = true
+is_away presence.Silent = true
 is_away presence = false
 
 abbrev pub line_tried : (is_away : Bool) → ℕ → LineLogged → Note → LineWatch

@@ -15,6 +15,7 @@ pub data IsAbout : (link : ℕ) → Note → Type 0 where
   Asked : (link : ℕ) → IsAbout link (note.Asked link)
   Up : (link : ℕ) → IsAbout link (note.Up link)
   Silent : (link : ℕ) → IsAbout link (note.Silent link)
+  StillSilent : (link : ℕ) → IsAbout link (note.StillSilent link)
   Again : (link : ℕ) → IsAbout link (note.Again link)
   Down : (link : ℕ) → IsAbout link (note.Down link)
   Gap : (link : ℕ) → IsAbout link (note.Gap link)
@@ -31,6 +32,7 @@ pub data IsAboutTheLine : Note → Type 0 where
   ReachedAgain : IsAboutTheLine note.LineReachedAgain
   Lost : IsAboutTheLine note.LineLost
   NotThere : IsAboutTheLine note.LineNotThere
+  Silent : IsAboutTheLine note.LineSilent
 
 -- the station's number stands in the line's words
 pub record SaysStation (link : ℕ) (what : Note) : Type 0 where

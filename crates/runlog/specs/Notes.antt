@@ -96,6 +96,8 @@ words note.LineReached = codes "line reached"
 words note.LineReachedAgain = codes "line reached again"
 words note.LineLost = codes "line lost"
 words note.LineNotThere = codes "line not there"
+words note.LineSilent =
+    codes "line silent: requests went out and nothing came, it is dialled anew"
 words (note.Listening address) = codes "listening at " ++ socket_text address
 words (note.Opened peer) = codes "connection opened" ++ peer_words peer
 words note.Started = codes "connection started"
@@ -106,6 +108,8 @@ words (note.RefusedPeers count last) = refused_peers_words count last
 words (note.Asked address) = codes "station " ++ decimal address ++ codes " asked for its status"
 words (note.Up address) = codes "station " ++ decimal address ++ codes " up"
 words (note.Silent address) = codes "station " ++ decimal address ++ codes " doesn't answer"
+words (note.StillSilent address) =
+    of_station address (codes "still doesn't answer: if it was restarted, restart telegate too")
 words (note.Again address) = codes "station " ++ decimal address ++ codes " answers again"
 words (note.Down address) = codes "station " ++ decimal address ++ codes " down"
 words (note.Gap address) = codes "station " ++ decimal address
@@ -130,6 +134,7 @@ words (note.MirrorDropped address) =
 words (note.Spoilt address) =
     of_station address (codes "answer spoilt: octets came, but no answer")
 words (note.Late address) = late_words address
+words (note.LeftOut count) = decimal count ++ codes " lines left out: nobody read them in time"
 
 abbrev pub left_out_words : ℕ → List ℕ
 left_out_words n = if n == 0 then [] else codes " (" ++ decimal n ++ codes " left out)"

@@ -20,6 +20,7 @@ pub data HasRow : Note → ℕ → Type 0 where
   -- look at the device server and its cable
   LineLost : HasRow note.LineLost 3
   LineNotThere : HasRow note.LineNotThere 3
+  LineSilent : HasRow note.LineSilent 3
   -- interrogate the station
   Gap : (a : ℕ) → HasRow (note.Gap a) 3
   -- find out why the control centre doesn't take its reports
@@ -36,6 +37,7 @@ pub data HasRow : Note → ℕ → Type 0 where
   SentAway : (n : ℕ) (peer : Option IpAddr) → HasRow (note.RefusedPeers n peer) 4
   -- look at its power and its cable
   Silent : (a : ℕ) → HasRow (note.Silent a) 4
+  StillSilent : (a : ℕ) → HasRow (note.StillSilent a) 4
   Down : (a : ℕ) → HasRow (note.Down a) 4
   -- compare the settings of the line with the station's sizes
   Skipped : (a kind : ℕ) (why : Skip) → HasRow (note.Skipped a kind why) 4
@@ -45,6 +47,8 @@ pub data HasRow : Note → ℕ → Type 0 where
   Spoilt : (a : ℕ) → HasRow (note.Spoilt a) 4
   -- give stations longer to answer
   Late : (a : ℕ) → HasRow (note.Late a) 4
+  -- find out why nobody reads the log
+  LeftOut : (n : ℕ) → HasRow (note.LeftOut n) 4
   -- a command that comes to nothing
   Refused : (o : Order) (peer : Option IpAddr) (why : Reason) → HasRow (note.Refused o peer why) 4
   Denied : (o : Order) (a : ℕ) → HasRow (note.Fate o a fate.Denied) 4

@@ -81,6 +81,11 @@ abbrev pub logged_silent : StationLogged → ℕ → StationWatch → StationWat
 logged_silent next now w = let logged = changed (note.Silent w.address) w.silent now in
     station_logged next logged.1 (record w { silent = logged.0 })
 
+-- its link is held, and it may have been restarted
+abbrev pub logged_still : ℕ → StationWatch → StationWatch × Option LogLine
+logged_still now w = let logged = changed (note.StillSilent w.address) w.silent now in
+    station_logged Silent logged.1 (record w { silent = logged.0 })
+
 abbrev pub logged_again : ℕ → StationWatch → StationWatch × Option LogLine
 logged_again now w = let logged = changed (note.Again w.address) w.again now in
     station_logged Up logged.1 (record w { again = logged.0 })
@@ -156,8 +161,12 @@ abbrev pub unanswered_by : (is_unanswered : Bool) → ℕ → StationWatch → S
 unanswered_by true now w = still_silent Unanswered now w
 unanswered_by false now w = (w, None)
 
+abbrev pub still_by : (is_minute : Bool) → ℕ → StationWatch → StationWatch × Option LogLine
+still_by true now w = logged_still now w
+still_by false now w = (w, None)
+
 abbrev pub again_by : (is_unanswered : Bool) → ℕ → StationWatch → StationWatch × Option LogLine
-again_by true now w = still_silent Silent now w
+again_by true now w = still_by (is_minute_after w.silent.logged now) now w
 again_by false now w = logged_again now w
 
 -- A station that is asked for its status is logged once; one that gets counted requests is up, and

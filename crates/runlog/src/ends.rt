@@ -108,7 +108,7 @@ impl LineWatch {
         let is_minute = self.away.is_minute_after(now);
         let (logged, note) = line_change(self.logged, presence, is_minute)?;
         // A limit for each way: a line that is lost right behind its coming is logged as lost.
-        let line = if matches!(presence, Presence::Away) {
+        let line = if is_away(presence) {
             changed(note, &mut self.away, now)?
         } else {
             changed(note, &mut self.there, now)?
@@ -118,13 +118,20 @@ impl LineWatch {
     }
 }
 
+/// That a line that is seen so isn't there, or is silent, is what is logged of it.
+fn is_away(presence: Presence) -> bool
+    ensures { result ≡ spec.is_away presence }
+{
+    matches!(presence, Presence::Away | Presence::Silent)
+}
+
 /// Whether a line that is seen so is there.
 fn is_there(presence: Presence) -> bool
     ensures { result ≡ spec.is_there presence }
 {
     match presence {
         Presence::There | Presence::Receiving => true,
-        Presence::Untried | Presence::Away => false,
+        Presence::Untried | Presence::Away | Presence::Silent => false,
     }
 }
 
@@ -154,6 +161,8 @@ fn line_change(
         (LineLogged::NotThere, Presence::Away) | (LineLogged::Lost, Presence::Away) => {
             is_minute.then_some((logged, Note::LineNotThere))
         }
+        (LineLogged::Lost, Presence::Silent) if !is_minute => None,
+        (_, Presence::Silent) => Some((LineLogged::Lost, Note::LineSilent)),
         (LineLogged::There, _) => None,
         // A server that accepts and closes is reached at each try, and nothing comes from it.
         (LineLogged::Lost, Presence::There) if !is_minute => None,

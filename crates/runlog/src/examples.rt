@@ -3,7 +3,7 @@ ghost use Rattle.std.specs.Prelude.{◌≡◌, ◌∷◌, [], codes, true, false
 ghost use Rattle.ft12.specs.declared.frame.LinkSize.TheVariants.{One, Two};
 ghost use Rattle.gateway.specs.declared.counts.Counts.{Counts};
 ghost use Rattle.live.specs.declared.ends.CutCause.TheVariants as cut;
-ghost use Rattle.live.specs.declared.ends.Presence.TheVariants.{Untried, Away, There, Receiving};
+ghost use Rattle.live.specs.declared.ends.Presence.TheVariants.{Untried, Away, Silent, There, Receiving};
 ghost use Rattle.session.specs.declared.kinds.Close.TheVariants as close;
 ghost use Rattle.runlog.specs.Ends.{new_line, new_listener, new_connection, listener_seen};
 ghost use Rattle.runlog.specs.Ends.{connection_sent};
@@ -57,7 +57,7 @@ pub fn stations_by_example()
         ∷ (65000, 0x10 ∷ 0x5B ∷ 0x07 ∷ []) ∷ (66000, 0x10 ∷ 0x49 ∷ 0x07 ∷ []) ∷ [])
         (new_station 2 7 ∷ [])
         ≡ at 0 (note.Asked 7) ∷ at 2000 (note.Up 7) ∷ at 4000 (note.Silent 7)
-        ∷ at 64000 (note.Silent 7) ∷ at 65000 (note.Again 7) ∷ at 66000 (note.Down 7) ∷ [] }
+        ∷ at 64000 (note.StillSilent 7) ∷ at 65000 (note.Again 7) ∷ at 66000 (note.Down 7) ∷ [] }
     // One that never answered is logged, and each minute; it may be up then.
     ensures unanswered { lines_of_requests One ((0, 0x10 ∷ 0x49 ∷ 0x07 ∷ [])
         ∷ (200, 0x10 ∷ 0x49 ∷ 0x07 ∷ []) ∷ (400, 0x10 ∷ 0x49 ∷ 0x07 ∷ [])
@@ -86,6 +86,12 @@ pub fn moments_by_example()
         ∷ (60009, Away) ∷ (60010, Away) ∷ (120009, There) ∷ (120010, There) ∷ []) new_line
         ≡ at 0 note.LineReached ∷ at 10 note.LineLost ∷ at 60010 note.LineNotThere
         ∷ at 120010 note.LineReachedAgain ∷ [] }
+    // A device server that hangs: it is closed and reached each time, and gives nothing.
+    ensures silent { lines_of_looks
+        ((0, Receiving) ∷ (40000, Silent) ∷ (40010, Silent) ∷ (99999, Silent) ∷ (100000, Silent)
+        ∷ (160000, Receiving) ∷ []) new_line
+        ≡ at 0 note.LineReached ∷ at 40000 note.LineSilent ∷ at 100000 note.LineSilent
+        ∷ at 160000 note.LineReachedAgain ∷ [] }
     ensures listener { ((listener_seen (record { count = 3; last = None }) 7 new_listener).1
         ≡ Some (at 7 (note.RefusedPeers 3 None)))
         × ((listener_seen (record { count = 5; last = None }) 1007
@@ -125,12 +131,17 @@ pub fn log_lines_by_example()
         × (words note.LineReachedAgain ≡ codes "line reached again")
         × (words note.LineLost ≡ codes "line lost")
         × (words note.LineNotThere ≡ codes "line not there")
+        × (words note.LineSilent
+        ≡ codes "line silent: requests went out and nothing came, it is dialled anew")
         × (words (note.Opened None) ≡ codes "connection opened")
         × (words note.Started ≡ codes "connection started")
         × (words note.Stopped ≡ codes "connection stopped")
-        × (words (note.RefusedPeers 2 None) ≡ codes "2 sent away") }
+        × (words (note.RefusedPeers 2 None) ≡ codes "2 sent away")
+        × (words (note.LeftOut 12) ≡ codes "12 lines left out: nobody read them in time") }
     ensures stations { (words (note.Asked 7) ≡ codes "station 7 asked for its status")
         × (words (note.Silent 7) ≡ codes "station 7 doesn't answer")
+        × (words (note.StillSilent 7)
+        ≡ codes "station 7 still doesn't answer: if it was restarted, restart telegate too")
         × (words (note.Again 7) ≡ codes "station 7 answers again")
         × (words (note.Down 7) ≡ codes "station 7 down")
         × (words (note.Gap 7) ≡ codes "station 7 gap: reports of it may be lost")

@@ -36,7 +36,7 @@ pub(crate) fn subject_of(note: &Note) -> Subject
 {
     match note {
         Note::LineReached | Note::LineReachedAgain => Subject::Line,
-        Note::LineLost | Note::LineNotThere => Subject::Line,
+        Note::LineLost | Note::LineNotThere | Note::LineSilent => Subject::Line,
         Note::Asked(address) | Note::Up(address) | Note::Silent(address) => {
             Subject::Station(*address)
         }
@@ -46,6 +46,7 @@ pub(crate) fn subject_of(note: &Note) -> Subject
         Note::MirrorDropped(address) | Note::Spoilt(address) | Note::Late(address) => {
             Subject::Station(*address)
         }
+        Note::StillSilent(address) => Subject::Station(*address),
         Note::Fate(_, station, _) | Note::Skipped(station, _, _) => Subject::Station(*station),
         _ => Subject::Other,
     }

@@ -16,8 +16,14 @@ use session::Close;
 use std::fmt;
 use std::net::{IpAddr, SocketAddr};
 
+/// A line that was closed since nothing came from it.
+const SILENT_LINE: &str = "line silent: requests went out and nothing came, it is dialled anew";
+
 /// What stands behind a station whose answer to a command is dropped.
 const MIRROR_DROPPED: &str = "answer to a command dropped: data transfer isn't running";
+
+/// What stands behind a station whose link is held though it doesn't answer.
+const STILL_SILENT: &str = "still doesn't answer: if it was restarted, restart telegate too";
 
 /// What stands behind a station whose answer is spoilt.
 const SPOILT: &str = "answer spoilt: octets came, but no answer";
@@ -67,6 +73,8 @@ pub enum Note {
     LineLost,
     /// It hasn't been reached yet.
     LineNotThere,
+    /// Requests went out and nothing came, so it was closed and is reached anew.
+    LineSilent,
     /// Control centres may connect there.
     Listening(SocketAddr),
     /// By whom, if that is known.
@@ -86,6 +94,8 @@ pub enum Note {
     Up(u16),
     /// The same request has gone out to it more often than the settings' `retries` at first let it.
     Silent(u16),
+    /// A minute after it was logged last that it doesn't answer the same service goes out still.
+    StillSilent(u16),
     /// After that another request goes out to it, so it has answered.
     Again(u16),
     /// It is asked for the status again.
@@ -124,6 +134,8 @@ pub enum Note {
     Spoilt(u16),
     /// Octets came from it when its exchange was over, before the next request went out.
     Late(u16),
+    /// So many lines of the log were left out, since there was no room for them.
+    LeftOut(u64),
 }
 
 /// A line of the log.
@@ -283,6 +295,7 @@ impl fmt::Display for Note {
             Note::LineReachedAgain => f.write_str("line reached again"),
             Note::LineLost => f.write_str("line lost"),
             Note::LineNotThere => f.write_str("line not there"),
+            Note::LineSilent => f.write_str(SILENT_LINE),
             Note::Listening(address) => write!(f, "listening at {address}"),
             Note::Opened(peer) => {
                 f.write_str("connection opened")?;
@@ -302,6 +315,7 @@ impl fmt::Display for Note {
             Note::Asked(address) => write!(f, "station {address} asked for its status"),
             Note::Up(address) => write!(f, "station {address} up"),
             Note::Silent(address) => write!(f, "station {address} doesn't answer"),
+            Note::StillSilent(address) => write_of_station(*address, STILL_SILENT, f),
             Note::Again(address) => write!(f, "station {address} answers again"),
             Note::Down(address) => write!(f, "station {address} down"),
             Note::Gap(address) => write!(f, "station {address} gap: reports of it may be lost"),
@@ -333,6 +347,7 @@ impl fmt::Display for Note {
             Note::MirrorDropped(address) => write_of_station(*address, MIRROR_DROPPED, f),
             Note::Spoilt(address) => write_of_station(*address, SPOILT, f),
             Note::Late(address) => write_late(*address, f),
+            Note::LeftOut(count) => write!(f, "{count} lines left out: nobody read them in time"),
         }
     }
 }

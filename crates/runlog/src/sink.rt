@@ -2,8 +2,9 @@
 ghost use Rattle.std.specs.Prelude.{◌≡◌, None, true, false};
 
 use crate::names::{LogNames, NamedLine};
-use crate::note::LogLine;
+use crate::note::{LogLine, Note};
 use jiff::Timestamp;
+use live::{STANDARD_ERROR, has_room};
 use std::io::Eprint;
 
 /// Where lines go. One that notes its lines adds each that it takes, and, beside these, each that
@@ -24,12 +25,15 @@ pub trait LogSink {
         ensures handed { handed self.new ≡ kept true line.now (handed self.old) };
 }
 
-/// Standard error: each line has its UTC time (RFC 3339) before it.
+/// Standard error: each line has its UTC time (RFC 3339) before it. A line for which there is no
+/// room is left out, and how many were is told once there is.
 #[derive(Drop)]
 pub struct StandardError<'a, 'n, R> {
     rt: &'a R,
     names: LogNames<'n>,
     has_severity: bool,
+    /// So many lines were left out since the last one.
+    left_out: u64,
 }
 
 impl<'a, 'n, R> StandardError<'a, 'n, R> {
@@ -42,6 +46,7 @@ impl<'a, 'n, R> StandardError<'a, 'n, R> {
             rt,
             names,
             has_severity: false,
+            left_out: 0,
         }
     }
 
@@ -55,6 +60,7 @@ impl<'a, 'n, R> StandardError<'a, 'n, R> {
             rt: self.rt,
             names: self.names,
             has_severity: true,
+            left_out: self.left_out,
         }
     }
 }
@@ -68,12 +74,23 @@ impl<R: Eprint + std::rt::Clock> StandardError<'_, '_, R> {
         let number = line.note.severity().number();
         eprint!(self.rt; "<{number}>").is_ok()
     }
-}
 
-impl<R: Eprint + std::rt::Clock> LogSink for StandardError<'_, '_, R> {
-    ghost lines = { λ _. None };
+    /// Tells how many lines were left out, at the moment of the line behind, if any were.
+    fn write_left_out(&mut self, moment: u64) -> bool {
+        if self.left_out == 0 {
+            return true;
+        }
+        let note = Note::LeftOut(self.left_out);
+        self.left_out = 0;
+        self.write_line(&LogLine {
+            moment,
+            note,
+            left_out: 0,
+        })
+    }
 
-    fn write(&mut self, line: &LogLine) -> bool {
+    /// Writes a line, for which there is room.
+    fn write_line(&self, line: &LogLine) -> bool {
         if !self.write_severity(line) {
             return false;
         }
@@ -86,5 +103,19 @@ impl<R: Eprint + std::rt::Clock> LogSink for StandardError<'_, '_, R> {
             // No time is better than no line.
             Err(_) => eprintln!(self.rt; "- {line}").is_ok(),
         }
+    }
+}
+
+impl<R: Eprint + std::rt::Clock> LogSink for StandardError<'_, '_, R> {
+    ghost lines = { λ _. None };
+
+    fn write(&mut self, line: &LogLine) -> bool {
+        // A write that waited would hold up the line and the control centre (docs/DECISIONS.md,
+        // "Nobody who reads holds a run up").
+        if !has_room(STANDARD_ERROR) {
+            self.left_out = self.left_out.saturating_add(1);
+            return true;
+        }
+        self.write_left_out(line.moment) && self.write_line(line)
     }
 }

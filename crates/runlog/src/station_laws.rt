@@ -93,8 +93,9 @@ pub fn a_station_stands_as_its_requests_say()
 
 /// A station is logged as up at its first service, and as down where its status is asked again.
 /// Where a request has gone out more often than a station that is there lets it, it is logged that
-/// the station doesn't answer, and each minute again while that lasts. That it answers again is
-/// logged at the next service with another frame count bit. Each line names the station by its link
+/// the station doesn't answer, and each minute again while that lasts: for a service, whose link is
+/// held, with a hint. That it answers again is logged at the next service with another frame count
+/// bit. Each line names the station by its link
 /// address. A line that comes too early is left to a later request: then what was logged last
 /// stays.
 pub fn a_station_is_logged_where_it_goes_and_where_it_is_back()
@@ -112,7 +113,7 @@ pub fn a_station_is_logged_where_it_goes_and_where_it_is_back()
         IsOftenEnough w bit → IsQuiet w (station_asked (Counted bit) now w) }
     ensures still { (w : StationWatch) (bit : Bool) (now before : ℕ) → w.logged ≡ logged.Silent →
         IsAgainTooOften w bit → w.silent.logged ≡ Some before → before + 60000 ≤ now →
-        IsLogged now (note.Silent w.address) logged.Silent
+        IsLogged now (note.StillSilent w.address) logged.Silent
         w.silent (station_asked (Counted bit) now w).0.silent (station_asked (Counted bit) now w) }
     ensures between { (w : StationWatch) (bit : Bool) (now before : ℕ) →
         w.logged ≡ logged.Silent → IsAgainTooOften w bit → w.silent.logged ≡ Some before →

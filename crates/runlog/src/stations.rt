@@ -1,6 +1,6 @@
 //! What is logged of the stations, by the requests that go out to them.
 ghost use Rattle.std.specs.Prelude.{◌≡◌, ◌≤◌, map, if◌then◌else◌};
-ghost use Rattle.runlog.specs.Limits.{one_more};
+ghost use Rattle.runlog.specs.Limits.{is_minute_after, one_more};
 ghost use Rattle.runlog.specs.Stations as spec;
 
 use crate::ends::{changed, happened};
@@ -287,11 +287,25 @@ impl StationWatch {
         ensures { (self.new, result) ≡ spec.again_by (spec.is_unanswered self.old) now self.old }
     {
         if self.is_unanswered() {
-            let is_minute = self.silent.is_minute_after(now);
-            return self.silence(is_minute, StationLogged::Silent, now);
+            return self.still_silence(now);
         }
         let line = changed(Note::Again(self.address), &mut self.again, now)?;
         self.logged = StationLogged::Up;
+        Some(line)
+    }
+
+    /// The same service goes out still, so its link is held; a line a minute.
+    fn still_silence(&mut self, now: u64) -> Option<LogLine>
+        ensures { (self.new, result)
+            ≡ spec.still_by (is_minute_after self.old.silent.logged now) now self.old }
+    {
+        if !self.silent.is_minute_after(now) {
+            return None;
+        }
+        // With `silence = "reset"` its status is asked long before (docs/DECISIONS.md, "A hint
+        // while a link is held").
+        let line = changed(Note::StillSilent(self.address), &mut self.silent, now)?;
+        self.logged = StationLogged::Silent;
         Some(line)
     }
 

@@ -116,6 +116,54 @@ fn a_line_that_gives_nothing_is_tried_more_rarely(rt: HostRuntime) {
     }
 }
 
+/// Asks once, and looks once for an answer, which doesn't come.
+fn ask(rt: &impl Abort, stream: &mut TestStream<'_>) {
+    assert!(rt; stream.write(&[0xE5]));
+    assert_eq!(rt; look(stream), Got::Quiet);
+}
+
+/// A server that hangs with its connection open is closed once a request has gone out each second
+/// for 30 s, and then after twice as long each time, up to 240 s.
+#[test]
+fn a_line_that_is_silent_is_reached_anew(rt: HostRuntime) {
+    let time = Time::new(0, 0);
+    let mut dialler = TimedDialler::new(&time, 0, 0, 0);
+    dialler.dialler.is_silent = true;
+    let mut stream = Redialled::new(dialler, TimedClock(&time));
+    assert_eq!(rt; look(&mut stream), Got::Quiet);
+    assert_eq!(rt; stream.presence(), Presence::There);
+    for (seconds, tries) in [(30, 1), (60, 2), (120, 3), (240, 4), (240, 5)] {
+        for _ in 0..seconds {
+            ask(&rt, &mut stream);
+            time.pass(1000);
+        }
+        assert_eq!(rt; stream.dialler.dialler.tries, tries);
+        ask(&rt, &mut stream);
+        assert_eq!(rt; stream.presence(), Presence::Silent);
+        assert!(rt; !stream.write(&[0xE5]));
+        assert_eq!(rt; look(&mut stream), Got::Quiet);
+        assert_eq!(rt; stream.dialler.dialler.tries, tries.saturating_add(1));
+        assert_eq!(rt; stream.presence(), Presence::Silent);
+    }
+}
+
+/// Between two requests 5 s count at the most, so that a line isn't closed which nobody asks.
+#[test]
+fn a_line_that_is_asked_seldom_is_kept(rt: HostRuntime) {
+    let time = Time::new(0, 0);
+    let mut dialler = TimedDialler::new(&time, 0, 0, 0);
+    dialler.dialler.is_silent = true;
+    let mut stream = Redialled::new(dialler, TimedClock(&time));
+    assert_eq!(rt; look(&mut stream), Got::Quiet);
+    for _ in 0..6 {
+        ask(&rt, &mut stream);
+        assert_eq!(rt; stream.presence(), Presence::There);
+        time.pass(600_000);
+    }
+    ask(&rt, &mut stream);
+    assert_eq!(rt; stream.presence(), Presence::Silent);
+}
+
 /// A try that goes on holds nobody, and no other begins.
 #[test]
 fn a_try_goes_on_between_the_looks(rt: HostRuntime) {

@@ -3,11 +3,14 @@ ghost use Rattle.std.specs.Prelude.{◌≡◌, ◌≢◌, IfSome, None, ◌+◌,
 ghost use Rattle.std.specs.Prelude.{Bool, true, false, is_some};
 ghost use Rattle.live.specs.Law.{AtClock, IsFoundGone};
 ghost use Rattle.live.specs.Redial.{Redial, clock_read_at, IsPut, HasDropped, BeginsTry, Asked};
-ghost use Rattle.live.specs.Redial.{DialCall, IsRedialled, waited};
+ghost use Rattle.live.specs.Redial.{DialCall, IsRedialled, known_reached, waited};
+ghost use Rattle.live.specs.Silence.{asked_at, begun_anew, borne_longer, is_over, no_silence};
+ghost use Rattle.live.specs.Timing.{read_at};
+ghost use Rattle.live.specs.declared.silence.Silence.{Silence};
 ghost use Rattle.live.specs.declared.ends.Got.{Got};
 ghost use Rattle.live.specs.declared.ends.Got.TheVariants.{Octets, Quiet};
-ghost use Rattle.live.specs.declared.ends.Presence.TheVariants.{There, Away, Receiving};
-ghost use Rattle.live.specs.OctetStreams.{IsNew, StreamHistory, looked, noted, Dropped, Wrote};
+ghost use Rattle.live.specs.declared.ends.Presence.TheVariants.{Away, Receiving, Silent};
+ghost use Rattle.live.specs.OctetStreams.{IsNew, StreamHistory, looked, noted, Dropped, WasQuiet, Wrote};
 
 /// A stream that is away is tried at once, and then as soon as its wait has passed since the last
 /// try began, but never before. For each try the dialler is called once. At each look it is asked
@@ -47,8 +50,12 @@ pub fn a_stream_that_is_away_is_tried_when_due()
         × (new.tries ≡ old.tries) × (new.pauses ≡ old.pauses) × (new.tried ≡ old.tried)
         × (new.is_trying ≡ old.is_trying) }
     ensures written { (old new : Redial) (octets : List ℕ) (is_taken : Bool)
-        (history : StreamHistory) → IsPut old octets is_taken new → old.stream ≡ Some history →
-        new ≡ record old { stream = Some (noted history (Wrote octets is_taken)) } }
+        (history : StreamHistory) → (put : IsPut old octets is_taken new) →
+        old.stream ≡ Some history → new ≡ record old {
+          clock = read_at old.clock put.now;
+          stream = Some (noted history (Wrote octets is_taken));
+          silence = asked_at put.now old.silence;
+        } }
     ensures waiting { (old new : Redial) (count : ℕ) (history : StreamHistory) →
         HasDropped old count new → old.stream ≡ Some history →
         new ≡ record old { stream = Some (noted history (Dropped count)) } }
@@ -91,10 +98,12 @@ pub fn tries_lie_farther_apart_while_nothing_comes()
 
 /// What is known of a stream that is reached again. It is there once it was reached, and receiving
 /// once octets came. It is away where a look found it gone, and where a try ended without it. None
-/// is left but one that was found gone.
+/// is left but one that was found gone or closed since it was silent. That one is silent until it
+/// gives octets, is gone or can't be reached.
 pub fn what_is_known_of_a_stream_is_what_was_seen()
     ensures reached { (old new : Redial) (got : Got) (buf : List ℕ) → IsRedialled old got buf new →
-        old.stream ≡ None → IfSome new.stream (λ _. new.presence ≡ There) }
+        old.stream ≡ None → IfSome new.stream (λ _. (new.presence ≡ known_reached old.presence)
+        × (new.silence ≡ begun_anew old.silence)) }
     ensures failed { (old new : Redial) (got : Got) (buf : List ℕ) (tries : List Bool) →
         IsRedialled old got buf new → old.stream ≡ None → old.tries ≡ Some tries →
         new.tries ≡ Some (false ∷ tries) → new.presence ≡ Away }
@@ -102,8 +111,31 @@ pub fn what_is_known_of_a_stream_is_what_was_seen()
         IsRedialled old (Octets len) buf new → new.presence ≡ Receiving }
     ensures gone { (old new : Redial) (got : Got) (buf : List ℕ) (history : StreamHistory) →
         IsRedialled old got buf new → old.stream ≡ Some history → new.stream ≡ None →
+        new.presence ≢ Silent →
         (new.presence ≡ Away) × IsFoundGone (Some (is_some history)) new.gone }
     ensures quiet { (old new : Redial) (buf : List ℕ) (history : StreamHistory) →
         IsRedialled old Quiet buf new → old.stream ≡ Some history → new.stream ≢ None →
         new.presence ≡ old.presence }
+{}
+
+/// A stream that gives nothing while requests go out to it is closed at the next look once they
+/// have for as long as it is borne, and never before. That is 30 s behind octets, and twice as long
+/// behind each that was closed, up to 240 s. Between two requests the time counts that lies between
+/// them, but no more than 5 s: so a gateway that sends none, as with a full queue, closes nothing.
+/// Behind octets, and where a stream is reached, it begins anew.
+pub fn a_stream_that_gives_nothing_is_closed()
+    ensures over { (old new : Redial) (buf : List ℕ) (history : StreamHistory) →
+        IsRedialled old Quiet buf new → old.stream ≡ Some history → is_over old.silence ≡ true →
+        new.stream ≡ None }
+    ensures closed { (old new : Redial) (got : Got) (buf : List ℕ) (history : StreamHistory) →
+        IsRedialled old got buf new → old.stream ≡ Some history → new.stream ≡ None →
+        new.presence ≡ Silent → (is_over old.silence ≡ true)
+        × (new.gone ≡ Some (noted history WasQuiet)) × (new.silence ≡ borne_longer old.silence) }
+    ensures octets { (old new : Redial) (len : ℕ) (buf : List ℕ) →
+        IsRedialled old (Octets len) buf new → new.silence ≡ no_silence }
+    ensures first { (silence : Silence) (now : ℕ) → silence.asked ≡ None →
+        silence.counted ≤ 240000 → (asked_at now silence).counted ≡ silence.counted }
+    ensures counted { (silence : Silence) (now last : ℕ) → silence.asked ≡ Some last →
+        ((asked_at now silence).counted ≤ silence.counted + 5000)
+        × ((asked_at now silence).counted ≤ silence.counted + (now - last)) }
 {}

@@ -20,6 +20,8 @@ pub(super) struct MemoryDialler {
     asked: u32,
     /// Which read of a stream finds that it is gone.
     failing_read: u32,
+    /// Its streams give nothing.
+    pub(super) is_silent: bool,
     /// Whether each try that ended reached a stream.
     log: History,
     /// The calls of it.
@@ -59,6 +61,7 @@ impl MemoryDialler {
             asks,
             asked: 0,
             failing_read,
+            is_silent: false,
             log: History::new(),
             calls: History::new(),
         }
@@ -81,7 +84,11 @@ impl MemoryDialler {
             return Dialled::Failed;
         }
         self.log = with_attempt(&self.log, true);
-        let mut stream = MemoryStream::busy();
+        let mut stream = if self.is_silent {
+            MemoryStream::quiet()
+        } else {
+            MemoryStream::busy()
+        };
         stream.failing_read = self.failing_read;
         Dialled::Reached(stream)
     }

@@ -1,4 +1,3 @@
-use Rattle.live.specs.Runs.{BeginsSo}
 use Rattle.std.proofs.Common.{refl}
 use Rattle.live.proofs.Cuts.{wall_of}
 use Rattle.live.proofs.Runs.{begins_so}

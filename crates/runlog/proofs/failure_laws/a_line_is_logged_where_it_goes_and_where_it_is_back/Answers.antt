@@ -1,9 +1,12 @@
 use Rattle.runlog.proofs.Failures.{anew_so, back_so, between_so, first_so, lost_so, not_yet_so}
-use Rattle.runlog.proofs.Failures.{reached_so, stays_so, still_so, there_so}
+use Rattle.runlog.proofs.Failures.{reached_so, silent_so, stays_so, still_so, there_so}
 use Rattle.runlog.proofs.failure_laws.a_line_is_logged_where_it_goes_and_where_it_is_back.Goals as goal
 
 pub returns-clause-lost : goal.returns-clause-lost
 returns-clause-lost c = lost_so
+
+pub returns-clause-silent : goal.returns-clause-silent
+returns-clause-silent c = silent_so
 
 pub returns-clause-first : goal.returns-clause-first
 returns-clause-first c = first_so

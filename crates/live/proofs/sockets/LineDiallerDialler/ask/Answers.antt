@@ -1,4 +1,4 @@
-use Rattle.std.proofs.Common.{rules, sym, ◌∙◌}
+use Rattle.std.proofs.Common.{rules}
 use Rattle.live.proofs.Reaches.{broke_off, came_through, under_way}
 use Rattle.live.proofs.sockets.LineDiallerDialler.ask.Goals as goal
 
