@@ -4,6 +4,8 @@ pub mod Hearing
 pub mod OneVisits
 pub mod Lost
 pub mod Beginning
+pub mod Doubting
+pub mod DoubtedMatches
 pub mod Choice
 pub mod Choosing
 pub mod Controls

@@ -127,7 +127,7 @@ pub use laws::{
 pub use master::Master;
 pub use no_memory::NoMemory;
 pub use outcome::{Outcome, ReportRef};
-pub use procedure::Link;
+pub use procedure::{Link, Probed, Silence};
 pub use received_request::ReceivedRequest;
 pub use request::{Reading, Request, RequestKind, read_request};
 pub use seat::ResumedStation;
