@@ -37,6 +37,7 @@ use Rattle.link.proofs.Doubting.{doubted_link}
 use Rattle.link.specs.Turns.{is_doubted}
 use Rattle.link.proofs.Links.{set_view}
 use Rattle.link.specs.Primary.{station_asked}
+use Rattle.std.proofs.Common.{◌⊎◌, inl, inr}
 
 -- A service is sent again at once only where repeats are left, and nothing is outstanding.
 abbrev pub AgainHas : Primary → Type 0
@@ -338,7 +339,7 @@ missed_matches p began o e matches = (repeats, go began matches.1)
           ap (has_repeats p.settings) (held_is p.stations p.turn it held) ∙ again,
     )
 
-    silent : is_answered link ≡ true → Over ≡ Commanding
+    silent : is_answered link ≡ true → (unanswered p o).phase ≡ Commanding
     silent up = absurd (not_both (is_answered link) up
         (set_none (λ (t : StationState). is_answered t.link) p.stations p.turn it
         (silent_down p.settings o.request (station_at p.stations p.turn).link) refl))

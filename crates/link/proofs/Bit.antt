@@ -405,11 +405,22 @@ status_leaves : (settings : LinkSettings) (station : ℕ) (link : Link) (pending
           closed;
       given_up = false;
     }) m owed done new
-status_leaves settings station link pending front closed None owed done new down owes idle =
+status_leaves settings station Down pending front closed None owed done new down owes
+    idle =
     record { owed' = owed; agrees = owes; sum = no_more owed done idle }
-status_leaves settings station link pending front closed (Some Ready) owed done new down owes idle =
+status_leaves settings station Down pending front closed (Some Ready) owed done new down owes
+    idle =
     record { owed' = owed; agrees = owes; sum = no_more owed done idle }
-status_leaves settings station link pending front closed (Some Unable) owed done new down owes
+status_leaves settings station Down pending front closed (Some Unable) owed done new down owes
+    idle =
+    record { owed' = owed; agrees = owes; sum = no_more owed done idle }
+status_leaves settings station Available pending front closed None owed done new down owes
+    idle =
+    record { owed' = owed; agrees = owes; sum = no_more owed done idle }
+status_leaves settings station Available pending front closed (Some Ready) owed done new down owes
+    idle =
+    record { owed' = owed; agrees = owes; sum = no_more owed done idle }
+status_leaves settings station Available pending front closed (Some Unable) owed done new down owes
     idle =
     record { owed' = owed; agrees = owes; sum = no_more owed done idle }
 status_leaves settings station Down pending front closed (Some answer) owed done new down owes
@@ -418,10 +429,10 @@ status_leaves settings station Down pending front closed (Some answer) owed done
 status_leaves settings station Available pending front closed (Some answer) owed done new down owes
     idle =
     record { owed' = owed; agrees = owes; sum = no_more owed done idle }
-status_leaves settings station (Next fcb) pending front closed (Some answer) owed done new down owes
+status_leaves settings station (Next fcb) pending front closed m owed done new down owes
     idle = cc
-status_leaves settings station (Held fcb service missed) pending front closed
-    (Some answer) owed done new down owes idle = cc
+status_leaves settings station (Held fcb service missed) pending front closed m owed done new down
+    owes idle = cc
 
 -- a status changes nothing at the outstation
 same_status : (station : ℕ) (old new : Outstation) (turn : Turn)

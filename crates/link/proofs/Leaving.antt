@@ -395,9 +395,7 @@ report front p octets is = go p.outstanding refl is
         o.request frame r.0
         (answers ∙ ap (λ (a : Answer). Some a) r.1) in (
           ap (λ (x : Option Outstanding). is_polling_by p x) e ∙ poll,
-          answered_none p o.request frame answer (answer_ends (station_at p.stations p.turn).address
-              o.request
-              (station_at p.stations p.turn).link frame answer answers),
+          refl,
         )
 
     is_taken : (o : Outstanding) → p.outstanding ≡ Some o

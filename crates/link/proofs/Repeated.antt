@@ -162,15 +162,19 @@ counted settings station fcb service link x [] hold all =
     ∙ ap (λ (n : ℕ). nat_le n settings.retries)
     (let e : suc (missed_so_far link) ≡ missed_so_far link + 1 = omega arith in e)
 counted settings station fcb service link x (y ∷ ys) hold all =
-    go (cases_lt (missed_so_far link) settings.retries)
+    go (λ kept. counted settings station fcb service (after settings station x link) y ys kept all.1)
+    (cases_lt (missed_so_far link) settings.retries)
   where
     next : Link
     next = after settings station x link
 
-    go : (missed_so_far link < settings.retries) ⊎ (settings.retries ≤ missed_so_far link)
+    go : (is_kept settings (probed_so_far next) ≡ true
+        → has_repeats settings (link_after settings station next (y ∷ ys))
+        ≡ nat_le (missed_so_far next + length (y ∷ ys)) settings.retries)
+        → (missed_so_far link < settings.retries) ⊎ (settings.retries ≤ missed_so_far link)
         → has_repeats settings (link_after settings station next (y ∷ ys))
         ≡ nat_le (missed_so_far link + suc (length (y ∷ ys))) settings.retries
-    go (inl lt) =
+    go rest (inl lt) =
         let here : next
         ≡ Held fcb service (short_silence (suc (missed_so_far link)) (probed_so_far link)) =
         after_missed settings station fcb service x link all.0
@@ -178,12 +182,11 @@ counted settings station fcb service link x (y ∷ ys) hold all =
         (omega (arith, lt)) in
         let count : missed_so_far next ≡ suc (missed_so_far link) =
         ap (λ (l : Link). missed_so_far l) here in
-        counted settings station fcb service next y ys
-        (ap (λ (l : Link). is_kept settings (probed_so_far l)) here ∙ hold) all.1
+        rest (ap (λ (l : Link). is_kept settings (probed_so_far l)) here ∙ hold)
         ∙ ap (λ (n : ℕ). nat_le n settings.retries)
         (let e : missed_so_far next + length (y ∷ ys)
         ≡ missed_so_far link + suc (length (y ∷ ys)) = omega (arith, count) in e)
-    go (inr le) =
+    go rest (inr le) =
         spent settings station fcb service link x (y ∷ ys) hold le all
         ∙ (let e : false ≡ nat_le (missed_so_far link + suc (length (y ∷ ys))) settings.retries =
         grind (arith, le) in e)
