@@ -14,6 +14,7 @@ pub(crate) mod links;
 pub(crate) mod logging;
 pub(crate) mod precedence;
 pub(crate) mod refinement;
+pub(crate) mod restarts;
 pub(crate) mod runs;
 pub(crate) mod tables;
 pub(crate) mod visits;

@@ -1,9 +1,9 @@
 //! The link to one station, as its exchanges leave it.
-ghost use Rattle.std.specs.Prelude.{◌≡◌, Bool, true};
+ghost use Rattle.std.specs.Prelude.{◌≡◌, true, false};
 ghost use Rattle.link.specs.Leave.{holds_poll};
 ghost use Rattle.link.specs.Procedure.{after_answer, after_silence, silence_so_far, has_repeats};
 ghost use Rattle.link.specs.Procedure.{goes_down, is_held, holds_command, once_more, is_kept};
-ghost use Rattle.link.specs.Procedure.{spent_silence};
+ghost use Rattle.link.specs.Procedure.{short_silence, spent_silence};
 ghost use Rattle.link.specs.Answers.{Status, Ready};
 
 use crate::answer::Answer;
@@ -57,16 +57,29 @@ pub enum Link {
     Held(bool, Service, Silence),
 }
 
-/// No repeat is left.
-fn spent(settings: LinkSettings, probed: Probed) -> Silence
-    ensures { result ≡ spent_silence settings probed }
-{
-    Silence {
-        // In 16 bits, where one more than any `retries` fits (docs/DECISIONS.md, "Unanswered
-        // transmissions in 16 bits"). Nothing more is counted, however long the silence.
-        missed: u16::from(settings.retries) + 1,
-        spent: true,
-        probed,
+impl Silence {
+    /// Repeats are left.
+    pub(crate) fn short(missed: u16, probed: Probed) -> Silence
+        ensures { result ≡ short_silence missed probed }
+    {
+        Silence {
+            missed,
+            spent: false,
+            probed,
+        }
+    }
+
+    /// No repeat is left.
+    fn spent(settings: LinkSettings, probed: Probed) -> Silence
+        ensures { result ≡ spent_silence settings probed }
+    {
+        Silence {
+            // In 16 bits, where one more than any `retries` fits (docs/DECISIONS.md, "Unanswered
+            // transmissions in 16 bits"). Nothing more is counted, however long the silence.
+            missed: u16::from(settings.retries) + 1,
+            spent: true,
+            probed,
+        }
     }
 }
 
@@ -95,11 +108,7 @@ impl Link {
         if let Link::Held(_, _, silence) = self {
             // The station is there, so its service is sent anew: the silence behind it tells
             // whether it has lost its link (docs/DECISIONS.md, "A station that was restarted, too").
-            *silence = Silence {
-                missed: 0,
-                spent: false,
-                probed: silence.probed.once_more(),
-            };
+            *silence = Silence::short(0, silence.probed.once_more());
         } else {
             *self = Link::Available;
         }
@@ -110,20 +119,17 @@ impl Link {
     {
         match self {
             Link::Held(_, _, silence) => *silence,
-            _ => Silence {
-                missed: 0,
-                spent: false,
-                probed: Probed::Never,
-            },
+            _ => Silence::short(0, Probed::Never),
         }
     }
 
     /// A status had no answer. A station that holds a service is away, and goes on holding it.
     pub(crate) fn status_missed(&mut self, settings: LinkSettings)
-        ensures { (closed : Bool) → self.new ≡ after_silence settings Status closed self.old }
+        ensures missed { self.new ≡ after_silence settings Status true self.old }
+        ensures left { self.new ≡ after_silence settings Status false self.old }
     {
         if let Link::Held(_, _, silence) = self {
-            *silence = spent(settings, Probed::Never);
+            *silence = Silence::spent(settings, Probed::Never);
         } else {
             *self = Link::Down;
         }
@@ -142,13 +148,9 @@ impl Link {
                 let most = u16::from(settings.retries);
                 if missed < most {
                     // The same bit: the station may have acted, and only its answer was lost.
-                    *self = Link::Held(*fcb, service.copied(), Silence {
-                        missed: missed + 1,
-                        spent: false,
-                        probed,
-                    });
+                    *self = Link::Held(*fcb, service.copied(), Silence::short(missed + 1, probed));
                 } else if probed.is_kept(settings) {
-                    *self = Link::Held(*fcb, service.copied(), spent(settings, probed));
+                    *self = Link::Held(*fcb, service.copied(), Silence::spent(settings, probed));
                 } else {
                     // It may have restarted, and then it answers no service before a reset.
                     *self = Link::Down;

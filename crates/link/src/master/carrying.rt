@@ -1,12 +1,12 @@
 //! What a restart makes of a primary station.
-ghost use Rattle.std.specs.Prelude.{◌≡◌, ◌<◌, ◌≤◌, All, false, length, IfOk};
+ghost use Rattle.std.specs.Prelude.{◌≡◌, ◌<◌, ◌≤◌, All, false, length, map, IfOk};
 ghost use Rattle.ft12.specs.declared.frame.LinkSize.{LinkSize};
 ghost use Rattle.link.specs.Requests.{IsUserData, FitsAddress, FitsService};
 ghost use Rattle.link.specs.Holding.{FitsLink, FitsStation};
 ghost use Rattle.link.specs.Procedure.{after_silence};
 ghost use Rattle.link.specs.Primary.{station_down as down_at};
 ghost use Rattle.link.specs.Carried.{awaits_command, given_up, station_left, released, gap_marked};
-ghost use Rattle.link.specs.Carried.{doubted};
+ghost use Rattle.link.specs.Carried.{doubted, station_doubted};
 ghost use Rattle.link.specs.Carried.{link_carried, station_carried, seated, reseated};
 ghost use Rattle.link.specs.declared.seat.ResumedStation.{ResumedStation as SeatOf};
 
@@ -72,12 +72,8 @@ impl Link {
             Link::Available => Link::Available,
             Link::Next(fcb) => Link::Next(*fcb),
             Link::Held(fcb, service, silence) => {
-                let silence = Silence {
-                    missed: u16::from(retries).min(silence.missed),
-                    spent: false,
-                    probed: Probed::Never,
-                };
-                Link::Held(*fcb, service.carried(), silence)
+                let missed = u16::from(retries).min(silence.missed);
+                Link::Held(*fcb, service.carried(), Silence::short(missed, Probed::Never))
             }
         }
     }
@@ -98,6 +94,21 @@ impl StationState {
             session: self.session,
             unsure: true,
         }
+    }
+}
+
+fn doubt(station: &mut StationState)
+    ensures { station.new ≡ station_doubted station.old }
+{
+    station.unsure = true;
+}
+
+/// It isn't known of these stations whether they were restarted.
+fn doubt_all(stations: &mut [StationState])
+    ensures { stations.new ≡ map station_doubted stations.old }
+{
+    for station in stations.iter_mut() {
+        doubt(station);
     }
 }
 
@@ -163,12 +174,11 @@ impl Master {
     /// At a restart: of no station is it known whether it was restarted, too, until it answers a
     /// service. One that stays silent to it is asked for its status; if it answers that before the
     /// silence and behind it, and then stays silent once more, its link is given up.
+    #[tactic(auto, using(crate::proofs::Doubting::doubted_count, crate::proofs::Fitting::doubted_fits))]
     pub fn doubt(&mut self)
         ensures { self.new ≡ doubted self.old }
     {
-        for station in &mut self.stations {
-            station.unsure = true;
-        }
+        doubt_all(&mut self.stations);
     }
 
     /// Marks that of the latest session of the station with this index a report may be lost: that
