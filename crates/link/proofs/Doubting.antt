@@ -1,5 +1,7 @@
 -- A restart, behind which it isn't known of a station whether it was restarted, too.
 use Rattle.std.proofs.Common.{◌≡◌, ℕ, zero, suc, List, [], ◌∷◌, length, map, refl, ap}
+use Rattle.std.proofs.Common.{◌++◌, ◌≤◌, ◌∙◌, take, drop, sym, arith}
+use Rattle.std.proofs.lemmas.List.{take-append-le, take_all}
 use Rattle.link.specs.Procedure.{Link}
 use Rattle.link.specs.Turns.{StationState, station_at}
 use Rattle.link.specs.Carried.{station_doubted}
@@ -21,3 +23,9 @@ pub doubted_count : (stations : List StationState)
     → length (map station_doubted stations) ≡ length stations
 doubted_count [] = refl
 doubted_count (s ∷ ss) = ap suc (doubted_count ss)
+
+-- what stands at the front of a list
+pub front_of_list : (count : ℕ) (front others : List StationState) → length front ≡ count
+    → take count (front ++ others) ≡ front
+front_of_list count front others is =
+    take-append-le count front others (omega (arith, is)) ∙ take_all count front (omega (arith, is))

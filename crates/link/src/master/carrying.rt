@@ -174,7 +174,6 @@ impl Master {
     /// At a restart: of no station is it known whether it was restarted, too, until it answers a
     /// service. One that stays silent to it is asked for its status; if it answers that before the
     /// silence and behind it, and then stays silent once more, its link is given up.
-    #[tactic(auto, using(crate::proofs::Doubting::doubted_count, crate::proofs::Fitting::doubted_fits))]
     pub fn doubt(&mut self)
         ensures { self.new ≡ doubted self.old }
     {
