@@ -136,7 +136,8 @@ module _ (p : Setup) where
       subst (Reads (Came now Opened ∷ log)) (sym k) (record { rest = []; joined = refl; fit = tt })
   read_come log now at CutOff left c k h =
       subst (Reads (Came now CutOff ∷ log)) (sym k) no_octets
-  read_come log now at Restarted left c k h = subst (Reads log) (sym k.1) h
+  read_come log now at Restarted left c k h =
+      subst (Reads (Came now Restarted ∷ log)) (sym k.1) no_octets
 
   reads : (log : Log) (c : Course) → Runs p log c → Reads log c
   reads [] c r = subst (Reads []) (sym r) no_octets
@@ -254,7 +255,10 @@ module _ (p : Setup) where
       subst (AreOver (Came now CutOff ∷ log)) (sym k)
       (joins_past (present log).is_open (present log) (past log) _ _ _
       (quiet (present log) left b all) h)
-  over_come log now at Restarted left c b all k h = subst (AreOver log) (sym k.1) h
+  over_come log now at Restarted left c b all k h =
+      subst (AreOver (Came now Restarted ∷ log)) (sym k.1)
+      (joins_past (present log).is_open (present log) (past log) _ _ _
+      (quiet (present log) left b all) h)
 
   are_over : (log : Log) (c : Course) → Runs p log c → AreOver log c
   are_over [] c r = subst (AreOver []) (sym r) tt
@@ -341,8 +345,8 @@ module _ (p : Setup) where
   come_sent objs log at CutOff left c k h =
       subst (AreSentOf objs) (sym k) (none_sent objs [] _ (ended objs (present log).is_open left h))
   come_sent objs log at Restarted left c k h =
-      sent_again objs left c (ap (λ (d : Course). d.sent) k.1)
-      (ap (λ (d : Course). d.earlier) k.1) h
+      subst (AreSentOf objs) (sym k.1)
+      (none_sent objs [] _ (ended objs (present log).is_open left h))
 
   -- What goes out is the next of what was taken.
 

@@ -53,7 +53,7 @@ none_received (Came now (TcpIn octets) ∷ log) h =
 none_received (Came now (LineIn octets) ∷ log) h = none_received log h
 none_received (Came now Ticked ∷ log) h = none_received log h
 none_received (Came now (WallIs number) ∷ log) h = none_received log h
-none_received (Came now Restarted ∷ log) h = none_received log h
+none_received (Came now Restarted ∷ log) h = refl
 none_received (Went now (LineOut octets) ∷ log) h = none_received log h
 none_received (Went now (GapOut station session) ∷ log) h = none_received log h
 none_received (Went now (TcpOut octets) ∷ log) h = none_received log h
@@ -98,7 +98,6 @@ none_came p (Came now (WallIs number) ∷ log) c r closed =
     ∙ ap (λ (x : Course). came_frames x.talk) r.4.is ∙ none_came p log r.0 r.2 closed
 none_came p (Came now Restarted ∷ log) c r closed =
     ap (λ (x : Course). came_frames x.talk) r.5.1
-    ∙ ap (λ (x : Course). came_frames x.talk) r.4.is ∙ none_came p log r.0 r.2 closed
 none_came p (Went now (LineOut octets) ∷ log) c r closed =
     ap (λ (x : Course). came_frames x.talk) r.2.is
     ∙ none_came p log r.0 r.1 closed

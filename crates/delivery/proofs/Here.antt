@@ -25,10 +25,9 @@ use Rattle.gateway.specs.Serial.{listed, refusals, is_first_command}
 use Rattle.gateway.specs.Works.{Works, tasks_of, kept_own, is_command_report}
 use Rattle.gateway.specs.Works.{mirrored_works, LearnsReport, LearnsOf, received_works}
 use Rattle.gateway.specs.Works.{answered_works, unless_silent_works, settled_works}
-use Rattle.gateway.specs.Works.{unasked_works, done_works, put_first, asked_works, restarted_works}
+use Rattle.gateway.specs.Works.{unasked_works, done_works, put_first, asked_works}
 use Rattle.gateway.specs.Course.{Course, came_frames, with_frames, with_sent, closed_course, IsLeft}
 use Rattle.gateway.specs.Course.{room_in, Runs}
-use Rattle.gateway.proofs.Restarting.{kept_over}
 use Rattle.delivery.specs.Commands.{judged_here, asdus_in}
 
 abbrev here : Works → List (List ℕ)
@@ -100,9 +99,6 @@ put true k w = by_oldest (oldest_for k w.serial.commands)
 asked : (at : ℕ) (room : Bool) (x : Sending) (w : Works) → here (asked_works at room x w) ≡ here w
 asked at room x w = put (is_first_command w.serial.line x) x.station w
 
-restarted : (w : Works) → here (restarted_works w) ≡ here w
-restarted w = kept_over (λ v. here v ≡ here w) (λ station v e. e) w refl
-
 -- The course
 
 abbrev IsHere : Course → Type 0
@@ -166,8 +162,7 @@ judged_on_it p (Came now (WallIs number) ∷ log) c r = subst IsHere (sym r.5)
     (left p log r.0 r.1 r.4 (judged_on_it p log r.0 r.2))
 judged_on_it p (Came now Opened ∷ log) c r = subst IsHere (sym r.5) refl
 judged_on_it p (Came now CutOff ∷ log) c r = subst IsHere (sym r.5) refl
-judged_on_it p (Came now Restarted ∷ log) c r = subst IsHere (sym r.5.1)
-    (restarted r.1.works ∙ left p log r.0 r.1 r.4 (judged_on_it p log r.0 r.2))
+judged_on_it p (Came now Restarted ∷ log) c r = subst IsHere (sym r.5.1) refl
 judged_on_it p (Went now (LineOut octets) ∷ log) c r = subst IsHere (sym r.2.is)
     (asked (latest log) (room_in p log r.0) r.2.request (settled_works (latest log) r.0.works)
     ∙ settled (latest log) r.0.works ∙ judged_on_it p log r.0 r.1)

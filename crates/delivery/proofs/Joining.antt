@@ -455,7 +455,8 @@ module _ (laws : LinkLaws) (stay : AnswersStay) (p : Setup) where
       let left : (r.1.works.serial.silent ≡ None) × Joins p (exchanges_of p log) r.1.works =
       left_joins log r.0 r.1 (exchanges_of p log) r.4 (joins set log r.0 r.2 acts) in
       subst (λ (x : Course). Joins p (exchanges_of p (Came now Restarted ∷ log)) x.works)
-      (sym r.5.1) (restarted_joins (exchanges_of p log) r.1.works left.0 left.1)
+      (sym r.5.1) (cut_joins (exchanges_of p (Came now Restarted ∷ log))
+      (restarted_works r.1.works) (restarted_joins (exchanges_of p log) r.1.works left.0 left.1))
   joins set (Went now (LineOut octets) ∷ log) c r acts =
       sends_joins set log now octets r.0 c (moment_of log now octets acts) r.2
       (joins set log r.0 r.1 acts.1)

@@ -416,12 +416,12 @@ module _ (one : HaveOneFront) (stay : AnswersStay) (p : Setup) where
       refl refl
       (all_so log r.0 r.2)
   all_so (Came now Restarted ∷ log) c r =
-      quiet_so log (Came now Restarted ∷ log) r.0 r.1 c r.3 r.4
-      (ap (λ (x : Course). came_frames x.talk) r.5.1)
+      ended_so log (Came now Restarted ∷ log) r.1 c (ap (λ (x : Course). came_frames x.talk) r.5.1)
       (ap (λ (x : Course). x.earlier) r.5.1)
       (ap (λ (x : Course). judged_of x.works) r.5.1
-      ∙ given_judged (length r.1.works.serial.line.stations) r.1.works) refl refl refl refl
-      (all_so log r.0 r.2)
+      ∙ given_judged (length r.1.works.serial.line.stations) r.1.works)
+      (λ closed. ap (λ (x : Course). came_frames x.talk) r.4.is
+      ∙ none_came p log r.0 r.2 closed) refl refl (left_so log r.0 r.1 r.4 (all_so log r.0 r.2))
   all_so (Came now Opened ∷ log) c r =
       ended_so log (Came now Opened ∷ log) r.1 c (ap (λ (x : Course). came_frames x.talk) r.5)
       (ap (λ (x : Course). x.earlier) r.5) (ap (λ (x : Course). judged_of x.works) r.5)

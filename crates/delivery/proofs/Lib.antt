@@ -24,6 +24,7 @@ pub mod Accepted
 pub mod Fresh
 pub mod Plain
 pub mod Centre
+pub mod FirstSendings
 pub mod Settings
 pub mod Confirmed
 pub mod InTime

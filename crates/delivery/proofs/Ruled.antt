@@ -49,7 +49,7 @@ module _ (p : Setup) where
   ruled_come log at (WallIs number) l c k h = subst (IsRuled p) (sym k) h
   ruled_come log at Opened l c k h = subst (IsRuled p) (sym k) (refl, tt)
   ruled_come log at CutOff l c k h = subst (IsRuled p) (sym k) tt
-  ruled_come log at Restarted l c k h = subst (IsRuled p) (sym k.1) h
+  ruled_come log at Restarted l c k h = subst (IsRuled p) (sym k.1) tt
 
   pub ruled : (log : Log) (c : Course) → Runs p log c → IsRuled p c
   ruled [] c r = subst (IsRuled p) (sym r) tt

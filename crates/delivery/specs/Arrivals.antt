@@ -8,7 +8,7 @@ use Rattle.elements.specs.declared.tag.Verdict.TheVariants.{Good}
 use Rattle.apci.specs.declared.apdu.Apdu.{Apdu}
 use Rattle.apci.specs.declared.apdu.Apdu.TheVariants.{I}
 use Rattle.command.specs.Standard.{tag_of}
-use Rattle.gateway.specs.Log.{Log, Came, Went, Opened, TcpIn, CutOff, Closed, latest}
+use Rattle.gateway.specs.Log.{Log, Came, Went, Opened, TcpIn, CutOff, Restarted, Closed, latest}
 use Rattle.gateway.specs.Streams.{spelled}
 use Rattle.gateway.specs.Frames.{Connection}
 use Rattle.gateway.specs.Connections.{present, ends}
@@ -22,6 +22,7 @@ abbrev pub present_logs : Log → List Log
 present_logs [] = []
 present_logs (Came now Opened ∷ log) = []
 present_logs (Came now CutOff ∷ log) = []
+present_logs (Came now Restarted ∷ log) = []
 present_logs (Came now (TcpIn octets) ∷ log) =
     if (present log).is_open
     then present_logs log ++ map (λ octet. Came now (TcpIn octets) ∷ log) octets
@@ -39,6 +40,8 @@ past_logs [] = []
 past_logs (Came now Opened ∷ log) =
     over_logs (present log).is_open (present_logs log) (past_logs log)
 past_logs (Came now CutOff ∷ log) =
+    over_logs (present log).is_open (present_logs log) (past_logs log)
+past_logs (Came now Restarted ∷ log) =
     over_logs (present log).is_open (present_logs log) (past_logs log)
 past_logs (Went now (Closed cause) ∷ log) =
     if ends cause then over_logs (present log).is_open (present_logs log) (past_logs log)

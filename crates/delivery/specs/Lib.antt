@@ -2,6 +2,7 @@ pub mod Merges
 pub mod Arrivals
 pub mod Ages
 pub mod Commands
+pub mod FirstSendings
 pub mod Joined
 pub mod Delivery
 pub mod Sessions

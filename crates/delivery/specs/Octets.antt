@@ -2,14 +2,16 @@
 -- gateway's own profile). Nothing here is borrowed from the gateway's channels.
 use Rattle.std.specs.Prelude.{◌≡◌, Bool, true, false, List, [], ◌∷◌, ◌++◌, ℕ}
 use Rattle.session.specs.declared.kinds.Close.TheVariants.{OwnAnswers, Replaced}
-use Rattle.gateway.specs.Log.{Log, LogEntry, Input, Came, Went, Opened, CutOff, TcpIn, TcpOut}
-use Rattle.gateway.specs.Log.{Closed}
+use Rattle.gateway.specs.Log.{Log, LogEntry, Input, Came, Went, Opened, CutOff, Restarted, TcpIn}
+use Rattle.gateway.specs.Log.{TcpOut, Closed}
 
--- A connection begins where one is opened. It ends where TCP is cut, where the gateway closes it
--- with a cause from 1 to 6, and where the next one is opened (which is told with cause 7).
+-- A connection begins where one is opened. It ends where TCP is cut, where the gateway is started
+-- again, where it closes the connection with a cause from 1 to 6, and where the next one is opened
+-- (which is told with cause 7).
 abbrev pub Ends : LogEntry → Type 0
 Ends (Came now Opened) = Unit {0}
 Ends (Came now CutOff) = Unit {0}
+Ends (Came now Restarted) = Unit {0}
 Ends (Went now (Closed cause)) = cause ≡ Replaced → ⊥
 Ends entry = ⊥
 

@@ -36,8 +36,9 @@
 //! ([`only_a_failed_device_ends_a_promise`]). Stations are told apart
 //! ([`stations_are_told_apart`]), and what stands on their lines outlives other settings
 //! ([`what_stands_on_a_line_goes_on_with_its_station`]), which each part takes up
-//! ([`new_settings_are_taken_up`]). At a restart no command goes out again
-//! ([`no_command_is_sent_again_behind_a_restart`]).
+//! ([`new_settings_are_taken_up`]). A command goes out for the first time on its own connection
+//! alone ([`commands_go_out_on_their_own_connection`]), and behind a restart none that came before
+//! it goes out at all ([`no_command_outlives_a_restart`]).
 //!
 //! Commands wait for the line by their stations ([`commands_wait_for_each_station`]), requests for
 //! an answer and polls for room ([`requests_wait_for_an_answer_and_polls_for_room`]). The line
@@ -169,7 +170,7 @@ pub use received::{
 pub use refusing::{
     refused_commands_come_back_with_their_cause, unknown_common_addresses_are_answered,
 };
-pub use restarting::no_command_is_sent_again_behind_a_restart;
+pub use restarting::{commands_go_out_on_their_own_connection, no_command_outlives_a_restart};
 pub use room::{
     sixteen_commands_keep_their_tags, sixteen_own_answers_wait, sixty_four_commands_find_places,
 };

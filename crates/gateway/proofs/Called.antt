@@ -245,8 +245,9 @@ module _ (p : Setup) (P : Log → Run → Type 0) (one : (log : Log) (call : Cal
       (left_so log now (WallIs number) r.0 r.1 r.4 (all_so start log r.0 r.2))
   all_so start (Came now Restarted ∷ log) c r =
       let new : Log = Came now Restarted ∷ log in
-      subst (So new) (sym r.5.1) (restart p (latest new) (P new) (one new) r.1.works
-      (left_so log now Restarted r.0 r.1 r.4 (all_so start log r.0 r.2)))
+      subst (So new) (sym r.5.1) (cut p (latest new) (P new) (one new) (restarted_works r.1.works)
+      (restart p (latest new) (P new) (one new) r.1.works
+      (left_so log now Restarted r.0 r.1 r.4 (all_so start log r.0 r.2))))
   all_so start (Came now (LineIn octets) ∷ log) c r =
       let new : Log = Came now (LineIn octets) ∷ log in
       subst (So new) (sym r.5.2) (learn p (latest new) (P new) (one new) _ _ _ r.5.0 r.5.1

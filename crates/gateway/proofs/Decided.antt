@@ -3,28 +3,20 @@ use Rattle.std.proofs.Common.{◌≡◌, ℕ, suc, ◌+◌, ◌<◌, Bool, true,
 use Rattle.std.proofs.Common.{length, drop, refl, ap, sym, ◌∙◌, subst, arith, inl, inr, None}
 use Rattle.std.proofs.Common.{length-append, length-drop}
 use Rattle.std.specs.Prelude.{◌⊎◌}
-use Rattle.std.specs.List.{flat_map}
 use Rattle.std.proofs.lemmas.List.{drop-drop}
 use Rattle.apci.specs.declared.apdu.Apdu.{Apdu}
 use Rattle.link.specs.Exchanges.{Sending}
 use Rattle.session.specs.History as talk
-use Rattle.session.specs.History.{frame_due}
 use Rattle.gateway.specs.declared.gaps.Gap.{Gap}
-use Rattle.gateway.specs.Objects.{monitor_objects}
 use Rattle.gateway.specs.Log.{Log, LogEntry, Output, Restarted, Came, Went, LineOut, TcpOut, Closed}
 use Rattle.gateway.specs.Log.{GapOut, latest, events_of}
 use Rattle.gateway.specs.Connections.{present}
-use Rattle.gateway.specs.Reports.{Setup, address_at, exchanges_of, taken_objects}
-use Rattle.gateway.specs.Works.{restarted_works, done_works}
-use Rattle.gateway.specs.Course.{Course, came_frames, room_in, HasNothingDue, MayTake, IsLeft}
-use Rattle.gateway.specs.Course.{with_works, Runs}
+use Rattle.gateway.specs.Reports.{Setup}
+use Rattle.gateway.specs.Course.{Course, came_frames, HasNothingDue, MayTake, Runs}
 use Rattle.gateway.specs.Frames.{acknowledged_count}
-use Rattle.gateway.specs.Phases.{Asked, IsFresh}
+use Rattle.gateway.specs.Phases.{IsFresh}
 use Rattle.gateway.specs.Traffic.{replaces, GoesOut, IsAtRest, HasRested, IsFaithful}
-use Rattle.gateway.proofs.Working.{answers_in}
-use Rattle.gateway.proofs.Restarting.{restarted_answers}
-use Rattle.gateway.proofs.Restarted.{IsLogged}
-use Rattle.gateway.proofs.Following.{fresh_due}
+use Rattle.gateway.proofs.Following.{fresh_due, fresh_shut}
 use Rattle.gateway.proofs.OneCourse.{Laws, none_whole}
 use Rattle.gateway.proofs.OneCause.{came_transfers, came_acknowledged, counted, kinds, all_and_next}
 use Rattle.gateway.proofs.OneAction.{Stands, of_faithful, Needs, behind, fewer, no_both, not_both}
@@ -59,48 +51,6 @@ rest_course : Laws → (p : Setup) (log : Log) (b : Course) (rest : IsAtRest p l
 rest_course laws p log b rest r none = one_before laws p log rest.course b rest.course_runs r
     (λ f may. none_whole laws.unique p log (latest log) f rest.course rest.talk.all may) none
 
--- no report is taken at a restart
-module _ (logged : IsLogged) (p : Setup) (now : ℕ) (log : Log) where
-  same_objects : taken_objects p (Came now Restarted ∷ log) ≡ taken_objects p log
-  same_objects = ap (λ (rs : List (ℕ × List ℕ)).
-      flat_map (λ r. monitor_objects p.sizes r.1) rs)
-      (logged.reports p.link p.link.size p.addresses (address_at p.addresses) (exchanges_of p log))
-
-  -- what nothing was due before the restart leaves nothing due behind it
-  restart_quiet : (c l b : Course) → IsLeft p log c l
-      → b ≡ with_works (restarted_works l.works) l
-      → latest (Came now Restarted ∷ log) ≡ latest log → HasNothingDue p log c
-      → HasNothingDue p (Came now Restarted ∷ log) b
-  restart_quiet c l b left is same quiet =
-      subst (HasNothingDue p (Came now Restarted ∷ log)) (sym (is
-      ∙ ap (λ x. with_works (restarted_works x.works) x) left.is)) (record {
-        confirmed = quiet.confirmed;
-        flushed = λ started room.
-            let all = quiet.flushed started room in
-            record {
-              objects = all.objects ∙ ap length (sym same_objects);
-              answers = restarted_answers (done_works (latest log) (room_in p log c) c.works)
-                  ∙ answers_in Asked (latest log) (room_in p log c) c.works ∙ all.answers;
-            };
-        undue = subst (λ n. frame_due p.session.w p.session.t2 p.session.t3 n c.talk ≡ None)
-            (sym same) quiet.undue;
-      })
-
-quiet_at : Laws → IsLogged → (p : Setup) (log : Log) (b : Course) → HasRested p log → Runs p log b
-    → ((f : Apdu) → MayTake p log (latest log) f b → ⊥) → (present log).is_open ≡ true
-    → HasNothingDue p log b
-quiet_at laws logged p [] b rest r none on = absurd (never on)
-  where
-    never : false ≡ true → ⊥
-    never e = cc
-quiet_at laws logged p (Came now Restarted ∷ log) b rest r none on =
-    restart_quiet logged p now log r.0 r.1 b r.4 r.5.1 r.5.0
-    (quiet_at laws logged p log r.0 rest r.2
-    (λ f may. none_whole laws.unique p log (latest log) f r.0 r.3 may) on)
-quiet_at laws logged p (entry ∷ log) b rest r none on =
-    subst (HasNothingDue p (entry ∷ log)) (rest_course laws p (entry ∷ log) b rest r none)
-    (rest_quiet p (entry ∷ log) rest on)
-
 -- an action that isn't for TCP needs that the step goes on
 needs_due : (p : Setup) (log : Log) (a : Output) (b : Course) → Needs p log a b
     → (b.works.is_due ≡ true) ⊎ ((octets : List ℕ) × (a ≡ TcpOut octets))
@@ -129,28 +79,22 @@ at_rest_none laws p log now (Closed x) rest g n = by_kind (replaces (Closed x)) 
         ]
 
 -- where nothing has come, or not since a restart
-fresh_none : Laws → IsLogged → (p : Setup) (log : Log) (now : ℕ) (a : Output) (b : Course)
-    → IsFresh log
-    → HasRested p log → Runs p log b → GoesOut p log now a → Needs p log a b → ⊥
-fresh_none laws logged p log now (LineOut x) b fresh rest r g n =
-    not_both _ n.1.due (fresh_due p log b fresh r)
-fresh_none laws logged p log now (TcpOut x) b fresh rest r g n =
-    none_goes laws p log b n.1.frame n.1.rules n.1.next
-    (quiet_at laws logged p log b rest r (settled laws p log (TcpOut x) b r n) g.may.0)
-fresh_none laws logged p log now (GapOut i s) b fresh rest r g n =
-    not_both _ n.1.due (fresh_due p log b fresh r)
-fresh_none laws logged p log now (Closed x) b fresh rest r g n =
-    not_both _ n.1 (fresh_due p log b fresh r)
+fresh_none : (p : Setup) (log : Log) (now : ℕ) (a : Output) (b : Course) → IsFresh log
+    → Runs p log b → GoesOut p log now a → Needs p log a b → ⊥
+fresh_none p log now (LineOut x) b fresh r g n = not_both _ n.1.due (fresh_due p log b fresh r)
+fresh_none p log now (TcpOut x) b fresh r g n = fresh_shut log fresh g.may.0
+fresh_none p log now (GapOut i s) b fresh r g n = not_both _ n.1.due (fresh_due p log b fresh r)
+fresh_none p log now (Closed x) b fresh r g n = not_both _ n.1 (fresh_due p log b fresh r)
 
-none_more : Laws → IsLogged → (p : Setup) (log : Log) (now : ℕ) (a : Output) → HasRested p log
+none_more : Laws → (p : Setup) (log : Log) (now : ℕ) (a : Output) → HasRested p log
     → Stands p (Went now a ∷ log) → ⊥
-none_more laws logged p [] now a rest s =
+none_more laws p [] now a rest s =
     let b = behind p [] now a s.course s.runs in
-    fresh_none laws logged p [] now a b.0 tt rest b.1 s.acts.0 b.2
-none_more laws logged p (Came at Restarted ∷ log) now a rest s =
+    fresh_none p [] now a b.0 tt b.1 s.acts.0 b.2
+none_more laws p (Came at Restarted ∷ log) now a rest s =
     let b = behind p (Came at Restarted ∷ log) now a s.course s.runs in
-    fresh_none laws logged p (Came at Restarted ∷ log) now a b.0 tt rest b.1 s.acts.0 b.2
-none_more laws logged p (entry ∷ log) now a rest s =
+    fresh_none p (Came at Restarted ∷ log) now a b.0 tt b.1 s.acts.0 b.2
+none_more laws p (entry ∷ log) now a rest s =
     let b = behind p (entry ∷ log) now a s.course s.runs in
     let same : rest.course ≡ b.0 = rest_course laws p (entry ∷ log) b.0 rest b.1
     (settled laws p (entry ∷ log) a b.0 b.1 b.2) in
@@ -215,51 +159,51 @@ last_same (x ∷ xs) (y ∷ ys) u v e =
     (ap (λ z. z ∷ xs) first ∙ ap (λ zs. y ∷ zs) same.0, same.1)
 
 -- where both have done all that they could, they are the same
-both_rested : Laws → IsLogged → (p : Setup) (log other : Log) → HasRested p log → HasRested p other
+both_rested : Laws → (p : Setup) (log other : Log) → HasRested p log → HasRested p other
     → Stands p log → Stands p other → GoesOnFrom log other ⊎ GoesOnFrom other log → log ≡ other
-both_rested laws logged p log other rest later s t (inl g) = by_actions g.0 g.1
+both_rested laws p log other rest later s t (inl g) = by_actions g.0 g.1
   where
     by_actions : (xs : List (ℕ × Output)) → other ≡ put xs log → log ≡ other
     by_actions [] e = sym e
-    by_actions (x ∷ xs) e = absurd (none_more laws logged p log x.0 x.1 rest
+    by_actions (x ∷ xs) e = absurd (none_more laws p log x.0 x.1 rest
         (before_put p xs (Went x.0 x.1 ∷ log) (subst (Stands p) e t)))
-both_rested laws logged p log other rest later s t (inr g) = by_actions g.0 g.1
+both_rested laws p log other rest later s t (inr g) = by_actions g.0 g.1
   where
     by_actions : (xs : List (ℕ × Output)) → log ≡ put xs other → log ≡ other
     by_actions [] e = e
-    by_actions (x ∷ xs) e = absurd (none_more laws logged p other x.0 x.1 later
+    by_actions (x ∷ xs) e = absurd (none_more laws p other x.0 x.1 later
         (before_put p xs (Went x.0 x.1 ∷ other) (subst (Stands p) e s)))
 
-compared : Laws → IsLogged → (p : Setup) (log other : Log) → Stands p log → Stands p other
+compared : Laws → (p : Setup) (log other : Log) → Stands p log → Stands p other
     → events_of log ≡ events_of other → GoesOnFrom log other ⊎ GoesOnFrom other log
-compared laws logged p [] [] s t e = inl ([], refl)
-compared laws logged p [] (Came now event ∷ other) s t e = absurd (omega (
+compared laws p [] [] s t e = inl ([], refl)
+compared laws p [] (Came now event ∷ other) s t e = absurd (omega (
   arith,
   ap length e,
   length-append (events_of other) (Came now event ∷ []),
 ))
-compared laws logged p [] (Went now a ∷ other) s t e =
+compared laws p [] (Went now a ∷ other) s t e =
     one_more laws p [] other now a s t
-    (compared laws logged p [] other s (fewer p (Went now a) other t) e)
-compared laws logged p (Came now event ∷ log) [] s t e = absurd (omega (
+    (compared laws p [] other s (fewer p (Went now a) other t) e)
+compared laws p (Came now event ∷ log) [] s t e = absurd (omega (
   arith,
   ap length e,
   length-append (events_of log) (Came now event ∷ []),
 ))
-compared laws logged p (Came now event ∷ log) (Came at other_event ∷ other) s t e =
+compared laws p (Came now event ∷ log) (Came at other_event ∷ other) s t e =
     let same = last_same (events_of log) (events_of other) (Came now event) (Came at other_event)
     e in
-    let before : log ≡ other = both_rested laws logged p log other s.rests.0 t.rests.0
+    let before : log ≡ other = both_rested laws p log other s.rests.0 t.rests.0
     (fewer p (Came now event) log s) (fewer p (Came at other_event) other t)
-    (compared laws logged p log other (fewer p (Came now event) log s)
+    (compared laws p log other (fewer p (Came now event) log s)
     (fewer p (Came at other_event) other t) same.0) in
     inl ([], ap (λ l. Came at other_event ∷ l) (sym before) ∙ ap (λ x. x ∷ log) (sym same.1))
-compared laws logged p (Came now event ∷ log) (Went at a ∷ other) s t e =
+compared laws p (Came now event ∷ log) (Went at a ∷ other) s t e =
     one_more laws p (Came now event ∷ log) other at a s t
-    (compared laws logged p (Came now event ∷ log) other s (fewer p (Went at a) other t) e)
-compared laws logged p (Went now a ∷ log) other s t e =
+    (compared laws p (Came now event ∷ log) other s (fewer p (Went at a) other t) e)
+compared laws p (Went now a ∷ log) other s t e =
     swapped _ _ (one_more laws p other log now a t s
-    (swapped _ _ (compared laws logged p log other (fewer p (Went now a) log s) t e)))
+    (swapped _ _ (compared laws p log other (fewer p (Went now a) log s) t e)))
 
 -- one is a beginning of the other
 drop_put : (xs : List (ℕ × Output)) (log : Log) → drop (length xs) (put xs log) ≡ log
@@ -270,18 +214,18 @@ drop_put (x ∷ xs) log =
     ∙ sym (drop-drop 1 (length xs) (put xs (Went x.0 x.1 ∷ log)))
     ∙ ap (drop 1) (drop_put xs (Went x.0 x.1 ∷ log))
 
-pub so_far : Laws → IsLogged → (p : Setup) (log other : Log) → IsFaithful p log → IsFaithful p other
+pub so_far : Laws → (p : Setup) (log other : Log) → IsFaithful p log → IsFaithful p other
     → events_of log ≡ events_of other
     → ((n : ℕ) × (log ≡ drop n other)) ⊎ ((n : ℕ) × (other ≡ drop n log))
-so_far laws logged p log other f k e = elim (compared laws logged p log other (of_faithful p log f)
+so_far laws p log other f k e = elim (compared laws p log other (of_faithful p log f)
     (of_faithful p other k) e) [
       | inl g ↦ inl (length g.0, sym (drop_put g.0 log) ∙ ap (drop (length g.0)) (sym g.1))
       | inr g ↦ inr (length g.0, sym (drop_put g.0 other) ∙ ap (drop (length g.0)) (sym g.1))
     ]
 
-pub rested : Laws → IsLogged → (p : Setup) (log other : Log) → IsFaithful p log → HasRested p log
+pub rested : Laws → (p : Setup) (log other : Log) → IsFaithful p log → HasRested p log
     → IsFaithful p other → HasRested p other → events_of log ≡ events_of other → log ≡ other
-rested laws logged p log other f rest k other_rest e =
-    both_rested laws logged p log other rest other_rest (of_faithful p log f)
+rested laws p log other f rest k other_rest e =
+    both_rested laws p log other rest other_rest (of_faithful p log f)
     (of_faithful p other k)
-    (compared laws logged p log other (of_faithful p log f) (of_faithful p other k) e)
+    (compared laws p log other (of_faithful p log f) (of_faithful p other k) e)

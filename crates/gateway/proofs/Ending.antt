@@ -228,8 +228,9 @@ all_told p (Came now CutOff ∷ log) c r =
     (over (ends_on log) r.1.works (answers_among r.1.sent)
     (left (ends_on log) p log r.0 r.1 r.4 (all_told p log r.0 r.2)))
 all_told p (Came now Restarted ∷ log) c r =
-    subst (λ (d : Course). AreTold (ends_on log) d) (sym r.5.1)
-    (restarted r.1.works ∙ left (ends_on log) p log r.0 r.1 r.4 (all_told p log r.0 r.2))
+    subst (λ (d : Course). AreTold (ends_on log + 1) d) (sym r.5.1)
+    (over (ends_on log) (restarted_works r.1.works) (answers_among r.1.sent)
+    (restarted r.1.works ∙ left (ends_on log) p log r.0 r.1 r.4 (all_told p log r.0 r.2)))
 all_told p (Went now (LineOut octets) ∷ log) c r =
     subst (λ (d : Course). AreTold (ends_on log) d) (sym r.2.is)
     (asked (latest log) (room_in p log r.0) r.2.request (settled_works (latest log) r.0.works)

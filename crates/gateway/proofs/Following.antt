@@ -7,6 +7,7 @@ use Rattle.std.specs.Bool.{OnTrue}
 use Rattle.session.specs.Ends.{IsConfirmed}
 use Rattle.gateway.specs.Log.{Log, LogEntry, events_of, Input, Restarted, latest}
 use Rattle.gateway.specs.Log.{Came, with_news}
+use Rattle.gateway.specs.Connections.{present}
 use Rattle.gateway.specs.Reports.{Setup}
 use Rattle.gateway.specs.Course.{Course, room_in, Runs}
 use Rattle.gateway.specs.Phases.{Fresh, Asked, IsFresh, resting}
@@ -28,6 +29,12 @@ fresh_due p (Came now Restarted ∷ log) c fresh r = ap (λ (d : Course). d.work
     ∙ restarted_due r.1.works ∙ ap (λ (d : Course). d.works.is_due) r.4.is
     ∙ done_due (latest log) (room_in p log r.0) r.0.works
 fresh_due p (entry ∷ log) c fresh r = absurd fresh
+
+-- and no connection is open
+pub fresh_shut : (log : Log) → IsFresh log → (present log).is_open ≡ true → ⊥
+fresh_shut [] fresh on = let no : false ≡ true = on in cc
+fresh_shut (Came now Restarted ∷ log) fresh on = let no : false ≡ true = on in cc
+fresh_shut (entry ∷ log) fresh on = fresh
 
 -- so what is done behind a step is done there, too
 started : (p : Setup) (s : State) (log : Log) → IsFresh log → Agrees p s log [] Asked

@@ -240,10 +240,10 @@ module _ (p : Setup) where
   so_far (Came now CutOff ∷ log) d r =
       let g = left log r.0 r.1 r.4 (so_far log r.0 r.2) in
       subst (λ (e : Course). AreGiven e.works.history) (sym r.5) ((g.1, g.0), refl)
-  so_far (Came now Restarted ∷ log) d r = subst (λ (e : Course). AreGiven e.works.history)
-      (sym r.5.1)
-      (kept_over (λ (w : Works). AreGiven w.history) (λ station w g. ((g.1, g.0), refl)) r.1.works
-      (left log r.0 r.1 r.4 (so_far log r.0 r.2)))
+  so_far (Came now Restarted ∷ log) d r =
+      let g = kept_over (λ (w : Works). AreGiven w.history) (λ station w g. ((g.1, g.0), refl))
+      r.1.works (left log r.0 r.1 r.4 (so_far log r.0 r.2)) in
+      subst (λ (e : Course). AreGiven e.works.history) (sym r.5.1) ((g.1, g.0), refl)
   so_far (Went now (LineOut octets) ∷ log) d r =
       subst (λ (e : Course). AreGiven e.works.history) (sym r.2.is)
       (asked (latest log) (room_in p log r.0) r.2.request (settled_works (latest log) r.0.works)

@@ -61,8 +61,8 @@ data_waits p (Came now (WallIs number) ∷ log) d r = subst (λ (e : Course). Da
     (left p log r.0 r.1 r.4 (data_waits p log r.0 r.2))
 data_waits p (Came now Opened ∷ log) d r = subst (λ (e : Course). DataWaits e.talk) (sym r.5) tt
 data_waits p (Came now CutOff ∷ log) d r = subst (λ (e : Course). DataWaits e.talk) (sym r.5) tt
-data_waits p (Came now Restarted ∷ log) d r = subst (λ (e : Course). DataWaits e.talk) (sym r.5.1)
-    (left p log r.0 r.1 r.4 (data_waits p log r.0 r.2))
+data_waits p (Came now Restarted ∷ log) d r =
+    subst (λ (e : Course). DataWaits e.talk) (sym r.5.1) tt
 data_waits p (Went now (LineOut octets) ∷ log) d r =
     subst (λ (e : Course). DataWaits e.talk) (sym r.2.is) (data_waits p log r.0 r.1)
 data_waits p (Went now (GapOut station session) ∷ log) d r =

@@ -140,8 +140,7 @@ all_handed p (Came now Opened ∷ log) c r =
 all_handed p (Came now CutOff ∷ log) c r =
     subst (λ (d : Course). IsHanded [] d) (sym r.5) (nothing _ refl refl)
 all_handed p (Came now Restarted ∷ log) c r =
-    subst (λ (d : Course). IsHanded (present log).sent d) (sym r.5.1)
-    (again (present log).sent r.1 _ (left p log r.0 r.1 r.4 (all_handed p log r.0 r.2)))
+    subst (λ (d : Course). IsHanded [] d) (sym r.5.1) (nothing _ refl refl)
 all_handed p (Went now (LineOut octets) ∷ log) c r =
     subst (λ (d : Course). IsHanded (present log).sent d) (sym r.2.is)
     (again (present log).sent r.0 _ (all_handed p log r.0 r.1))

@@ -112,7 +112,7 @@ counted_come p log at Ticked l c k h = subst IsCounted (sym k) h
 counted_come p log at (WallIs number) l c k h = subst IsCounted (sym k) h
 counted_come p log at Opened l c k h = subst IsCounted (sym k) refl
 counted_come p log at CutOff l c k h = subst IsCounted (sym k) refl
-counted_come p log at Restarted l c k h = subst IsCounted (sym k.1) h
+counted_come p log at Restarted l c k h = subst IsCounted (sym k.1) refl
 
 pub counted : (p : Setup) (log : Log) (c : Course) → Runs p log c → IsCounted c
 counted p [] c r = subst IsCounted (sym r) refl

@@ -1,5 +1,6 @@
--- A restart keeps the agreement of state and log: it gives up each command without an answer.
-use Rattle.std.proofs.Common.{◌≡◌, ℕ, false, List, [], ◌∷◌, ◌++◌, None, max}
+-- A restart keeps the agreement of state and log: it gives up each command without an answer, and
+-- ends the connection.
+use Rattle.std.proofs.Common.{◌≡◌, ℕ, false, true, List, [], ◌++◌, ◌∷◌, None, max}
 use Rattle.std.proofs.Common.{min}
 use Rattle.std.proofs.Common.{refl, ap, sym, subst, ◌∙◌, le_refl}
 use Rattle.std.specs.List.{flat_map}
@@ -13,25 +14,27 @@ use Rattle.link.specs.Primary.{Primary}
 use Rattle.link.specs.Matching.{Matches}
 use Rattle.link.specs.Carried as line
 use Rattle.link.specs.Carried.{commands_given_up}
+use Rattle.session.specs.Session as session
+use Rattle.events.specs.Queue as queue
 use Rattle.gateway.specs.Log.{Log, Restarted, Came, latest, last_moment}
 use Rattle.gateway.specs.Frames.{AreInOrder}
 use Rattle.gateway.specs.Gaps.{gaps_reported, gap_for}
 use Rattle.gateway.specs.Objects.{monitor_objects, pieces_of_report}
+use Rattle.gateway.specs.Connections.{no_channel, present}
 use Rattle.gateway.specs.Reports.{Setup, address_at, exchanges_of, reports_in, parts_of_all}
-use Rattle.gateway.specs.Serial.{Serial}
-use Rattle.gateway.specs.Carried.{without_commands}
-use Rattle.gateway.specs.State.{State, with_serial}
+use Rattle.gateway.specs.Serial.{Serial, cut}
+use Rattle.gateway.specs.Carried.{without_commands, restarted}
+use Rattle.gateway.specs.State.{State}
 use Rattle.gateway.specs.Works.{restarted_works}
-use Rattle.gateway.specs.Course.{Course, with_works, room_in, Runs}
+use Rattle.gateway.specs.Course.{Course, ended_course, room_in, Runs}
 use Rattle.gateway.specs.Phases.{Fresh, resting}
 use Rattle.gateway.specs.Traffic.{HasRested}
-use Rattle.gateway.specs.Agrees.{Agrees, Talks, ArePlain, Carries, IsClear}
-use Rattle.gateway.proofs.Restarting.{restarted_serial, restarted_due, restarted_placed}
-use Rattle.gateway.proofs.Restarting.{restarted_gap, restarted_answers, done_due}
-use Rattle.gateway.proofs.Talking.{kept_talk, talk_on, all_taken}
+use Rattle.gateway.specs.Agrees.{Agrees, Talks, Carries, IsClear}
+use Rattle.gateway.proofs.Restarting.{restarted_serial, restarted_due, restarted_gap, done_due}
+use Rattle.gateway.proofs.Talking.{kept_talk, talk_cut, all_taken}
+use Rattle.gateway.proofs.Closing.{Ended, ended, fresh, stands_now}
 use Rattle.gateway.proofs.Moments.{latest_is_greatest}
 use Rattle.gateway.proofs.Learning.{left_of, at_rest_works, is_left, none_left}
-use Rattle.gateway.proofs.Come.{placed_before}
 use Rattle.gateway.proofs.Carrying.{IsForOne, line_is, gap}
 
 -- what giving up commands leaves of the line's exchanges, as `giving_up_is_logged` says it
@@ -59,15 +62,13 @@ module _ (logged : IsLogged) (law : IsForOne) (p : Setup) (s : State) (log : Log
   abbrev left : Course
   left = left_of p log a.course
 
-  -- the course goes on with these works
-  abbrev restarted : Course
-  restarted = with_works (restarted_works left.works) left
+  -- the course without a connection
+  abbrev over : Course
+  over = ended_course (present log).is_open (restarted_works left.works) left
 
-  abbrev after : State
-  after = with_serial (without_commands s.serial) s
-
-  does : after.serial ≡ restarted.works.serial
-  does = ap without_commands (at_rest_works p s log a) ∙ sym (restarted_serial left.works)
+  does : (restarted s).serial ≡ over.works.serial
+  does = ap (λ (t : Serial). cut (without_commands t)) (at_rest_works p s log a)
+      ∙ sym (ap cut (restarted_serial left.works))
 
   -- it is the moment of the step before
   same_moment : latest new ≡ latest log
@@ -75,7 +76,7 @@ module _ (logged : IsLogged) (law : IsForOne) (p : Setup) (s : State) (log : Log
       ∙ ap (max (latest log)) (min-eq_left (latest_is_greatest p log a.before.acts).counts)
       ∙ max-eq_left (le_refl (latest log))
 
-  runs : Runs p new restarted
+  runs : Runs p new over
   runs = (
     a.course,
     left,
@@ -85,27 +86,27 @@ module _ (logged : IsLogged) (law : IsForOne) (p : Setup) (s : State) (log : Log
     (same_moment, refl),
   )
 
-  talk : Talks p s.centre.session new restarted
-  talk = talk_on p s.centre.session s.centre.session log new a.course restarted a.talk refl refl
-      runs
+  talk : Talks p (session.closed s.centre.session) new over
+  talk = talk_cut p s.centre.session s.centre.session log new a.course over a.talk refl refl runs
 
   reported : reports_in p new ≡ reports_in p log
   reported = logged.reports p.link p.link.size p.addresses (address_at p.addresses)
       (exchanges_of p log)
 
-  none_due : restarted.works.is_due ≡ false
+  none_due : over.works.is_due ≡ false
   none_due = restarted_due left.works
       ∙ done_due (latest log) (room_in p log a.course) a.course.works
 
-  no_gap : restarted.works.serial.gap ≡ None
+  no_gap : over.works.serial.gap ≡ None
   no_gap = restarted_gap left.works
       ∙ sym (ap (λ (t : Serial). t.gap) (at_rest_works p s log a)) ∙ none_left p s log a
 
-  answers : after.serial.commands.answers ≡ s.serial.commands.answers
-  answers = ap (λ (t : Serial). t.commands.answers) does ∙ restarted_answers left.works
-      ∙ sym (ap (λ (t : Serial). t.commands.answers) (at_rest_works p s log a))
+  -- what the connection leaves
+  end : Ended p s log a.course (present log)
+  end = ended p s log [] (resting log) a (present log) None refl
+      (stands_now p s log (resting log) a)
 
-  pub after_restart : Agrees p after new [] Fresh
+  pub after_restart : Agrees p (restarted s) new [] Fresh
   after_restart = record {
     k = a.k;
     sizes = a.sizes;
@@ -116,37 +117,39 @@ module _ (logged : IsLogged) (law : IsForOne) (p : Setup) (s : State) (log : Log
     found = a.found;
     line = subst (λ q. Matches p.link p.addresses q (exchanges_of p new)) (sym (line_is s.serial))
         (logged.matches p.link p.addresses s.serial.line (exchanges_of p log) a.line);
-    course = restarted;
+    course = over;
     talk = talk;
     stands = record {
       does = does;
       asks = (none_due, no_gap);
       phase_is = tt;
-      placed = λ on. restarted_placed left.works ∙ placed_before p s log a on;
+      placed = λ on. refl;
       answered = tt;
     };
     gaps = λ i. ap (λ g. gaps_reported i log ++ gap_for i g) (gap s.serial) ∙ a.gaps i
         ∙ sym (logged.gaps p.link p.link.size p.addresses (exchanges_of p log) i);
-    plain = subst ArePlain (sym answers) a.plain;
-    here = a.here;
+    plain = tt;
+    here = fresh (restarted s).centre no_channel a.here.tied.small refl (λ h. refl) refl refl refl
+        refl refl refl refl refl refl;
     left = refl;
     carries = subst (λ (rs : List (ℕ × List ℕ)).
         Carries (flat_map (λ r. monitor_objects p.sizes r.1) rs) (parts_of_all p.sizes rs)
-        (flat_map (λ r. pieces_of_report p.sizes r.1) rs) a.course.earlier a.course.sent
-        s.centre.queue.unsent) (sym reported) a.carries;
+        (flat_map (λ r. pieces_of_report p.sizes r.1) rs) over.earlier []
+        (queue.rewound s.centre.queue).unsent) (sym reported) end.carries;
     before = record {
-      are = a.before.are;
+      are = end.are;
       orders = subst (λ (rs : List (ℕ × List ℕ)).
-          AreInOrder (flat_map (λ r. monitor_objects p.sizes r.1) rs) a.course.earlier)
-          (sym reported) a.before.orders;
+          AreInOrder (flat_map (λ r. monitor_objects p.sizes r.1) rs) over.earlier)
+          (sym reported) end.orders;
       times = (kept_talk p _ _ _ talk, a.before.times);
       acts = a.before.acts;
       rests = (rest, a.before.rests);
     };
   }
 
-  pub clear_after : IsClear s → IsClear after
-  clear_after c = record {
-    confirmed = c.confirmed;
-    spent = λ may. let all = c.spent may in (all.0, answers ∙ all.1);
-  }
+-- no confirmation is due, and nothing may be sent
+pub clear_after : (s : State) → IsClear (restarted s)
+clear_after s = record {
+  confirmed = refl;
+  spent = λ may. let no : false ≡ true = may in cc;
+}

@@ -4,7 +4,7 @@ use Rattle.std.specs.Prelude.{if◌then◌else◌}
 use Rattle.link.specs.Carried.{awaits_command}
 use Rattle.gateway.specs.Carried.{link_given_up, command_given_up, commands_given_up_upto}
 use Rattle.gateway.specs.Carried.{without_commands}
-use Rattle.gateway.specs.Works.{Works, has_lacked_place, link_given_up_works}
+use Rattle.gateway.specs.Works.{Works, link_given_up_works}
 use Rattle.gateway.specs.Works.{commands_given_up_works_upto, restarted_works, unasked_works}
 use Rattle.gateway.specs.Works.{settled_works, done_works}
 
@@ -45,27 +45,11 @@ restarted_serial w = upto (length w.serial.line.stations)
 pub restarted_due : (w : Works) → (restarted_works w).is_due ≡ w.is_due
 restarted_due w = kept_over (λ v. v.is_due ≡ w.is_due) (λ station v h. h) w refl
 
-pub restarted_placed : (w : Works) → has_lacked_place (restarted_works w).history
-    ≡ has_lacked_place w.history
-restarted_placed w =
-    kept_over (λ v. has_lacked_place v.history ≡ has_lacked_place w.history) (λ station v h. h) w
-    refl
-
 pub restarted_silent : (w : Works) → (restarted_works w).serial.silent ≡ w.serial.silent
 restarted_silent w = kept_over (λ v. v.serial.silent ≡ w.serial.silent) (λ station v h. h) w refl
 
 pub restarted_gap : (w : Works) → (restarted_works w).serial.gap ≡ w.serial.gap
 restarted_gap w = kept_over (λ v. v.serial.gap ≡ w.serial.gap) (λ station v h. h) w refl
-
-pub restarted_waiting : (w : Works) → (restarted_works w).serial.commands.waiting
-    ≡ w.serial.commands.waiting
-restarted_waiting w =
-    kept_over (λ v. v.serial.commands.waiting ≡ w.serial.commands.waiting) (λ station v h. h) w refl
-
-pub restarted_answers : (w : Works) → (restarted_works w).serial.commands.answers
-    ≡ w.serial.commands.answers
-restarted_answers w =
-    kept_over (λ v. v.serial.commands.answers ≡ w.serial.commands.answers) (λ station v h. h) w refl
 
 -- the step before leaves nothing due
 pub done_due : (at : ℕ) (room : Bool) (w : Works) → (done_works at room w).is_due ≡ false

@@ -91,8 +91,8 @@ said_in_steps p (Came now CutOff ∷ log) c r =
     let new : Log = Came now CutOff ∷ log in
     subst (λ (d : Course). IsSaidInSteps new d.talk) (sym r.5) (nothing new)
 said_in_steps p (Came now Restarted ∷ log) c r =
-    subst (λ (d : Course). IsSaidInSteps (Came now Restarted ∷ log) d.talk) (sym r.5.1)
-    (left (Came now Restarted) p log r.0 r.1 r.4 (said_in_steps p log r.0 r.2))
+    let new : Log = Came now Restarted ∷ log in
+    subst (λ (d : Course). IsSaidInSteps new d.talk) (sym r.5.1) (nothing new)
 said_in_steps p (Went now (LineOut octets) ∷ log) c r =
     subst (λ (d : Course). IsSaidInSteps (Went now (LineOut octets) ∷ log) d.talk) (sym r.2.is)
     (same (Went now (LineOut octets)) log r.0.talk (said_in_steps p log r.0 r.1))

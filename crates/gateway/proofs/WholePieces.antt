@@ -282,8 +282,10 @@ module _ (laws : Laws) (p : Setup) where
       (over (taken_pieces p new) (present log).is_open r.1.works r.1
       (left (Came now CutOff) log r.0 r.1 r.4 (whole_pieces log r.0 r.2)))
   whole_pieces (Came now Restarted ∷ log) d r =
-      subst (λ (e : Course). AreBorne (taken_pieces p (Came now Restarted ∷ log)) e) (sym r.5.1)
-      (left (Came now Restarted) log r.0 r.1 r.4 (whole_pieces log r.0 r.2))
+      let new : Log = Came now Restarted ∷ log in
+      subst (λ (e : Course). AreBorne (taken_pieces p new) e) (sym r.5.1)
+      (over (taken_pieces p new) (present log).is_open r.1.works r.1
+      (left (Came now Restarted) log r.0 r.1 r.4 (whole_pieces log r.0 r.2)))
   whole_pieces (Went now (LineOut octets) ∷ log) d r =
       subst (λ (e : Course). AreBorne (taken_pieces p (Went now (LineOut octets) ∷ log)) e)
       (sym r.2.is)

@@ -15,7 +15,7 @@ use Rattle.gateway.specs.Setups.{link_of, session_of, info_of}
 use Rattle.gateway.specs.Starts.{have_same_sizes, link_start}
 use Rattle.gateway.specs.Serial.{Serial, given_up}
 use Rattle.gateway.specs.Centre.{Centre, first_centre}
-use Rattle.gateway.specs.State.{State}
+use Rattle.gateway.specs.State.{State, with_serial, disconnected}
 
 -- ---- Commands without an answer
 
@@ -35,6 +35,10 @@ commands_given_up_upto (suc k) s = command_given_up k (commands_given_up_upto k 
 -- for all stations
 abbrev pub without_commands : Serial → Serial
 without_commands s = commands_given_up_upto (length s.line.stations) s
+
+-- Each command without an answer is given up, and the connection is over.
+abbrev pub restarted : State → State
+restarted s = disconnected (with_serial (without_commands s.serial) s)
 
 -- ---- Other settings
 

@@ -7,7 +7,7 @@ use Rattle.apci.specs.Spelling.{spelling, Fits}
 use Rattle.apci.specs.Reading.{IsMore}
 use Rattle.session.specs.declared.kinds.Close.{Close}
 use Rattle.session.specs.declared.kinds.Close.TheVariants.{Grammar, OwnAnswers, Replaced}
-use Rattle.gateway.specs.Log.{Log, Opened, TcpIn, CutOff, TcpOut, Closed, Came, Went}
+use Rattle.gateway.specs.Log.{Log, Opened, TcpIn, CutOff, Restarted, TcpOut, Closed, Came, Went}
 use Rattle.gateway.specs.Streams.{spelled, AllFit, AreFrames, IsRefused}
 use Rattle.gateway.specs.Frames.{Connection, data_frames, fault_of}
 
@@ -55,6 +55,7 @@ abbrev pub present : Log → Channel
 present [] = no_channel
 present (Came now Opened ∷ log) = new_channel
 present (Came now CutOff ∷ log) = no_channel
+present (Came now Restarted ∷ log) = no_channel
 present (Came now (TcpIn octets) ∷ log) = receiving (present log) octets
 present (Went now (TcpOut octets) ∷ log) = sending (present log) octets
 present (Went now (Closed cause) ∷ log) = if ends cause then no_channel else present log
@@ -86,6 +87,7 @@ abbrev pub past : Log → List Channel
 past [] = []
 past (Came now Opened ∷ log) = over (present log) (past log)
 past (Came now CutOff ∷ log) = over (present log) (past log)
+past (Came now Restarted ∷ log) = over (present log) (past log)
 past (Went now (Closed cause) ∷ log) =
     if ends cause then over (closed_by cause (present log)) (past log) else past log
 past (entry ∷ log) = past log

@@ -310,8 +310,8 @@ pub record IsLeft (p : Setup) (log : Log) (before after : Course) : Type 0 where
 abbrev pub with_works : Works → Course → Course
 with_works w c = record { talk = c.talk; sent = c.sent; earlier = c.earlier; works = w }
 
--- What an event brings. A restart stands between two steps, at the moment of the one before:
--- nothing is due behind it.
+-- What an event brings. A restart stands between two steps, at the moment of the one before. It ends
+-- the connection as a cut does, and nothing is due behind it.
 abbrev pub Comes : Setup → Log → (at : ℕ) → Input → (before after : Course) → Type 0
 Comes p log at (LineIn octets) c d =
     (z : Works)
@@ -325,7 +325,8 @@ Comes p log at (WallIs number) c d = d ≡ with_works (begun_works at c.works) c
 Comes p log at Opened c d = d
     ≡ opened_course at (ended_course (present log).is_open (begun_works at c.works) c)
 Comes p log at CutOff c d = d ≡ ended_course (present log).is_open (begun_works at c.works) c
-Comes p log at Restarted c d = (at ≡ latest log) × (d ≡ with_works (restarted_works c.works) c)
+Comes p log at Restarted c d = (at ≡ latest log)
+    × (d ≡ ended_course (present log).is_open (restarted_works c.works) c)
 
 -- The gap of the session that the event's octets have ended is reported, once all that came is
 -- taken and answered, and each own answer found a place, and before the step's timers and its

@@ -12,8 +12,8 @@ pub data Input : Type 0 where
   Ticked : Input
   -- the wall clock shows so many milliseconds since 1970-01-01 UTC
   WallIs : (number : ℕ) → Input
-  -- The gateway was started again: it goes on from what it had on disk, and gives up each command
-  -- that no station answered. No port gives it.
+  -- The gateway was started again, and goes on from what it had on disk. The connection is over, as
+  -- behind a cut, and each command without an answer is given up. No port gives it.
   Restarted : Input
 
 -- what goes out

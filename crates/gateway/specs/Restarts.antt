@@ -1,13 +1,13 @@
 -- What a restart is in the course of a log (this gateway's own profile).
-use Rattle.std.specs.Prelude.{◌≡◌, ℕ, ◌<◌, true, false, length}
+use Rattle.std.specs.Prelude.{◌≡◌, ℕ, ◌<◌, Bool, true, false, if◌then◌else◌, [], ◌∷◌, length}
 use Rattle.link.specs.Carried.{awaits_command, station_given_up}
 use Rattle.link.specs.Turns.{station_at}
-use Rattle.gateway.specs.Course.{Course}
+use Rattle.gateway.specs.Course.{Course, here_of}
 
 -- Each station whose latest service is a command without an answer is given up: its link is down,
--- and awaits none. No other station changes. What was said on the connection stays, and so do own
--- answers and the commands that wait; and nothing is due.
-pub record GivesUpCommands (before after : Course) : Type 0 where
+-- and awaits none. No other station changes. The connection that was open, if any, is over: no
+-- command waits, nothing is selected, and no own answer is left to be sent. Nothing is due.
+pub record GivesUpCommands (is_open : Bool) (before after : Course) : Type 0 where
   pub done : (k : ℕ) → k < length before.works.serial.line.stations →
       awaits_command after.works.serial.line k ≡ false
   pub down : (k : ℕ) → k < length before.works.serial.line.stations →
@@ -17,9 +17,10 @@ pub record GivesUpCommands (before after : Course) : Type 0 where
   pub others : (k : ℕ) → awaits_command before.works.serial.line k ≡ false →
       station_at after.works.serial.line.stations k
       ≡ station_at before.works.serial.line.stations k
-  pub talk : after.talk ≡ before.talk
-  pub sent : after.sent ≡ before.sent
-  pub earlier : after.earlier ≡ before.earlier
-  pub answers : after.works.serial.commands.answers ≡ before.works.serial.commands.answers
-  pub waiting : after.works.serial.commands.waiting ≡ before.works.serial.commands.waiting
+  pub talk : after.talk ≡ []
+  pub sent : after.sent ≡ []
+  pub earlier : after.earlier ≡ (if is_open then here_of before ∷ before.earlier else before.earlier)
+  pub waiting : after.works.serial.commands.waiting ≡ []
+  pub selections : after.works.serial.commands.selections ≡ []
+  pub answers : after.works.serial.commands.answers ≡ []
   pub undue : after.works.is_due ≡ false

@@ -165,7 +165,7 @@ sent_works frame w = w
 abbrev pub cut_works : Works → Works
 cut_works w = called Cut w
 
--- A restart
+-- A restart, which then ends the connection
 
 -- the link to a station is given up, and the command that stood on its line is lost
 abbrev pub link_given_up_works : (station : ℕ) → Works → Works

@@ -11,7 +11,7 @@ use Rattle.gateway.specs.Carried.{link_given_up, without_commands}
 use Rattle.gateway.specs.Config.{Settings}
 use Rattle.gateway.specs.Log.{Came, Log, Restarted, events_of}
 use Rattle.gateway.specs.Restored.{IsSaid, IsSavable, state_lines}
-use Rattle.gateway.specs.Serial.{Serial}
+use Rattle.gateway.specs.Serial.{Serial, cut}
 use Rattle.gateway.specs.Setups.{setup_of}
 use Rattle.gateway.specs.State.{State}
 use Rattle.gateway.proofs.Carrying.{IsForOne}
@@ -243,7 +243,7 @@ module _ {D : Type 0} {g : Ghosts D} where
       let goes = over.begun.goes_on past over.first in
       let it = gone_from c log o (is_trusted o.beginning) (g.seen newest) goes in
       let before : Serial = it.went.left.serial in
-      let serial : it.left.serial ≡ without_commands before =
+      let serial : it.left.serial ≡ cut (without_commands before) =
       ap (λ (s : State). s.serial) it.went.given in
       let same : length it.left.serial.line.stations ≡ length before.line.stations =
       ap (λ (s : Serial). length s.line.stations) serial

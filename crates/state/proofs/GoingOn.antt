@@ -3,6 +3,7 @@ use Rattle.std.proofs.Common.{◌≡◌, ◌∷◌, ℕ, Bool, true, false, List
 use Rattle.std.proofs.Common.{subst, Result, Ok, ap, ◌∙◌}
 use Rattle.std.specs.Prelude.{not, ◌&&◌}
 use Rattle.gateway.specs.Agrees.{Follows, Rests}
+use Rattle.gateway.specs.Carried.{restarted}
 use Rattle.gateway.specs.Config.{Settings}
 use Rattle.gateway.specs.Log.{Came, Log, Restarted}
 use Rattle.gateway.specs.Reports.{Setup}
@@ -12,7 +13,7 @@ use Rattle.gateway.specs.State.{State}
 use Rattle.segments.specs.Starts.{before_zero}
 use Rattle.settings.specs.Settings.{IsReadOfText, known_settings, values_of}
 use Rattle.state.specs.Beginnings.{GoesOnBy, GoesOnFrom, IsHeadOf, IsMoved, IsRead}
-use Rattle.state.specs.Beginnings.{MovedOn, SayState, WentOn, given_up}
+use Rattle.state.specs.Beginnings.{MovedOn, SayState, WentOn}
 use Rattle.state.specs.Replays.{ReportedGap}
 use Rattle.state.specs.Sights.{AreChanged}
 
@@ -22,12 +23,12 @@ say_state s lines rest said = record { first = s; rest = rest; said = said }
 
 pub went_on : (c : Settings) (log : Log) (lines : List (List ℕ)) (events : List ℕ)
     (gap other : Option ReportedGap) (arrived whole : Log) (left s : State)
-    → SayState lines → IsRead c log lines events gap arrived left → other ≡ gap → s ≡ given_up left
+    → SayState lines → IsRead c log lines events gap arrived left → other ≡ gap → s ≡ restarted left
     → whole ≡ Came left.moment Restarted ∷ arrived
     → ((p : Setup) → Follows p left (Some arrived) → Rests p (Some arrived)
     → Follows p s (Some whole))
     → WentOn c log lines events other whole s
-went_on c log lines events gap other arrived whole left s said read same given restarted follows =
+went_on c log lines events gap other arrived whole left s said read same given behind follows =
     record {
       said = said;
       left = left;
@@ -35,11 +36,11 @@ went_on c log lines events gap other arrived whole left s said read same given r
       read = subst (λ (g : Option ReportedGap). IsRead c log lines events g arrived left) (sym same)
           read;
       given = given;
-      restarted = restarted;
+      restarted = behind;
       follows = λ first rest are savable before rests.
           let replayed = read first rest are savable before rests in (
             follows (setup_of c) replayed.follows replayed.rests,
-            subst (λ (l : Log). Rests (setup_of c) (Some l)) (sym restarted) replayed.rests,
+            subst (λ (l : Log). Rests (setup_of c) (Some l)) (sym behind) replayed.rests,
           );
     }
 

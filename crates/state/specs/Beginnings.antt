@@ -3,12 +3,12 @@ use Rattle.std.specs.Prelude.{◌≡◌, ℕ, ◌+◌, Bool, true, false, not, �
 use Rattle.std.specs.Prelude.{length, Option, Some, None, Ok, if◌then◌else◌, option_and_then}
 use Rattle.std.specs.Prelude.{option_map, slice_get}
 use Rattle.gateway.specs.Agrees.{Follows, Rests}
-use Rattle.gateway.specs.Carried.{carried, place_of, without_commands}
+use Rattle.gateway.specs.Carried.{carried, place_of, restarted}
 use Rattle.gateway.specs.Config.{Settings}
 use Rattle.gateway.specs.Log.{Came, Log, Restarted}
 use Rattle.gateway.specs.Restored.{IsSaid, IsSavable, state_lines}
 use Rattle.gateway.specs.Setups.{setup_of}
-use Rattle.gateway.specs.State.{State, with_serial}
+use Rattle.gateway.specs.State.{State}
 use Rattle.gateway.specs.declared.settings.StationSettings.{StationSettings}
 use Rattle.segments.specs.Crashes.{lines_behind}
 use Rattle.segments.specs.Head.{Fits}
@@ -37,10 +37,6 @@ is_trusted beginnings.GoesOn = true
 -- where the clock goes on, if there was one
 abbrev pub moment_at : Beginning → ℕ → Option ℕ
 moment_at beginning moment = if has_past beginning then Some moment else None
-
--- a gateway that has given up each command without an answer
-abbrev pub given_up : State → State
-given_up s = with_serial (without_commands s.serial) s
 
 -- The gateway is in the state that some lines say, and follows this log if that state does.
 abbrev pub HasRead : Settings → Log → (lines : List (List ℕ)) → State → Type 0
@@ -95,15 +91,16 @@ pub record SayState (lines : List (List ℕ)) : Type 0 where
   pub rest : List (List ℕ)
   pub said : IsSaid first lines rest
 
--- It has received the events behind the state that these lines say, and has then given up each
--- command without an answer. The whole log has this restart at its end, and the gateway follows it.
+-- It has received the events behind the state that these lines say. It has then ended the connection
+-- and given up each command without an answer. The whole log has this restart at its end, and the
+-- gateway follows it.
 pub record WentOn (c : Settings) (log : Log) (lines : List (List ℕ)) (events : List ℕ)
     (gap : Option ReportedGap) (whole : Log) (s : State) : Type 0 where
   pub said : SayState lines
   pub left : State
   pub arrived : Log
   pub read : IsRead c log lines events gap arrived left
-  pub given : s ≡ given_up left
+  pub given : s ≡ restarted left
   pub restarted : whole ≡ Came left.moment Restarted ∷ arrived
   pub follows : GoesOnWith c log lines whole s
 

@@ -6,7 +6,7 @@ ghost use Rattle.std.specs.Option.{is_some};
 ghost use Rattle.segments.specs.Found.{AreClean, begins_at, events_in, newest_in, newest_of};
 ghost use Rattle.segments.specs.Found.{next_of, other_in, other_of};
 ghost use Rattle.gateway.specs.Agrees.{Follows, Rests};
-ghost use Rattle.gateway.specs.Carried.{carried, place_of};
+ghost use Rattle.gateway.specs.Carried.{carried, place_of, restarted};
 ghost use Rattle.gateway.specs.Config.{Settings};
 ghost use Rattle.gateway.specs.Log.{Came, Restarted};
 ghost use Rattle.gateway.specs.Reports.{Setup};
@@ -15,7 +15,7 @@ ghost use Rattle.segments.specs.Head.{Fits};
 ghost use Rattle.segments.specs.Starts.{HasNoNewer, IsAbove, IsBacked, IsNewest, IsNext};
 ghost use Rattle.settings.specs.Settings.{IsReadOfText};
 ghost use Rattle.state.specs.Beginnings.{AreLinesRead, BearsNumber, GoesOnFrom, HasRead, gap_now};
-ghost use Rattle.state.specs.Beginnings.{IsHeadOf, IsRead, MovedOn, SayState, WentOn, given_up};
+ghost use Rattle.state.specs.Beginnings.{IsHeadOf, IsRead, MovedOn, SayState, WentOn};
 ghost use Rattle.state.specs.Beginnings.{has_past, is_trusted};
 ghost use Rattle.state.specs.Origins.{IsBegun, IsNew, IsNumbered};
 ghost use Rattle.state.specs.Replays.{whole_lines};
@@ -238,9 +238,10 @@ pub(crate) fn read_opening<D: Disk + Drop>(
     })
 }
 
-/// It has given up each command without an answer, which is the restart in its log.
-fn without_commands(resumed: Resumed) -> Resumed
-    ensures gateway { result.gateway ≡ given_up resumed.gateway }
+/// It has ended the connection and given up each command without an answer, which is the restart in
+/// its log.
+fn restarted(resumed: Resumed) -> Resumed
+    ensures gateway { result.gateway ≡ restarted resumed.gateway }
     ensures before { result.before.entries
         ≡ Came resumed.gateway.moment Restarted ∷ resumed.before.entries }
     ensures follows { (p : Setup) → Follows p resumed.gateway (Some resumed.before.entries) →
@@ -257,7 +258,7 @@ fn without_commands(resumed: Resumed) -> Resumed
     } = resumed;
     let moment = gateway.moment();
     let before = before.restarted(&moment);
-    gateway.give_up_commands();
+    gateway.restart();
     Resumed {
         gateway,
         gap,
@@ -288,7 +289,7 @@ fn go_on<K: Lineage, D: Disk + Drop>(
     ensures next { next_of start.new ≡ next_of start.old }
 {
     let resumed = replayed::<K, D>(alloc, config, lines, start)?;
-    Ok(without_commands(resumed))
+    Ok(restarted(resumed))
 }
 
 /// The place of the station with this link address.

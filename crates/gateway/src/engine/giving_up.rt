@@ -1,10 +1,12 @@
-//! Commands without an answer are given up at a restart.
-ghost use Rattle.std.specs.Prelude.{◌≡◌, ◌<◌, ◌∷◌, ℕ, true, false, length, Some};
+//! A restart ends the connection, and gives up each command without an answer.
+ghost use Rattle.std.specs.Prelude.{◌≡◌, ◌<◌, [], ◌∷◌, ℕ, true, false, length, Some};
 ghost use Rattle.link.specs.Turns.{station_at};
 ghost use Rattle.link.specs.Leave.{is_polling};
 ghost use Rattle.link.specs.Carried.{awaits_command, station_given_up};
+ghost use Rattle.session.specs.Session.{is_open};
 ghost use Rattle.gateway.specs.Carried.{link_given_up, command_given_up, without_commands};
-ghost use Rattle.gateway.specs.State.{with_serial, IsBetweenSteps};
+ghost use Rattle.gateway.specs.Carried.{restarted};
+ghost use Rattle.gateway.specs.State.{with_serial, disconnected, IsBetweenSteps};
 ghost use Rattle.gateway.specs.Log.{Log, Restarted, Came};
 ghost use Rattle.gateway.specs.Reports.{Setup};
 ghost use Rattle.gateway.specs.Agrees.{Follows, Rests};
@@ -48,14 +50,29 @@ impl SerialSide {
 }
 
 impl Gateway {
-    /// Gives up, at a restart, each command without an answer, whether it is on the line or held:
-    /// so none is sent again after it. Its station's link is down, and is reset before its next
+    /// Gives up each command without an answer, whether it is on the line or held.
+    fn give_up_commands(&mut self)
+        ensures { self.new ≡ with_serial (without_commands self.old.serial) self.old }
+    {
+        self.serial.give_up_commands();
+    }
+
+    /// Ends the connection, as a cut does, and gives up each command without an answer, whether it
+    /// is on the line or held: so behind a restart no command that came before it goes out, neither
+    /// again nor for the first time. Commands that wait, selections and own answers are gone.
+    ///
+    /// The link of a station whose command is given up is down, and is reset before its next
     /// service; where an exchange with it was outstanding that is over, and the turn with it. The
-    /// command is counted as lost, as where a station goes down. No other station changes; the
-    /// queue and the session stay. A gateway that followed its log between two steps then follows
-    /// the log with this restart, so each promise on a log holds of all its lives together.
-    pub fn give_up_commands(&mut self)
-        ensures state { self.new ≡ with_serial (without_commands self.old.serial) self.old }
+    /// command is counted as lost, as where a station goes down. No other station changes, and the
+    /// queue keeps each piece that no connection has acknowledged. A gateway that followed its log
+    /// between two steps then follows the log with this restart, so each promise on a log holds of
+    /// all its lives together.
+    pub fn restart(&mut self)
+        ensures state { self.new ≡ restarted self.old }
+        ensures shut { is_open self.new.centre.session ≡ false }
+        ensures waiting { self.new.serial.commands.waiting ≡ [] }
+        ensures selections { self.new.serial.commands.selections ≡ [] }
+        ensures answers { self.new.serial.commands.answers ≡ [] }
         ensures done { (k : ℕ) → k < length self.old.serial.line.stations →
             awaits_command self.new.serial.line k ≡ false }
         ensures down { (k : ℕ) → k < length self.old.serial.line.stations →
@@ -66,7 +83,7 @@ impl Gateway {
             station_at self.new.serial.line.stations k
             ≡ station_at self.old.serial.line.stations k }
         ensures unchanged { ((k : ℕ) → k < length self.old.serial.line.stations →
-            awaits_command self.old.serial.line k ≡ false) → self.new ≡ self.old }
+            awaits_command self.old.serial.line k ≡ false) → self.new ≡ disconnected self.old }
         ensures between { IsBetweenSteps self.old → IsBetweenSteps self.new }
         ensures follows { (p : Setup) (log : Log) →
             Follows p self.old (Some log) → Rests p (Some log) →
@@ -74,6 +91,7 @@ impl Gateway {
     {
         giving_up_is_for_one_station();
         giving_up_is_logged();
-        self.serial.give_up_commands();
+        self.give_up_commands();
+        self.disconnect();
     }
 }

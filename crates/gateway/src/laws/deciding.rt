@@ -6,7 +6,7 @@ ghost use Rattle.gateway.specs.Traffic.{IsFaithful, HasRested};
 
 use apci::{one_front, spellings_cancel};
 use asdu::{objects_are_those_of_the_asdu, one_asdu_one_spelling};
-use link::{giving_up_is_logged, line_keeps_the_procedures};
+use link::line_keeps_the_procedures;
 
 /// Two gateways with the same settings do the same where the same comes: the same requests, frames,
 /// closes and gaps, octet by octet, in the same order and at the same moments. So the promises
@@ -25,5 +25,4 @@ pub fn what_comes_decides_what_goes_out()
     one_asdu_one_spelling();
     objects_are_those_of_the_asdu();
     line_keeps_the_procedures();
-    giving_up_is_logged();
 }

@@ -6,5 +6,5 @@ returns-clause-went g c clean =
     went_on _ _ _ _ c.in_ok-resumed.resumed.gap _ c.in_ok-resumed.resumed.before.entries _
     c.in_ok-resumed.resumed.gateway _ c.in_ok-resumed.ensures.said
     (c.in_ok-resumed.ensures.read clean)
-    c.without_commands.ensures.gap c.without_commands.ensures.gateway
-    c.without_commands.ensures.before c.without_commands.ensures.follows
+    c.restarted.ensures.gap c.restarted.ensures.gateway c.restarted.ensures.before
+    c.restarted.ensures.follows

@@ -1,5 +1,4 @@
 use Rattle.gateway.proofs.OneCourse.{Laws}
-use Rattle.gateway.proofs.Restarted.{IsLogged}
 use Rattle.gateway.proofs.Decided as decided
 use Rattle.gateway.proofs.laws.deciding.what_comes_decides_what_goes_out.Goals as goal
 
@@ -14,9 +13,4 @@ returns c =
       };
       line = c.line_keeps_the_procedures.ensures;
     } in
-    let logged : IsLogged = record {
-      matches = c.giving_up_is_logged.ensures.all;
-      reports = c.giving_up_is_logged.ensures.reports;
-      gaps = c.giving_up_is_logged.ensures.gaps;
-    } in
-    record { so_far = decided.so_far laws logged; rested = decided.rested laws logged }
+    record { so_far = decided.so_far laws; rested = decided.rested laws }

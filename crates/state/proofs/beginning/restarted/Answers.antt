@@ -1,12 +1,12 @@
 use Rattle.std.proofs.Common.{◌∙◌, ◌∷◌, ℕ, Some, ap, subst, sym}
 use Rattle.gateway.specs.Agrees.{Follows}
 use Rattle.gateway.specs.Log.{Came, Log, Restarted}
-use Rattle.state.proofs.beginning.without_commands.Goals as goal
+use Rattle.state.proofs.beginning.restarted.Goals as goal
 
 pub returns-clause-follows : goal.returns-clause-follows
 returns-clause-follows c p follows rests =
-    subst (λ (log : Log). Follows p c.give_up_commands.new.self (Some log))
+    subst (λ (log : Log). Follows p c.restart.new.self (Some log))
     (sym (c.restarted-before.ensures
     ∙ ap (λ (moment : ℕ). Came moment Restarted ∷ c.args.resumed.before.entries)
     c.moment-moment.ensures))
-    (c.give_up_commands.ensures.follows p c.args.resumed.before.entries follows rests)
+    (c.restart.ensures.follows p c.args.resumed.before.entries follows rests)
