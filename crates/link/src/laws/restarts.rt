@@ -1,9 +1,12 @@
 //! What a restart makes of a station that may have been restarted, too.
 ghost use Rattle.std.specs.Prelude.{◌≡◌, ◌<◌, ℕ, false, List, length, All, slice_index};
+ghost use Rattle.link.specs.Carried.{awaits_command, doubted, station_doubted};
+ghost use Rattle.link.specs.Leave.{is_polling};
+ghost use Rattle.link.specs.Turns.{station_at};
 ghost use Rattle.ft12.specs.Fronts.{front_of};
 ghost use Rattle.link.specs.Doubts.{HaveNoRestart, StatusesFollowRestarts};
 ghost use Rattle.link.specs.Exchanges.{all_of, no_exchanges, views, with_station};
-ghost use Rattle.link.specs.Primary.{start};
+ghost use Rattle.link.specs.Primary.{Primary, start};
 ghost use Rattle.link.specs.Procedure.{LinkSettings, Down, AskNoneThatIsUp};
 ghost use Rattle.link.specs.Requests.{FitsAddress};
 ghost use Rattle.link.specs.Runs.{Call, MayCallAll, exchanged_all};
@@ -25,3 +28,16 @@ pub fn statuses_follow_restarts()
 {
     front_is_computed();
 }
+
+/// A restart changes of a station only that it isn't known whether it was restarted, too: it keeps
+/// its link, and awaits what it awaited; and no poll is begun.
+pub fn restarts_change_no_link()
+    ensures number { (p : Primary) → length (doubted p).stations ≡ length p.stations }
+    ensures station { (p : Primary) (k : ℕ) → k < length p.stations →
+        station_at (doubted p).stations k ≡ station_doubted (station_at p.stations k) }
+    ensures link { (p : Primary) (k : ℕ) →
+        (station_at (doubted p).stations k).link ≡ (station_at p.stations k).link }
+    ensures awaited { (p : Primary) (k : ℕ) →
+        awaits_command (doubted p) k ≡ awaits_command p k }
+    ensures polls { (p : Primary) → is_polling (doubted p) ≡ is_polling p }
+{}

@@ -73,7 +73,11 @@ impl Link {
             Link::Next(fcb) => Link::Next(*fcb),
             Link::Held(fcb, service, silence) => {
                 let missed = u16::from(retries).min(silence.missed);
-                Link::Held(*fcb, service.carried(), Silence::short(missed, Probed::Never))
+                Link::Held(
+                    *fcb,
+                    service.carried(),
+                    Silence::short(missed, Probed::Never),
+                )
             }
         }
     }

@@ -27,9 +27,9 @@ invariant_of-self c =
         outstanding = outstanding_from c.self.inside.outstanding c.self.inside.assembler.so_far;
         spoilt = c.self.inside.spoilt;
       })) (sym (front_of_list c.self.inside.stations.len c.doubt_all.new.stations
-      (drop (length c.doubt_all.new.stations) ss) count ∙ new)) (record {
-        turn = subst (λ (n : ℕ). c.self.inside.turn < n) (sym (doubted_count ss)) f.turn;
-        stations = doubted_fits size ss f.stations;
-        outstanding = f.outstanding;
-      });
+          (drop (length c.doubt_all.new.stations) ss) count ∙ new)) (record {
+            turn = subst (λ (n : ℕ). c.self.inside.turn < n) (sym (doubted_count ss)) f.turn;
+            stations = doubted_fits size ss f.stations;
+            outstanding = f.outstanding;
+          });
     }
