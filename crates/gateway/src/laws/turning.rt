@@ -15,6 +15,7 @@ use command::{commands_are_forwarded, waiting_commands_stay};
 use link::{
     a_turn_is_one_visit, answers_have_their_time, commands_go_before_polls,
     giving_up_is_for_one_station, giving_up_is_logged, line_keeps_the_procedures,
+    restarts_change_no_link,
     no_station_starves, polls_go_on, repeats_come_at_once, turns_end,
     turns_go_on_behind_held_services,
 };
@@ -46,6 +47,7 @@ pub fn logs_keep_turns()
     line_keeps_the_procedures();
     giving_up_is_logged();
     giving_up_is_for_one_station();
+    restarts_change_no_link();
     commands_are_forwarded();
     waiting_commands_stay();
 }
