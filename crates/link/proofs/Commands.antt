@@ -7,7 +7,7 @@ use Rattle.link.specs.Answers.{Service, Class1, Class2, Command, Asked, Counted,
 use Rattle.link.specs.Answers.{Confirmed, Busy, Report, NoData, Unable}
 use Rattle.link.specs.Exchanges.{Exchange, answer_to}
 use Rattle.link.specs.Procedure.{is_up, IsSteady, LinkSettings, Link, Down, Available, Held}
-use Rattle.link.specs.Procedure.{after_outcome, after_silence, after, missed_so_far, MaySend}
+use Rattle.link.specs.Procedure.{after_outcome, after_silence, after, missed_so_far}
 use Rattle.link.specs.Procedure.{KeepsFrameCountBit}
 use Rattle.link.specs.Outstation.{Turn, all_done}
 use Rattle.link.specs.Delivery.{learnt, pending_by, pending_after, MayOwe, is_reset, Session}

@@ -1,9 +1,9 @@
 -- Whether a station was restarted is no matter of the exchanges of its line.
-use Rattle.std.proofs.Common.{◌≡◌, ℕ, ◌<◌, List, [], ◌∷◌, Option, Some, None, sym, subst, ◌∙◌, map, refl}
+use Rattle.std.proofs.Common.{ℕ, ◌<◌, List, Option, Some, None, sym, subst, ◌∙◌, map, refl}
 use Rattle.ft12.specs.declared.frame.Front.{Front}
 use Rattle.link.specs.Exchanges.{Exchanges}
 use Rattle.link.specs.Procedure.{LinkSettings, Link, MaySend}
-use Rattle.link.specs.Turns.{StationState, station_at}
+use Rattle.link.specs.Turns.{StationState}
 use Rattle.link.specs.Primary.{Primary, Outstanding}
 use Rattle.link.specs.Matching.{IsAllowed, flags_of}
 use Rattle.link.specs.Carried.{station_doubted, doubted}

@@ -1,6 +1,6 @@
 -- A restart, behind which it isn't known of a station whether it was restarted, too.
 use Rattle.std.proofs.Common.{◌≡◌, ℕ, zero, suc, List, [], ◌∷◌, length, map, refl, ap}
-use Rattle.std.proofs.Common.{◌++◌, ◌≤◌, ◌∙◌, take, drop, sym, arith}
+use Rattle.std.proofs.Common.{◌++◌, ◌∙◌, take, arith}
 use Rattle.std.proofs.lemmas.List.{take-append-le, take_all}
 use Rattle.link.specs.Procedure.{Link}
 use Rattle.link.specs.Turns.{StationState, station_at}

@@ -9,12 +9,11 @@ use Rattle.link.specs.Turns.{StationState, Phase, Starting, Commanding, Polling,
 use Rattle.link.specs.Turns.{Over, Wanted, Chosen, station_at, is_poll, wants, wanted_poll}
 use Rattle.link.specs.Turns.{polls_from, wanted_command, commands_from, next_of, wanted_by}
 use Rattle.link.specs.Turns.{held_request}
-use Rattle.link.specs.Primary.{Outstanding, Primary, choice, station_asked, after_choice}
+use Rattle.link.specs.Primary.{Outstanding, Primary, choice, after_choice}
 use Rattle.link.specs.Primary.{asked_from, asked, sending_by, sending_from}
 use Rattle.link.specs.Bursts.{is_answered}
 use Rattle.link.specs.AtOnce.{latest_by}
 use Rattle.link.proofs.Preceding.{IsChosen, here, there, is_chosen}
-use Rattle.link.proofs.Links.{set_view}
 use Rattle.link.proofs.Bursting.{not_both}
 use Rattle.link.specs.Turns.{CommandsWaiting}
 use Rattle.link.specs.Procedure.{Silence}

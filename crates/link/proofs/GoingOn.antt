@@ -8,7 +8,7 @@ use Rattle.std.proofs.lemmas.Option.{slice_get-map, get_or_from_slice_get}
 use Rattle.std.proofs.lemmas.Bool.{cases_eq}
 use Rattle.link.specs.Answers.{Asked, Status, Reset, Counted}
 use Rattle.link.specs.Procedure.{LinkSettings, Link, Down, Available, Next, Held, MaySend}
-use Rattle.link.specs.Procedure.{after_silence, is_held, is_service, missed_so_far}
+use Rattle.link.specs.Procedure.{after_silence, is_held, is_service}
 use Rattle.link.specs.Turns.{StationState, no_station, station_at}
 use Rattle.link.specs.Primary.{Primary, Outstanding, station_down}
 use Rattle.link.specs.Matching.{IsAllowed}

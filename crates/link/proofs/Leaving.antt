@@ -1,24 +1,24 @@
 -- Polls wait for leave: no call begins one, but `next` with leave.
 use Rattle.std.specs.Prelude.{◌==◌, ◌||◌}
 use Rattle.std.proofs.Common.{◌≡◌, ℕ, suc, ◌<◌, ◌≤◌, ◌⊎◌, ◌&&◌, ◌%◌, nat_lt, Bool, true}
-use Rattle.std.proofs.Common.{false, not, List, ◌++◌, subst, length, slice_set}
-use Rattle.std.proofs.Common.{Option, Some, None, refl, sym, ap, subst, ◌∙◌, inl, inr}
+use Rattle.std.proofs.Common.{false, not, List, ◌++◌, length, slice_set}
+use Rattle.std.proofs.Common.{Option, Some, None, refl, sym, ap, ◌∙◌, inl, inr}
 use Rattle.std.proofs.Common.{if◌then◌else◌}
 use Rattle.std.proofs.lemmas.Bool.{cases_lt}
 use Rattle.std.proofs.lemmas.List.{get_or-set_same, get_or_past, set_past}
 use Rattle.ft12.specs.declared.frame.Front.{Front}
-use Rattle.link.specs.Answers.{Service, Frame, Single, Fixed, Data, Class1, Class2, Command, Asked}
+use Rattle.link.specs.Answers.{Frame, Single, Fixed, Data, Class1, Class2, Command, Asked}
 use Rattle.link.specs.Answers.{Status, Reset, Counted, Answer, Ready, Confirmed, Busy, Report}
 use Rattle.link.specs.Answers.{NoData, Unable, unable_answer, code_answer, single_answer}
 use Rattle.link.specs.Answers.{data_answer, comes_from, answer_of}
 use Rattle.link.specs.Exchanges.{Sending, whole_of}
 use Rattle.link.specs.Procedure.{LinkSettings, Link, Down, Available, Next, Held, missed_so_far}
-use Rattle.link.specs.Procedure.{after_answer, after_silence, has_repeats}
+use Rattle.link.specs.Procedure.{after_silence, has_repeats}
 use Rattle.link.specs.Turns.{StationState, Phase, Starting, Commanding, Polling, Class1Polling}
 use Rattle.link.specs.Turns.{Over, no_station, station_at, is_poll, wants, polls_from}
 use Rattle.link.specs.Turns.{wanted_command, commands_from, next_of, wanted_by, Wanted, Chosen}
 use Rattle.link.specs.Primary.{Outstanding, Primary, choice, after_choice, asked_from, asked}
-use Rattle.link.specs.Primary.{sending_by, sending_from, sending, station_answered, answered}
+use Rattle.link.specs.Primary.{sending_by, sending_from, sending}
 use Rattle.link.specs.Primary.{answer_at, said_by, open_octets, took, with_octets, received_after}
 use Rattle.link.specs.Primary.{received_from, received, outcome_by, outcome_of, outcome_at}
 use Rattle.link.specs.Primary.{outcome_after, outcome_from, received_outcome, station_unanswered}

@@ -3,25 +3,24 @@ use Rattle.std.specs.Prelude.{◌==◌, is_none}
 use Rattle.std.proofs.Common.{◌≡◌, ℕ, ◌&&◌, ◌||◌, not, Bool, true, false, List, [], ◌∷◌, ◌++◌, Option}
 use Rattle.std.proofs.Common.{Some, None, refl, sym, ap, subst, ◌∙◌, ◌⊎◌, inl, inr, slice_set}
 use Rattle.std.proofs.Common.{zero, suc, if◌then◌else◌}
-use Rattle.std.proofs.lemmas.Bool.{eqb-true, eqb-false, eq-eqb}
+use Rattle.std.proofs.lemmas.Bool.{eqb-true}
 use Rattle.ft12.specs.declared.frame.Front.{Front}
-use Rattle.ft12.specs.declared.frame.Front.TheVariants.{Whole, More}
 use Rattle.ft12.specs.Fronts.{front_of}
-use Rattle.link.specs.Answers.{Service, Frame, Asked, Status, Counted, Answer, answer_of}
+use Rattle.link.specs.Answers.{Service, Frame, Asked, Status, Counted, Answer}
 use Rattle.link.specs.Exchanges.{Sending, whole_of}
 use Rattle.link.specs.Procedure.{LinkSettings, Link, Down, Available, Next, Held, MaySend, is_up}
 use Rattle.link.specs.Procedure.{is_spent, is_service}
 use Rattle.link.specs.Turns.{StationState, Phase, Starting, Commanding, Polling, Class1Polling, Over}
 use Rattle.link.specs.Turns.{Wanted, wants, is_poll, wanted_by, Chosen, CommandsWaiting, station_at}
 use Rattle.link.specs.Primary.{Primary, Outstanding, start, choice, sending_by, sending_from, sending}
-use Rattle.link.specs.Primary.{station_down, station_asked, station_answered, station_unanswered}
+use Rattle.link.specs.Primary.{station_asked, station_answered, station_unanswered}
 use Rattle.link.specs.Primary.{after_choice, asked_from, answered, answer_at, said_by, took}
 use Rattle.link.specs.Primary.{open_octets, with_octets, received, received_after, received_from}
 use Rattle.link.specs.Primary.{unanswered, is_late, due_from}
-use Rattle.link.specs.Carried.{station_given_up, station_doubted, given_up, doubted}
+use Rattle.link.specs.Carried.{station_given_up}
 use Rattle.link.specs.Runs.{Call, Octets, Due, GivesUp, Doubts, called}
 use Rattle.link.specs.Runs as runs
-use Rattle.link.specs.Doubts.{HaveNoRestart, are_served, unsure_after, ProbesIfUnsure}
+use Rattle.link.specs.Doubts.{are_served, unsure_after, ProbesIfUnsure}
 use Rattle.link.specs.Doubts.{StatusesFollowRestarts}
 use Rattle.link.proofs.Links.{set_at}
 use Rattle.link.proofs.Leaving.{set_none}

@@ -1,8 +1,8 @@
 -- What goes out at once: repeats.
 use Rattle.std.specs.Prelude.{◌==◌}
-use Rattle.std.proofs.Common.{◌≡◌, ℕ, suc, ◌<◌, ◌≤◌, nat_lt, Bool, true, false, List, [], ◌∷◌, ◌++◌}
-use Rattle.std.proofs.Common.{length, slice_set, Option, Some, None, refl, sym, ap, subst, ◌∙◌}
-use Rattle.std.proofs.Common.{◌⊎◌, inl, inr, if◌then◌else◌}
+use Rattle.std.proofs.Common.{◌≡◌, ℕ, suc, nat_lt, Bool, true, false, List, [], ◌∷◌, ◌++◌}
+use Rattle.std.proofs.Common.{slice_set, Option, Some, None, refl, sym, ap, subst, ◌∙◌}
+use Rattle.std.proofs.Common.{if◌then◌else◌}
 use Rattle.std.proofs.lemmas.Bool.{eqb-true, eqb-false}
 use Rattle.std.proofs.lemmas.List.{get_or-set_other}
 use Rattle.ft12.specs.declared.frame.Front.{Front}
@@ -14,9 +14,9 @@ use Rattle.link.specs.Procedure.{LinkSettings, Link, Down, Available, Next, Held
 use Rattle.link.specs.Procedure.{is_service, has_repeats, after_answer, after_silence}
 use Rattle.link.specs.Procedure.{missed_so_far}
 use Rattle.link.specs.Turns.{StationState, no_station, Phase, Starting, Commanding, Polling}
-use Rattle.link.specs.Turns.{Class1Polling, Over, Wanted, station_at, wants, wanted_by, wanted}
-use Rattle.link.specs.Turns.{chosen_or, first_after, held_request}
-use Rattle.link.specs.Primary.{Outstanding, Primary, start, sending_by, sending_from, sending}
+use Rattle.link.specs.Turns.{Class1Polling, Over, station_at, wants, wanted_by, wanted}
+use Rattle.link.specs.Turns.{held_request}
+use Rattle.link.specs.Primary.{Outstanding, Primary, start}
 use Rattle.link.specs.Primary.{phase_after, answer_at, answered, station_answered, said_by}
 use Rattle.link.specs.Primary.{open_octets, took, with_octets, received_after, received_from}
 use Rattle.link.specs.Primary.{received, station_unanswered, unanswered, is_late, due_from}
@@ -30,7 +30,6 @@ use Rattle.link.proofs.Leaving.{set_none}
 use Rattle.link.proofs.Bursting.{not_both, silent_down, no_repeats, held_is, turn_sends}
 use Rattle.link.proofs.Following.{Follows, begun, State, waits, ended, Matches, none_out}
 use Rattle.link.proofs.Following.{asked_matches}
-use Rattle.link.specs.Turns.{CommandsWaiting}
 use Rattle.link.specs.Runs.{Doubts}
 use Rattle.link.specs.Carried.{doubted}
 use Rattle.link.proofs.Doubting.{doubted_link}

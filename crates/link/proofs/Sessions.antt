@@ -1,6 +1,6 @@
 -- What the primary knows of an outstation, over whole runs.
 use Rattle.std.proofs.Common.{◌≡◌, ℕ, Bool, true, false, List, [], ◌∷◌, ◌++◌, flat_map, Option}
-use Rattle.std.proofs.Common.{Some, None, refl, sym, ap, subst, ◌∙◌, inl, inr, append_assoc, IsSome}
+use Rattle.std.proofs.Common.{Some, None, refl, sym, ap, subst, ◌∙◌, inl, inr, append_assoc}
 use Rattle.std.specs.List.{AllByRecursion}
 use Rattle.link.specs.Answers.{Service, Class1, Class2, Command, Asked, Status, Reset, Counted}
 use Rattle.link.specs.Answers.{Answer, Ready, Confirmed, Busy, Report, NoData, Unable}
@@ -10,7 +10,7 @@ use Rattle.link.specs.Procedure.{after, MaySend, KeepsFrameCountBit, is_up, IsSt
 use Rattle.link.specs.Outstation.{Effect, Given, unreset, Turn, all_done}
 use Rattle.link.specs.Delivery.{learnt, IsHonest, pending_by, pending_after, MayOwe, IsKnown}
 use Rattle.link.specs.Delivery.{is_reset, Session, before_reset, sessions, IsSessionKnown}
-use Rattle.link.specs.Delivery.{IsAllOrButLast, IsLatestAnswered, given_by, reports, is_gap}
+use Rattle.link.specs.Delivery.{IsAllOrButLast, given_by, reports, is_gap}
 use Rattle.link.specs.Delivery.{HasReports}
 use Rattle.link.proofs.Bit.{append-nil}
 use Rattle.link.proofs.Marks.{up_mark}

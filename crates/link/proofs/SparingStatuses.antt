@@ -7,12 +7,12 @@ use Rattle.std.proofs.lemmas.Bool.{cases_eq, eqb-true}
 use Rattle.ft12.specs.declared.frame.Front.{Front}
 use Rattle.ft12.specs.Fronts.{front_of}
 use Rattle.link.specs.Answers.{Asked, Status, Reset, Counted}
-use Rattle.link.specs.Exchanges.{Sending, Exchange, OpenExchange, Exchanges, all_of, as_list, view}
+use Rattle.link.specs.Exchanges.{Sending, Exchange, OpenExchange, Exchanges, all_of, view}
 use Rattle.link.specs.Exchanges.{views, with_station, received_octets, timed, begun_by}
-use Rattle.link.specs.Exchanges.{latest_marked, no_exchanges, given_up_at}
+use Rattle.link.specs.Exchanges.{latest_marked, no_exchanges}
 use Rattle.link.specs.Marks.{latest_given_up}
 use Rattle.link.specs.Procedure.{LinkSettings, Link, Down, after, link_after, is_up, is_service}
-use Rattle.link.specs.Procedure.{AskNoneThatIsUp, MaySend}
+use Rattle.link.specs.Procedure.{AskNoneThatIsUp}
 use Rattle.link.specs.Turns.{CommandsWaiting, station_at}
 use Rattle.link.specs.Primary.{Primary, Outstanding, start, sending, sending_from}
 use Rattle.link.specs.Matching.{IsStable, Matches}

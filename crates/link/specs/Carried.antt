@@ -143,8 +143,8 @@ link_carried retries (Held fcb service silence) =
     Held fcb service (short_silence (min retries silence.missed) Never)
 link_carried retries link = link
 
--- The station goes on: its link, what its latest answer showed, and its session. Whether it was
--- restarted meanwhile isn't known.
+-- The station goes on: its link, what its latest answer showed, its session, and whether it is
+-- unsure.
 abbrev pub station_carried : (retries address : ℕ) → StationState → StationState
 station_carried retries address s = record {
   address = address;
@@ -152,7 +152,7 @@ station_carried retries address s = record {
   acd = s.acd;
   dfc = s.dfc;
   session = s.session;
-  unsure = true;
+  unsure = s.unsure;
 }
 
 -- with the place that the station had, if it had one

@@ -6,7 +6,7 @@ use Rattle.ft12.specs.Fronts.{front_of}
 use Rattle.link.specs.Answers.{Status}
 use Rattle.link.specs.Exchanges.{Sending}
 use Rattle.link.specs.Procedure.{is_up, is_spent, is_service}
-use Rattle.link.specs.Turns.{CommandsWaiting, station_at}
+use Rattle.link.specs.Turns.{station_at}
 use Rattle.link.specs.Primary.{Outstanding, Primary, sending, received}
 use Rattle.link.specs.Runs.{Call, Next, Octets, Doubts, called}
 

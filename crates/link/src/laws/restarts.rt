@@ -1,5 +1,5 @@
 //! What a restart makes of a station that may have been restarted, too.
-ghost use Rattle.std.specs.Prelude.{◌≡◌, ◌<◌, ℕ, false, List, length, All, slice_index};
+ghost use Rattle.std.specs.Prelude.{◌≡◌, ◌<◌, ℕ, true, false, List, length, All, slice_index};
 ghost use Rattle.link.specs.Carried.{awaits_command, doubted, station_doubted};
 ghost use Rattle.link.specs.Leave.{is_polling};
 ghost use Rattle.link.specs.Turns.{station_at};
@@ -30,11 +30,13 @@ pub fn statuses_follow_restarts()
 }
 
 /// A restart changes of a station only that it isn't known whether it was restarted, too: it keeps
-/// its link, and awaits what it awaited; and no poll is begun.
+/// its link, and awaits what it awaited; and no poll is begun. Each station is unsure then.
 pub fn restarts_change_no_link()
     ensures number { (p : Primary) → length (doubted p).stations ≡ length p.stations }
     ensures station { (p : Primary) (k : ℕ) → k < length p.stations →
         station_at (doubted p).stations k ≡ station_doubted (station_at p.stations k) }
+    ensures unsure { (p : Primary) (k : ℕ) → k < length p.stations →
+        (station_at (doubted p).stations k).unsure ≡ true }
     ensures link { (p : Primary) (k : ℕ) →
         (station_at (doubted p).stations k).link ≡ (station_at p.stations k).link }
     ensures awaited { (p : Primary) (k : ℕ) →

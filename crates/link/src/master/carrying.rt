@@ -96,7 +96,7 @@ impl StationState {
             acd: self.acd,
             dfc: self.dfc,
             session: self.session,
-            unsure: true,
+            unsure: self.unsure,
         }
     }
 }
