@@ -59,6 +59,7 @@ abbrev pub missed_by : Asked → (closed : Bool) → Option Answer → Silence �
 missed_by (Counted fcb service) closed None missed =
     if closed then short_silence (suc missed.missed) missed.probed else missed
 missed_by Status closed (Some answer.Ready) missed = short_silence 0 (once_more missed.probed)
+missed_by Status closed (Some said) missed = missed
 missed_by request closed said missed = unmissed
 
 -- A counted request had no answer in time, nor had any of its repeats, and then the link is to be

@@ -12,6 +12,8 @@ returns c = λ settings log rules faithful.
       held = c.turns_go_on_behind_held_services.ensures;
       each = c.a_turn_is_one_visit.ensures;
       times = c.answers_have_their_time.ensures;
+      statuses = c.statuses_follow_restarts.ensures.unsure;
+      spares = c.statuses_follow_restarts.ensures.none;
     }) (record {
       line = c.line_keeps_the_procedures.ensures;
       gives_up = record {
