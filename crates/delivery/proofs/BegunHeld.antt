@@ -20,7 +20,7 @@ use Rattle.link.specs.declared.settings.LinkSettings.{LinkSettings}
 use Rattle.link.specs.declared.turn.Chosen.{Chosen}
 use Rattle.link.specs.declared.turn.Phase.{Phase}
 use Rattle.link.specs.declared.turn.Phase.TheVariants.{Starting, Commanding, Polling}
-use Rattle.link.specs.declared.turn.Phase.TheVariants.{Class1Polling}
+use Rattle.link.specs.declared.turn.Phase.TheVariants.{Class1Polling, Over}
 use Rattle.link.specs.declared.turn.StationState.{StationState}
 use Rattle.link.specs.declared.turn.Wanted.{Wanted}
 use Rattle.link.specs.Exchanges.{Sending, whole_of}
@@ -30,9 +30,10 @@ use Rattle.link.specs.Primary.{answer_at, awaits, said_by, open_octets, took, wi
 use Rattle.link.specs.Primary.{received_after, received_from, received, station_unanswered}
 use Rattle.link.specs.Primary.{unanswered, is_late, due_from, timed_out}
 use Rattle.link.specs.Procedure.{is_held, is_service, after_answer, after_silence, missed_so_far}
-use Rattle.link.specs.Runs.{Call, Next, Octets, Due, GivesUp, called, called_all}
+use Rattle.link.specs.Procedure.{is_kept, probed_so_far, short_silence, spent_silence}
+use Rattle.link.specs.Runs.{Call, Next, Octets, Due, GivesUp, Doubts, called, called_all}
 use Rattle.link.specs.Turns.{CommandsWaiting, no_station, station_at, is_poll, wants, wanted_poll}
-use Rattle.link.specs.Turns.{polls_from, wanted_command, commands_from, wanted_by, wanted}
+use Rattle.link.specs.Turns.{polls_from, wanted_command, commands_from, wanted_by, wanted, is_doubted}
 use Rattle.link.specs.Turns.{place_after, chosen_or, first_after}
 use Rattle.delivery.specs.NextRequests.{ArePassing, IsOutNoMore}
 
@@ -68,24 +69,28 @@ first_begins burst leave stations waiting (suc many) place c is =
 
 -- A held service that begins a turn is followed by a command and polls.
 held_follows : (burst : ℕ) (leave : Bool) (s : StationState) (command : Option (List ℕ))
-    (link : Link) (w : Wanted) → is_held link ≡ true
+    (link : Link) (w : Wanted) → is_held link ≡ true → is_service w.request ≡ true
     → wanted_by burst leave false s command link Starting ≡ Some w
-    → (is_service w.request ≡ true) × (w.following ≡ Commanding)
-held_follows burst leave s command (Held fcb service missed) w held is =
-    go (leave || not (is_poll service)) is
+    → w.following ≡ Commanding
+held_follows burst leave s command (Held fcb service missed) w held served is =
+    go (is_doubted s missed) (leave || not (is_poll service)) is
   where
-    go : (b : Bool) → (if b then wants (Counted fcb service) Commanding else None) ≡ Some w
-        → (is_service w.request ≡ true) × (w.following ≡ Commanding)
-    go true e =
+    go : (doubted b : Bool) → (if doubted then wants Status Over
+        else if b then wants (Counted fcb service) Commanding else None) ≡ Some w
+        → w.following ≡ Commanding
+    go true b e =
+        let one : Wanted = record { request = Status; following = Over } in
+        let same : one ≡ w = cc in
+        let no : false ≡ true = ap (λ (x : Wanted). is_service x.request) same ∙ served in
+        let never : ⊥ = cc in absurd never
+    go false true e =
         let one : Wanted = record { request = Counted fcb service; following = Commanding } in
-        let same : one ≡ w = cc in (
-          ap (λ (x : Wanted). is_service x.request) (sym same),
-          ap (λ (x : Wanted). x.following) (sym same),
-        )
-    go false e = let no : ⊥ = cc in absurd no
-held_follows burst leave s command Down w held is = let no : ⊥ = cc in absurd no
-held_follows burst leave s command Available w held is = let no : ⊥ = cc in absurd no
-held_follows burst leave s command (Up fcb) w held is = let no : ⊥ = cc in absurd no
+        let same : one ≡ w = cc in
+        ap (λ (x : Wanted). x.following) (sym same)
+    go false false e = let no : ⊥ = cc in absurd no
+held_follows burst leave s command Down w held served is = let no : ⊥ = cc in absurd no
+held_follows burst leave s command Available w held served is = let no : ⊥ = cc in absurd no
+held_follows burst leave s command (Up fcb) w held served is = let no : ⊥ = cc in absurd no
 
 free : (p : Primary) (o : Option Outstanding) (leave : Bool) (waiting : CommandsWaiting)
     (s : Sending) → sending_from p o leave waiting ≡ Some s → o ≡ None
@@ -103,8 +108,9 @@ record Begun (p : Primary) (leave : Bool) (waiting : CommandsWaiting) (k : ℕ) 
 
 begun : (p : Primary) (leave : Bool) (waiting : CommandsWaiting) (s : Sending)
     → sending p leave waiting ≡ Some s → s.station ≢ p.turn
-    → is_held (station_at p.stations s.station).link ≡ true → Begun p leave waiting s.station
-begun p leave waiting s goes other held = by (choice p leave waiting) refl
+    → is_held (station_at p.stations s.station).link ≡ true → is_service s.request ≡ true
+    → Begun p leave waiting s.station
+begun p leave waiting s goes other held served = by (choice p leave waiting) refl
   where
     out : p.outstanding ≡ None
     out = free p p.outstanding leave waiting s goes
@@ -129,9 +135,11 @@ begun p leave waiting s goes other held = by (choice p leave waiting) refl
         ap sending_by (sym e) ∙ sent in
         let one : record { station = c.station; request = c.wanted.request } ≡ s = cc in
         let at : c.station ≡ s.station = ap (λ (x : Sending). x.station) one in
-        let f = held_follows p.settings.burst leave (station_at p.stations c.station)
+        let asks : is_service c.wanted.request ≡ true =
+        ap (λ (x : Sending). is_service x.request) one ∙ served in
+        let f : c.wanted.following ≡ Commanding = held_follows p.settings.burst leave (station_at p.stations c.station)
         (waiting c.station) (station_at p.stations c.station).link c.wanted
-        (subst (λ (i : ℕ). is_held (station_at p.stations i).link ≡ true) (sym at) held)
+        (subst (λ (i : ℕ). is_held (station_at p.stations i).link ≡ true) (sym at) held) asks
         (first_begins p.settings.burst leave p.stations waiting (length p.stations) p.turn c
         (first (wanted p.settings.burst leave p.again (station_at p.stations p.turn)
         (waiting p.turn) p.phase) c at e)) in
@@ -140,8 +148,8 @@ begun p leave waiting s goes other held = by (choice p leave waiting) refl
           out = out;
           is = e;
           station = at;
-          service = f.0;
-          follows = f.1;
+          service = asks;
+          follows = f;
         }
 
 -- ---- until it is answered
@@ -196,14 +204,19 @@ unable_down Reset link is = let no : ⊥ = cc in absurd no
 
 silent : (settings : LinkSettings) (request : Asked) (link : Link)
     → is_next (after_silence settings request true link) ≡ false
-silent settings Status link = refl
+silent settings Status Down = refl
+silent settings Status Available = refl
+silent settings Status (Up fcb) = refl
+silent settings Status (Held fcb service missed) = refl
 silent settings Reset link = refl
 silent settings (Counted fcb service) link =
-    go (nat_lt settings.retries (suc (missed_so_far link))) settings.hold
+    go (nat_lt settings.retries (suc (missed_so_far link))) (is_kept settings (probed_so_far link))
   where
-    go : (b hold : Bool)
-        → is_next (if b then (if hold then Held fcb service (suc settings.retries) else Down)
-        else Held fcb service (suc (missed_so_far link))) ≡ false
+    go : (b kept : Bool)
+        → is_next (if b
+        then (if kept then Held fcb service (spent_silence settings (probed_so_far link)) else Down)
+        else Held fcb service (short_silence (suc (missed_so_far link)) (probed_so_far link)))
+        ≡ false
     go true true = refl
     go true false = refl
     go false hold = refl
@@ -297,6 +310,7 @@ passing_stays q k (Octets octets ∷ calls) passing stays =
 passing_stays q k (Due now ∷ calls) passing stays =
     passing_stays (called q (Due now)) k calls passing (due_stays q k now stays)
 passing_stays q k (GivesUp station ∷ calls) passing stays = absurd passing
+passing_stays q k (Doubts ∷ calls) passing stays = absurd passing
 
 -- ---- what goes out behind it
 
@@ -324,24 +338,25 @@ turn_goes q k leave bit waiting request following (ended free turn phase) out up
     ∙ ap (λ (i : ℕ). Some (record { station = i; request = request })) turn)
 
 stays_out : (p q : Primary) (s : Sending) → IsOutNoMore p q s → s.station ≢ p.turn
-    → is_held (station_at p.stations s.station).link ≡ true → Stays s.station q
-stays_out p q s out other held =
+    → is_held (station_at p.stations s.station).link ≡ true → is_service s.request ≡ true
+    → Stays s.station q
+stays_out p q s out other held served =
     subst (λ (r : Primary). Stays s.station r) out.behind
     (passing_stays (called p (Next out.now out.may_poll out.waiting)) s.station out.meanwhile
     out.passing (goes_out p out.may_poll out.waiting s.station out.now
-    (begun p out.may_poll out.waiting s out.goes other held)))
+    (begun p out.may_poll out.waiting s out.goes other held served)))
 
 pub command_behind : (p q : Primary) (s : Sending) (leave bit : Bool) (asdu : List ℕ)
     (waiting : CommandsWaiting) → IsOutNoMore p q s → s.station ≢ p.turn
-    → is_held (station_at p.stations s.station).link ≡ true
+    → is_held (station_at p.stations s.station).link ≡ true → is_service s.request ≡ true
     → (station_at q.stations s.station).link ≡ Up bit → waiting s.station ≡ Some asdu
     → (station_at q.stations s.station).dfc ≡ false
     → sending q leave waiting
     ≡ Some (record { station = s.station; request = Counted bit (Command asdu) })
-command_behind p q s leave bit asdu waiting out other held up there clear =
+command_behind p q s leave bit asdu waiting out other held served up there clear =
     let it : StationState = station_at q.stations s.station in
     turn_goes q s.station leave bit waiting (Counted bit (Command asdu)) _
-    (stays_out p q s out other held) out.over up
+    (stays_out p q s out other held served) out.over up
     (ap (λ (c : Option (List ℕ)). commands_from q.settings.burst leave bit it c) there
     ∙ ap (λ (b : Bool). if b then polls_from q.settings.burst leave bit it Polling
     else wanted_command bit asdu) clear)
@@ -365,7 +380,7 @@ no_command burst bit s (Some asdu) (inr full) =
 
 pub poll_behind : (p q : Primary) (s : Sending) (bit : Bool) (waiting : CommandsWaiting)
     → IsOutNoMore p q s → s.station ≢ p.turn
-    → is_held (station_at p.stations s.station).link ≡ true
+    → is_held (station_at p.stations s.station).link ≡ true → is_service s.request ≡ true
     → (station_at q.stations s.station).link ≡ Up bit
     → (waiting s.station ≡ None) ⊎ ((station_at q.stations s.station).dfc ≡ true)
     → sending q true waiting
@@ -373,9 +388,9 @@ pub poll_behind : (p q : Primary) (s : Sending) (bit : Bool) (waiting : Commands
       station = s.station;
       request = Counted bit (if (station_at q.stations s.station).acd then Class1 else Class2);
     })
-poll_behind p q s bit waiting out other held up either =
+poll_behind p q s bit waiting out other held served up either =
     let it : StationState = station_at q.stations s.station in
     let poll = acd_poll q.settings.burst bit it.acd in
     turn_goes q s.station true bit waiting (Counted bit (if it.acd then Class1 else Class2)) poll.0
-    (stays_out p q s out other held) out.over up
+    (stays_out p q s out other held served) out.over up
     (no_command q.settings.burst bit it (waiting s.station) either ∙ poll.1)

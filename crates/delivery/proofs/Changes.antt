@@ -1,5 +1,5 @@
 -- What an exchange makes of its station.
-use Rattle.std.specs.Prelude.{nat_lt, length, slice_set, if◌then◌else◌}
+use Rattle.std.specs.Prelude.{nat_lt, length, slice_set, if◌then◌else◌, ◌&&◌, ◌||◌, not}
 use Rattle.std.proofs.Common.{◌≡◌, ◌≢◌, ℕ, suc, ◌+◌, ◌<◌, ◌≤◌, Bool, true, false, List, [], ◌∷◌}
 use Rattle.std.proofs.Common.{◌++◌, Option, Some, None, refl, sym, ap, subst, ◌∙◌}
 use Rattle.std.proofs.lemmas.Bool.{le-leb, lt-leb}
@@ -12,12 +12,13 @@ use Rattle.link.specs.declared.answer.Answer.{Answer}
 use Rattle.link.specs.declared.procedure.Link.{Link}
 use Rattle.link.specs.declared.procedure.Link.TheVariants.{Down, Held}
 use Rattle.link.specs.declared.service.Asked.{Asked}
-use Rattle.link.specs.declared.service.Asked.TheVariants.{Counted}
+use Rattle.link.specs.declared.service.Asked.TheVariants.{Status, Counted}
 use Rattle.link.specs.declared.service.Service.{Service}
 use Rattle.link.specs.declared.settings.LinkSettings.{LinkSettings}
 use Rattle.link.specs.declared.turn.StationState.{StationState}
 use Rattle.link.specs.Answers.{answer_of}
 use Rattle.link.specs.declared.turn.Chosen.{Chosen}
+use Rattle.link.specs.declared.turn.Wanted.{Wanted}
 use Rattle.link.specs.declared.turn.Phase.{Phase}
 use Rattle.link.specs.declared.turn.Phase.TheVariants.{Starting, Commanding, Polling}
 use Rattle.link.specs.declared.turn.Phase.TheVariants.{Class1Polling, Over}
@@ -30,9 +31,10 @@ use Rattle.link.specs.Primary.{sending, sending_by}
 use Rattle.link.specs.Primary.{station_answered, station_asked, station_unanswered, timed_out, took}
 use Rattle.link.specs.Primary.{unanswered, with_octets}
 use Rattle.link.specs.Procedure.{after_outcome, after_silence, has_repeats, held, is_up}
-use Rattle.link.specs.Procedure.{link_after, missed_so_far}
+use Rattle.link.specs.Procedure.{link_after, missed_so_far, probed_so_far, silence_so_far, Silence}
+use Rattle.link.specs.Procedure.{Probed, is_kept, short_silence, spent_silence}
 use Rattle.link.specs.Turns.{CommandsWaiting, chosen_or, first_after, no_station}
-use Rattle.link.specs.Turns.{station_at, wanted_by}
+use Rattle.link.specs.Turns.{station_at, wanted_by, wants, is_poll}
 use Rattle.link.proofs.Links.{set_view}
 use Rattle.link.proofs.VisitAsked.{link_append}
 use Rattle.delivery.specs.Changes.{IsAsBefore, IsBehind, brought, missed, shown}
@@ -137,22 +139,26 @@ module _ (p : Primary) (o : Outstanding) (at : ℕ) (out : p.outstanding ≡ Som
 
 -- ---- What is held
 
-held_is : (settings : LinkSettings) (fcb : Bool) (service : Service) (times : ℕ) (b hold : Bool)
-    → is_up (if b then (if hold then Held fcb service (suc settings.retries) else Down)
-    else Held fcb service times) ≡ true
-    → (k : ℕ) × ((if b then (if hold then Held fcb service (suc settings.retries) else Down)
-    else Held fcb service times) ≡ Held fcb service k)
-held_is settings fcb service times true true up = (suc settings.retries, refl)
-held_is settings fcb service times true false up = cc
-held_is settings fcb service times false hold up = (times, refl)
+held_is : (settings : LinkSettings) (fcb : Bool) (service : Service) (spent short : Silence)
+    (b kept : Bool)
+    → is_up (if b then (if kept then Held fcb service spent else Down)
+    else Held fcb service short) ≡ true
+    → (k : Silence) × ((if b then (if kept then Held fcb service spent else Down)
+    else Held fcb service short) ≡ Held fcb service k)
+held_is settings fcb service spent short true true up = (spent, refl)
+held_is settings fcb service spent short true false up = cc
+held_is settings fcb service spent short false kept up = (short, refl)
 
 silence_holds : (settings : LinkSettings) (fcb : Bool) (service : Service) (closed : Bool)
     (link : Link) → is_up (after_silence settings (Counted fcb service) closed link) ≡ true
-    → (k : ℕ) × (after_silence settings (Counted fcb service) closed link ≡ Held fcb service k)
+    → (k : Silence)
+    × (after_silence settings (Counted fcb service) closed link ≡ Held fcb service k)
 silence_holds settings fcb service true link up =
-    held_is settings fcb service (suc (missed_so_far link))
-    (nat_lt settings.retries (suc (missed_so_far link))) settings.hold up
-silence_holds settings fcb service false link up = (missed_so_far link, refl)
+    held_is settings fcb service (spent_silence settings (probed_so_far link))
+    (short_silence (suc (missed_so_far link)) (probed_so_far link))
+    (nat_lt settings.retries (suc (missed_so_far link)))
+    (is_kept settings (probed_so_far link)) up
+silence_holds settings fcb service false link up = (silence_so_far link, refl)
 
 module _ (settings : LinkSettings) (station : ℕ) (link : Link) (before : List Exchange)
     (x : Exchange) (fcb : Bool) (service : Service) (asks : x.request ≡ Counted fcb service)
@@ -171,10 +177,10 @@ module _ (settings : LinkSettings) (station : ℕ) (link : Link) (before : List 
       else after_silence settings r x.closed earlier) asks
 
   pub is_held_then : is_up (link_after settings station link (before ++ x ∷ [])) ≡ true
-      → (times : ℕ)
+      → (times : Silence)
       × (link_after settings station link (before ++ x ∷ []) ≡ Held fcb service times)
   is_held_then up =
-      let held : (times : ℕ) × ((if x.given_up then Down
+      let held : (times : Silence) × ((if x.given_up then Down
       else after_silence settings (Counted fcb service) x.closed earlier)
       ≡ Held fcb service times) =
       go x.given_up (ap is_up (sym latest) ∙ up) in
@@ -182,7 +188,7 @@ module _ (settings : LinkSettings) (station : ℕ) (link : Link) (before : List 
     where
       go : (b : Bool) → is_up (if b then Down
           else after_silence settings (Counted fcb service) x.closed earlier) ≡ true
-          → (times : ℕ) × ((if b then Down
+          → (times : Silence) × ((if b then Down
           else after_silence settings (Counted fcb service) x.closed earlier)
           ≡ Held fcb service times)
       go true up' = cc
@@ -191,32 +197,42 @@ module _ (settings : LinkSettings) (station : ℕ) (link : Link) (before : List 
 -- ---- What goes out again
 
 held_again : (settings : LinkSettings) (fcb : Bool) (service : Service) (times : ℕ)
-    (b hold : Bool)
-    → has_repeats settings (if b then (if hold then Held fcb service (suc settings.retries)
-    else Down) else Held fcb service times) ≡ true
-    → (k : ℕ) × ((if b then (if hold then Held fcb service (suc settings.retries) else Down)
-    else Held fcb service times) ≡ Held fcb service k)
-held_again settings fcb service times true true more = (suc settings.retries, refl)
-held_again settings fcb service times true false more = cc
-held_again settings fcb service times false hold more = (times, refl)
+    (probed : Probed) (b kept : Bool)
+    → has_repeats settings (if b
+    then (if kept then Held fcb service (spent_silence settings probed) else Down)
+    else Held fcb service (short_silence times probed)) ≡ true
+    → (if b then (if kept then Held fcb service (spent_silence settings probed) else Down)
+    else Held fcb service (short_silence times probed))
+    ≡ Held fcb service (short_silence times probed)
+held_again settings fcb service times probed true true more = cc
+held_again settings fcb service times probed true false more = cc
+held_again settings fcb service times probed false kept more = refl
 
 -- a held service is wanted again, where there is leave
-wanted_again : (burst turn times : ℕ) (s : StationState) (command : Option (List ℕ)) (fcb : Bool)
+wanted_again : (burst turn times : ℕ) (probed : Probed) (s : StationState)
+    (command : Option (List ℕ)) (fcb : Bool)
     (service : Service) (rest : Option Chosen) (link : Link) (again : Bool) (phase : Phase)
-    → link ≡ Held fcb service times → again ≡ true
+    → link ≡ Held fcb service (short_silence times probed) → again ≡ true
     → sending_by (chosen_or (wanted_by burst true again s command link phase) turn rest)
     ≡ Some (record { station = turn; request = Counted fcb service })
-wanted_again burst turn times s command fcb service rest link again phase is more =
+wanted_again burst turn times probed s command fcb service rest link again phase is more =
     ap (λ (l : Link). sending_by (chosen_or (wanted_by burst true again s command l phase) turn
     rest)) is
     ∙ ap (λ (b : Bool). sending_by (chosen_or (wanted_by burst true b s command
-    (Held fcb service times) phase) turn rest)) more
+    (Held fcb service (short_silence times probed)) phase) turn rest)) more
     ∙ by phase
   where
-    by : (f : Phase) → sending_by (chosen_or (wanted_by burst true true s command
-        (Held fcb service times) f) turn rest)
+    begins : (unsure : Bool) → sending_by (chosen_or (if unsure && false then wants Status Over
+        else if true || not (is_poll service) then wants (Counted fcb service) Commanding
+        else None) turn rest)
         ≡ Some (record { station = turn; request = Counted fcb service })
-    by Starting = refl
+    begins true = refl
+    begins false = refl
+
+    by : (f : Phase) → sending_by (chosen_or (wanted_by burst true true s command
+        (Held fcb service (short_silence times probed)) f) turn rest)
+        ≡ Some (record { station = turn; request = Counted fcb service })
+    by Starting = begins s.unsure
     by Commanding = refl
     by Polling = refl
     by (Class1Polling sent) = refl
@@ -242,24 +258,26 @@ module _ (p : Primary) (o : Outstanding) (at : ℕ) (fcb : Bool) (service : Serv
       let left : has_repeats p.settings one.link ≡ true =
       ap (λ (s : StationState). has_repeats p.settings s.link)
       (sym (left_is p o at out late within)) ∙ more in
+      let before : Link = (station_at p.stations p.turn).link in
       let same : one.link ≡ held p.settings fcb service
-      (suc (missed_so_far (station_at p.stations p.turn).link)) =
+      (suc (missed_so_far before)) (probed_so_far before) =
       ap (λ (r : Asked). after_silence p.settings r true (station_at p.stations p.turn).link)
       asks in
-      let holds : (k : ℕ) × (held p.settings fcb service
-      (suc (missed_so_far (station_at p.stations p.turn).link)) ≡ Held fcb service k) =
-      held_again p.settings fcb service
-      (suc (missed_so_far (station_at p.stations p.turn).link))
-      (nat_lt p.settings.retries (suc (missed_so_far (station_at p.stations p.turn).link)))
-      p.settings.hold (ap (λ (l : Link). has_repeats p.settings l) (sym same) ∙ left) in
+      let holds : held p.settings fcb service (suc (missed_so_far before)) (probed_so_far before)
+      ≡ Held fcb service (short_silence (suc (missed_so_far before)) (probed_so_far before)) =
+      held_again p.settings fcb service (suc (missed_so_far before)) (probed_so_far before)
+      (nat_lt p.settings.retries (suc (missed_so_far before)))
+      (is_kept p.settings (probed_so_far before))
+      (ap (λ (l : Link). has_repeats p.settings l) (sym same) ∙ left) in
       ap (λ (q : Primary). sending q true waiting) (is_over p o at out late within)
       ∙ ap (λ (s : StationState). sending_by (chosen_or (wanted_by p.settings.burst true
       (has_repeats p.settings one.link) s (waiting p.turn) s.link
       (if has_repeats p.settings one.link then p.phase else Over)) p.turn other_turns))
       (get_or-set_same p.stations p.turn one no_station within)
-      ∙ wanted_again p.settings.burst p.turn holds.0 one (waiting p.turn) fcb service other_turns
+      ∙ wanted_again p.settings.burst p.turn (suc (missed_so_far before)) (probed_so_far before)
+      one (waiting p.turn) fcb service other_turns
       one.link (has_repeats p.settings one.link)
-      (if has_repeats p.settings one.link then p.phase else Over) (same ∙ holds.1) left
+      (if has_repeats p.settings one.link then p.phase else Over) (same ∙ holds) left
       ∙ ap (λ (r : Asked). Some (let made : Sending =
       record { station = p.turn; request = r } in made)) (sym asks)
 

@@ -16,6 +16,7 @@ use Rattle.gateway.specs.Works.{Works, unless_silent_works}
 use Rattle.delivery.specs.Commands.{LineStep, Begun, Confirmed, Busy, Lost, said_of, missed_by}
 use Rattle.delivery.specs.Commands.{goes_down, steps_at, steps_in, confirmed_by, steps_logged}
 use Rattle.delivery.specs.Commands.{sent_to}
+use Rattle.link.specs.Procedure.{Silence}
 use Rattle.delivery.proofs.Accepted.{commands-append}
 
 confirmed-append : (xs ys : List LineStep) → confirmed_by (xs ++ ys)
@@ -61,13 +62,13 @@ none_lost : (b : Bool) → confirmed_by (if b then Lost ∷ [] else []) ≡ []
 none_lost true = refl
 none_lost false = refl
 
-pub confirmed_learnt : (s : LinkSettings) (a missed : ℕ) (pending : Option Service)
+pub confirmed_learnt : (s : LinkSettings) (a : ℕ) (missed : Silence) (pending : Option Service)
     (xs : List Exchange)
     → confirmed_by (steps_in s a missed pending xs) ≡ commands (learnt a xs)
 confirmed_learnt s a missed pending [] = refl
 confirmed_learnt s a missed pending (x ∷ xs) =
     let later : Option Service = pending_by x.request (answer_to a x) pending in
-    let more : ℕ = missed_by x.request x.closed (answer_to a x) missed in
+    let more : Silence = missed_by x.request x.closed (answer_to a x) missed in
     let begun : List LineStep =
     map (λ (asdu : List ℕ). Begun asdu) (first_sending pending x.request) in
     let said : List LineStep = said_of x.request (answer_to a x) in

@@ -25,7 +25,7 @@ use Rattle.delivery.specs.Merges.{IsSublist}
 use Rattle.delivery.specs.Delivery.{before_sessions, sessions_of}
 use Rattle.delivery.specs.Commands.{LineStep, Begun, Confirmed, Busy, Lost, steps_in}
 use Rattle.delivery.specs.Commands.{first_sendings, steps_logged, sent_to, forwarded_in, as_judged}
-use Rattle.delivery.specs.Commands.{on_line_of, AreCommandsOf}
+use Rattle.delivery.specs.Commands.{on_line_of, AreCommandsOf, unmissed}
 use Rattle.delivery.specs.Selections.{AreAt, LogsAtMoments}
 use Rattle.delivery.specs.Arrivals.{Arrival, arrivals, arrivals_by, ShowsAt}
 
@@ -108,7 +108,7 @@ abbrev put : Log
 put = Went 20 (LineOut command) ∷ started
 
 abbrev steps : Log → List LineStep
-steps log = steps_in example.link 1 0 None (exchanges_with example 0 log)
+steps log = steps_in example.link 1 unmissed None (exchanges_with example 0 log)
 
 -- nothing is said of a command before it goes out
 none_yet : steps started ≡ []
@@ -197,7 +197,7 @@ steps_of_reset log =
       hold = false;
       burst =
           3;
-    }) 1 0 None
+    }) 1 unmissed None
     (exchanges_with example 0 log)
 
 abbrev sent_again : Log

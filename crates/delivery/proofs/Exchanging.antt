@@ -19,12 +19,13 @@ use Rattle.link.specs.declared.outcome.Outcome.TheVariants as outcome
 use Rattle.link.specs.Exchanges.{Exchange, LineExchange, OpenExchange, Exchanges, all_of, answer_to}
 use Rattle.link.specs.Exchanges.{view, views, with_station}
 use Rattle.link.specs.declared.settings.LinkSettings.{LinkSettings}
-use Rattle.link.specs.Procedure.{held}
+use Rattle.link.specs.Procedure.{held, Silence}
 use Rattle.link.specs.Primary.{outcome_of}
 use Rattle.link.specs.Delivery.{pending_by, pending_after, first_sending}
 use Rattle.command.specs.History.{History, Sent, Accepted, Refused, GivenUp}
 use Rattle.delivery.specs.Commands.{LineStep, Begun, Confirmed, Busy, Lost, said_of, goes_down}
 use Rattle.delivery.specs.Commands.{steps_in, first_sendings, last_sent, steps_logged, sent_to}
+use Rattle.delivery.specs.Commands.{unmissed}
 use Rattle.delivery.proofs.Steps.{pending_more, missed_after, steps_more, sendings_more, AreProper}
 use Rattle.delivery.proofs.Steps.{none_said, still_up}
 use Rattle.delivery.proofs.History.{LineLogged, line_logged}
@@ -67,7 +68,7 @@ alone i v = if v.station == i then v.exchange ∷ [] else []
 -- was sent last.
 pub record IsLogged (s : LinkSettings) (a : ℕ) (xs : List Exchange) (k : ℕ) (h : History) : Type
     0 where
-  pub steps : steps_logged k h ≡ steps_in s a 0 None xs
+  pub steps : steps_logged k h ≡ steps_in s a unmissed None xs
   pub last : (asdu : List ℕ) → pending_after a None xs ≡ Some (Command asdu) → last_sent k h ≡ asdu
   pub sent : sent_to k h ≡ first_sendings a None xs
 
@@ -87,8 +88,8 @@ pub alike_logged : (s : LinkSettings) (a k : ℕ) (xs : List Exchange) (request 
     (front later : Option Frame)
     (closed over given : Bool) (h new : History) →
     option_and_then (answer_of a request) front ≡ option_and_then (answer_of a request) later →
-    goes_down s (missed_after a 0 xs) request closed (option_and_then (answer_of a request) later)
-    ≡ goes_down s (missed_after a 0 xs) request over
+    goes_down s (missed_after a unmissed xs) request closed (option_and_then (answer_of a request) later)
+    ≡ goes_down s (missed_after a unmissed xs) request over
     (option_and_then (answer_of a request) later) →
     line_logged k new ≡ line_logged k h →
     IsLogged s a (xs ++ record {
@@ -119,12 +120,12 @@ alike_logged s a k xs request front later closed over given h new alike down sam
     } in
     record {
       steps = ap (λ (l : LineLogged). l.steps) same ∙ t.steps ∙ steps_more s a 0 None xs x
-          ∙ ap (λ (o : Option Answer). steps_in s a 0 None xs
+          ∙ ap (λ (o : Option Answer). steps_in s a unmissed None xs
           ++ (map (λ (asdu : List ℕ). Begun asdu) (first_sending pending request)
           ++ (said_of request o
-          ++ lost_if (given || goes_down s (missed_after a 0 xs) request closed o))))
+          ++ lost_if (given || goes_down s (missed_after a unmissed xs) request closed o))))
           alike
-          ∙ ap (λ (b : Bool). steps_in s a 0 None xs ++
+          ∙ ap (λ (b : Bool). steps_in s a unmissed None xs ++
           (map (λ (asdu : List ℕ). Begun asdu) (first_sending pending request)
           ++ (said_of request (answer_to a y) ++ lost_if (given || b)))) down
           ∙ sym (steps_more s a 0 None xs y);
@@ -176,16 +177,16 @@ module _ (s : LinkSettings) (a k : ℕ) (xs : List Exchange) (request : Asked)
 
   -- the steps grow by what the answer says, or its want
   grown : (m : Option Answer) → answer_to a before_it ≡ None → answer_to a after_it ≡ m →
-      steps_in s a 0 None (xs ++ after_it ∷ []) ≡ steps_in s a 0 None (xs ++ before_it ∷ [])
-      ++ (said_of request m ++ lost_if (goes_down s (missed_after a 0 xs) request over m))
+      steps_in s a unmissed None (xs ++ after_it ∷ []) ≡ steps_in s a unmissed None (xs ++ before_it ∷ [])
+      ++ (said_of request m ++ lost_if (goes_down s (missed_after a unmissed xs) request over m))
   grown m none is =
       let pending : Option Service = pending_after a None xs in
-      let missed : ℕ = missed_after a 0 xs in
+      let missed : Silence = missed_after a unmissed xs in
       let first : List LineStep =
       map (λ (asdu : List ℕ). Begun asdu) (first_sending pending request) in
-      let old : List LineStep = steps_in s a 0 None xs in
+      let old : List LineStep = steps_in s a unmissed None xs in
       let more : List LineStep = said_of request m ++ lost_if (goes_down s missed request over m) in
-      let was : steps_in s a 0 None (xs ++ before_it ∷ []) ≡ old ++ first =
+      let was : steps_in s a unmissed None (xs ++ before_it ∷ []) ≡ old ++ first =
       steps_more s a 0 None xs before_it ∙ ap (λ (o : Option Answer). old
       ++ (first ++ (said_of request o ++ lost_if (goes_down s missed request false o)))) none
       ∙ ap (λ (l : List LineStep). old
@@ -216,13 +217,13 @@ module _ (s : LinkSettings) (a k : ℕ) (xs : List Exchange) (request : Asked)
   -- nothing is said of a command
   pub quiet_logged : (m : Option Answer) (h new : History) → answer_to a before_it ≡ None
       → answer_to a after_it ≡ m
-      → said_of request m ++ lost_if (goes_down s (missed_after a 0 xs) request over m) ≡ []
+      → said_of request m ++ lost_if (goes_down s (missed_after a unmissed xs) request over m) ≡ []
       → line_logged k new ≡ line_logged k h →
       IsLogged s a (xs ++ before_it ∷ []) k h → IsLogged s a (xs ++ after_it ∷ []) k new
   quiet_logged m h new none is nothing same t = record {
     steps = ap (λ (l : LineLogged). l.steps) same ∙ t.steps
-        ∙ sym (append-nil (steps_in s a 0 None (xs ++ before_it ∷ [])))
-        ∙ ap (λ (l : List LineStep). steps_in s a 0 None (xs ++ before_it ∷ []) ++ l) (sym nothing)
+        ∙ sym (append-nil (steps_in s a unmissed None (xs ++ before_it ∷ [])))
+        ∙ ap (λ (l : List LineStep). steps_in s a unmissed None (xs ++ before_it ∷ []) ++ l) (sym nothing)
         ∙ sym (grown m none is);
     last = λ asdu e. ap (λ (l : LineLogged). l.last) same
         ∙ t.last asdu (still_pending m none is (Command asdu) e);
@@ -232,7 +233,7 @@ module _ (s : LinkSettings) (a k : ℕ) (xs : List Exchange) (request : Asked)
   -- the command that went out last is spoken of
   spoken_logged : (m : Option Answer) (asdu : List ℕ) (step : List ℕ → LineStep) (h new : History)
       → answer_to a before_it ≡ None → answer_to a after_it ≡ m →
-      said_of request m ++ lost_if (goes_down s (missed_after a 0 xs) request over m)
+      said_of request m ++ lost_if (goes_down s (missed_after a unmissed xs) request over m)
       ≡ step asdu ∷ []
       → pending_by request None (pending_after a None xs) ≡ Some (Command asdu)
       → pending_by request m (pending_after a None xs) ≡ None →
@@ -247,8 +248,8 @@ module _ (s : LinkSettings) (a k : ℕ) (xs : List Exchange) (request : Asked)
       ∙ ap (λ (o : Option Answer). pending_by request o pending) is ∙ done in
       record {
         steps = steps ∙ ap (λ (l : List LineStep). l ++ step (last_sent k h) ∷ []) t.steps
-            ∙ ap (λ (x : List ℕ). steps_in s a 0 None (xs ++ before_it ∷ []) ++ step x ∷ []) it
-            ∙ ap (λ (l : List LineStep). steps_in s a 0 None (xs ++ before_it ∷ []) ++ l) (sym says)
+            ∙ ap (λ (x : List ℕ). steps_in s a unmissed None (xs ++ before_it ∷ []) ++ step x ∷ []) it
+            ∙ ap (λ (l : List LineStep). steps_in s a unmissed None (xs ++ before_it ∷ []) ++ l) (sym says)
             ∙ sym (grown m none is);
         last = λ other e. let no : None ≡ Some (Command other) = sym over ∙ e in cc;
         sent = sent ∙ t.sent ∙ sym same_sendings;
@@ -257,7 +258,7 @@ module _ (s : LinkSettings) (a k : ℕ) (xs : List Exchange) (request : Asked)
   -- what stands on the line is lost
   pub lost_logged : (m : Option Answer) (h new : History) → answer_to a before_it ≡ None
       → answer_to a after_it ≡ m
-      → said_of request m ++ lost_if (goes_down s (missed_after a 0 xs) request over m) ≡ Lost ∷ []
+      → said_of request m ++ lost_if (goes_down s (missed_after a unmissed xs) request over m) ≡ Lost ∷ []
       →
       line_logged k new ≡ line_logged k (GivenUp k false ∷ h)
       → IsLogged s a (xs ++ before_it ∷ []) k h
@@ -267,7 +268,7 @@ module _ (s : LinkSettings) (a k : ℕ) (xs : List Exchange) (request : Asked)
         ∙ ap (λ (b : Bool). if b then steps_logged k h ++ Lost
         ∷ [] else steps_logged k h) (eq-eqb k k refl)
         ∙ ap (λ (l : List LineStep). l ++ Lost ∷ []) t.steps
-        ∙ ap (λ (l : List LineStep). steps_in s a 0 None (xs ++ before_it ∷ []) ++ l) (sym says)
+        ∙ ap (λ (l : List LineStep). steps_in s a unmissed None (xs ++ before_it ∷ []) ++ l) (sym says)
         ∙ sym (grown m none is);
     last = λ asdu e. ap (λ (l : LineLogged). l.last) same
         ∙ t.last asdu (still_pending m none is (Command asdu) e);
@@ -303,8 +304,8 @@ pub received_one : (s : LinkSettings) (a k : ℕ) (xs : List Exchange) (request 
     } ∷ []) k new
 received_one s a k xs request front later None h new none is proper same t =
     quiet_logged s a k xs request front later false None h new none is
-    (ap (λ (l : List LineStep). l ++ lost_if (goes_down s (missed_after a 0 xs) request false None))
-    (none_said request) ∙ ap lost_if (still_up s (missed_after a 0 xs) request)) same t
+    (ap (λ (l : List LineStep). l ++ lost_if (goes_down s (missed_after a unmissed xs) request false None))
+    (none_said request) ∙ ap lost_if (still_up s (missed_after a unmissed xs) request)) same t
 received_one s a k xs Status front later (Some answer.Ready) h new none is proper same t =
     quiet_logged s a k xs Status front later false (Some answer.Ready) h new none is refl same t
 received_one s a k xs Status front later (Some answer.Unable) h new none is proper same t =

@@ -27,7 +27,7 @@ use Rattle.link.specs.Primary.{outcome_from, outcome_of, due_outcome, due_outcom
 use Rattle.link.specs.Matching.{Matches, IsCurrent, IsAwaited, IsOver, AreLinks, past}
 use Rattle.command.specs.History.{History}
 use Rattle.gateway.specs.Reports.{Setup, address_at}
-use Rattle.delivery.specs.Commands.{goes_down}
+use Rattle.delivery.specs.Commands.{goes_down, unmissed}
 use Rattle.delivery.proofs.Steps.{last_may, front_keeps, pends, answers_proper, missed_after}
 use Rattle.delivery.proofs.Steps.{counts, answered_alike}
 use Rattle.delivery.proofs.History.{line_logged}
@@ -313,7 +313,7 @@ module _ (laws : LinkLaws) (p : Setup) (q : Primary) (e : Exchanges)
           (view front x).exchange.front (view front x).exchange.front x.closed
           (timed p.link.answer_ms at x).closed x.given_up h new refl
           (alike_down (address k)
-          (missed_after (address k) 0 (with_station k (views front e.ended))) at x
+          (missed_after (address k) unmissed (with_station k (views front e.ended))) at x
           (subst (λ (i : ℕ). IsOver front (address i) x) here was)) (idle out) logged)
           (λ far. idle out) (subst (λ (l : List Exchange). IsLogged p.link (address k) l k h)
           (split k x) t))

@@ -20,7 +20,7 @@ use Rattle.link.specs.Bursts.{is_answered, poll_by, IsSent, PollsGoOn, BurstsGoO
 use Rattle.link.specs.Exchanges.{Sending}
 use Rattle.link.specs.Primary.{Outstanding, Primary, start, sending, sending_from}
 use Rattle.link.specs.Procedure.{is_held, has_repeats}
-use Rattle.link.specs.Runs.{Call, Next, Octets, Due, GivesUp, called, called_all}
+use Rattle.link.specs.Runs.{Call, Next, Octets, Due, GivesUp, Doubts, called, called_all}
 use Rattle.link.specs.Turns.{CommandsWaiting, station_at}
 use Rattle.link.specs.Carried.{reseated}
 use Rattle.link.specs.declared.seat.ResumedStation.{ResumedStation}
@@ -60,6 +60,7 @@ passing_repeats p latest (Octets octets ∷ calls) last passing all =
 passing_repeats p latest (Due now ∷ calls) last passing all =
     passing_repeats (called p (Due now)) latest calls last passing all.1
 passing_repeats p latest (GivesUp station ∷ calls) last passing all = absurd passing
+passing_repeats p latest (Doubts ∷ calls) last passing all = absurd passing
 
 -- the latest request is the one that goes out
 latest_goes : (p : Primary) (now : ℕ) (may_poll : Bool) (waiting : CommandsWaiting) (s : Sending)
@@ -92,9 +93,10 @@ all_repeats new old p calls (inr (settings, seats, before, is)) =
 
 pub again : Repeats → (p q : Primary) (s : Sending)
     (leave : Bool) (waiting : CommandsWaiting) → IsOutNoMore p q s
+    → is_service s.request ≡ true
     → has_repeats q.settings (station_at q.stations s.station).link ≡ true
     → sending q leave waiting ≡ Some s
-again law p q s leave waiting out left =
+again law p q s leave waiting out served left =
     let call : Call = Next out.now out.may_poll out.waiting in
     let last : Call = Next 0 leave waiting in
     let rest = rest_repeats out.line None out.first
@@ -110,7 +112,7 @@ again law p q s leave waiting out left =
     let next : RepeatIsNext q (Some s) last =
     subst (λ (r : Primary). RepeatIsNext r (Some s) last) out.behind
     (passing_repeats (called p call) (Some s) out.meanwhile last out.passing on) in
-    next out.over left
+    next served out.over left
 
 -- ---- polls behind commands
 
@@ -140,6 +142,7 @@ passing_bursts p row (Octets octets ∷ calls) last passing all =
 passing_bursts p row (Due now ∷ calls) last passing all =
     passing_bursts (called p (Due now)) row calls last passing all.1
 passing_bursts p row (GivesUp station ∷ calls) last passing all = absurd passing
+passing_bursts p row (Doubts ∷ calls) last passing all = absurd passing
 
 pub row_goes : (p : Primary) (now : ℕ) (may_poll : Bool) (waiting : CommandsWaiting)
     (station : ℕ) (fcb : Bool) (asdu : List ℕ) (row : Row)
@@ -324,6 +327,7 @@ passing_turns p began (Octets octets ∷ calls) last passing all =
 passing_turns p began (Due now ∷ calls) last passing all =
     passing_turns (called p (Due now)) began calls last passing all.1
 passing_turns p began (GivesUp station ∷ calls) last passing all = absurd passing
+passing_turns p began (Doubts ∷ calls) last passing all = absurd passing
 
 spent : (p : Primary) (station : ℕ) → is_held (station_at p.stations station).link ≡ true
     → has_repeats p.settings (station_at p.stations station).link ≡ false

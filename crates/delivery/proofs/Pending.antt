@@ -7,10 +7,11 @@ use Rattle.link.specs.declared.answer.Answer.{Answer}
 use Rattle.link.specs.declared.answer.Answer.TheVariants.{Ready, Confirmed, Busy, Report}
 use Rattle.link.specs.declared.answer.Answer.TheVariants.{NoData, Unable}
 use Rattle.link.specs.declared.service.Asked.{Asked}
-use Rattle.link.specs.declared.service.Asked.TheVariants.{Reset, Counted}
+use Rattle.link.specs.declared.service.Asked.TheVariants.{Status, Reset, Counted}
 use Rattle.link.specs.declared.service.Service.{Service}
 use Rattle.link.specs.declared.service.Service.TheVariants.{Class1, Class2, Command}
 use Rattle.link.specs.Delivery.{pending_by, pending_after, is_command_pending, IsLatestAnswered}
+use Rattle.link.specs.Delivery.{is_latest_answered, answered_by}
 use Rattle.link.specs.Exchanges.{Exchange, answer_to}
 use Rattle.delivery.specs.Freedom.{IsBesides}
 
@@ -98,8 +99,21 @@ module _ (station : ℕ) where
 
   -- ---- The latest exchange
 
-  pub latest_is : (before : List Exchange) (x : Exchange) → IsSome (answer_to station x)
-      → IsLatestAnswered station (before ++ x ∷ [])
-  latest_is [] x answered = answered
-  latest_is (y ∷ []) x answered = answered
-  latest_is (y ∷ (z ∷ zs)) x answered = latest_is (z ∷ zs) x answered
+  latest_step : (b : Bool) (before : List Exchange) (x : Exchange)
+      → is_latest_answered station b (before ++ x ∷ [])
+      ≡ answered_by x.request (answer_to station x) (is_latest_answered station b before)
+  latest_step b [] x = refl
+  latest_step b (y ∷ ys) x =
+      latest_step (answered_by y.request (answer_to station y) b) ys x
+
+  answers : (request : Asked) (m : Option Answer) (b : Bool) → request ≢ Status → IsSome m
+      → answered_by request m b ≡ true
+  answers Status m b other some = absurd (other refl)
+  answers Reset m b other some = some
+  answers (Counted fcb service) m b other some = some
+
+  pub latest_is : (before : List Exchange) (x : Exchange) → x.request ≢ Status
+      → IsSome (answer_to station x) → IsLatestAnswered station (before ++ x ∷ [])
+  latest_is before x other some =
+      latest_step true before x
+      ∙ answers x.request (answer_to station x) (is_latest_answered station true before) other some

@@ -23,6 +23,8 @@ use Rattle.link.specs.Exchanges.{Exchange, Exchanges, answer_to, given_up_at}
 use Rattle.link.specs.Gaps.{exchanges_at}
 use Rattle.link.specs.Leave.{holds_poll}
 use Rattle.link.specs.Procedure.{holds_command, missed_so_far, after_silence, after_outcome, after}
+use Rattle.link.specs.Procedure.{Silence, Never, after_answer, is_kept, once_more, probed_so_far}
+use Rattle.link.specs.Procedure.{short_silence, silence_so_far, spent_silence}
 use Rattle.link.specs.Procedure.{link_after}
 use Rattle.gateway.specs.Reports.{Setup, address_at}
 
@@ -31,25 +33,48 @@ use Rattle.gateway.specs.Reports.{Setup, address_at}
 -- Whatever is asked of the service that a link holds, it is so of the one without an outcome.
 module _ (holds : Link → Bool) (owes : Option Service → Bool) (down : holds Down ≡ false)
     (available : holds Available ≡ false) (next : (fcb : Bool) → holds (Next fcb) ≡ false)
-    (held : (fcb : Bool) (service : Service) (missed : ℕ)
-    → holds (Held fcb service missed) ≡ true → owes (Some service) ≡ true) where
+    (held : (fcb : Bool) (service : Service) (missed : Silence)
+    → holds (Held fcb service missed) ≡ true → owes (Some service) ≡ true)
+    (alike : (fcb : Bool) (service : Service) (missed more : Silence)
+    → holds (Held fcb service missed) ≡ holds (Held fcb service more)) where
   neither : (b : Bool) → b ≡ false → b ≡ true → ⊥
   neither b off on = let wrong : false ≡ true = sym off ∙ on in cc
 
   silence : (s : LinkSettings) (fcb : Bool) (service : Service) (closed : Bool) (link : Link)
       → holds (after_silence s (Counted fcb service) closed link) ≡ true
       → owes (Some service) ≡ true
-  silence s fcb service false link e = held fcb service (missed_so_far link) e
+  silence s fcb service false link e = held fcb service (silence_so_far link) e
   silence s fcb service true link e =
-      go (nat_lt s.retries (suc (missed_so_far link))) s.hold e
+      go (nat_lt s.retries (suc (missed_so_far link))) (is_kept s (probed_so_far link)) e
     where
-      go : (b hold : Bool)
-          → holds (if b then (if hold then Held fcb service (suc s.retries) else Down)
-          else Held fcb service (suc (missed_so_far link))) ≡ true
+      go : (b kept : Bool)
+          → holds (if b
+          then (if kept then Held fcb service (spent_silence s (probed_so_far link)) else Down)
+          else Held fcb service (short_silence (suc (missed_so_far link)) (probed_so_far link)))
+          ≡ true
           → owes (Some service) ≡ true
-      go false hold e = held fcb service (suc (missed_so_far link)) e
-      go true true e = held fcb service (suc s.retries) e
+      go false kept e =
+          held fcb service (short_silence (suc (missed_so_far link)) (probed_so_far link)) e
+      go true true e = held fcb service (spent_silence s (probed_so_far link)) e
       go true false e = absurd (neither (holds Down) down e)
+
+  silent : (s : LinkSettings) (closed : Bool) (link : Link) (pending : Option Service)
+      → (holds link ≡ true → owes pending ≡ true)
+      → holds (after_silence s Status closed link) ≡ true → owes pending ≡ true
+  silent s closed Down pending so e = absurd (neither (holds Down) down e)
+  silent s closed Available pending so e = absurd (neither (holds Down) down e)
+  silent s closed (Next fcb) pending so e = absurd (neither (holds Down) down e)
+  silent s closed (Held fcb service missed) pending so e =
+      so (alike fcb service missed (spent_silence s Never) ∙ e)
+
+  ready : (s : LinkSettings) (closed : Bool) (link : Link) (pending : Option Service)
+      → (holds link ≡ true → owes pending ≡ true)
+      → holds (after_answer Status Ready link) ≡ true → owes pending ≡ true
+  ready s closed Down pending so e = absurd (neither (holds Available) available e)
+  ready s closed Available pending so e = absurd (neither (holds Available) available e)
+  ready s closed (Next fcb) pending so e = absurd (neither (holds Available) available e)
+  ready s closed (Held fcb service missed) pending so e =
+      so (alike fcb service missed (short_silence 0 (once_more missed.probed)) ∙ e)
 
   outcome : (s : LinkSettings) (request : Asked) (m : Option Answer) (closed : Bool) (link : Link)
       (pending : Option Service) → (holds link ≡ true → owes pending ≡ true)
@@ -57,10 +82,9 @@ module _ (holds : Link → Bool) (owes : Option Service → Bool) (down : holds 
       → owes (pending_by request m pending) ≡ true
   outcome s (Counted fcb service) None closed link pending so e =
       silence s fcb service closed link e
-  outcome s Status None closed link pending so e = absurd (neither (holds Down) down e)
+  outcome s Status None closed link pending so e = silent s closed link pending so e
   outcome s Reset None closed link pending so e = absurd (neither (holds Down) down e)
-  outcome s Status (Some Ready) closed link pending so e =
-      absurd (neither (holds Available) available e)
+  outcome s Status (Some Ready) closed link pending so e = ready s closed link pending so e
   outcome s Status (Some Confirmed) closed link pending so e = so e
   outcome s Status (Some Busy) closed link pending so e = so e
   outcome s Status (Some (Report asdu)) closed link pending so e = so e
@@ -110,17 +134,29 @@ module _ (holds : Link → Bool) (owes : Option Service → Bool) (down : holds 
       → holds (link_after s a Down xs) ≡ true → owes (pending_after a None xs) ≡ true
   owed_then s a xs e = owed s a Down None xs (λ h. absurd (neither (holds Down) down h)) e
 
-command_owed : (fcb : Bool) (service : Service) (missed : ℕ)
+command_owed : (fcb : Bool) (service : Service) (missed : Silence)
     → holds_command (Held fcb service missed) ≡ true → is_command_pending (Some service) ≡ true
 command_owed fcb Class1 missed e = cc
 command_owed fcb Class2 missed e = cc
 command_owed fcb (Command asdu) missed e = refl
 
-poll_owed : (fcb : Bool) (service : Service) (missed : ℕ)
+poll_owed : (fcb : Bool) (service : Service) (missed : Silence)
     → holds_poll (Held fcb service missed) ≡ true → is_gap (Some service) ≡ true
 poll_owed fcb Class1 missed e = refl
 poll_owed fcb Class2 missed e = refl
 poll_owed fcb (Command asdu) missed e = cc
+
+command_alike : (fcb : Bool) (service : Service) (missed more : Silence)
+    → holds_command (Held fcb service missed) ≡ holds_command (Held fcb service more)
+command_alike fcb Class1 missed more = refl
+command_alike fcb Class2 missed more = refl
+command_alike fcb (Command asdu) missed more = refl
+
+poll_alike : (fcb : Bool) (service : Service) (missed more : Silence)
+    → holds_poll (Held fcb service missed) ≡ holds_poll (Held fcb service more)
+poll_alike fcb Class1 missed more = refl
+poll_alike fcb Class2 missed more = refl
+poll_alike fcb (Command asdu) missed more = refl
 
 poll_is : (o : Option Service) → is_gap o ≡ true → (o ≡ Some Class1) ⊎ (o ≡ Some Class2)
 poll_is None e = cc
@@ -132,7 +168,7 @@ pub polls_owed : (s : LinkSettings) (a : ℕ) (xs : List Exchange)
     → holds_poll (link_after s a Down xs) ≡ true
     → (pending_after a None xs ≡ Some Class1) ⊎ (pending_after a None xs ≡ Some Class2)
 polls_owed s a xs e = poll_is (pending_after a None xs)
-    (owed_then holds_poll is_gap refl refl (λ fcb. refl) poll_owed s a xs e)
+    (owed_then holds_poll is_gap refl refl (λ fcb. refl) poll_owed poll_alike s a xs e)
 
 no_command : (o : Option Service) → ((asdu : List ℕ) → o ≡ Some (Command asdu) → ⊥)
     → is_command_pending o ≡ false
@@ -151,7 +187,8 @@ holds_none s a xs free = go (holds_command (link_after s a Down xs)) refl
     go false e = e
     go true e =
         let wrong : false ≡ true = sym free
-        ∙ owed_then holds_command is_command_pending refl refl (λ fcb. refl) command_owed s a xs e
+        ∙ owed_then holds_command is_command_pending refl refl (λ fcb. refl) command_owed
+        command_alike s a xs e
         in cc
 
 -- ---- A restart

@@ -16,15 +16,16 @@ use Rattle.link.specs.declared.procedure.Link.{Link}
 use Rattle.link.specs.declared.procedure.Link.TheVariants.{Down, Available, Next, Held}
 use Rattle.link.specs.Exchanges.{Exchange, answer_to}
 use Rattle.link.specs.declared.settings.LinkSettings.{LinkSettings}
-use Rattle.link.specs.Procedure.{MaySend, is_held, is_up, after_silence}
+use Rattle.link.specs.Procedure.{MaySend, is_held, is_up, after_silence, Silence, Probed, held}
+use Rattle.link.specs.Procedure.{is_kept, short_silence, spent_silence}
 use Rattle.link.specs.Runs.{silence_outcome}
 use Rattle.link.specs.Primary.{is_command}
 use Rattle.link.specs.Delivery.{pending_by, pending_after, first_sending}
 use Rattle.command.specs.History.{History, Sent, GivenUp}
 use Rattle.delivery.specs.Commands.{LineStep, Begun, said_of, is_silent, goes_down, steps_in}
-use Rattle.delivery.specs.Commands.{first_sendings, last_sent, steps_logged, sent_to}
+use Rattle.delivery.specs.Commands.{first_sendings, last_sent, steps_logged, sent_to, unmissed}
 use Rattle.delivery.proofs.Steps.{pending_more, missed_after, steps_more, sendings_more, Pends}
-use Rattle.delivery.proofs.Steps.{none_said, no_first, Counts, so_far, still_up}
+use Rattle.delivery.proofs.Steps.{none_said, no_first, Counts, CountsSilence, so_far, still_up}
 use Rattle.delivery.proofs.History.{LineLogged, line_logged}
 use Rattle.delivery.proofs.Exchanging.{IsLogged, lost_if, quiet_logged, lost_logged, here_is}
 use Rattle.delivery.proofs.Exchanging.{lost_far, sent_far}
@@ -52,11 +53,11 @@ module _ (s : LinkSettings) (a k : ℕ) (xs : List Exchange) (request : Asked)
 
   asked_steps : (first : List (List ℕ)) → answer_to a new_one ≡ None
       → first_sending (pending_after a None xs) request ≡ first
-      → steps_in s a 0 None (xs ++ new_one ∷ []) ≡ steps_in s a 0 None xs
+      → steps_in s a unmissed None (xs ++ new_one ∷ []) ≡ steps_in s a unmissed None xs
       ++ map (λ (asdu : List ℕ). Begun asdu) first
   asked_steps first none is =
-      let missed : ℕ = missed_after a 0 xs in
-      let old : List LineStep = steps_in s a 0 None xs in
+      let missed : Silence = missed_after a unmissed xs in
+      let old : List LineStep = steps_in s a unmissed None xs in
       steps_more s a 0 None xs new_one
       ∙ ap (λ (o : Option Answer). old
       ++ (map (λ (asdu : List ℕ). Begun asdu) (first_sending (pending_after a None xs) request)
@@ -89,7 +90,7 @@ module _ (s : LinkSettings) (a k : ℕ) (xs : List Exchange) (request : Asked)
       → IsLogged s a (xs ++ new_one ∷ []) k new
   again_logged h new none nothing back same t = record {
     steps = ap (λ (l : LineLogged). l.steps) same ∙ t.steps
-        ∙ sym (append-nil (steps_in s a 0 None xs))
+        ∙ sym (append-nil (steps_in s a unmissed None xs))
         ∙ sym (asked_steps [] none nothing);
     last = λ asdu e. ap (λ (l : LineLogged). l.last) same
         ∙ t.last asdu (back asdu (sym (asked_pending none) ∙ e));
@@ -181,7 +182,7 @@ logged_due other h = h
 abbrev down_if : ℕ → Bool → Outcome
 down_if j b = if b then outcome.Down j else outcome.None
 
-held_goes : (fcb : Bool) (service : Service) (n m : ℕ) (b c : Bool)
+held_goes : (fcb : Bool) (service : Service) (n m : Silence) (b c : Bool)
     → not (is_up (if b then (if c then Held fcb service n else Down) else Held fcb service m))
     ≡ (not c && b)
 held_goes fcb service n m true true = refl
@@ -189,12 +190,24 @@ held_goes fcb service n m true false = refl
 held_goes fcb service n m false true = refl
 held_goes fcb service n m false false = refl
 
-same_silence : (hold : Bool) (retries n m : ℕ) → (hold ≡ false → n ≡ m)
-    → (not hold && nat_lt retries (suc m)) ≡ (not hold && nat_lt retries (suc n))
+same_silence : (kept : Bool) (retries n m : ℕ) → (kept ≡ false → n ≡ m)
+    → (not kept && nat_lt retries (suc m)) ≡ (not kept && nat_lt retries (suc n))
 same_silence true retries n m same = refl
 same_silence false retries n m same = ap (λ (i : ℕ). nat_lt retries (suc i)) (sym (same refl))
 
-pub silence_is : (s : LinkSettings) (j : ℕ) (request : Asked) (link : Link) (n : ℕ)
+-- one more sending of a service without an answer
+missed_is : (s : LinkSettings) (fcb : Bool) (service : Service) (n silence : Silence)
+    → CountsSilence s silence n
+    → not (is_up (held s fcb service (suc silence.missed) silence.probed))
+    ≡ is_silent s n (Counted fcb service) true
+missed_is s fcb service n silence c =
+    held_goes fcb service (spent_silence s silence.probed)
+    (short_silence (suc silence.missed) silence.probed) (nat_lt s.retries (suc silence.missed))
+    (is_kept s silence.probed)
+    ∙ same_silence (is_kept s silence.probed) s.retries n.missed silence.missed c.1.0
+    ∙ ap (λ (probed : Probed). not (is_kept s probed) && nat_lt s.retries (suc n.missed)) (sym c.0)
+
+pub silence_is : (s : LinkSettings) (j : ℕ) (request : Asked) (link : Link) (n : Silence)
     → MaySend link request
     → Counts s link n →
     silence_outcome j link (after_silence s request true link)
@@ -202,7 +215,7 @@ pub silence_is : (s : LinkSettings) (j : ℕ) (request : Asked) (link : Link) (n
 silence_is s j Status Down n may c = refl
 silence_is s j Status Available n may c = refl
 silence_is s j Status (Next fcb) n may c = absurd may
-silence_is s j Status (Held fcb service missed) n may c = absurd may
+silence_is s j Status (Held fcb service missed) n may c = refl
 silence_is s j Reset Down n may c = refl
 silence_is s j Reset Available n may c = refl
 silence_is s j Reset (Next fcb) n may c = absurd may
@@ -210,12 +223,11 @@ silence_is s j Reset (Held fcb service missed) n may c = absurd may
 silence_is s j (Counted fcb service) Down n may c = absurd may
 silence_is s j (Counted fcb service) Available n may c = absurd may
 silence_is s j (Counted fcb service) (Next due) n may c =
-    ap (down_if j) (held_goes fcb service (suc s.retries) 1 (nat_lt s.retries 1) s.hold
-    ∙ same_silence s.hold s.retries n 0 (so_far s (Next due) fcb service n may c))
-silence_is s j (Counted fcb service) (Held due other missed) n may c =
-    ap (down_if j) (held_goes fcb service (suc s.retries) (suc missed)
-    (nat_lt s.retries (suc missed)) s.hold
-    ∙ same_silence s.hold s.retries n missed (so_far s (Held due other missed) fcb service n may c))
+    ap (down_if j) (missed_is s fcb service n unmissed
+    (so_far s (Next due) fcb service n may c))
+silence_is s j (Counted fcb service) (Held due other silence) n may c =
+    ap (down_if j) (missed_is s fcb service n silence
+    (so_far s (Held due other silence) fcb service n may c))
 
 pub closed_one : (s : LinkSettings) (a k : ℕ) (xs : List Exchange) (request : Asked)
     (front : Option Frame)
@@ -223,7 +235,7 @@ pub closed_one : (s : LinkSettings) (a k : ℕ) (xs : List Exchange) (request : 
     answer_to a (record { request = request; front = front; closed = false; given_up = false })
     ≡ None
     → MaySend link request
-    → Counts s link (missed_after a 0 xs) →
+    → Counts s link (missed_after a unmissed xs) →
     line_logged k new
     ≡ line_logged k (logged_due (silence_outcome k link (after_silence s request true link)) h) →
     IsLogged s a (xs ++ record {
@@ -243,18 +255,18 @@ pub closed_one : (s : LinkSettings) (a k : ℕ) (xs : List Exchange) (request : 
     }
     ∷ []) k new
 closed_one s a k xs request front link h new none may counts same t =
-    go (is_silent s (missed_after a 0 xs) request true) refl (same
+    go (is_silent s (missed_after a unmissed xs) request true) refl (same
     ∙ ap (λ (o : Outcome). line_logged k (logged_due o h))
-    (silence_is s k request link (missed_after a 0 xs) may counts))
+    (silence_is s k request link (missed_after a unmissed xs) may counts))
   where
-    says : (b : Bool) → is_silent s (missed_after a 0 xs) request true ≡ b
-        → said_of request None ++ lost_if (is_silent s (missed_after a 0 xs) request true)
+    says : (b : Bool) → is_silent s (missed_after a unmissed xs) request true ≡ b
+        → said_of request None ++ lost_if (is_silent s (missed_after a unmissed xs) request true)
         ≡ lost_if b
     says b is =
-        ap (λ (l : List LineStep). l ++ lost_if (is_silent s (missed_after a 0 xs) request true))
+        ap (λ (l : List LineStep). l ++ lost_if (is_silent s (missed_after a unmissed xs) request true))
         (none_said request) ∙ ap lost_if is
 
-    go : (b : Bool) → is_silent s (missed_after a 0 xs) request true ≡ b
+    go : (b : Bool) → is_silent s (missed_after a unmissed xs) request true ≡ b
         → line_logged k new ≡ line_logged k (logged_due (down_if k b) h)
         → IsLogged s a (xs ++ record {
           request = request;

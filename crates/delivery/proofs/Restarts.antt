@@ -21,6 +21,8 @@ use Rattle.link.specs.Carried.{given_up_upto, commands_given_up}
 use Rattle.link.specs.Exchanges.{Exchange, Exchanges, answer_to, given_up_at}
 use Rattle.link.specs.Marks.{latest_given_up}
 use Rattle.link.specs.Procedure.{MaySend, KeepsFrameCountBit, holds_command, missed_so_far}
+use Rattle.link.specs.Procedure.{Silence, Probed, is_kept, probed_so_far, short_silence}
+use Rattle.link.specs.Procedure.{silence_so_far, spent_silence}
 use Rattle.link.specs.Procedure.{after_silence, after_outcome, after, link_after}
 use Rattle.link.specs.Delivery.{pending_by, pending_after, first_sending}
 use Rattle.link.specs.Matching.{Matches}
@@ -35,7 +37,7 @@ use Rattle.delivery.specs.Commands.{steps_at, steps_in, first_sendings, steps_lo
 use Rattle.delivery.specs.Joined.{mirrored_in}
 use Rattle.gateway.proofs.Waiting.{AnswersStay}
 use Rattle.delivery.proofs.History.{LineLogged, line_logged, WaitsFit, one_fits}
-use Rattle.delivery.proofs.Steps.{Counts, so_far, counts}
+use Rattle.delivery.proofs.Steps.{Counts, CountsSilence, so_far, counts}
 use Rattle.delivery.proofs.Exchanging.{exchanges_at, IsLogged, stays_logged, lost_if, lost_far}
 use Rattle.delivery.proofs.Exchanging.{here_is}
 use Rattle.delivery.specs.LinkLaws.{LinkLaws}
@@ -45,32 +47,39 @@ use Rattle.delivery.proofs.Skipping.{lost_skips}
 
 -- A link that holds a service after a silence hasn't gone down by it.
 silence_holds : (s : LinkSettings) (fcb : Bool) (service : Service) (closed : Bool) (link : Link)
-    (n : ℕ) → MaySend link (Counted fcb service) → Counts s link n
+    (n : Silence) → MaySend link (Counted fcb service) → Counts s link n
     → holds_command (after_silence s (Counted fcb service) closed link) ≡ true
     → is_silent s n (Counted fcb service) closed ≡ false
 silence_holds s fcb service false link n may c holds = refl
 silence_holds s fcb service true link n may c holds =
-    go (nat_lt s.retries (suc (missed_so_far link))) s.hold refl refl holds
+    ap (λ (probed : Probed). not (is_kept s probed) && nat_lt s.retries (suc n.missed)) so.0
+    ∙ go (nat_lt s.retries (suc (missed_so_far link))) (is_kept s (probed_so_far link)) refl refl
+    holds
   where
-    go : (b hold : Bool) → nat_lt s.retries (suc (missed_so_far link)) ≡ b → s.hold ≡ hold
+    so : CountsSilence s (silence_so_far link) n
+    so = so_far s link fcb service n may c
+
+    go : (b kept : Bool) → nat_lt s.retries (suc (missed_so_far link)) ≡ b
+        → is_kept s (probed_so_far link) ≡ kept
         → holds_command
-        (if b then (if hold then Held fcb service (suc s.retries) else Down)
-        else Held fcb service (suc (missed_so_far link))) ≡ true
-        → (not s.hold && nat_lt s.retries (suc n)) ≡ false
+        (if b
+        then (if kept then Held fcb service (spent_silence s (probed_so_far link)) else Down)
+        else Held fcb service (short_silence (suc (missed_so_far link)) (probed_so_far link))) ≡ true
+        → (not (is_kept s (probed_so_far link)) && nat_lt s.retries (suc n.missed)) ≡ false
     go b true less is holds =
-        ap (λ (h : Bool). not h && nat_lt s.retries (suc n)) is
+        ap (λ (h : Bool). not h && nat_lt s.retries (suc n.missed)) is
     go true false less is holds = cc
     go false false less is holds =
-        ap (λ (h : Bool). not h && nat_lt s.retries (suc n)) is
-        ∙ ap (λ (m : ℕ). nat_lt s.retries (suc m)) (so_far s link fcb service n may c is) ∙ less
+        ap (λ (h : Bool). not h && nat_lt s.retries (suc n.missed)) is
+        ∙ ap (λ (m : ℕ). nat_lt s.retries (suc m)) (so.1.0 is) ∙ less
 
 outcome_holds : (s : LinkSettings) (request : Asked) (m : Option Answer) (closed : Bool)
-    (link : Link) (n : ℕ) → MaySend link request → Counts s link n
+    (link : Link) (n : Silence) → MaySend link request → Counts s link n
     → holds_command (after_outcome s m request closed link) ≡ true
     → goes_down s n request closed m ≡ false
 outcome_holds s (Counted fcb service) None closed link n may c holds =
     silence_holds s fcb service closed link n may c holds
-outcome_holds s Status None closed link n may c holds = cc
+outcome_holds s Status None closed link n may c holds = refl
 outcome_holds s Reset None closed link n may c holds = cc
 outcome_holds s request (Some Ready) closed link n may c holds = refl
 outcome_holds s request (Some Confirmed) closed link n may c holds = refl
@@ -84,7 +93,7 @@ outcome_holds s Reset (Some Unable) closed Down n may c holds = absurd may
 outcome_holds s Reset (Some Unable) closed (Next fcb) n may c holds = absurd may
 outcome_holds s Reset (Some Unable) closed (Held fcb service missed) n may c holds = absurd may
 
-exchange_holds : (s : LinkSettings) (a : ℕ) (x : Exchange) (link : Link) (n : ℕ)
+exchange_holds : (s : LinkSettings) (a : ℕ) (x : Exchange) (link : Link) (n : Silence)
     → MaySend link x.request → Counts s link n → holds_command (after s a x link) ≡ true
     → (x.given_up || goes_down s n x.request x.closed (answer_to a x)) ≡ false
 exchange_holds s a x link n may c holds = go x.given_up holds
@@ -97,7 +106,7 @@ exchange_holds s a x link n may c holds = go x.given_up holds
     go false holds = outcome_holds s x.request (answer_to a x) x.closed link n may c holds
 
 -- Where its latest exchange leaves a command held, giving up the link is one step more.
-steps_given : (s : LinkSettings) (a : ℕ) (link : Link) (missed : ℕ) (pending : Option Service)
+steps_given : (s : LinkSettings) (a : ℕ) (link : Link) (missed : Silence) (pending : Option Service)
     (xs : List Exchange) → KeepsFrameCountBit s a link xs → Counts s link missed
     → (xs ≡ [] → ⊥) → holds_command (link_after s a link xs) ≡ true
     → steps_in s a missed pending (latest_given_up xs) ≡ steps_in s a missed pending xs ++ Lost ∷ []
@@ -116,7 +125,7 @@ steps_given s a link missed pending (x ∷ []) keeps c some holds =
 steps_given s a link missed pending (x ∷ (y ∷ ys)) keeps c some holds =
     let now : List LineStep = steps_at s a missed pending x in
     let later : Option Service = pending_by x.request (answer_to a x) pending in
-    let more : ℕ = missed_by x.request x.closed (answer_to a x) missed in
+    let more : Silence = missed_by x.request x.closed (answer_to a x) missed in
     ap (λ (l : List LineStep). now ++ l)
     (steps_given s a (after s a x link) more later (y ∷ ys) keeps.1
     (counts s a link missed (x ∷ []) (keeps.0, tt) c) (λ e. cc) holds)

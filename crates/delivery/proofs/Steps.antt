@@ -1,7 +1,7 @@
 -- How the steps of commands grow with the exchanges of a station.
 use Rattle.std.proofs.Common.{◌≡◌, ℕ, suc, Bool, true, false, List, [], ◌∷◌, ◌++◌, Option, Some}
 use Rattle.std.proofs.Common.{None, refl, ap, sym, ◌∙◌, append_assoc, nat_lt, if◌then◌else◌}
-use Rattle.std.specs.Prelude.{◌==◌, ◌%◌, ◌||◌, ◌&&◌, option_and_then}
+use Rattle.std.specs.Prelude.{◌==◌, ◌%◌, ◌||◌, ◌&&◌, not, option_and_then}
 use Rattle.std.proofs.lemmas.List.{append-nil}
 use Rattle.ft12.specs.declared.frame.Frame.{Frame}
 use Rattle.ft12.specs.declared.frame.Frame.TheVariants.{Single, Fixed, Data}
@@ -19,9 +19,12 @@ use Rattle.link.specs.Answers.{unable_answer, code_answer, single_answer, data_a
 use Rattle.link.specs.Answers.{answer_of}
 use Rattle.link.specs.Exchanges.{Exchange, answer_to}
 use Rattle.link.specs.Procedure.{held, after, after_outcome, after_silence, link_after}
-use Rattle.link.specs.Procedure.{missed_so_far, MaySend, KeepsFrameCountBit}
+use Rattle.link.specs.Procedure.{missed_so_far, probed_so_far, silence_so_far, MaySend}
+use Rattle.link.specs.Procedure.{KeepsFrameCountBit, Silence, Probed, Never, is_kept, is_twice}
+use Rattle.link.specs.Procedure.{once_more, short_silence, spent_silence}
 use Rattle.link.specs.Delivery.{pending_by, pending_after, first_sending}
 use Rattle.delivery.specs.Commands.{LineStep, said_of, missed_by, goes_down, steps_at, steps_in}
+use Rattle.delivery.specs.Commands.{unmissed}
 use Rattle.delivery.specs.Commands.{first_sendings}
 
 -- One more exchange
@@ -34,18 +37,19 @@ pending_more a pending (y ∷ xs) x = pending_more a (pending_by y.request (answ
     x
 
 -- how often in a row a counted request had no answer in time, after these exchanges
-abbrev pub missed_after : ℕ → ℕ → List Exchange → ℕ
+abbrev pub missed_after : ℕ → Silence → List Exchange → Silence
 missed_after a missed [] = missed
 missed_after a missed (x ∷ xs) =
     missed_after a (missed_by x.request x.closed (answer_to a x) missed) xs
 
-pub steps_more : (s : LinkSettings) (a missed : ℕ) (pending : Option Service) (xs : List Exchange)
+pub steps_more : (s : LinkSettings) (a : ℕ) (missed : Silence) (pending : Option Service)
+    (xs : List Exchange)
     (x : Exchange) →
     steps_in s a missed pending (xs ++ x ∷ []) ≡ steps_in s a missed pending xs
     ++ steps_at s a (missed_after a missed xs) (pending_after a pending xs) x
 steps_more s a missed pending [] x = append-nil (steps_at s a missed pending x)
 steps_more s a missed pending (y ∷ xs) x =
-    let missed_then : ℕ = missed_by y.request y.closed (answer_to a y) missed in
+    let missed_then : Silence = missed_by y.request y.closed (answer_to a y) missed in
     ap (λ (l : List LineStep). steps_at s a missed pending y ++ l)
     (steps_more s a missed_then (pending_by y.request (answer_to a y) pending) xs x)
     ∙ sym (append_assoc (steps_at s a missed pending y)
@@ -91,12 +95,13 @@ Pends (Next fcb) pending = pending ≡ None
 Pends (Held fcb service missed) pending = pending ≡ Some service
 
 held_pends : (settings : LinkSettings) (fcb : Bool) (service : Service) (missed : ℕ)
-    → Pends (held settings fcb service missed) (Some service)
-held_pends settings fcb service missed = by_repeats (nat_lt settings.retries missed) settings.hold
+    (probed : Probed) → Pends (held settings fcb service missed probed) (Some service)
+held_pends settings fcb service missed probed =
+    by_repeats (nat_lt settings.retries missed) (is_kept settings probed)
   where
     by_repeats : (b c : Bool)
-        → Pends (if b then (if c then Held fcb service (suc settings.retries) else Down)
-        else Held fcb service missed)
+        → Pends (if b then (if c then Held fcb service (spent_silence settings probed) else Down)
+        else Held fcb service (short_silence missed probed))
         (Some service)
     by_repeats true true = refl
     by_repeats true false = tt
@@ -106,7 +111,7 @@ silent_pends : (settings : LinkSettings) (fcb : Bool) (service : Service) (close
     (link : Link)
     → Pends (after_silence settings (Counted fcb service) closed link) (Some service)
 silent_pends settings fcb service true link =
-    held_pends settings fcb service (suc (missed_so_far link))
+    held_pends settings fcb service (suc (missed_so_far link)) (probed_so_far link)
 silent_pends settings fcb service false link = refl
 
 counted_pends : (settings : LinkSettings) (fcb : Bool) (service : Service) (m : Option Answer)
@@ -136,19 +141,22 @@ down_pends Available pending h = tt
 down_pends (Next fcb) pending h = absurd h
 down_pends (Held fcb service missed) pending h = absurd h
 
-status_pends : (settings : LinkSettings) (m : Option Answer) (front : Option Frame) (closed : Bool)
-    (link : Link)
-    (pending : Option Service) → IsDown link →
-    Pends (after_outcome settings m Status closed
-    link)
-    (pending_by Status m pending)
-status_pends settings None front closed link pending h = tt
-status_pends settings (Some Ready) front closed link pending h = tt
-status_pends settings (Some Confirmed) front closed link pending h = down_pends link pending h
-status_pends settings (Some Busy) front closed link pending h = down_pends link pending h
-status_pends settings (Some (Report asdu)) front closed link pending h = down_pends link pending h
-status_pends settings (Some NoData) front closed link pending h = down_pends link pending h
-status_pends settings (Some Unable) front closed link pending h = tt
+status_pends : (settings : LinkSettings) (m : Option Answer) (closed : Bool) (link : Link)
+    (pending : Option Service) → MaySend link Status → Pends link pending →
+    Pends (after_outcome settings m Status closed link) (pending_by Status m pending)
+status_pends settings None closed Down pending may p = tt
+status_pends settings None closed Available pending may p = tt
+status_pends settings None closed (Next fcb) pending may p = absurd may
+status_pends settings None closed (Held fcb service missed) pending may p = p
+status_pends settings (Some Ready) closed Down pending may p = tt
+status_pends settings (Some Ready) closed Available pending may p = tt
+status_pends settings (Some Ready) closed (Next fcb) pending may p = absurd may
+status_pends settings (Some Ready) closed (Held fcb service missed) pending may p = p
+status_pends settings (Some Confirmed) closed link pending may p = p
+status_pends settings (Some Busy) closed link pending may p = p
+status_pends settings (Some (Report asdu)) closed link pending may p = p
+status_pends settings (Some NoData) closed link pending may p = p
+status_pends settings (Some Unable) closed link pending may p = tt
 
 reset_pends : (settings : LinkSettings) (m : Option Answer) (front : Option Frame) (closed : Bool)
     (link : Link)
@@ -164,12 +172,6 @@ reset_pends settings (Some (Report asdu)) front closed link pending h = down_pen
 reset_pends settings (Some NoData) front closed link pending h = down_pends link pending h
 reset_pends settings (Some Unable) front closed link pending h = down_pends link pending h
 
-may_status : (link : Link) → MaySend link Status → IsDown link
-may_status Down h = tt
-may_status Available h = tt
-may_status (Next fcb) h = h
-may_status (Held fcb service missed) h = h
-
 may_reset : (link : Link) → MaySend link Reset → IsDown link
 may_reset Down h = tt
 may_reset Available h = tt
@@ -178,15 +180,15 @@ may_reset (Held fcb service missed) h = h
 
 one_pends : (settings : LinkSettings) (request : Asked) (m : Option Answer) (front : Option Frame)
     (closed : Bool)
-    (link : Link) (pending : Option Service) → MaySend link request →
+    (link : Link) (pending : Option Service) → MaySend link request → Pends link pending →
     Pends (after_outcome settings m request closed
     link)
     (pending_by request m pending)
-one_pends settings Status m front closed link pending h =
-    status_pends settings m front closed link pending (may_status link h)
-one_pends settings Reset m front closed link pending h =
+one_pends settings Status m front closed link pending h p =
+    status_pends settings m closed link pending h p
+one_pends settings Reset m front closed link pending h p =
     reset_pends settings m front closed link pending (may_reset link h)
-one_pends settings (Counted fcb service) m front closed link pending h =
+one_pends settings (Counted fcb service) m front closed link pending h p =
     counted_pends settings fcb service m front closed link pending
 
 pub pends : (settings : LinkSettings) (a : ℕ) (link : Link) (pending : Option Service)
@@ -197,7 +199,7 @@ pends settings a link pending [] h p = p
 pends settings a link pending (x ∷ xs) h p =
     pends settings a (after settings a x link) (pending_by x.request (answer_to a x) pending) xs h.1
     (by_mark (λ (l : Link). Pends l (pending_by x.request (answer_to a x) pending)) x.given_up _
-    (one_pends settings x.request (answer_to a x) x.front x.closed link pending h.0) tt)
+    (one_pends settings x.request (answer_to a x) x.front x.closed link pending h.0 p) tt)
 
 -- What an answer says
 
@@ -299,68 +301,109 @@ no_first (Some service) request h = refl
 -- be reset
 -- by silence.
 
-abbrev pub Counts : LinkSettings → Link → ℕ → Type 0
+abbrev pub CountsSilence : LinkSettings → Silence → Silence → Type 0
+CountsSilence s silence n =
+    (n.probed ≡ silence.probed)
+    × ((is_kept s silence.probed ≡ false → n.missed ≡ silence.missed)
+    × (silence.spent ≡ true → s.hold ≡ true))
+
+abbrev pub Counts : LinkSettings → Link → Silence → Type 0
 Counts s Down n = Unit {0}
 Counts s Available n = Unit {0}
-Counts s (Next fcb) n = n ≡ 0
-Counts s (Held fcb service missed) n = s.hold ≡ false → n ≡ missed
+Counts s (Next fcb) n = n ≡ unmissed
+Counts s (Held fcb service silence) n = CountsSilence s silence n
+
+none_missed : (s : LinkSettings) (n : Silence) → n ≡ unmissed → CountsSilence s unmissed n
+none_missed s n is = (
+  ap (λ (m : Silence). m.probed) is,
+  (λ gone. ap (λ (m : Silence). m.missed) is),
+  λ spent. cc,
+)
 
 -- before another sending of a counted request
-pub so_far : (s : LinkSettings) (link : Link) (fcb : Bool) (service : Service) (n : ℕ)
-    → MaySend link (Counted fcb service) → Counts s link n → s.hold ≡ false → n ≡ missed_so_far link
-so_far s Down fcb service n may c h = absurd may
-so_far s Available fcb service n may c h = absurd may
-so_far s (Next due) fcb service n may c h = c
-so_far s (Held due held missed) fcb service n may c h = c h
+pub so_far : (s : LinkSettings) (link : Link) (fcb : Bool) (service : Service) (n : Silence)
+    → MaySend link (Counted fcb service) → Counts s link n
+    → CountsSilence s (silence_so_far link) n
+so_far s Down fcb service n may c = absurd may
+so_far s Available fcb service n may c = absurd may
+so_far s (Next due) fcb service n may c = none_missed s n c
+so_far s (Held due held silence) fcb service n may c = c
 
-held_counts : (s : LinkSettings) (fcb : Bool) (service : Service) (n missed : ℕ)
-    → (s.hold ≡ false → n ≡ missed)
-    → Counts s (held s fcb service missed) n
-held_counts s fcb service n missed same = by_repeats (nat_lt s.retries missed) s.hold refl
+kept_holds : (hold twice : Bool) → (hold && twice) ≡ true → hold ≡ true
+kept_holds true twice e = refl
+kept_holds false twice e = cc
+
+held_counts : (s : LinkSettings) (fcb : Bool) (service : Service) (n : Silence) (missed : ℕ)
+    (probed : Probed) → n.probed ≡ probed
+    → (is_kept s probed ≡ false → n.missed ≡ missed)
+    → Counts s (held s fcb service missed probed) n
+held_counts s fcb service n missed probed alike same =
+    by_repeats (nat_lt s.retries missed) (is_kept s probed) refl
   where
-    by_repeats : (b c : Bool) → s.hold ≡ c
-        → Counts s (if b then (if c then Held fcb service (suc s.retries) else Down)
-        else Held fcb service missed) n
-    by_repeats true true is = λ no. let e : true ≡ false = sym is ∙ no in cc
+    by_repeats : (b c : Bool) → is_kept s probed ≡ c
+        → Counts s (if b then (if c then Held fcb service (spent_silence s probed) else Down)
+        else Held fcb service (short_silence missed probed)) n
+    by_repeats true true is = (
+      alike,
+      (λ no. let e : true ≡ false = sym is ∙ no in cc),
+      λ spent. kept_holds s.hold (not (is_twice probed)) is,
+    )
     by_repeats true false is = tt
-    by_repeats false c is = same
+    by_repeats false c is = (alike, same, λ spent. cc)
 
-down_counts : (s : LinkSettings) (link : Link) (n : ℕ) → IsDown link → Counts s link n
+down_counts : (s : LinkSettings) (link : Link) (n : Silence) → IsDown link → Counts s link n
 down_counts s Down n h = tt
 down_counts s Available n h = tt
 down_counts s (Next fcb) n h = absurd h
 down_counts s (Held fcb service missed) n h = absurd h
 
+-- with `hold` a service that no status was answered for stays held
+never_gone : (s : LinkSettings) → s.hold ≡ true → is_kept s Never ≡ true
+never_gone s holds = ap (λ (b : Bool). b && true) holds
+
+status_counts : (s : LinkSettings) (m : Option Answer) (closed : Bool) (link : Link) (n : Silence)
+    → MaySend link Status → Counts s link n →
+    Counts s (after_outcome s m Status closed link) (missed_by Status closed m n)
+status_counts s None closed Down n may c = tt
+status_counts s None closed Available n may c = tt
+status_counts s None closed (Next fcb) n may c = absurd may
+status_counts s None closed (Held fcb service silence) n may c = (
+  refl,
+  (λ no. let e : true ≡ false = sym (never_gone s (c.1.1 may)) ∙ no in cc),
+  λ spent. c.1.1 may,
+)
+status_counts s (Some Ready) closed Down n may c = tt
+status_counts s (Some Ready) closed Available n may c = tt
+status_counts s (Some Ready) closed (Next fcb) n may c = absurd may
+status_counts s (Some Ready) closed (Held fcb service silence) n may c =
+    (ap once_more c.0, (λ gone. refl), λ spent. cc)
+status_counts s (Some Confirmed) closed link n may c = c
+status_counts s (Some Busy) closed link n may c = c
+status_counts s (Some (Report asdu)) closed link n may c = c
+status_counts s (Some NoData) closed link n may c = c
+status_counts s (Some Unable) closed link n may c = tt
+
 one_counts : (s : LinkSettings) (request : Asked) (m : Option Answer) (front : Option Frame)
     (closed : Bool)
-    (link : Link) (n : ℕ) → MaySend link request → Counts s link n →
+    (link : Link) (n : Silence) → MaySend link request → Counts s link n →
     Counts s (after_outcome s m request closed link)
     (missed_by request closed m n)
-one_counts s Status None front closed link n may c = tt
-one_counts s Status (Some Ready) front closed link n may c = tt
-one_counts s Status (Some Confirmed) front closed link n may c =
-    down_counts s link 0 (may_status link may)
-one_counts s Status (Some Busy) front closed link n may c =
-    down_counts s link 0 (may_status link may)
-one_counts s Status (Some (Report asdu)) front closed link n may c =
-    down_counts s link 0 (may_status link may)
-one_counts s Status (Some NoData) front closed link n may c =
-    down_counts s link 0 (may_status link may)
-one_counts s Status (Some Unable) front closed link n may c = tt
+one_counts s Status m front closed link n may c = status_counts s m closed link n may c
 one_counts s Reset None front closed link n may c = tt
 one_counts s Reset (Some Ready) front closed link n may c =
-    down_counts s link 0 (may_reset link may)
+    down_counts s link unmissed (may_reset link may)
 one_counts s Reset (Some Confirmed) front closed link n may c = refl
-one_counts s Reset (Some Busy) front closed link n may c = down_counts s link 0 (may_reset link may)
+one_counts s Reset (Some Busy) front closed link n may c = down_counts s link unmissed (may_reset link may)
 one_counts s Reset (Some (Report asdu)) front closed link n may c =
-    down_counts s link 0 (may_reset link may)
+    down_counts s link unmissed (may_reset link may)
 one_counts s Reset (Some NoData) front closed link n may c =
-    down_counts s link 0 (may_reset link may)
+    down_counts s link unmissed (may_reset link may)
 one_counts s Reset (Some Unable) front closed link n may c =
-    down_counts s link 0 (may_reset link may)
+    down_counts s link unmissed (may_reset link may)
 one_counts s (Counted fcb service) None front true link n may c =
-    held_counts s fcb service (suc n) (suc (missed_so_far link))
-    (λ h. ap suc (so_far s link fcb service n may c h))
+    held_counts s fcb service (short_silence (suc n.missed) n.probed) (suc (missed_so_far link))
+    (probed_so_far link) (so_far s link fcb service n may c).0
+    (λ h. ap suc ((so_far s link fcb service n may c).1.0 h))
 one_counts s (Counted fcb service) None front false link n may c = so_far s link fcb service n may c
 one_counts s (Counted fcb service) (Some Ready) front closed link n may c = refl
 one_counts s (Counted fcb service) (Some Confirmed) front closed link n may c = refl
@@ -369,7 +412,7 @@ one_counts s (Counted fcb service) (Some (Report asdu)) front closed link n may 
 one_counts s (Counted fcb service) (Some NoData) front closed link n may c = refl
 one_counts s (Counted fcb service) (Some Unable) front closed link n may c = tt
 
-pub counts : (s : LinkSettings) (a : ℕ) (link : Link) (n : ℕ) (xs : List Exchange)
+pub counts : (s : LinkSettings) (a : ℕ) (link : Link) (n : Silence) (xs : List Exchange)
     → KeepsFrameCountBit s a link xs
     → Counts s link n → Counts s (link_after s a link xs) (missed_after a n xs)
 counts s a link n [] h c = c
@@ -379,14 +422,14 @@ counts s a link n (x ∷ xs) h c =
     _ (one_counts s x.request (answer_to a x) x.front x.closed link n h.0 c) tt)
 
 -- No link goes down where an answer is still awaited.
-pub still_up : (s : LinkSettings) (missed : ℕ) (request : Asked)
+pub still_up : (s : LinkSettings) (missed : Silence) (request : Asked)
     → goes_down s missed request false None ≡ false
 still_up s missed Status = refl
 still_up s missed Reset = refl
 still_up s missed (Counted fcb service) = refl
 
 -- that an answered exchange is over changes nothing
-pub answered_alike : (s : LinkSettings) (missed : ℕ) (request : Asked) (closed over : Bool)
+pub answered_alike : (s : LinkSettings) (missed : Silence) (request : Asked) (closed over : Bool)
     (m : Answer)
     → goes_down s missed request closed (Some m) ≡ goes_down s missed request over (Some m)
 answered_alike s missed request closed over Ready = refl

@@ -15,12 +15,13 @@ use Rattle.apci.specs.declared.apdu.Apdu.TheVariants.{I}
 use Rattle.link.specs.declared.service.Service.{Service}
 use Rattle.link.specs.declared.service.Service.TheVariants.{Command}
 use Rattle.link.specs.declared.service.Asked.{Asked}
-use Rattle.link.specs.declared.service.Asked.TheVariants.{Counted}
+use Rattle.link.specs.declared.service.Asked.TheVariants.{Status, Counted}
 use Rattle.link.specs.declared.answer.Answer.{Answer}
 use Rattle.link.specs.declared.answer.Answer.TheVariants as answer
 use Rattle.link.specs.declared.settings.LinkSettings.{LinkSettings}
 use Rattle.link.specs.Exchanges.{Exchange, answer_to}
 use Rattle.link.specs.Delivery.{first_sending, pending_by}
+use Rattle.link.specs.Procedure.{Silence, Never, is_kept, once_more, short_silence}
 use Rattle.command.specs.Standard.{cause_of_fault, has_tag, is_activation, plain_type}
 use Rattle.command.specs.Standard.{object_address, element_part}
 use Rattle.command.specs.declared.station.StationInfo.{StationInfo}
@@ -42,6 +43,10 @@ pub data LineStep : Type 0 where
 
 -- As the exchanges with a station show it
 
+-- nothing was missed
+abbrev pub unmissed : Silence
+unmissed = short_silence 0 Never
+
 -- what the answer to a request says of the command that it bears
 abbrev pub said_of : Asked → Option Answer → List LineStep
 said_of (Counted fcb (Command asdu)) (Some answer.Confirmed) = Confirmed asdu ∷ []
@@ -49,29 +54,33 @@ said_of (Counted fcb (Command asdu)) (Some answer.Busy) = Busy asdu ∷ []
 said_of request said = []
 
 -- how often in a row a counted request had no answer in time, with this exchange, where it was so
--- often before
-abbrev pub missed_by : Asked → (closed : Bool) → Option Answer → ℕ → ℕ
-missed_by (Counted fcb service) closed None missed = if closed then suc missed else missed
-missed_by request closed said missed = 0
+-- often before; a status that is answered meanwhile makes the count begin anew, and counts itself
+abbrev pub missed_by : Asked → (closed : Bool) → Option Answer → Silence → Silence
+missed_by (Counted fcb service) closed None missed =
+    if closed then short_silence (suc missed.missed) missed.probed else missed
+missed_by Status closed (Some answer.Ready) missed = short_silence 0 (once_more missed.probed)
+missed_by Status closed (Some said) missed = missed
+missed_by request closed said missed = unmissed
 
 -- A counted request had no answer in time, nor had any of its repeats, and then the link is to be
--- reset (profile).
-abbrev pub is_silent : LinkSettings → (missed : ℕ) → Asked → (closed : Bool) → Bool
+-- reset: without `hold`, or because the station answered two statuses meanwhile (profile).
+abbrev pub is_silent : LinkSettings → (missed : Silence) → Asked → (closed : Bool) → Bool
 is_silent settings missed (Counted fcb service) true =
-    not settings.hold && nat_lt settings.retries (suc missed)
+    not (is_kept settings missed.probed) && nat_lt settings.retries (suc missed.missed)
 is_silent settings missed request closed = false
 
 -- The link goes down where the station answers that it can't serve (function 14 or 15), and where
 -- it is silent.
-abbrev pub goes_down : LinkSettings → (missed : ℕ) → Asked → (closed : Bool) → Option Answer → Bool
+abbrev pub goes_down : LinkSettings → (missed : Silence) → Asked → (closed : Bool) →
+    Option Answer → Bool
 goes_down settings missed request closed (Some answer.Unable) = true
 goes_down settings missed request closed (Some said) = false
 goes_down settings missed request closed None = is_silent settings missed request closed
 
 -- an exchange: its command, where it isn't the repeat of an unanswered one, what the answer says of
 -- it, and whether the link goes down; it does, too, where it is given up at a restart
-abbrev pub steps_at : LinkSettings → (station missed : ℕ) → Option Service → Exchange →
-    List LineStep
+abbrev pub steps_at : LinkSettings → (station : ℕ) → (missed : Silence) → Option Service →
+    Exchange → List LineStep
 steps_at settings station missed pending x =
     map (λ asdu. Begun asdu) (first_sending pending x.request)
     ++ (said_of x.request (answer_to station x)
@@ -79,8 +88,8 @@ steps_at settings station missed pending x =
     then Lost ∷ [] else []))
 
 -- exchanges with the station, one after another, the oldest first
-abbrev pub steps_in : LinkSettings → (station missed : ℕ) → Option Service → List Exchange →
-    List LineStep
+abbrev pub steps_in : LinkSettings → (station : ℕ) → (missed : Silence) → Option Service →
+    List Exchange → List LineStep
 steps_in settings station missed pending [] = []
 steps_in settings station missed pending (x ∷ xs) =
     steps_at settings station missed pending x

@@ -10,7 +10,7 @@ use Rattle.gateway.specs.Course.{Course, HasTakenAll, Runs}
 use Rattle.gateway.specs.Config.{Settings}
 use Rattle.gateway.specs.State.{State}
 use Rattle.gateway.specs.Unchanged.{IsUnchanged}
-use Rattle.delivery.specs.Commands.{LineStep, Begun, Confirmed, Busy, Lost, steps_in}
+use Rattle.delivery.specs.Commands.{LineStep, Begun, Confirmed, Busy, Lost, steps_in, unmissed}
 use Rattle.delivery.specs.Joined.{command_reports}
 
 -- ---- Lost commands
@@ -29,7 +29,7 @@ lost_in stands (Lost ∷ steps) =
 -- how many commands to a station were lost, as its exchanges show
 abbrev pub lost_of : Setup → Log → ℕ → ℕ
 lost_of p log k =
-    lost_in false (steps_in p.link (address_at p.addresses k) 0 None (exchanges_with p k log))
+    lost_in false (steps_in p.link (address_at p.addresses k) unmissed None (exchanges_with p k log))
 
 -- the sum of these numbers for so many stations, from the first on
 abbrev pub sum_upto : (ℕ → ℕ) → (count : ℕ) → ℕ

@@ -16,7 +16,7 @@ use Rattle.gateway.specs.Reports.{Setup, AreFound, address_at}
 use Rattle.gateway.specs.Reports.{exchanges_of, exchanges_with, reports_in}
 use Rattle.gateway.specs.Works.{is_command_report, unless_silent_works}
 use Rattle.gateway.specs.Course.{Course, came_frames, here_of}
-use Rattle.delivery.specs.Commands.{steps_in, steps_logged, confirmed_by, first_sendings, sent_to}
+use Rattle.delivery.specs.Commands.{steps_in, unmissed, steps_logged, confirmed_by, first_sendings, sent_to}
 use Rattle.delivery.specs.Commands.{judged_in, as_judged, judged_here, asdus_in}
 use Rattle.delivery.specs.Arrivals.{arrivals}
 
@@ -68,7 +68,7 @@ pub record IsJoined (p : Setup) (log : Log) (c : Course) : Type 0 where
   -- they show that its link goes down. What silence takes down is logged in the same step, once the
   -- event's frames are taken; so this is said of the history with what is still to be logged.
   pub steps : (k : ℕ) → steps_logged k (unless_silent_works c.works.serial.silent c.works).history
-      ≡ steps_in p.link (address_at p.addresses k) 0 None (exchanges_with p k log)
+      ≡ steps_in p.link (address_at p.addresses k) unmissed None (exchanges_with p k log)
   -- once the step is done, nothing is
   pub all_logged : c.works.is_due ≡ false → c.works.serial.silent ≡ None
   pub sent : (k : ℕ) → sent_to k c.works.history

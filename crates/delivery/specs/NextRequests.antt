@@ -6,7 +6,7 @@ use Rattle.link.specs.Exchanges.{Sending}
 use Rattle.link.specs.Primary.{Primary, start, sending}
 use Rattle.link.specs.declared.procedure.Link.TheVariants.{Next as Up}
 use Rattle.link.specs.declared.settings.LinkSettings.{LinkSettings}
-use Rattle.link.specs.Runs.{Call, Next, Octets, GivesUp, called, called_all}
+use Rattle.link.specs.Runs.{Call, Next, Octets, GivesUp, Doubts, called, called_all}
 use Rattle.link.specs.Turns.{CommandsWaiting, station_at}
 use Rattle.link.specs.declared.seat.ResumedStation.{ResumedStation}
 
@@ -18,12 +18,13 @@ Begins p =
     × (p ≡ reseated settings seats before))
 
 -- Octets of the line come, and moments. The next request may be asked for, too, where one is
--- outstanding. No link is given up.
+-- outstanding. No link is given up, and there is no restart.
 abbrev pub ArePassing : Primary → List Call → Type 0
 ArePassing p [] = Unit {0}
 ArePassing p (Next now may_poll waiting ∷ calls) =
     (p.outstanding ≡ None → ⊥) × ArePassing (called p (Next now may_poll waiting)) calls
 ArePassing p (GivesUp station ∷ calls) = ⊥
+ArePassing p (Doubts ∷ calls) = ⊥
 ArePassing p (call ∷ calls) = ArePassing (called p call) calls
 
 -- Whatever was called before, this request goes out from p. Then calls lead to q, where it is

@@ -11,7 +11,10 @@ ghost use Rattle.link.specs.Delivery.{AcceptsAllSendings};
 ghost use Rattle.link.specs.Gaps.{ended_with_gap, gaps_at};
 ghost use Rattle.gateway.specs.Log.{Log, Went, LineOut, GapOut};
 ghost use Rattle.gateway.specs.Reports.{Setup, address_at, exchanges_of, exchanges_with};
+ghost use Rattle.gateway.specs.Config.{Settings, AreStations};
 ghost use Rattle.gateway.specs.Gaps.{gaps_reported};
+ghost use Rattle.gateway.specs.Setups.{setup_of};
+ghost use Rattle.link.specs.Procedure.{AskNoneThatIsUp, Down};
 ghost use Rattle.gateway.specs.Traffic.{IsFaithful, HasRested};
 ghost use Rattle.delivery.specs.Delivery.{IsHonest, IsSteady, reports_from, Delivers};
 ghost use Rattle.delivery.specs.Delivery.{before_sessions, sessions_of, IsIdle, IsOneLife};
@@ -23,6 +26,7 @@ ghost use Rattle.delivery.specs.Merges.{values_of};
 use crate::commands::each_command_is_given_once;
 use crate::exchanges::the_line_is_its_exchanges;
 use command::waiting_commands_stay;
+use gateway::logs_keep_turns;
 use link::{
     commands_are_accepted, each_service_acts_once, gaps_are_ended_sessions, giving_up_is_logged,
     reports_are_learnt, sessions_are_known,
@@ -138,17 +142,24 @@ pub fn losses_have_gaps()
 }
 
 /// Where unanswered services are held, a link stays up as long as its station never answers that it
-/// can't serve (14 or 15) and no restart gives up a command to it. In one life of a gateway there
-/// is no restart.
+/// can't serve (14 or 15), no restart gives up a command to it, and it isn't asked for its status
+/// while it is up. In one life of a gateway there is no restart, and none that is up is asked.
 pub fn silence_is_no_reset()
     ensures held { (p : Setup) (log : Log) (i : ℕ) → IsFaithful p log → i < length p.addresses →
         p.link.hold ≡ true →
         AllByRecursion (λ x. answer_to (address_at p.addresses i) x ≢ Some Unable)
         (exchanges_with p i log) →
-        AllByRecursion (λ x. x.given_up ≡ false) (exchanges_with p i log) → IsSteady p log i }
+        AllByRecursion (λ x. x.given_up ≡ false) (exchanges_with p i log) →
+        AskNoneThatIsUp p.link (address_at p.addresses i) Down (exchanges_with p i log) →
+        IsSteady p log i }
     ensures one_life { (p : Setup) (log : Log) (i : ℕ) → IsOneLife log →
         AllByRecursion (λ x. x.given_up ≡ false) (exchanges_with p i log) }
+    ensures none_asked { (c : Settings) (log : Log) (i : ℕ) →
+        AreStations c.line.link c.line.sizes.ca c.stations → IsFaithful (setup_of c) log →
+        IsOneLife log → AskNoneThatIsUp (setup_of c).link (address_at (setup_of c).addresses i)
+        Down (exchanges_with (setup_of c) i log) }
 {
+    logs_keep_turns();
     link::silence_is_no_reset();
 }
 

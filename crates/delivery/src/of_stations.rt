@@ -25,7 +25,7 @@ ghost use Rattle.link.specs.Flags.{clear, flags_after};
 ghost use Rattle.link.specs.Life.{Report1, Report2, called};
 ghost use Rattle.link.specs.Primary.{Outstanding, Primary, asked, received, session_answered};
 ghost use Rattle.link.specs.Primary.{sending, timed_out};
-ghost use Rattle.link.specs.Procedure.{has_repeats, is_held, is_up, link_after};
+ghost use Rattle.link.specs.Procedure.{Silence, has_repeats, is_held, is_up, link_after};
 ghost use Rattle.link.specs.Requests.{request_frame};
 ghost use Rattle.link.specs.Runs.{Call, called_all};
 ghost use Rattle.link.specs.Secondary.{Secondary, data_frame, received_reading};
@@ -78,7 +78,7 @@ pub fn exchanges_change_their_station_alone()
         (x : Exchange) (fcb : Bool) (service : Service) → x.request ≡ Counted fcb service →
         answer_to station x ≡ None →
         is_up (link_after settings station link (before ++ x ∷ [])) ≡ true →
-        (times : ℕ)
+        (times : Silence)
         × (link_after settings station link (before ++ x ∷ []) ≡ Held fcb service times) }
     ensures again { (p : Primary) (o : Outstanding) (at : ℕ) (fcb : Bool) (service : Service)
         (waiting : CommandsWaiting) → p.outstanding ≡ Some o → o.request ≡ Counted fcb service →

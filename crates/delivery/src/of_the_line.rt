@@ -29,9 +29,9 @@ ghost use Rattle.link.specs.Outstation.{Given, Accepted, Outstation, OutstationS
 ghost use Rattle.link.specs.Answers.{answer_of};
 ghost use Rattle.link.specs.Primary.{Outstanding, Primary, received, sending, start};
 ghost use Rattle.link.specs.Procedure.{IsSteady, IsUp, KeepsFrameCountBit};
-ghost use Rattle.link.specs.Procedure.{has_repeats, is_held};
+ghost use Rattle.link.specs.Procedure.{Silence, has_repeats, is_held, is_service};
 ghost use Rattle.link.specs.Repeats.{IsMissed};
-ghost use Rattle.link.specs.Runs.{Call, Next, Octets, Due, GivesUp, called, called_all};
+ghost use Rattle.link.specs.Runs.{Call, Next, Octets, Due, GivesUp, Doubts, called, called_all};
 ghost use Rattle.link.specs.Sent.{Sent, sent};
 ghost use Rattle.link.specs.Turns.{CommandsWaiting, station_at};
 ghost use Rattle.link.specs.Waits.{WantsAt, AlwaysWants};
@@ -177,7 +177,8 @@ pub fn only_the_latest_service_has_no_outcome()
     ensures none { (station : ℕ) (xs : List Exchange) → AllByRecursion (IsBesides station) xs →
         is_command_pending (pending_after station None xs) ≡ false }
     ensures latest { (station : ℕ) (before : List Exchange) (x : Exchange) (answer : Answer) →
-        answer_to station x ≡ Some answer → IsLatestAnswered station (before ++ x ∷ []) }
+        x.request ≢ Status → answer_to station x ≡ Some answer →
+        IsLatestAnswered station (before ++ x ∷ []) }
     ensures no_exchange { (station : ℕ) → IsLatestAnswered station [] }
 {}
 
@@ -203,7 +204,7 @@ pub fn stations_want_what_is_left()
         (waiting : CommandsWaiting) → ((station_at p.stations station).link ≡ Down)
         ⊎ ((station_at p.stations station).link ≡ Available) →
         WantsAt p station (Next now may_poll waiting) }
-    ensures held { (p : Primary) (station now missed : ℕ) (may_poll fcb : Bool)
+    ensures held { (p : Primary) (station now : ℕ) (missed : Silence) (may_poll fcb : Bool)
         (waiting : CommandsWaiting) (asdu : List ℕ) →
         (station_at p.stations station).link ≡ Held fcb (Command asdu) missed →
         WantsAt p station (Next now may_poll waiting) }
@@ -214,7 +215,7 @@ pub fn stations_want_what_is_left()
         WantsAt p station (Next now may_poll waiting) }
     ensures others { (p : Primary) (station other at : ℕ) (octets : List ℕ) →
         WantsAt p station (Octets octets) × WantsAt p station (Due at)
-        × WantsAt p station (GivesUp other) }
+        × WantsAt p station (GivesUp other) × WantsAt p station Doubts }
     ensures none { (p : Primary) (station : ℕ) → AlwaysWants p station [] }
     ensures each { (p : Primary) (station : ℕ) (call : Call) (calls : List Call) →
         WantsAt p station call → AlwaysWants (called p call) station calls →
@@ -226,7 +227,7 @@ pub fn stations_want_what_is_left()
 /// settings, whatever octets came meanwhile, and whether there is leave to poll or not.
 pub fn unanswered_services_go_out_again()
     ensures { (p q : Primary) (s : Sending) (leave : Bool) (waiting : CommandsWaiting) →
-        IsOutNoMore p q s →
+        IsOutNoMore p q s → is_service s.request ≡ true →
         has_repeats q.settings (station_at q.stations s.station).link ≡ true →
         sending q leave waiting ≡ Some s }
 {
@@ -373,14 +374,14 @@ pub fn turns_go_on_where_they_began_with_a_held_service()
 pub fn turns_go_on_where_a_held_service_begins_them()
     ensures command { (p q : Primary) (s : Sending) (leave bit : Bool) (asdu : List ℕ)
         (waiting : CommandsWaiting) → IsOutNoMore p q s → s.station ≢ p.turn →
-        is_held (station_at p.stations s.station).link ≡ true →
+        is_held (station_at p.stations s.station).link ≡ true → is_service s.request ≡ true →
         (station_at q.stations s.station).link ≡ Up bit → waiting s.station ≡ Some asdu →
         (station_at q.stations s.station).dfc ≡ false →
         sending q leave waiting
         ≡ Some (record { station = s.station; request = Counted bit (Command asdu) }) }
     ensures poll { (p q : Primary) (s : Sending) (bit : Bool) (waiting : CommandsWaiting) →
         IsOutNoMore p q s → s.station ≢ p.turn →
-        is_held (station_at p.stations s.station).link ≡ true →
+        is_held (station_at p.stations s.station).link ≡ true → is_service s.request ≡ true →
         (station_at q.stations s.station).link ≡ Up bit →
         (waiting s.station ≡ None) ⊎ ((station_at q.stations s.station).dfc ≡ true) →
         sending q true waiting
@@ -394,16 +395,16 @@ pub fn turns_go_on_where_a_held_service_begins_them()
 /// its held service. That is so where repeats of that were left, too.
 pub fn turns_go_on_behind_new_settings()
     ensures command { (settings : LinkSettings) (seat : ResumedStation)
-        (seats : List ResumedStation) (before : Primary) (place missed now : ℕ)
-        (fcb leave : Bool) (service : Service) (asdu : List ℕ) (waiting : CommandsWaiting) →
+        (seats : List ResumedStation) (before : Primary) (place now : ℕ)
+        (missed : Silence) (fcb leave : Bool) (service : Service) (asdu : List ℕ) (waiting : CommandsWaiting) →
         seat.before ≡ Some place →
         (station_at before.stations place).link ≡ Held fcb service missed →
         waiting 0 ≡ Some asdu →
         sending (first_answered (reseated settings (seat ∷ seats) before) now waiting) leave waiting
         ≡ Some (record { station = 0; request = Counted (not fcb) (Command asdu) }) }
     ensures poll { (settings : LinkSettings) (seat : ResumedStation)
-        (seats : List ResumedStation) (before : Primary) (place missed now : ℕ)
-        (fcb : Bool) (service : Service) (waiting : CommandsWaiting) →
+        (seats : List ResumedStation) (before : Primary) (place now : ℕ)
+        (missed : Silence) (fcb : Bool) (service : Service) (waiting : CommandsWaiting) →
         seat.before ≡ Some place →
         (station_at before.stations place).link ≡ Held fcb service missed →
         waiting 0 ≡ None →

@@ -32,6 +32,7 @@ use Rattle.gateway.proofs.Lending.{settled_waiting, are_user_data}
 use Rattle.gateway.proofs.Order.{frames_due, sent_due, closed_due}
 use Rattle.gateway.proofs.Restarting.{restarted_due, done_due}
 use Rattle.gateway.proofs.Carrying.{IsForOne}
+use Rattle.link.specs.Carried.{doubted}
 
 -- what giving up the link to a station leaves of the exchanges, as `giving_up_is_logged` says it
 pub record GivesUpOne : Type 0 where
@@ -41,6 +42,8 @@ pub record GivesUpOne : Type 0 where
   pub one : (settings : LinkSettings) (addresses : List ℕ) (q : Primary) (e : Exchanges) (k : ℕ)
       → k < length q.stations → Matches settings addresses q e
       → Matches settings addresses (given_up k q) (given_up_at k e)
+  pub doubted : (settings : LinkSettings) (addresses : List ℕ) (q : Primary) (e : Exchanges)
+      → Matches settings addresses q e → Matches settings addresses (doubted q) e
 
 -- what waits is what was forwarded and wasn't sent, as `commands_are_forwarded` says it
 abbrev pub WaitingLaw : Type 0

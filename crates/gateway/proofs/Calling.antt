@@ -14,7 +14,7 @@ use Rattle.link.specs.Exchanges.{Exchanges, Sending, no_exchanges, begun_by, rec
 use Rattle.link.specs.Exchanges.{timed_current, given_up_at}
 use Rattle.link.specs.Carried.{awaits_command, awaits_command_in, given_up, given_up_upto}
 use Rattle.link.specs.Carried as line
-use Rattle.link.specs.Runs.{Call, Next, Octets, Due, GivesUp, called}
+use Rattle.link.specs.Runs.{Call, Next, Octets, Due, GivesUp, Doubts, called}
 use Rattle.link.specs.Primary.{Primary}
 use Rattle.link.specs.Matching.{Matches}
 use Rattle.gateway.specs.Log.{Log, Input, LineIn, Opened, TcpIn, CutOff, Ticked, WallIs, Restarted}
@@ -81,6 +81,17 @@ module _ (laws : Laws) (p : Setup) where
         },
       )
       by_awaited r d less matches false = (refl, leads_nowhere p r d matches)
+
+  -- and then of no station is it known whether it was restarted
+  doubt_leads : (q : Primary) (e : Exchanges) (calls : List Call) (r : Primary) (d : Exchanges)
+      → Leads p q e calls r d → Leads p q e (calls ++ Doubts ∷ []) (line.doubted r) d
+  doubt_leads q e calls r d h = leads_on p q r (line.doubted r) e d d calls (Doubts ∷ []) h
+      (record {
+        may = (tt, tt);
+        line = refl;
+        exchanges = refl;
+        matches = laws.gives_up.doubted p.link p.addresses r d h.matches;
+      })
 
   -- An event
 
@@ -279,16 +290,19 @@ module _ (laws : Laws) (p : Setup) where
       (due_leads at r.1.works.serial.line (exchanges_of p log))
   makes found starts (Came now Restarted ∷ log) c r acts =
       come log now Restarted r.0 r.1 c r.2 r.3 r.4 (makes found starts log r.0 r.2 acts)
-      (line.without_commands r.1.works.serial.line)
+      (line.doubted (line.without_commands r.1.works.serial.line))
       (ap (λ (d : Course). d.works.serial.line) r.5.1
       ∙ ap (λ (s : Serial). s.line) (restarted_serial r.1.works)
       ∙ line_is r.1.works.serial)
-      (λ t. subst (λ (n : ℕ). Leads p r.1.works.serial.line (exchanges_of p log)
+      (λ t. doubt_leads r.1.works.serial.line (exchanges_of p log)
+      (give_ups p (length p.addresses) (exchanges_of p log))
+      (line.without_commands r.1.works.serial.line) _
+      (subst (λ (n : ℕ). Leads p r.1.works.serial.line (exchanges_of p log)
       (give_ups p n (exchanges_of p log))
       (line.without_commands r.1.works.serial.line)
       (given_up_upto p.link (front_of p.link.size) p.addresses n (exchanges_of p log))) t.count
       (give_up_leads (length r.1.works.serial.line.stations) r.1.works.serial.line
-      (exchanges_of p log) (omega arith) t).1)
+      (exchanges_of p log) (omega arith) t).1))
   makes found starts (Went now (LineOut octets) ∷ log) c r acts =
       sent found log now octets r.0 c acts.0.moment r.1 r.2 (makes found starts log r.0 r.1 acts.1)
   makes found starts (Went now (GapOut station session) ∷ log) c r acts =

@@ -7,10 +7,10 @@ use Rattle.std.proofs.lemmas.Bool.{cases_eq}
 use Rattle.link.specs.Turns.{station_at}
 use Rattle.link.specs.Primary.{Primary}
 use Rattle.link.specs.Carried as line
-use Rattle.link.specs.Carried.{awaits_command, station_given_up, given_up}
+use Rattle.link.specs.Carried.{awaits_command, station_given_up, given_up, station_doubted, doubted}
 use Rattle.gateway.specs.Serial.{Serial}
 use Rattle.gateway.specs.Carried.{link_given_up, command_given_up, commands_given_up_upto}
-use Rattle.gateway.specs.Carried.{without_commands}
+use Rattle.gateway.specs.Carried.{without_commands, doubted_serial}
 
 -- what giving up a link does to a line, as `giving_up_is_for_one_station` says it
 pub record IsForOne : Type 0 where
@@ -22,6 +22,11 @@ pub record IsForOne : Type 0 where
   pub awaited : (p : Primary) (k j : ℕ) → j ≢ k → awaits_command (given_up k p) j
       ≡ awaits_command p j
   pub number : (p : Primary) (k : ℕ) → length (given_up k p).stations ≡ length p.stations
+  -- and what doubting does, as `restarts_change_no_link` says it
+  pub doubts : (p : Primary) (k : ℕ) → k < length p.stations
+      → station_at (doubted p).stations k ≡ station_doubted (station_at p.stations k)
+  pub still : (p : Primary) (k : ℕ) → awaits_command (doubted p) k ≡ awaits_command p k
+  pub as_many : (p : Primary) → length (doubted p).stations ≡ length p.stations
 
 module _ (law : IsForOne) where
   -- one station
@@ -169,20 +174,37 @@ module _ (law : IsForOne) where
 
   pub done : (s : Serial) (k : ℕ) → k < length s.line.stations
       → awaits_command (without_commands s).line k ≡ false
-  done s k lt = done_upto (length s.line.stations) k s (omega arith) lt
+  done s k lt =
+      law.still (commands_given_up_upto (length s.line.stations) s).line k
+      ∙ done_upto (length s.line.stations) k s (omega arith) lt
+
+  pub count : (s : Serial) → length (without_commands s).line.stations ≡ length s.line.stations
+  count s =
+      law.as_many (commands_given_up_upto (length s.line.stations) s).line
+      ∙ number (length s.line.stations) s
+
+  there : (s : Serial) (k : ℕ) → k < length s.line.stations
+      → station_at (without_commands s).line.stations k
+      ≡ station_doubted (station_at (commands_given_up_upto (length s.line.stations)
+      s).line.stations k)
+  there s k lt = law.doubts (commands_given_up_upto (length s.line.stations) s).line k
+      (omega (arith, lt, number (length s.line.stations) s))
 
   pub down : (s : Serial) (k : ℕ) → k < length s.line.stations → awaits_command s.line k ≡ true
       → station_at (without_commands s).line.stations k
-      ≡ station_given_up (station_at s.line.stations k)
-  down s k lt e = down_upto (length s.line.stations) k s (omega arith) lt e
+      ≡ station_doubted (station_given_up (station_at s.line.stations k))
+  down s k lt e = there s k lt
+      ∙ ap station_doubted (down_upto (length s.line.stations) k s (omega arith) lt e)
 
-  pub others : (s : Serial) (k : ℕ) → awaits_command s.line k ≡ false
-      → station_at (without_commands s).line.stations k ≡ station_at s.line.stations k
-  others s k e = others_upto (length s.line.stations) k s e
+  pub others : (s : Serial) (k : ℕ) → k < length s.line.stations → awaits_command s.line k ≡ false
+      → station_at (without_commands s).line.stations k
+      ≡ station_doubted (station_at s.line.stations k)
+  others s k lt e =
+      there s k lt ∙ ap station_doubted (others_upto (length s.line.stations) k s e)
 
   pub kept : (s : Serial) → ((k : ℕ) → k < length s.line.stations → awaits_command s.line k ≡ false)
-      → without_commands s ≡ s
-  kept s none = kept_upto (length s.line.stations) s none
+      → without_commands s ≡ doubted_serial s
+  kept s none = ap doubted_serial (kept_upto (length s.line.stations) s none)
 
 -- nothing is left to be reported that wasn't before
 
@@ -223,8 +245,9 @@ line_upto (suc n) s =
     one_line_is n (commands_given_up_upto n s) ∙ ap (line.command_given_up n) (line_upto n s)
 
 -- the line is that of the primary station that gives up each command without an answer
-pub line_is : (s : Serial) → (without_commands s).line ≡ line.without_commands s.line
-line_is s = line_upto (length s.line.stations) s
+pub line_is : (s : Serial) → (without_commands s).line
+    ≡ doubted (line.without_commands s.line)
+line_is s = ap doubted (line_upto (length s.line.stations) s)
 
 pub silent : (s : Serial) → (without_commands s).silent ≡ s.silent
 silent s = silent_upto (length s.line.stations) s

@@ -124,7 +124,7 @@ asked : (at : ℕ) (room : Bool) (x : Sending) (w : Works)
 asked at room x w = put (is_first_command w.serial.line x) x.station w
 
 restarted : (w : Works) → told_by (restarted_works w) ≡ told_by w
-restarted w = kept_over (λ v. told_by v ≡ told_by w) (λ station v e. e) w refl
+restarted w = kept_over (λ v. told_by v ≡ told_by w) (λ station v e. e) (λ v e. e) w refl
 
 -- The course: the own answers that went out are those of its I frames, and so many connections are
 -- over

@@ -1,9 +1,10 @@
 -- Turns on logs.
 use Rattle.std.proofs.Common.{ℕ, suc, ◌<◌, ◌≤◌, ◌*◌, ◌-◌, List, [], ◌∷◌, ◌++◌, All, length, sym}
-use Rattle.std.proofs.Common.{None, subst, arith}
+use Rattle.std.proofs.Common.{None, subst, arith, false}
+use Rattle.std.specs.Prelude.{slice_index}
 use Rattle.std.proofs.lemmas.List.{length-map}
 use Rattle.ft12.specs.Fronts.{front_of}
-use Rattle.link.specs.Exchanges.{Exchanges, no_exchanges, all_of, views}
+use Rattle.link.specs.Exchanges.{Exchanges, no_exchanges, all_of, views, with_station}
 use Rattle.link.specs.declared.settings.LinkSettings.{LinkSettings}
 use Rattle.link.specs.Requests.{FitsAddress}
 use Rattle.link.specs.Primary.{Primary, start}
@@ -15,6 +16,8 @@ use Rattle.link.specs.Bursts.{BurstsGoOn, Other}
 use Rattle.link.specs.AtOnce.{RepeatsComeAtOnce, TurnsGoOn}
 use Rattle.link.specs.OneVisit.{TurnsAreVisits}
 use Rattle.link.specs.Timing.{AnswersHaveTheirTime}
+use Rattle.link.specs.Doubts.{HaveNoRestart, StatusesFollowRestarts}
+use Rattle.link.specs.Procedure.{AskNoneThatIsUp}
 use Rattle.link.specs.declared.procedure.Link.TheVariants.{Down}
 use Rattle.gateway.specs.declared.settings.StationSettings.{StationSettings}
 use Rattle.gateway.specs.Config.{Settings, AreStations}
@@ -62,6 +65,14 @@ pub record TurnLaws : Type 0 where
       (record { station = 0; left = whole_visit settings Down }) calls
   pub times : (settings : LinkSettings) (addresses : List ℕ) (calls : List Call)
       → AnswersHaveTheirTime (start settings addresses) None calls
+  pub statuses : (settings : LinkSettings) (addresses : List ℕ) (calls : List Call) (station : ℕ)
+      → StatusesFollowRestarts (start settings addresses) station false calls
+  pub spares : (settings : LinkSettings) (addresses : List ℕ) (calls : List Call) (station : ℕ)
+      → 0 < length addresses → All (FitsAddress settings.size) addresses
+      → MayCallAll (start settings addresses) calls → HaveNoRestart calls
+      → AskNoneThatIsUp settings (slice_index addresses station) Down
+      (with_station station (views (front_of settings.size)
+      (all_of (exchanged_all (start settings addresses) calls no_exchanges))))
 
 -- each of two parts of the calls may be made
 split : (p : Primary) (first later : List Call) → MayCallAll p (first ++ later)
@@ -100,4 +111,10 @@ turns t laws c log rules f =
       held = t.held p.link p.addresses m.calls;
       each = t.each p.link p.addresses m.calls some fit more m.leads.may;
       times = t.times p.link p.addresses m.calls;
+      statuses = λ station. t.statuses p.link p.addresses m.calls station;
+      spares = λ station none.
+          subst (λ (e : Exchanges). AskNoneThatIsUp p.link (slice_index p.addresses station) Down
+          (with_station station (views (front_of p.link.size) (all_of e))))
+          m.leads.exchanges
+          (t.spares p.link p.addresses m.calls station some fit m.leads.may none);
     }

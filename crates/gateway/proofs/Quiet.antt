@@ -35,8 +35,8 @@ given_up law p log at c r = (
     down = λ k lt e.
         ap (λ s. station_at s.line.stations k) is
         ∙ carrying.down law r.1.works.serial k lt e;
-    others = λ k e.
-        ap (λ s. station_at s.line.stations k) is ∙ carrying.others law r.1.works.serial k e;
+    others = λ k lt e.
+        ap (λ s. station_at s.line.stations k) is ∙ carrying.others law r.1.works.serial k lt e;
     talk = refl;
     sent = refl;
     earlier = refl;

@@ -43,6 +43,8 @@ pub record IsLogged : Type 0 where
       → Matches settings addresses q e
       → Matches settings addresses (line.without_commands q)
       (commands_given_up settings (front_of settings.size) addresses e)
+  pub doubted : (settings : LinkSettings) (addresses : List ℕ) (q : Primary) (e : Exchanges)
+      → Matches settings addresses q e → Matches settings addresses (line.doubted q) e
   pub reports : (settings : LinkSettings) (size : LinkSize) (addresses : List ℕ) (address : ℕ → ℕ)
       (e : Exchanges)
       → reports_of_exchanges (front_of size) address
@@ -116,7 +118,8 @@ module _ (logged : IsLogged) (law : IsForOne) (p : Setup) (s : State) (log : Log
     settled = refl;
     found = a.found;
     line = subst (λ q. Matches p.link p.addresses q (exchanges_of p new)) (sym (line_is s.serial))
-        (logged.matches p.link p.addresses s.serial.line (exchanges_of p log) a.line);
+        (logged.doubted p.link p.addresses _ _
+        (logged.matches p.link p.addresses s.serial.line (exchanges_of p log) a.line));
     course = over;
     talk = talk;
     stands = record {

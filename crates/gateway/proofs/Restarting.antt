@@ -7,12 +7,15 @@ use Rattle.gateway.specs.Carried.{without_commands}
 use Rattle.gateway.specs.Works.{Works, link_given_up_works}
 use Rattle.gateway.specs.Works.{commands_given_up_works_upto, restarted_works, unasked_works}
 use Rattle.gateway.specs.Works.{settled_works, done_works}
+use Rattle.gateway.specs.Works.{doubted_works}
+use Rattle.gateway.specs.Carried.{doubted_serial}
 
 -- what each link that is given up keeps is kept by a restart
 pub kept_over : (P : Works → Type 0)
-    → ((station : ℕ) (w : Works) → P w → P (link_given_up_works station w)) → (w : Works) → P w
+    → ((station : ℕ) (w : Works) → P w → P (link_given_up_works station w))
+    → ((w : Works) → P w → P (doubted_works w)) → (w : Works) → P w
     → P (restarted_works w)
-kept_over P one w h = upto (length w.serial.line.stations)
+kept_over P one doubts w h = doubts _ (upto (length w.serial.line.stations))
   where
     by_awaited : (b : Bool) (station : ℕ) (w : Works) → P w
         → P (if b then link_given_up_works station w else w)
@@ -27,7 +30,7 @@ kept_over P one w h = upto (length w.serial.line.stations)
 
 -- the line's side is that of a gateway that gives up each command without an answer
 pub restarted_serial : (w : Works) → (restarted_works w).serial ≡ without_commands w.serial
-restarted_serial w = upto (length w.serial.line.stations)
+restarted_serial w = ap doubted_serial (upto (length w.serial.line.stations))
   where
     one : (b : Bool) (station : ℕ) (w : Works)
         → (if b then link_given_up_works station w else w).serial
@@ -43,13 +46,13 @@ restarted_serial w = upto (length w.serial.line.stations)
         one (awaits_command so_far.serial.line k) k so_far ∙ ap (command_given_up k) (upto k)
 
 pub restarted_due : (w : Works) → (restarted_works w).is_due ≡ w.is_due
-restarted_due w = kept_over (λ v. v.is_due ≡ w.is_due) (λ station v h. h) w refl
+restarted_due w = kept_over (λ v. v.is_due ≡ w.is_due) (λ station v h. h) (λ v h. h) w refl
 
 pub restarted_silent : (w : Works) → (restarted_works w).serial.silent ≡ w.serial.silent
-restarted_silent w = kept_over (λ v. v.serial.silent ≡ w.serial.silent) (λ station v h. h) w refl
+restarted_silent w = kept_over (λ v. v.serial.silent ≡ w.serial.silent) (λ station v h. h) (λ v h. h) w refl
 
 pub restarted_gap : (w : Works) → (restarted_works w).serial.gap ≡ w.serial.gap
-restarted_gap w = kept_over (λ v. v.serial.gap ≡ w.serial.gap) (λ station v h. h) w refl
+restarted_gap w = kept_over (λ v. v.serial.gap ≡ w.serial.gap) (λ station v h. h) (λ v h. h) w refl
 
 -- the step before leaves nothing due
 pub done_due : (at : ℕ) (room : Bool) (w : Works) → (done_works at room w).is_due ≡ false

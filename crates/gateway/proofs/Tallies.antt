@@ -255,7 +255,8 @@ asked at room x w c = put (is_first_command w.serial.line x) x.station w c
 
 restarted : (w : Works) → IsCounted w → IsCounted (restarted_works w)
 restarted w c = kept_over IsCounted (λ station v c.
-    given_up (is_used (line_of station v.serial.commands)) station v.history v.serial.counts c) w c
+    given_up (is_used (line_of station v.serial.commands)) station v.history v.serial.counts c)
+    (λ v c. c) w c
 
 closed : (p : Setup) (cause : Close) (is_open : Bool) (at : ℕ) (d : Course) → IsCounted d.works
     → IsCounted (closed_course p cause is_open at d).works

@@ -6,7 +6,7 @@ use Rattle.std.specs.Prelude.{◌++◌, length}
 use Rattle.ft12.specs.Fronts.{front_of}
 use Rattle.link.specs.Exchanges.{Exchanges}
 use Rattle.link.specs.Carried.{awaits_command_in, given_up_upto}
-use Rattle.link.specs.Runs.{Call, Next, Octets, Due, GivesUp}
+use Rattle.link.specs.Runs.{Call, Next, Octets, Due, GivesUp, Doubts}
 use Rattle.link.specs.Turns.{CommandsWaiting}
 use Rattle.command.specs.History.{History, next_octets}
 use Rattle.gateway.specs.Log.{Log, Input, LineIn, Restarted, LineOut, Came, Went, latest}
@@ -55,7 +55,7 @@ give_ups p (suc k) e =
 -- The octets of an event come, and then its moment.
 abbrev pub event_calls : Setup → (at : ℕ) → Input → Exchanges → List Call
 event_calls p at (LineIn octets) e = Octets octets ∷ Due at ∷ []
-event_calls p at Restarted e = give_ups p (length p.addresses) e
+event_calls p at Restarted e = give_ups p (length p.addresses) e ++ Doubts ∷ []
 event_calls p at event e = Due at ∷ []
 
 -- the calls of a log, the first one first

@@ -32,9 +32,13 @@ abbrev pub commands_given_up_upto : (count : ℕ) → Serial → Serial
 commands_given_up_upto zero s = s
 commands_given_up_upto (suc k) s = command_given_up k (commands_given_up_upto k s)
 
--- for all stations
+-- Of no station is it known whether it was restarted, too.
+abbrev pub doubted_serial : Serial → Serial
+doubted_serial s = record s { line = line.doubted s.line }
+
+-- for all stations, of which each may have been restarted
 abbrev pub without_commands : Serial → Serial
-without_commands s = commands_given_up_upto (length s.line.stations) s
+without_commands s = doubted_serial (commands_given_up_upto (length s.line.stations) s)
 
 -- Each command without an answer is given up, and the connection is over.
 abbrev pub restarted : State → State

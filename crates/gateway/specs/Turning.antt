@@ -1,6 +1,6 @@
 -- The turns of the line, as a log shows them (this gateway's own profile, over the procedures of
 -- IEC 60870-5-2).
-use Rattle.std.specs.Prelude.{◌≡◌, ℕ, suc, ◌<◌, ◌≤◌, ◌*◌, ◌-◌, List, ◌++◌, length, None}
+use Rattle.std.specs.Prelude.{◌≡◌, ℕ, suc, ◌<◌, ◌≤◌, ◌*◌, ◌-◌, List, ◌++◌, length, None, false}
 use Rattle.ft12.specs.Fronts.{front_of}
 use Rattle.link.specs.Exchanges.{no_exchanges, all_of, views}
 use Rattle.link.specs.Primary.{Primary, start}
@@ -12,9 +12,11 @@ use Rattle.link.specs.Bursts.{BurstsGoOn, Other}
 use Rattle.link.specs.AtOnce.{RepeatsComeAtOnce, TurnsGoOn}
 use Rattle.link.specs.OneVisit.{TurnsAreVisits}
 use Rattle.link.specs.Timing.{AnswersHaveTheirTime}
+use Rattle.link.specs.Doubts.{HaveNoRestart, StatusesFollowRestarts}
+use Rattle.link.specs.Procedure.{AskNoneThatIsUp}
 use Rattle.link.specs.declared.procedure.Link.TheVariants.{Down}
 use Rattle.gateway.specs.Log.{Log}
-use Rattle.gateway.specs.Reports.{Setup, exchanges_of}
+use Rattle.gateway.specs.Reports.{Setup, address_at, exchanges_of, exchanges_with}
 use Rattle.gateway.specs.Calling.{CallsOf}
 
 -- a primary station of the line that has sent nothing yet
@@ -35,7 +37,8 @@ StarvesNone p first later = (station : ℕ) → station < length p.addresses →
 -- starves, from any of them on; a command that waits goes before any new poll of its station; a
 -- poll follows a new command, and polls of class 1 go on while ACD is set, up to `burst`; a service
 -- without an answer is sent again before any other request; and the turn goes on behind a held
--- service. Each turn is one visit, and each request is awaited for `answer_ms`.
+-- service. Each turn is one visit, and each request is awaited for `answer_ms`. A station that is up
+-- is asked for its status only behind a restart, so none is where there was no restart.
 pub record KeepsTurns (p : Setup) (log : Log) : Type 0 where
   pub visits : AreInVisits p.link p.addresses
       (views (front_of p.link.size) (all_of (exchanges_of p log)))
@@ -50,3 +53,6 @@ pub record KeepsTurns (p : Setup) (log : Log) : Type 0 where
   pub each : TurnsAreVisits (new_line p)
       (record { station = 0; left = whole_visit p.link Down }) calls
   pub times : AnswersHaveTheirTime (new_line p) None calls
+  pub statuses : (station : ℕ) → StatusesFollowRestarts (new_line p) station false calls
+  pub spares : (station : ℕ) → HaveNoRestart calls →
+      AskNoneThatIsUp p.link (address_at p.addresses station) Down (exchanges_with p station log)

@@ -185,9 +185,15 @@ commands_given_up_works_upto zero w = w
 commands_given_up_works_upto (suc k) w =
     command_given_up_works k (commands_given_up_works_upto k w)
 
+-- of no station is it known whether it was restarted, too
+abbrev pub doubted_works : Works → Works
+doubted_works w =
+    record w { serial = record w.serial { line = line.doubted w.serial.line } }
+
 -- for all stations
 abbrev pub restarted_works : Works → Works
-restarted_works w = commands_given_up_works_upto (length w.serial.line.stations) w
+restarted_works w =
+    doubted_works (commands_given_up_works_upto (length w.serial.line.stations) w)
 
 -- A step: its event, its timers, its request
 

@@ -11,7 +11,8 @@ use Rattle.link.specs.Answers.{Ready, Confirmed, Busy, Report, NoData, Unable, a
 use Rattle.link.specs.Answers.{comes_from}
 use Rattle.link.specs.Control.{function_code}
 use Rattle.link.specs.Procedure.{LinkSettings, Link, Down, Available, Next, Held, MaySend}
-use Rattle.link.specs.Procedure.{after_answer, after_silence, missed_so_far}
+use Rattle.link.specs.Procedure.{after_answer, after_silence, missed_so_far, probed_so_far, is_held}
+use Rattle.link.specs.Procedure.{is_kept, spent_silence, short_silence}
 use Rattle.link.specs.Turns.{StationState, no_station, station_at, Phase, Starting, Commanding}
 use Rattle.link.specs.Turns.{Polling, Class1Polling, Over, Wanted, wants, wanted_by, Chosen}
 use Rattle.link.specs.Primary.{Outstanding, Primary, start, station_down, station_asked}
@@ -21,11 +22,13 @@ use Rattle.link.specs.Carried.{station_given_up, given_up}
 use Rattle.link.proofs.Links.{set_view, set_at}
 use Rattle.link.proofs.Turning.{present}
 use Rattle.link.specs.Turns.{CommandsWaiting}
+use Rattle.link.specs.Carried.{doubted}
+use Rattle.link.proofs.Doubting.{doubted_link}
 
 -- the link of the station whose turn it is, by what is outstanding and what the turn goes on with
 abbrev pub IsAlong : Option Outstanding → Phase → Link → Type 0
 IsAlong None phase link = link ≡ Available → phase ≡ Starting
-IsAlong (Some o) phase link = (o.request ≡ Status → phase ≡ Starting)
+IsAlong (Some o) phase link = (o.request ≡ Status → is_held link ≡ false → phase ≡ Starting)
     × (link ≡ Available → o.request ≡ Reset)
 
 -- Where the status of a link is known, its station's turn goes on with the reset.
@@ -67,11 +70,12 @@ wanted_along : (burst : ℕ) (may_poll again : Bool) (s : StationState) (command
     (link : Link) (phase : Phase)
     (w : Wanted) →
     wanted_by burst may_poll again s command link phase ≡ Some w → MaySend link w.request →
-    (w.request ≡ Status → w.following ≡ Starting) × (link ≡ Available → w.request ≡ Reset)
+    (w.request ≡ Status → is_held link ≡ false → w.following ≡ Starting)
+    × (link ≡ Available → w.request ≡ Reset)
 wanted_along burst may_poll again s command Down Starting w is may =
     let one : Wanted = record { request = Status; following = Starting } in
     let same : one ≡ w = cc in
-    ((λ e. ap (λ (v : Wanted). v.following) (sym same)), λ e. cc)
+    ((λ e free. ap (λ (v : Wanted). v.following) (sym same)), λ e. cc)
 wanted_along burst may_poll again s command Down Commanding w is may = cc
 wanted_along burst may_poll again s command Down Polling w is may = cc
 wanted_along burst may_poll again s command Down (Class1Polling sent) w is may = cc
@@ -79,7 +83,7 @@ wanted_along burst may_poll again s command Down Over w is may = cc
 wanted_along burst may_poll again s command Available Starting w is may =
     let one : Wanted = record { request = Reset; following = Over } in
     let same : one ≡ w = cc in (
-      (λ e. let bad : Reset ≡ Status = ap (λ (v : Wanted). v.request) same ∙ e in cc),
+      (λ e free. let bad : Reset ≡ Status = ap (λ (v : Wanted). v.request) same ∙ e in cc),
       λ e. ap (λ (v : Wanted). v.request) (sym same),
     )
 wanted_along burst may_poll again s command Available Commanding w is may = cc
@@ -87,9 +91,9 @@ wanted_along burst may_poll again s command Available Polling w is may = cc
 wanted_along burst may_poll again s command Available (Class1Polling sent) w is may = cc
 wanted_along burst may_poll again s command Available Over w is may = cc
 wanted_along burst may_poll again s command (Next fcb) phase w is may =
-    ((λ e. absurd (subst (λ (r : Asked). MaySend (Next fcb) r) e may)), λ e. cc)
+    ((λ e free. absurd (subst (λ (r : Asked). MaySend (Next fcb) r) e may)), λ e. cc)
 wanted_along burst may_poll again s command (Held fcb service missed) phase w is may =
-    ((λ e. absurd (subst (λ (r : Asked). MaySend (Held fcb service missed) r) e may)), λ e. cc)
+    ((λ e free. cc), λ e. cc)
 
 pub begun_choice : (p : Primary) (now : ℕ) (may_poll : Bool) (waiting : CommandsWaiting)
     (again : Bool) (phase : Phase) (c : Chosen) →
@@ -105,7 +109,10 @@ begun_choice p now may_poll waiting again phase c is may away =
     (waiting c.station)
     (station_at p.stations c.station).link phase c.wanted is may in
     record {
-      here = (along.0, λ known. along.1 (sym (link c.station) ∙ known));
+      here = (
+        λ e free. along.0 e (sym (ap is_held (link c.station)) ∙ free),
+        λ known. along.1 (sym (link c.station) ∙ known),
+      );
       away = λ i known. away i (sym (link i) ∙ known);
     }
 
@@ -165,13 +172,25 @@ status_answers a (Data control address body) answer is =
     go false e = cc
 
 -- A link is available after an answer only where that says that it is ready, or it was before.
+not_held : (link : Link) → after_answer Status Ready link ≡ Available → is_held link ≡ false
+not_held Down known = refl
+not_held Available known = refl
+not_held (Next fcb) known = refl
+not_held (Held fcb service silence) known = cc
+
 pub known_after : (a : ℕ) (request : Asked) (frame : Frame) (answer : Answer) (link : Link)
     → answer_of a request frame ≡ Some answer →
     after_answer request answer link ≡ Available → (request ≡ Status) × (answer ≡ Ready)
+    × (is_held link ≡ false)
 known_after a Status frame answer link is known = go (status_answers a frame answer is)
   where
     go : (answer ≡ Ready) ⊎ (answer ≡ Unable) → (Status ≡ Status) × (answer ≡ Ready)
-    go (inl ready) = (refl, ready)
+        × (is_held link ≡ false)
+    go (inl ready) = (
+      refl,
+      ready,
+      not_held link (sym (ap (λ (m : Answer). after_answer Status m link) ready) ∙ known),
+    )
     go (inr unable) = let bad : Down ≡ Available =
         sym (ap (λ (m : Answer). after_answer Status m link) unable) ∙ known
         in cc
@@ -189,16 +208,20 @@ known_after a (Counted fcb service) frame Unable link is known = cc
 -- and never after a silence
 pub unknown_after : (settings : LinkSettings) (request : Asked) (closed : Bool) (link : Link)
     → after_silence settings request closed link ≡ Available → ⊥
-unknown_after settings Status closed link known = cc
+unknown_after settings Status closed Down known = cc
+unknown_after settings Status closed Available known = cc
+unknown_after settings Status closed (Next fcb) known = cc
+unknown_after settings Status closed (Held fcb service silence) known = cc
 unknown_after settings Reset closed link known = cc
 unknown_after settings (Counted fcb service) false link known = cc
 unknown_after settings (Counted fcb service) true link known =
-    go (nat_lt settings.retries (suc (missed_so_far link))) settings.hold known
+    go (nat_lt settings.retries (suc (missed_so_far link)))
+    (is_kept settings (probed_so_far link)) known
   where
     go : (b hold : Bool) →
-        (if b then (if hold then Held fcb service (suc settings.retries) else Down)
-        else Held fcb service
-        (suc (missed_so_far link))) ≡ Available → ⊥
+        (if b then (if hold then Held fcb service (spent_silence settings (probed_so_far link))
+        else Down) else Held fcb service
+        (short_silence (suc (missed_so_far link)) (probed_so_far link))) ≡ Available → ⊥
     go true true e = cc
     go true false e = cc
     go false hold e = cc
@@ -244,14 +267,14 @@ pub begun_answered : (p : Primary) (q : Outstanding) (a : ℕ) (frame : Frame) (
     → IsBegun (answered p q.request frame answer)
 begun_answered p q a frame answer within is says b =
     moved p (station_answered (station_at p.stations p.turn) q.request frame answer)
-    (phase_after answer p.phase) p.again p.spoilt within b
+    (phase_after answer p.phase) false p.spoilt within b
     (λ known.
     let outcome_for = known_after a q.request frame answer (station_at p.stations p.turn).link says
     known in
     let along =
     subst (λ (o : Option Outstanding). IsAlong o p.phase (station_at p.stations p.turn).link) is
     b.here in
-    ap (λ (m : Answer). phase_after m p.phase) outcome_for.1 ∙ along.0 outcome_for.0)
+    ap (λ (m : Answer). phase_after m p.phase) outcome_for.1 ∙ along.0 outcome_for.0 outcome_for.2)
 
 pub begun_unanswered : (p : Primary) (q : Outstanding) → p.turn < length p.stations → IsBegun p
     → IsBegun (unanswered p q)
@@ -299,6 +322,14 @@ begun_given_up p k within b = record {
     along false e =
         subst (λ (t : StationState). IsAlong p.outstanding p.phase t.link)
         (sym (get_or-set_other p.stations k p.turn s no_station (eqb-false p.turn k e))) b.here
+
+-- Whether a station was restarted changes no link.
+pub begun_doubted : (p : Primary) → IsBegun p → IsBegun (doubted p)
+begun_doubted p b = record {
+  here = subst (λ (l : Link). IsAlong p.outstanding p.phase l)
+      (sym (doubted_link p.stations p.turn)) b.here;
+  away = λ i known. b.away i (sym (doubted_link p.stations i) ∙ known);
+}
 
 pub begun_start : (settings : LinkSettings) (addresses : List ℕ)
     → IsBegun (start settings addresses)

@@ -31,6 +31,13 @@ use Rattle.link.proofs.Preceding.{IsChosen, here, there, is_chosen}
 use Rattle.link.proofs.Bursting.{not_both, silent_down, held_is, turn_sends, first_poll}
 use Rattle.link.proofs.Following.{none_out}
 use Rattle.link.specs.Turns.{CommandsWaiting}
+use Rattle.link.specs.Runs.{Doubts}
+use Rattle.link.specs.Carried.{doubted}
+use Rattle.link.proofs.Doubting.{doubted_link}
+use Rattle.link.specs.Turns.{is_doubted}
+use Rattle.link.proofs.Links.{set_view}
+use Rattle.link.specs.Primary.{station_asked}
+use Rattle.std.proofs.Common.{◌⊎◌, inl, inr}
 
 -- A service is sent again at once only where repeats are left, and nothing is outstanding.
 abbrev pub AgainHas : Primary → Type 0
@@ -43,6 +50,8 @@ AgainHas p =
 pub data Stays (outstanding : Option Outstanding) (phase : Phase) (link : Link) : Type 0 where
   waits : (o : Outstanding) → outstanding ≡ Some o → is_service o.request ≡ true
       → phase ≡ Commanding → Stays outstanding phase link
+  probes : (o : Outstanding) → outstanding ≡ Some o → o.request ≡ Status → is_held link ≡ true
+      → Stays outstanding phase link
   ended : outstanding ≡ None → (is_answered link ≡ true → phase ≡ Commanding)
       → Stays outstanding phase link
 
@@ -62,23 +71,32 @@ held_want fcb service = record { request = Counted fcb service; following = Comm
 same_want : (v w : Wanted) → Some v ≡ Some w → v ≡ w
 same_want v w e = cc
 
+-- The held service, or the status of its station.
+abbrev pub HeldOrProbed : Wanted → Type 0
+HeldOrProbed w =
+    ((is_service w.request ≡ true) × (w.following ≡ Commanding)) ⊎ (w.request ≡ Status)
+
 -- A held service that begins a turn is followed by a command and polls.
 held_follows : (burst : ℕ) (may_poll again : Bool) (s : StationState) (command : Option (List ℕ))
     (link : Link) (phase : Phase)
     (w : Wanted) → is_held link ≡ true → (again ≡ true → ⊥)
     → wanted_by burst may_poll again s command link phase ≡ Some w
-    → (is_service w.request ≡ true) × (w.following ≡ Commanding)
+    → HeldOrProbed w
 held_follows burst may_poll again s command (Held fcb service missed) Starting w held once is =
-    go (may_poll || not (is_poll service)) is
+    go (is_doubted s missed) (may_poll || not (is_poll service)) is
   where
-    go : (b : Bool) → (if b then wants (Counted fcb service) Commanding else None) ≡ Some w
-        → (is_service w.request ≡ true) × (w.following ≡ Commanding)
-    go true e =
-        let same = same_want (held_want fcb service) w e in (
+    go : (doubted b : Bool) → (if doubted then wants Status Over
+        else if b then wants (Counted fcb service) Commanding else None) ≡ Some w
+        → HeldOrProbed w
+    go true b e =
+        inr (ap (λ (x : Wanted). x.request)
+        (sym (same_want (record { request = Status; following = Over }) w e)))
+    go false true e =
+        let same = same_want (held_want fcb service) w e in inl (
           ap (λ (x : Wanted). is_service x.request) (sym same),
           ap (λ (x : Wanted). x.following) (sym same),
         )
-    go false e = let no : ⊥ = cc in absurd no
+    go false false e = let no : ⊥ = cc in absurd no
 held_follows burst may_poll true s command (Held fcb service missed) Commanding w held once is =
     absurd (once refl)
 held_follows burst may_poll true s command (Held fcb service missed) Polling w held once is =
@@ -110,8 +128,7 @@ parts false b e = let no : ⊥ = cc in absurd no
 
 begins : (p : Primary) (c : Chosen) (may_poll : Bool) (waiting : CommandsWaiting) → AgainHas p
     → IsChosen p may_poll waiting c
-    → is_spent p c.station ≡ true
-    → (is_service c.wanted.request ≡ true) × (c.wanted.following ≡ Commanding)
+    → is_spent p c.station ≡ true → HeldOrProbed c.wanted
 begins p c may_poll waiting has (here at is) spent =
     held_follows p.settings.burst may_poll p.again (station_at p.stations c.station)
     (waiting c.station) link p.phase
@@ -150,15 +167,28 @@ asked_matches p began now may_poll waiting matches = go p.outstanding refl
             → Began (after_choice p now (Some c)) (if b then Some c.station else None)
         mark true is =
             let chosen = is_chosen p may_poll waiting c e in
-            let it = begins p c may_poll waiting matches.0 chosen is in (
-              refl,
-              waits (record {
-                request = c.wanted.request;
-                since = now;
-                arrived = Some [];
-                has_octets = false;
-              }) refl it.0 it.1,
-            )
+            (refl, so (begins p c may_poll waiting matches.0 chosen is))
+          where
+            out_now : Outstanding
+            out_now = record {
+              request = c.wanted.request;
+              since = now;
+              arrived = Some [];
+              has_octets = false;
+            }
+
+            held : is_held (station_at p.stations c.station).link ≡ true
+            held = (parts (is_held (station_at p.stations c.station).link)
+                (has_repeats p.settings (station_at p.stations c.station).link) is).0
+
+            so : HeldOrProbed c.wanted
+                → Stays (Some out_now) c.wanted.following
+                (station_at (after_choice p now (Some c)).stations c.station).link
+            so (inl it) = waits out_now refl it.0 it.1
+            so (inr it) = probes out_now refl it
+                (ap is_held (set_view (λ (s : StationState). s.link) p.stations c.station
+                (station_asked (station_at p.stations c.station) c.wanted.request) refl c.station)
+                ∙ held)
         mark false is = tt
 
     go : (o : Option Outstanding) → p.outstanding ≡ o
@@ -190,11 +220,23 @@ phase_stays (Counted fcb asked_for) Unable phase link link' service down is up =
 phase_stays Status Unable phase link link' service down is up = let no : ⊥ = cc in absurd no
 phase_stays Reset Unable phase link link' service down is up = let no : ⊥ = cc in absurd no
 
+-- behind a status that a station answers, which holds a service, that isn't answered
+probe_unanswered : (request : Asked) (answer : Answer) (link : Link) → request ≡ Status
+    → is_held link ≡ true → is_answered (after_answer request answer link) ≡ false
+probe_unanswered Status Ready (Held fcb service silence) is held = refl
+probe_unanswered Status Unable (Held fcb service silence) is held = refl
+probe_unanswered Status answer (Held fcb service silence) is held = refl
+probe_unanswered Status answer Down is held = cc
+probe_unanswered Status answer Available is held = cc
+probe_unanswered Status answer (Next fcb) is held = cc
+probe_unanswered Reset answer link is held = cc
+probe_unanswered (Counted fcb service) answer link is held = cc
+
 answer_matches : (p : Primary) (began : Option ℕ) (o : Outstanding) (frame : Frame)
     (answer : Answer)
     → p.outstanding ≡ Some o → Matches p began → Matches (answered p o.request frame answer) began
 answer_matches p began o frame answer e matches =
-    ((λ again. absurd (none_out p.outstanding o (matches.0 again).0 e)), go began matches.1)
+    ((λ again. absurd (not_both false again refl)), go began matches.1)
   where
     it : StationState
     it = station_answered (station_at p.stations p.turn) o.request frame answer
@@ -202,6 +244,15 @@ answer_matches p began o frame answer e matches =
     go : (b : Option ℕ) → Began p b → Began (answered p o.request frame answer) b
     go None state = tt
     go (Some station) (turn, ended free phase) = absurd (none_out p.outstanding o free e)
+    go (Some station) (turn, probes x awaited asks held) = (
+      turn,
+      ended refl (λ up. absurd (not_both
+          (is_answered (station_at (slice_set p.stations p.turn it) p.turn).link) up
+          (set_none (λ (t : StationState). is_answered t.link) p.stations p.turn it
+          (probe_unanswered o.request answer (station_at p.stations p.turn).link
+          (ap (λ (y : Outstanding). y.request) (sym (same_out x o (sym awaited ∙ e))) ∙ asks) held)
+          refl))),
+    )
     go (Some station) (turn, waits x awaited service phase) = (
       turn,
       ended refl (phase_stays o.request answer p.phase (station_at p.stations p.turn).link
@@ -225,6 +276,16 @@ octets_match front p came began matches = listen_from p.outstanding refl
         go : (b : Option ℕ) → Began p b → Began (took p (with_octets came o) arrived None) b
         go None state = tt
         go (Some station) (turn, ended free phase) = absurd (none_out p.outstanding o free e)
+        go (Some station) (turn, probes x awaited asks held) = (
+          turn,
+          probes (record {
+            request = o.request;
+            since = o.since;
+            arrived = arrived;
+            has_octets = (with_octets came o).has_octets;
+          }) refl (ap (λ (y : Outstanding). y.request)
+              (sym (same_out x o (sym awaited ∙ e))) ∙ asks) held,
+        )
         go (Some station) (turn, waits x awaited service phase) = (
           turn,
           waits (record {
@@ -278,15 +339,16 @@ missed_matches p began o e matches = (repeats, go began matches.1)
           ap (has_repeats p.settings) (held_is p.stations p.turn it held) ∙ again,
     )
 
+    silent : is_answered link ≡ true → (unanswered p o).phase ≡ Commanding
+    silent up = absurd (not_both (is_answered link) up
+        (set_none (λ (t : StationState). is_answered t.link) p.stations p.turn it
+        (silent_down p.settings o.request (station_at p.stations p.turn).link) refl))
+
     go : (b : Option ℕ) → Began p b → Began (unanswered p o) b
     go None state = tt
     go (Some station) (turn, ended free phase) = absurd (none_out p.outstanding o free e)
-    go (Some station) (turn, waits x awaited service phase) = (
-      turn,
-      ended refl (λ up. absurd (not_both (is_answered link) up
-          (set_none (λ (t : StationState). is_answered t.link) p.stations p.turn it
-          (silent_down p.settings o.request (station_at p.stations p.turn).link) refl))),
-    )
+    go (Some station) (turn, probes x awaited asks held) = (turn, ended refl silent)
+    go (Some station) (turn, waits x awaited service phase) = (turn, ended refl silent)
 
 due_matches : (p : Primary) (at : ℕ) (began : Option ℕ) → Matches p began
     → Matches (timed_out p at) began
@@ -345,6 +407,24 @@ give_up_matches p k began matches = (repeats (p.turn == k) refl, go began matche
     go None state = tt
     go (Some station) (turn, state) = (turn, stands state (p.turn == k) refl)
 
+doubt_matches : (p : Primary) (began : Option ℕ) → Matches p began → Matches (doubted p) began
+doubt_matches p began matches = (
+  λ again. (
+    (matches.0 again).0,
+    subst (λ (l : Link). is_held l ≡ true → has_repeats p.settings l ≡ true) (sym link_is)
+        (matches.0 again).1,
+  ),
+  go began matches.1,
+)
+  where
+    link_is : (station_at (doubted p).stations p.turn).link ≡ (station_at p.stations p.turn).link
+    link_is = doubted_link p.stations p.turn
+
+    go : (b : Option ℕ) → Began p b → Began (doubted p) b
+    go None state = tt
+    go (Some station) (turn, state) =
+        (turn, subst (λ (l : Link). Stays p.outstanding p.phase l) (sym link_is) state)
+
 call_matches : (p : Primary) (began : Option ℕ) (call : Call) → Matches p began
     → Matches (called p call) (began_after p call began)
 call_matches p began (runs.Next now may_poll waiting) matches =
@@ -353,6 +433,7 @@ call_matches p began (Octets octets) matches =
     octets_match (front_of p.settings.size) p octets began matches
 call_matches p began (Due now) matches = due_matches p now began matches
 call_matches p began (GivesUp station) matches = give_up_matches p station began matches
+call_matches p began Doubts matches = doubt_matches p began matches
 
 -- ---- what goes out behind it
 
@@ -394,6 +475,9 @@ goes_behind : (p : Primary) (began : Option ℕ) (call : Call) → Matches p beg
 goes_behind p (Some station) (runs.Next now may_poll waiting)
     (has, (turn, waits o awaited service phase)) =
     λ out is may. absurd (none_out p.outstanding o out awaited)
+goes_behind p (Some station) (runs.Next now may_poll waiting)
+    (has, (turn, probes o awaited asks held)) =
+    λ out is may. absurd (none_out p.outstanding o out awaited)
 goes_behind p (Some station) (runs.Next now may_poll waiting) (has, (turn, ended free phase)) =
     λ out is may.
     let up : is_answered (station_at p.stations p.turn).link ≡ true =
@@ -411,6 +495,7 @@ goes_behind p (Some station) (runs.Next now may_poll waiting) (has, (turn, ended
 goes_behind p (Some station) (Octets octets) matches = tt
 goes_behind p (Some station) (Due now) matches = tt
 goes_behind p (Some station) (GivesUp other) matches = tt
+goes_behind p (Some station) Doubts matches = tt
 goes_behind p None call matches = tt
 
 pub go_behind : (p : Primary) (began : Option ℕ) (calls : List Call) → Matches p began

@@ -12,6 +12,8 @@ use Rattle.link.specs.Outstation.{Effect, effects_of, Outstation, reset_link, Tu
 use Rattle.link.specs.Outstation.{OutstationStep, unreceived, unable, arrived}
 use Rattle.link.specs.Delivery.{learnt_by, IsTrueFront, pending_by, MayOwe, is_reset}
 use Rattle.link.proofs.Refusals.{refused_service, refused_reset}
+use Rattle.link.specs.Procedure.{probed_so_far, is_kept, spent_silence, short_silence}
+use Rattle.link.specs.Procedure.{Silence}
 
 -- what the outstation has kept of a service that it has received
 pub record HasServed (station : ℕ) (fcb : Bool) (service : Service) (state : Outstation)
@@ -139,12 +141,13 @@ silence_agrees : (settings : LinkSettings) (station : ℕ) (fcb : Bool) (service
     owed
 silence_agrees settings station fcb service false link state owed a = (refl, a)
 silence_agrees settings station fcb service true link state owed a =
-    go (nat_lt settings.retries (suc (missed_so_far link))) settings.hold
+    go (nat_lt settings.retries (suc (missed_so_far link)))
+    (is_kept settings (probed_so_far link))
   where
     go : (b hold : Bool) → Agrees station
-        (if b then (if hold then Held fcb service (suc settings.retries) else Down)
-        else Held fcb service
-        (suc (missed_so_far link))) (Some service) state owed
+        (if b then (if hold then Held fcb service (spent_silence settings (probed_so_far link))
+        else Down) else Held fcb service
+        (short_silence (suc (missed_so_far link)) (probed_so_far link))) (Some service) state owed
     go true true = (refl, a)
     go true false = owes_service station fcb service state owed a
     go false hold = (refl, a)
@@ -402,11 +405,22 @@ status_leaves : (settings : LinkSettings) (station : ℕ) (link : Link) (pending
           closed;
       given_up = false;
     }) m owed done new
-status_leaves settings station link pending front closed None owed done new down owes idle =
+status_leaves settings station Down pending front closed None owed done new down owes
+    idle =
     record { owed' = owed; agrees = owes; sum = no_more owed done idle }
-status_leaves settings station link pending front closed (Some Ready) owed done new down owes idle =
+status_leaves settings station Down pending front closed (Some Ready) owed done new down owes
+    idle =
     record { owed' = owed; agrees = owes; sum = no_more owed done idle }
-status_leaves settings station link pending front closed (Some Unable) owed done new down owes
+status_leaves settings station Down pending front closed (Some Unable) owed done new down owes
+    idle =
+    record { owed' = owed; agrees = owes; sum = no_more owed done idle }
+status_leaves settings station Available pending front closed None owed done new down owes
+    idle =
+    record { owed' = owed; agrees = owes; sum = no_more owed done idle }
+status_leaves settings station Available pending front closed (Some Ready) owed done new down owes
+    idle =
+    record { owed' = owed; agrees = owes; sum = no_more owed done idle }
+status_leaves settings station Available pending front closed (Some Unable) owed done new down owes
     idle =
     record { owed' = owed; agrees = owes; sum = no_more owed done idle }
 status_leaves settings station Down pending front closed (Some answer) owed done new down owes
@@ -415,10 +429,59 @@ status_leaves settings station Down pending front closed (Some answer) owed done
 status_leaves settings station Available pending front closed (Some answer) owed done new down owes
     idle =
     record { owed' = owed; agrees = owes; sum = no_more owed done idle }
-status_leaves settings station (Next fcb) pending front closed (Some answer) owed done new down owes
+status_leaves settings station (Next fcb) pending front closed m owed done new down owes
     idle = cc
-status_leaves settings station (Held fcb service missed) pending front closed
-    (Some answer) owed done new down owes idle = cc
+status_leaves settings station (Held fcb service missed) pending front closed m owed done new down
+    owes idle = cc
+
+-- a status changes nothing at the outstation
+same_status : (station : ℕ) (old new : Outstation) (turn : Turn)
+    → OutstationStep station old Status turn new → new ≡ old
+same_status station old new turn (unreceived quiet same) = same
+same_status station old new turn (unable frame refuses quiet same) = same
+same_status station old new turn (arrived h) = h.3
+
+-- what a status leaves of a service that is held
+probe_leaves : (settings : LinkSettings) (station : ℕ) (fcb : Bool) (service : Service)
+    (silence : Silence) (pending : Option Service) (front : Option Frame) (closed : Bool)
+    (m : Option Answer) (old new : Outstation) (turn : Turn) (owed : List Effect) →
+    Agrees station (Held fcb service silence) pending old owed →
+    OutstationStep station old Status turn new →
+    Leaves settings station (Held fcb service silence) pending (record {
+      request = Status;
+      front = front;
+      closed = closed;
+      given_up = false;
+    }) m owed turn.done new
+probe_leaves settings station fcb service silence pending front closed m old new turn owed agrees
+    step = go m
+  where
+    idle : owed ++ turn.done ≡ owed
+    idle = no_more owed turn.done (idle_status station old new turn step)
+
+    still : (pending ≡ Some service)
+        × (AwaitsBit fcb new owed ⊎ HasServed station fcb service new owed)
+    still = subst (λ (s : Outstation). (pending ≡ Some service)
+        × (AwaitsBit fcb s owed ⊎ HasServed station fcb service s owed))
+        (sym (same_status station old new turn step)) agrees
+
+    go : (m : Option Answer) → Leaves settings station (Held fcb service silence) pending (record {
+      request = Status;
+      front = front;
+      closed = closed;
+      given_up = false;
+    }) m owed turn.done new
+    go None = record { owed' = owed; agrees = still; sum = idle }
+    go (Some Ready) = record { owed' = owed; agrees = still; sum = idle }
+    go (Some Unable) = record {
+      owed' = owed;
+      agrees = owes_of station (Held fcb service silence) pending old owed agrees;
+      sum = idle;
+    }
+    go (Some Confirmed) = record { owed' = owed; agrees = still; sum = idle }
+    go (Some Busy) = record { owed' = owed; agrees = still; sum = idle }
+    go (Some (Report asdu)) = record { owed' = owed; agrees = still; sum = idle }
+    go (Some NoData) = record { owed' = owed; agrees = still; sum = idle }
 
 -- what a reset request leaves that isn't confirmed
 reset_leaves : (settings : LinkSettings) (station : ℕ) (pending : Option Service)
@@ -471,6 +534,10 @@ exchange_step settings station Available pending Reset front closed old new turn
     step true_front other =
     reset_leaves settings station pending front closed _ owed turn.done new other agrees
     (idle_reset station old new turn step)
+exchange_step settings station (Held fcb service silence) pending Status front closed old new turn
+    owed agrees may step true_front other =
+    probe_leaves settings station fcb service silence pending front closed _ old new turn owed
+    agrees step
 exchange_step settings station (Next fcb) pending (Counted sent service) front closed old new turn
     owed agrees may step
     true_front other =

@@ -21,6 +21,7 @@ use Rattle.link.specs.Bursts.{Row, Polls, Other, row_by, row_by_request, row_out
 use Rattle.link.specs.Bursts.{row_after, is_answered, BurstsGoOn, HasMore, AlwaysHasMore}
 use Rattle.link.specs.Bursts.{IsClass1Of}
 use Rattle.link.proofs.Bursting.{all_go_on}
+use Rattle.link.specs.Runs.{Doubts}
 
 -- ---- The settings stay
 
@@ -75,6 +76,7 @@ settings_stay p (Octets octets) =
     received_settings (front_of p.settings.size) p p.outstanding octets
 settings_stay p (Due now) = due_settings p p.outstanding now
 settings_stay p (GivesUp station) = refl
+settings_stay p Doubts = refl
 
 burst_stays : (p : Primary) (call : Call) (n : ℕ) → n ≡ p.settings.burst
     → n ≡ (called p call).settings.burst
@@ -156,6 +158,8 @@ all_go_out p k j m (Due now ∷ calls) on more count =
 all_go_out p k j m (GivesUp station ∷ calls) on more count =
     all_go_out (called p (GivesUp station)) k j m calls on.1 more.1
     (burst_stays p (GivesUp station) (m + j) count)
+all_go_out p k j m (Doubts ∷ calls) on more count =
+    all_go_out (called p Doubts) k j m calls on.1 more.1 (burst_stays p Doubts (m + j) count)
 
 -- the row behind a poll of class 2
 class2_row : (p : Primary) (k now : ℕ) (waiting : CommandsWaiting) (fcb : Bool) (row : Row)

@@ -35,6 +35,11 @@ use Rattle.link.specs.Bursts.{row_after, is_answered, PollsGoOn, BurstsGoOn}
 use Rattle.link.proofs.Leaving.{set_none}
 use Rattle.link.proofs.Preceding.{IsChosen, here, there, is_chosen}
 use Rattle.link.specs.Turns.{CommandsWaiting}
+use Rattle.link.specs.Runs.{Doubts}
+use Rattle.link.specs.Carried.{doubted}
+use Rattle.link.proofs.Doubting.{doubted_link}
+use Rattle.link.specs.Procedure.{Silence, probed_so_far, is_kept, spent_silence, short_silence}
+use Rattle.link.specs.Turns.{is_doubted}
 
 abbrev pub IsNotBegun : Phase → Type 0
 IsNotBegun (Class1Polling sent) = ⊥
@@ -52,7 +57,7 @@ pub data Goes (link : Link) (again : Bool) (phase : Phase) (request : Asked)
     (following : Phase) : Type 0 where
   repeated : is_held link ≡ true → again ≡ true → following ≡ phase
       → Goes link again phase request following
-  first_held : is_held link ≡ true → following ≡ Commanding
+  first_held : is_held link ≡ true → IsNotBegun following
       → Goes link again phase request following
   first_class : (fcb : Bool) (many : ℕ) → is_held link ≡ false → is_answered link ≡ true
       → request ≡ Counted fcb Class1
@@ -135,16 +140,18 @@ next_goes burst may_poll fcb again s command (Class1Polling sent) =
 next_goes burst may_poll fcb again s command Over = tt
 
 held_goes : (burst : ℕ) (may_poll again : Bool) (s : StationState) (command : Option (List ℕ))
-    (fcb : Bool) (service : Service) (missed : ℕ) (phase : Phase)
+    (fcb : Bool) (service : Service) (missed : Silence) (phase : Phase)
     → GoesIt (Held fcb service missed) again phase
     (wanted_by burst may_poll again s command (Held fcb service missed) phase)
 held_goes burst may_poll again s command fcb service missed Starting =
-    go (may_poll || not (is_poll service))
+    go (is_doubted s missed) (may_poll || not (is_poll service))
   where
-    go : (b : Bool) → GoesIt (Held fcb service missed) again Starting
-        (if b then wants (Counted fcb service) Commanding else None)
-    go true = first_held refl refl
-    go false = tt
+    go : (doubted b : Bool) → GoesIt (Held fcb service missed) again Starting
+        (if doubted then wants Status Over
+        else if b then wants (Counted fcb service) Commanding else None)
+    go true b = first_held refl tt
+    go false true = first_held refl tt
+    go false false = tt
 held_goes burst may_poll true s command fcb service missed Commanding = repeated refl refl refl
 held_goes burst may_poll true s command fcb service missed Polling = repeated refl refl refl
 held_goes burst may_poll true s command fcb service missed (Class1Polling sent) =
@@ -370,7 +377,7 @@ module _ (p p' : Primary) (c : Chosen) (row : Row) where
   goes_matches again phase matches none free at turn follows out (first_held is_out is) =
       subst (λ (b : Bool). Matches p' (row_so b c.wanted.request)) (sym is_out)
       (subst (Matches p') (sym (no_repeat p c.station row matches none))
-      (subst IsNotBegun (sym (follows ∙ is)) tt))
+      (subst IsNotBegun (sym follows) is))
   goes_matches again phase matches none free at turn follows out
       (first_class fcb many new up is next one) =
       subst (λ (b : Bool). Matches p' (row_so b c.wanted.request)) (sym new)
@@ -553,7 +560,7 @@ no_poll_left NoData phase none = none
 
 unable_down : (request : Asked) (link : Link) → is_service request ≡ true
     → is_answered (after_answer request Unable link) ≡ false
-unable_down Status link service = refl
+unable_down Status link service = let bad : ⊥ = cc in absurd bad
 unable_down Reset link service = let bad : ⊥ = cc in absurd bad
 unable_down (Counted fcb other) link service = refl
 
@@ -578,14 +585,20 @@ no_repeats settings (Next fcb) e = refl
 
 pub silent_down : (settings : LinkSettings) (request : Asked) (link : Link)
     → is_answered (after_silence settings request true link) ≡ false
-silent_down settings Status link = refl
+silent_down settings Status Down = refl
+silent_down settings Status Available = refl
+silent_down settings Status (Next fcb) = refl
+silent_down settings Status (Held fcb service silence) = refl
 silent_down settings Reset link = refl
 silent_down settings (Counted fcb service) link =
-    go (nat_lt settings.retries (suc (missed_so_far link))) settings.hold
+    go (nat_lt settings.retries (suc (missed_so_far link)))
+    (is_kept settings (probed_so_far link))
   where
     go : (b hold : Bool)
-        → is_answered (if b then (if hold then Held fcb service (suc settings.retries) else Down)
-        else Held fcb service (suc (missed_so_far link))) ≡ false
+        → is_answered (if b then (if hold then Held fcb service
+        (spent_silence settings (probed_so_far link)) else Down)
+        else Held fcb service (short_silence (suc (missed_so_far link)) (probed_so_far link)))
+        ≡ false
     go true true = refl
     go true false = refl
     go false hold = refl
@@ -807,6 +820,26 @@ give_up_matches p k (Polls j n) matches =
 give_up_matches p k (Commanded j) matches =
     (matches.0, given_up_in_row p k (Commanded j) j matches.0 matches.1)
 
+-- Whether a station was restarted changes no link.
+doubted_in_row : (p : Primary) (row : Row) (j : ℕ) → IsInRow p row j → IsInRow (doubted p) row j
+doubted_in_row p row j (going at stays) = going at (out p.outstanding stays)
+  where
+    out : (o : Option Outstanding) → StaysOut p o → StaysOut (doubted p) o
+    out None stay =
+        subst (λ (l : Link). is_held l ≡ true → p.again ≡ has_repeats p.settings l)
+        (sym (doubted_link p.stations p.turn)) stay
+    out (Some o) stay = stay
+doubted_in_row p row j (lost free down over none) = lost free
+    (ap is_answered (doubted_link p.stations j) ∙ down) over
+    (ap (has_repeats p.settings) (doubted_link p.stations j) ∙ none)
+
+doubt_matches : (p : Primary) (row : Row) → Matches p row → Matches (doubted p) row
+doubt_matches p Other matches = matches
+doubt_matches p (Polls j n) matches =
+    (matches.0, doubted_in_row p (Polls j n) j matches.1)
+doubt_matches p (Commanded j) matches =
+    (matches.0, doubted_in_row p (Commanded j) j matches.1)
+
 call_matches : (p : Primary) (row : Row) (call : Call) → Matches p row
     → Matches (called p call) (row_after p call row)
 call_matches p row (runs.Next now may_poll waiting) matches =
@@ -815,6 +848,7 @@ call_matches p row (Octets octets) matches = octets_match (front_of p.settings.s
     matches
 call_matches p row (Due now) matches = due_matches p now row matches
 call_matches p row (GivesUp station) matches = give_up_matches p station row matches
+call_matches p row Doubts matches = doubt_matches p row matches
 
 -- ---- what is next
 
@@ -905,10 +939,12 @@ goes_on p (Polls k n) (runs.Next now false waiting) matches = tt
 goes_on p (Polls k n) (Octets octets) matches = tt
 goes_on p (Polls k n) (Due now) matches = tt
 goes_on p (Polls k n) (GivesUp station) matches = tt
+goes_on p (Polls k n) Doubts matches = tt
 goes_on p (Commanded k) (runs.Next now false waiting) matches = tt
 goes_on p (Commanded k) (Octets octets) matches = tt
 goes_on p (Commanded k) (Due now) matches = tt
 goes_on p (Commanded k) (GivesUp station) matches = tt
+goes_on p (Commanded k) Doubts matches = tt
 goes_on p Other call matches = tt
 
 pub go_on : (p : Primary) (row : Row) (calls : List Call) → Matches p row → BurstsGoOn p row calls

@@ -18,6 +18,9 @@ use Rattle.link.proofs.MatchingStart.{start_says}
 use Rattle.link.proofs.Matching.{ask_says}
 use Rattle.link.proofs.GivenUpMatches.{given_up_says}
 use Rattle.link.specs.Turns.{CommandsWaiting}
+use Rattle.link.specs.Runs.{Doubts}
+use Rattle.link.specs.Carried.{doubted}
+use Rattle.link.proofs.DoubtedMatches.{doubted_says}
 
 -- one call more
 
@@ -117,6 +120,14 @@ give_up_matches settings addresses p e k within t =
     (given_up_says (front_of settings.size) settings addresses p e k within
     (says (front_of settings.size) settings addresses p e t))
     (one_more settings addresses p e (GivesUp k) within t.called)
+
+pub doubt_matches : (settings : LinkSettings) (addresses : List ℕ) (p : Primary) (e : Exchanges)
+    → Matches settings addresses p e → Matches settings addresses (doubted p) e
+doubt_matches settings addresses p e t =
+    matches (front_of settings.size) settings addresses (doubted p) e
+    (doubted_says (front_of settings.size) settings addresses p e
+    (says (front_of settings.size) settings addresses p e t))
+    (one_more settings addresses p e Doubts tt t.called)
 
 -- the links that are known while nothing, or something, is outstanding
 pub links_at : (front : List ℕ → Front) (settings : LinkSettings) (addresses : List ℕ) (p : Primary)

@@ -10,6 +10,7 @@ use Rattle.link.specs.Turns.{wanted_command, commands_from, next_of, wanted_by, 
 use Rattle.link.specs.Turns.{CommandsWaiting, chosen_or, first_after}
 use Rattle.link.specs.Primary.{Primary, choice}
 use Rattle.link.specs.Holding.{IsFitting}
+use Rattle.link.specs.Answers.{Status}
 
 -- What is wanted may be sent.
 abbrev pub MayWant : Link → Option Wanted → Type 0
@@ -63,12 +64,17 @@ wanted_may burst may_poll again s command Available Starting = tt
 wanted_may burst may_poll again s command (Next fcb) phase =
     next_may burst may_poll fcb s command phase
 wanted_may burst may_poll again s command (Held fcb service missed) Starting =
-    go (may_poll || not (is_poll service))
+    go s.unsure missed.spent refl (may_poll || not (is_poll service))
   where
-    go : (b : Bool) → MayWant (Held fcb service missed)
-        (if b then wants (Counted fcb service) Commanding else None)
-    go true = (refl, refl)
-    go false = tt
+    go : (unsure spent : Bool) → missed.spent ≡ spent → (b : Bool)
+        → MayWant (Held fcb service missed)
+        (if unsure && spent then wants Status Over
+        else if b then wants (Counted fcb service) Commanding else None)
+    go true true e b = e
+    go true false e true = (refl, refl)
+    go true false e false = tt
+    go false spent e true = (refl, refl)
+    go false spent e false = tt
 wanted_may burst may_poll true s command (Held fcb service missed) Commanding = (refl, refl)
 wanted_may burst may_poll true s command (Held fcb service missed) Polling = (refl, refl)
 wanted_may burst may_poll true s command (Held fcb service missed) (Class1Polling sent) =

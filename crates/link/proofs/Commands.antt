@@ -7,7 +7,7 @@ use Rattle.link.specs.Answers.{Service, Class1, Class2, Command, Asked, Counted,
 use Rattle.link.specs.Answers.{Confirmed, Busy, Report, NoData, Unable}
 use Rattle.link.specs.Exchanges.{Exchange, answer_to}
 use Rattle.link.specs.Procedure.{is_up, IsSteady, LinkSettings, Link, Down, Available, Held}
-use Rattle.link.specs.Procedure.{after_outcome, after_silence, after, missed_so_far, MaySend}
+use Rattle.link.specs.Procedure.{after_outcome, after_silence, after, missed_so_far}
 use Rattle.link.specs.Procedure.{KeepsFrameCountBit}
 use Rattle.link.specs.Outstation.{Turn, all_done}
 use Rattle.link.specs.Delivery.{learnt, pending_by, pending_after, MayOwe, is_reset, Session}
@@ -20,6 +20,9 @@ use Rattle.link.proofs.KnownFrom.{reset_learns, idle_down, reset_from_down}
 use Rattle.link.proofs.Sendings.{commands-append, commands-nil, pending_command, SendingsLearnt}
 use Rattle.link.proofs.Sendings.{LinkPends, drop_if, exchange_sendings, exchange_pends}
 use Rattle.link.proofs.Sendings.{reset_sendings}
+use Rattle.link.specs.Procedure.{Silence, Probed, Never, Next, is_service, probed_so_far, is_kept, spent_silence, short_silence, AskNoneThatIsUp}
+use Rattle.link.specs.Answers.{Status, Reset}
+use Rattle.std.proofs.Common.{◌&&◌}
 
 -- From a place with this pending: the rest of its session, and the later ones.
 pub record SendingsFrom (station : ℕ) (pending : Option Service) (rest : Session)
@@ -223,55 +226,100 @@ sendings_steady settings station link pending (x ∷ xs) pends clear keeps stead
         (answer_to station x) xs pends keeps.0 is refl
         (ih (down false is (is_up link) refl))
 
--- Where services are held, only a refusal takes a link down, or that it is given up.
+-- a link that was never probed stays so where no status is asked of a station that is up
+never_probed : (settings : LinkSettings) (request : Asked) (m : Option Answer) (closed : Bool)
+    (link : Link) → (is_up link ≡ true → is_service request ≡ true) → probed_so_far link ≡ Never
+    → probed_so_far (after_outcome settings m request closed link) ≡ Never
+never_probed settings Status None closed Down asks fresh = refl
+never_probed settings Status None closed Available asks fresh = refl
+never_probed settings Status None closed (Next fcb) asks fresh = refl
+never_probed settings Status None closed (Held fcb service silence) asks fresh = refl
+never_probed settings Status (Some Ready) closed Down asks fresh = refl
+never_probed settings Status (Some Ready) closed Available asks fresh = refl
+never_probed settings Status (Some Ready) closed (Next fcb) asks fresh = refl
+never_probed settings Status (Some Ready) closed (Held fcb service silence) asks fresh =
+    let no : false ≡ true = asks refl in cc
+never_probed settings Status (Some Unable) closed link asks fresh = refl
+never_probed settings Status (Some Confirmed) closed link asks fresh = fresh
+never_probed settings Status (Some Busy) closed link asks fresh = fresh
+never_probed settings Status (Some (Report asdu)) closed link asks fresh = fresh
+never_probed settings Status (Some NoData) closed link asks fresh = fresh
+never_probed settings Reset None closed link asks fresh = refl
+never_probed settings Reset (Some Confirmed) closed link asks fresh = refl
+never_probed settings Reset (Some Ready) closed link asks fresh = fresh
+never_probed settings Reset (Some Unable) closed link asks fresh = fresh
+never_probed settings Reset (Some Busy) closed link asks fresh = fresh
+never_probed settings Reset (Some (Report asdu)) closed link asks fresh = fresh
+never_probed settings Reset (Some NoData) closed link asks fresh = fresh
+never_probed settings (Counted fcb service) None false link asks fresh = fresh
+never_probed settings (Counted fcb service) None true link asks fresh =
+    go (nat_lt settings.retries (suc (missed_so_far link)))
+    (is_kept settings (probed_so_far link))
+  where
+    go : (b kept : Bool) → probed_so_far (if b then (if kept then Held fcb service
+        (spent_silence settings (probed_so_far link)) else Down)
+        else Held fcb service
+        (short_silence (suc (missed_so_far link)) (probed_so_far link))) ≡ Never
+    go true true = fresh
+    go true false = refl
+    go false kept = fresh
+never_probed settings (Counted fcb service) (Some Unable) closed link asks fresh = refl
+never_probed settings (Counted fcb service) (Some Ready) closed link asks fresh = refl
+never_probed settings (Counted fcb service) (Some Confirmed) closed link asks fresh = refl
+never_probed settings (Counted fcb service) (Some Busy) closed link asks fresh = refl
+never_probed settings (Counted fcb service) (Some (Report asdu)) closed link asks fresh = refl
+never_probed settings (Counted fcb service) (Some NoData) closed link asks fresh = refl
+
+-- Where services are held, only a refusal takes a link down, or that it is given up, or that its
+-- station answered statuses meanwhile.
 pub hold_steady :
     (settings : LinkSettings) (station : ℕ) (link : Link) (xs : List Exchange) → settings.hold
     ≡ true
+    → probed_so_far link ≡ Never
     → KeepsFrameCountBit settings station link xs →
     AllByRecursion (λ (x : Exchange). answer_to station x ≢ Some Unable) xs
     → AllByRecursion (λ (x : Exchange). x.given_up ≡ false) xs
+    → AskNoneThatIsUp settings station link xs
     → IsSteady settings station link xs
-hold_steady settings station link [] hold keeps able stands = tt
-hold_steady settings station link (x ∷ xs) hold keeps able stands = (
+hold_steady settings station link [] hold fresh keeps able stands asks = tt
+hold_steady settings station link (x ∷ xs) hold fresh keeps able stands asks = (
   λ up. ap (λ (b : Bool). is_up (if b then Down
       else after_outcome settings (answer_to station x) x.request x.closed link)) stands.0
-      ∙ one link x.request (answer_to station x) keeps.0 up able.0,
-  hold_steady settings station (after settings station x link) xs hold keeps.1 able.1 stands.1,
+      ∙ one x.request (answer_to station x) (asks.0 up) able.0,
+  hold_steady settings station (after settings station x link) xs hold
+      (by_mark (λ (l : Link). probed_so_far l ≡ Never) x.given_up _
+      (never_probed settings x.request (answer_to station x) x.closed link asks.0 fresh) refl)
+      keeps.1 able.1 stands.1 asks.1,
 )
   where
-    waits : (fcb : Bool) (service : Service) (missed : ℕ) (b h : Bool) → h ≡ true →
-        is_up (if b then (if h then Held fcb service (suc settings.retries) else Down)
-        else Held fcb service missed)
-        ≡ true
-    waits fcb service missed true true e = refl
-    waits fcb service missed true false e = cc
-    waits fcb service missed false h e = refl
+    kept : is_kept settings (probed_so_far link) ≡ true
+    kept = ap (λ (p : Probed). is_kept settings p) fresh ∙ ap (λ (h : Bool). h && true) hold
 
-    unanswered_up : (fcb : Bool) (service : Service) (link : Link) (closed : Bool)
+    waits : (fcb : Bool) (service : Service) (spent short : Silence) (b h : Bool) → h ≡ true →
+        is_up (if b then (if h then Held fcb service spent else Down)
+        else Held fcb service short)
+        ≡ true
+    waits fcb service spent short true true e = refl
+    waits fcb service spent short true false e = cc
+    waits fcb service spent short false h e = refl
+
+    unanswered_up : (fcb : Bool) (service : Service) (closed : Bool)
         → is_up (after_silence settings (Counted fcb service) closed link) ≡ true
-    unanswered_up fcb service link false = refl
-    unanswered_up fcb service link true = waits fcb service (suc (missed_so_far link))
-        (nat_lt settings.retries (suc (missed_so_far link))) settings.hold hold
+    unanswered_up fcb service false = refl
+    unanswered_up fcb service true = waits fcb service
+        (spent_silence settings (probed_so_far link))
+        (short_silence (suc (missed_so_far link)) (probed_so_far link))
+        (nat_lt settings.retries (suc (missed_so_far link)))
+        (is_kept settings (probed_so_far link)) kept
 
-    counted : (fcb : Bool) (service : Service) (link : Link) (m : Option Answer) → m ≢ Some Unable →
-        is_up
-        (after_outcome settings m (Counted fcb service) x.closed
-        link) ≡ true
-    counted fcb service link None able = unanswered_up fcb service link x.closed
-    counted fcb service link (Some Unable) able = absurd (able refl)
-    counted fcb service link (Some Ready) able = refl
-    counted fcb service link (Some Confirmed) able = refl
-    counted fcb service link (Some Busy) able = refl
-    counted fcb service link (Some (Report asdu)) able = refl
-    counted fcb service link (Some NoData) able = refl
-
-    one : (link : Link) (request : Asked) (m : Option Answer) → MaySend link request → is_up link
-        ≡ true
-        → m ≢ Some Unable →
-        is_up
-        (after_outcome settings m request x.closed
-        link) ≡ true
-    one Down request m may up able = cc
-    one Available request m may up able = cc
-    one link (Counted fcb service) m may up able = counted fcb service link m able
-    one link request m may up able = absurd may
+    one : (request : Asked) (m : Option Answer) → is_service request ≡ true
+        → m ≢ Some Unable → is_up (after_outcome settings m request x.closed link) ≡ true
+    one Status m asked able = cc
+    one Reset m asked able = cc
+    one (Counted fcb service) None asked able = unanswered_up fcb service x.closed
+    one (Counted fcb service) (Some Unable) asked able = absurd (able refl)
+    one (Counted fcb service) (Some Ready) asked able = refl
+    one (Counted fcb service) (Some Confirmed) asked able = refl
+    one (Counted fcb service) (Some Busy) asked able = refl
+    one (Counted fcb service) (Some (Report asdu)) asked able = refl
+    one (Counted fcb service) (Some NoData) asked able = refl

@@ -10,6 +10,7 @@ use Rattle.link.specs.Primary.{Primary, sending}
 use Rattle.link.specs.Runs.{Call, Next, Octets, Due, GivesUp, called}
 use Rattle.link.specs.Sent.{Sent, sent_by, sent_at, sent}
 use Rattle.link.specs.Waits.{station_in, stations_by, stations_asked, waited}
+use Rattle.link.specs.Runs.{Doubts}
 
 one_asked : (now : ℕ) (o : Option Sending)
     → station_in o ≡ map (λ (s : Sent). s.station) (sent_by now o)
@@ -22,6 +23,7 @@ by_call p (Next now may_poll waiting) = one_asked now (sending p may_poll waitin
 by_call p (Octets octets) = refl
 by_call p (Due now) = refl
 by_call p (GivesUp station) = refl
+by_call p Doubts = refl
 
 pub asked : (p : Primary) (calls : List Call)
     → stations_asked p calls ≡ map (λ (s : Sent). s.station) (sent p calls)

@@ -30,6 +30,8 @@ use Rattle.link.proofs.VisitRuns.{received_visits, due_visits}
 use Rattle.link.proofs.VisitRuns.{start_visits}
 use Rattle.link.proofs.VisitsGiven.{give_up_visits}
 use Rattle.link.specs.Turns.{CommandsWaiting}
+use Rattle.link.specs.Runs.{Doubts}
+use Rattle.link.proofs.VisitRuns.{doubted_visits}
 
 -- ---- the exchanges are visits
 
@@ -84,6 +86,8 @@ stays settings addresses p e many (Due now) other may t v =
     t.fits.turn v
 stays settings addresses p e many (GivesUp station) other may t v =
     give_up_visits (front_of settings.size) addresses p e many station may v
+stays settings addresses p e many Doubts other may t v =
+    (doubted_visits (front_of settings.size) addresses p e many v, refl)
 
 call_visits : (settings : LinkSettings) (addresses : List ℕ) (p : Primary) (e : Exchanges)
     (call : Call)
@@ -101,6 +105,8 @@ call_visits settings addresses p e (Due now) some may t v =
     (v.0, (stays settings addresses p e v.0 (Due now) tt may t v.1).0)
 call_visits settings addresses p e (GivesUp station) some may t v =
     (v.0, (stays settings addresses p e v.0 (GivesUp station) tt may t v.1).0)
+call_visits settings addresses p e Doubts some may t v =
+    (v.0, (stays settings addresses p e v.0 Doubts tt may t v.1).0)
 
 calls_visit : (settings : LinkSettings) (addresses : List ℕ) → IsStable (front_of settings.size)
     → (p : Primary) (e : Exchanges) (calls : List Call) → 0 < settings.burst →
@@ -477,6 +483,8 @@ call_waits settings addresses p e (Due now) k before some there may wants t w =
     stay_waits settings addresses p e w.0 k before (Due now) tt may t w.1 w.2
 call_waits settings addresses p e (GivesUp station) k before some there may wants t w =
     stay_waits settings addresses p e w.0 k before (GivesUp station) tt may t w.1 w.2
+call_waits settings addresses p e Doubts k before some there may wants t w =
+    stay_waits settings addresses p e w.0 k before Doubts tt may t w.1 w.2
 
 calls_wait : (settings : LinkSettings) (addresses : List ℕ) → IsStable (front_of settings.size)
     → (p : Primary) (e : Exchanges) (calls : List Call) (k before : ℕ) →

@@ -11,6 +11,7 @@ use Rattle.link.specs.Precedence.{CommandsGoFirst, command_waits_at, is_new_poll
 use Rattle.link.specs.Precedence.{is_new_command, left_after, left_by_request}
 use Rattle.link.specs.Precedence.{polls_left, WaitsAt, WaitsThroughout, new_polls_by, new_polls}
 use Rattle.link.proofs.Preceding.{all_first}
+use Rattle.link.specs.Runs.{Doubts}
 
 -- one request, where a command waits
 request_takes : (p : Primary) (k left : ℕ) (s : Sending) (here poll command : Bool)
@@ -64,6 +65,7 @@ call_takes p k left (Next now may_poll waiting) waits first =
 call_takes p k left (Octets octets) waits first = omega arith
 call_takes p k left (Due now) waits first = omega arith
 call_takes p k left (GivesUp station) waits first = omega arith
+call_takes p k left Doubts waits first = omega arith
 
 all_take : (p : Primary) (k left : ℕ) (calls : List Call) → WaitsThroughout p k calls
     → CommandsGoFirst p k left calls → new_polls p k calls ≤ left

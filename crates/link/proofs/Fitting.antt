@@ -15,6 +15,8 @@ use Rattle.link.specs.Requests.{FitsAddress, FitsAsked}
 use Rattle.link.specs.Turns.{StationState, station_at}
 use Rattle.link.specs.Primary.{station_down, station_asked, station_answered, station_unanswered}
 use Rattle.link.specs.Holding.{FitsLink, FitsStation}
+use Rattle.link.specs.Procedure.{Available, Next, probed_so_far, is_kept, spent_silence, short_silence}
+use Rattle.link.specs.Carried.{station_doubted}
 
 abbrev pub FitStations : LinkSize → List StationState → Type 0
 FitStations size stations = All (FitsStation size) stations
@@ -63,7 +65,10 @@ asked_fits size s request fits = record { address = fits.address; link = fits.li
 answer_fits : (size : LinkSize) (request : Asked) (answer : Answer) (link : Link)
     → FitsLink size link
     → FitsLink size (after_answer request answer link)
-answer_fits size Status Ready link fits = tt
+answer_fits size Status Ready Down fits = tt
+answer_fits size Status Ready Available fits = tt
+answer_fits size Status Ready (Next fcb) fits = tt
+answer_fits size Status Ready (Held fcb service silence) fits = fits
 answer_fits size Status Confirmed link fits = fits
 answer_fits size Status Busy link fits = fits
 answer_fits size Status (Report asdu) link fits = fits
@@ -93,17 +98,22 @@ answered_fits size s request frame answer fits =
     }
 
 silence_fits : (settings : LinkSettings) (size : LinkSize) (request : Asked) (link : Link)
-    → FitsAsked size request
+    → FitsAsked size request → FitsLink size link
     → FitsLink size (after_silence settings request true link)
-silence_fits settings size Status link fits = tt
-silence_fits settings size Reset link fits = tt
-silence_fits settings size (Counted fcb service) link fits =
-    go (nat_lt settings.retries (suc (missed_so_far link))) settings.hold
+silence_fits settings size Status Down fits was = tt
+silence_fits settings size Status Available fits was = tt
+silence_fits settings size Status (Next fcb) fits was = tt
+silence_fits settings size Status (Held fcb service silence) fits was = was
+silence_fits settings size Reset link fits was = tt
+silence_fits settings size (Counted fcb service) link fits was =
+    go (nat_lt settings.retries (suc (missed_so_far link)))
+    (is_kept settings (probed_so_far link))
   where
     go : (b hold : Bool)
-        → FitsLink size (if b then (if hold then Held fcb service (suc settings.retries) else Down)
+        → FitsLink size (if b then (if hold then Held fcb service
+        (spent_silence settings (probed_so_far link)) else Down)
         else Held fcb
-        service (suc (missed_so_far link)))
+        service (short_silence (suc (missed_so_far link)) (probed_so_far link)))
     go true true = fits
     go true false = tt
     go false hold = fits
@@ -115,9 +125,21 @@ pub unanswered_fits : (settings : LinkSettings) (size : LinkSize) (s : StationSt
 unanswered_fits settings size s request asked fits =
     record {
       address = fits.address;
-      link = silence_fits settings size request s.link asked;
+      link = silence_fits settings size request s.link asked fits.link;
     }
 
 pub length-down : (addresses : List ℕ) → length (map station_down addresses) ≡ length addresses
 length-down [] = refl
 length-down (a ∷ rest) = ap suc (length-down rest)
+
+-- whether they were restarted is no matter of it
+pub doubted_fits : (size : LinkSize) (stations : List StationState) → FitStations size stations
+    → FitStations size (map station_doubted stations)
+doubted_fits size [] fits = All-nil (FitsStation size)
+doubted_fits size (s ∷ ss) fits =
+    All-cons (FitsStation size) (station_doubted s) (map station_doubted ss)
+    (record {
+      address = (All-head (FitsStation size) s ss fits).address;
+      link = (All-head (FitsStation size) s ss fits).link;
+    })
+    (doubted_fits size ss (All-tail (FitsStation size) s ss fits))

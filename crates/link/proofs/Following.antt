@@ -9,14 +9,15 @@ use Rattle.link.specs.Turns.{StationState, Phase, Starting, Commanding, Polling,
 use Rattle.link.specs.Turns.{Over, Wanted, Chosen, station_at, is_poll, wants, wanted_poll}
 use Rattle.link.specs.Turns.{polls_from, wanted_command, commands_from, next_of, wanted_by}
 use Rattle.link.specs.Turns.{held_request}
-use Rattle.link.specs.Primary.{Outstanding, Primary, choice, station_asked, after_choice}
+use Rattle.link.specs.Primary.{Outstanding, Primary, choice, after_choice}
 use Rattle.link.specs.Primary.{asked_from, asked, sending_by, sending_from}
 use Rattle.link.specs.Bursts.{is_answered}
 use Rattle.link.specs.AtOnce.{latest_by}
 use Rattle.link.proofs.Preceding.{IsChosen, here, there, is_chosen}
-use Rattle.link.proofs.Links.{set_view}
 use Rattle.link.proofs.Bursting.{not_both}
 use Rattle.link.specs.Turns.{CommandsWaiting}
+use Rattle.link.specs.Procedure.{Silence}
+use Rattle.link.specs.Turns.{is_doubted}
 
 abbrev pub IsBegun : Phase → Type 0
 IsBegun Starting = ⊥
@@ -60,8 +61,7 @@ pub data Goes (link : Link) (again : Bool) (phase : Phase) (request : Asked) (fo
     Type 0 where
   repeated : again ≡ true → is_held link ≡ true → request ≡ held_request link → following ≡ phase
       → Goes link again phase request following
-  other : Follows request following → (is_service request ≡ false → is_held link ≡ false)
-      → Goes link again phase request following
+  other : Follows request following → Goes link again phase request following
 
 abbrev pub GoesIt : Link → (again : Bool) → Phase → Option Wanted → Type 0
 GoesIt link again phase None = Unit {0}
@@ -74,13 +74,13 @@ poll_goes burst fcb again s Polling begun_in = go s.acd
     go : (b : Bool) → GoesIt (Next fcb) again begun_in
         (if b then wants (Counted fcb Class1) (Class1Polling 1)
         else wants (Counted fcb Class2) (Class1Polling 0))
-    go true = other tt (λ e. refl)
-    go false = other tt (λ e. refl)
+    go true = other tt
+    go false = other tt
 poll_goes burst fcb again s (Class1Polling sent) begun_in = go (s.acd && nat_lt sent burst)
   where
     go : (b : Bool) → GoesIt (Next fcb) again begun_in
         (if b then wants (Counted fcb Class1) (Class1Polling (suc sent)) else None)
-    go true = other tt (λ e. refl)
+    go true = other tt
     go false = tt
 poll_goes burst fcb again s Starting begun_in = tt
 poll_goes burst fcb again s Commanding begun_in = tt
@@ -101,7 +101,7 @@ commands_go burst may_poll fcb again s begun_in (Some asdu) = go s.dfc
     go : (b : Bool) → GoesIt (Next fcb) again begun_in
         (if b then polls_from burst may_poll fcb s Polling else wanted_command fcb asdu)
     go true = polls_go burst may_poll fcb again s Polling begun_in
-    go false = other tt (λ e. refl)
+    go false = other tt
 
 next_goes : (burst : ℕ) (may_poll fcb again : Bool) (s : StationState) (command : Option (List ℕ))
     (phase : Phase)
@@ -118,16 +118,18 @@ next_goes burst may_poll fcb again s command Over = tt
 
 held_goes : (burst : ℕ) (may_poll again fcb : Bool) (s : StationState) (command : Option (List ℕ))
     (service : Service)
-    (missed : ℕ) (phase : Phase)
+    (missed : Silence) (phase : Phase)
     → GoesIt (Held fcb service missed) again phase
     (wanted_by burst may_poll again s command (Held fcb service missed) phase)
 held_goes burst may_poll again fcb s command service missed Starting =
-    go (may_poll || not (is_poll service))
+    go (is_doubted s missed) (may_poll || not (is_poll service))
   where
-    go : (b : Bool) → GoesIt (Held fcb service missed) again Starting
-        (if b then wants (Counted fcb service) Commanding else None)
-    go true = other (behind_held fcb service) (λ e. let no : ⊥ = cc in absurd no)
-    go false = tt
+    go : (doubted b : Bool) → GoesIt (Held fcb service missed) again Starting
+        (if doubted then wants Status Over
+        else if b then wants (Counted fcb service) Commanding else None)
+    go true b = other tt
+    go false true = other (behind_held fcb service)
+    go false false = tt
 held_goes burst may_poll true fcb s command service missed Commanding = repeated refl refl refl refl
 held_goes burst may_poll true fcb s command service missed Polling = repeated refl refl refl refl
 held_goes burst may_poll true fcb s command service missed (Class1Polling sent) =
@@ -145,8 +147,8 @@ wanted_goes burst may_poll again s command (Next fcb) phase =
     next_goes burst may_poll fcb again s command phase
 wanted_goes burst may_poll again s command (Held fcb service missed) phase =
     held_goes burst may_poll again fcb s command service missed phase
-wanted_goes burst may_poll again s command Down Starting = other tt (λ e. refl)
-wanted_goes burst may_poll again s command Available Starting = other tt (λ e. refl)
+wanted_goes burst may_poll again s command Down Starting = other tt
+wanted_goes burst may_poll again s command Available Starting = other tt
 wanted_goes burst may_poll again s command Down Commanding = tt
 wanted_goes burst may_poll again s command Down Polling = tt
 wanted_goes burst may_poll again s command Down (Class1Polling sent) = tt
@@ -162,9 +164,10 @@ wanted_goes burst may_poll again s command Available Over = tt
 pub data State (settings : LinkSettings) (outstanding : Option Outstanding) (again : Bool)
     (phase : Phase) (link : Link) (request : Asked) : Type 0 where
   waits : (o : Outstanding) → outstanding ≡ Some o → o.request ≡ request → again ≡ false
-      → Follows request phase → (is_service request ≡ false → is_held link ≡ false)
+      → Follows request phase
       → State settings outstanding again phase link request
-  ended : outstanding ≡ None → (has_repeats settings link ≡ true → again ≡ true)
+  ended : outstanding ≡ None
+      → (is_service request ≡ true → has_repeats settings link ≡ true → again ≡ true)
       → (again ≡ true → is_held link ≡ true
       → Follows request phase × (request ≡ held_request link))
       → (is_answered link ≡ true → Follows request phase)
@@ -183,19 +186,10 @@ none_out o x e f = let no : None ≡ Some x = sym e ∙ f in cc
 
 -- ---- `next`
 
-asks_service : (link : Link) (request : Asked) → is_held link ≡ true → request ≡ held_request link
-    → is_service request ≡ false → ⊥
-asks_service (Held fcb service missed) request held is e =
-    not_both (is_service request) (ap is_service is) e
-asks_service Down request held is e = cc
-asks_service Available request held is e = cc
-asks_service (Next fcb) request held is e = cc
-
 -- What goes out is outstanding, and the phase follows it.
 asks : (p : Primary) (now : ℕ) (c : Chosen) → Follows c.wanted.request c.wanted.following
-    → (is_service c.wanted.request ≡ false → is_held (station_at p.stations c.station).link ≡ false)
     → StateAt (after_choice p now (Some c)) c.wanted.request
-asks p now c follows new =
+asks p now c follows =
     waits (record {
       request = c.wanted.request;
       since = now;
@@ -204,8 +198,6 @@ asks p now c follows new =
           false;
     })
     refl refl refl follows
-    (λ e. ap is_held (set_view (λ (s : StationState). s.link) p.stations c.station
-    (station_asked (station_at p.stations c.station) c.wanted.request) refl c.station) ∙ new e)
 
 -- A repeat is the latest request, and its phase stays.
 repeat_follows : (p : Primary) (latest : Option Sending) (c : Chosen) → Matches p latest
@@ -216,7 +208,7 @@ repeat_follows : (p : Primary) (latest : Option Sending) (c : Chosen) → Matche
     → c.wanted.following ≡ p.phase → Follows c.wanted.request c.wanted.following
 repeat_follows p None c matches out at again held is stays =
     absurd (not_both p.again again matches.1)
-repeat_follows p (Some s) c (turn, waits o awaited same once follows new) out at again held is
+repeat_follows p (Some s) c (turn, waits o awaited same once follows) out at again held is
     stays =
     absurd (none_out p.outstanding o out awaited)
 repeat_follows p (Some s) c (turn, ended free more again_is go_on) out at again held is stays =
@@ -242,11 +234,9 @@ chosen_matches p latest c now may_poll waiting matches out (here at is) =
     by : Goes (station_at p.stations c.station).link p.again p.phase c.wanted.request
         c.wanted.following
         → StateAt (after_choice p now (Some c)) c.wanted.request
-    by (other follows new) = asks p now c follows new
+    by (other follows) = asks p now c follows
     by (repeated again held same stays) =
         asks p now c (repeat_follows p latest c matches out at again held same stays)
-        (λ e. absurd (asks_service (station_at p.stations c.station).link c.wanted.request held same
-        e))
 chosen_matches p latest c now may_poll waiting matches out (there is) =
     by (subst (λ (v : Option Wanted). GoesIt (station_at p.stations c.station).link false Starting
     v) is
@@ -257,7 +247,7 @@ chosen_matches p latest c now may_poll waiting matches out (there is) =
     by : Goes (station_at p.stations c.station).link false Starting c.wanted.request
         c.wanted.following
         → StateAt (after_choice p now (Some c)) c.wanted.request
-    by (other follows new) = asks p now c follows new
+    by (other follows) = asks p now c follows
     by (repeated again held same stays) = absurd (not_both false again refl)
 
 pub asked_matches : (p : Primary) (latest : Option Sending) (now : ℕ) (may_poll : Bool)

@@ -11,6 +11,7 @@ use Rattle.link.specs.Turns.{StationState, station_at, no_station, Over}
 use Rattle.link.specs.Primary.{Primary, Outstanding, is_command, is_sending_command}
 use Rattle.link.specs.Leave.{is_polling, is_polling_by, holds_poll}
 use Rattle.link.specs.Carried.{awaits_command, station_given_up, given_up}
+use Rattle.link.specs.Procedure.{Silence}
 
 pub itself : (p : Primary) (k : ℕ) → k < length p.stations
     → station_at (given_up k p).stations k ≡ station_given_up (station_at p.stations k)
@@ -57,7 +58,7 @@ awaited p k j other =
     go true true here there =
         absurd (other (sym (eqb-true p.turn j there) ∙ eqb-true p.turn k here))
 
-pub held : (p : Primary) (k : ℕ) (fcb : Bool) (asdu : List ℕ) (missed : ℕ)
+pub held : (p : Primary) (k : ℕ) (fcb : Bool) (asdu : List ℕ) (missed : Silence)
     → (station_at p.stations k).link ≡ Held fcb (Command asdu) missed → awaits_command p k ≡ true
 held p k fcb asdu missed is =
     ap (λ (l : Link). awaits_by (holds_command l) (p.turn == k) p.outstanding) is

@@ -8,7 +8,7 @@ use Rattle.std.proofs.lemmas.Option.{slice_get-map, get_or_from_slice_get}
 use Rattle.std.proofs.lemmas.Bool.{cases_eq}
 use Rattle.link.specs.Answers.{Asked, Status, Reset, Counted}
 use Rattle.link.specs.Procedure.{LinkSettings, Link, Down, Available, Next, Held, MaySend}
-use Rattle.link.specs.Procedure.{after_silence, is_held, is_service, missed_so_far}
+use Rattle.link.specs.Procedure.{after_silence, is_held, is_service}
 use Rattle.link.specs.Turns.{StationState, no_station, station_at}
 use Rattle.link.specs.Primary.{Primary, Outstanding, station_down}
 use Rattle.link.specs.Matching.{IsAllowed}
@@ -17,6 +17,7 @@ use Rattle.link.specs.Carried.{station_left, released_from, released, station_ca
 use Rattle.link.specs.Carried.{reseated, bit_of, link_carried, service_of}
 use Rattle.link.specs.Answers.{Service}
 use Rattle.link.proofs.Links.{set_view}
+use Rattle.link.specs.Procedure.{Silence, Never, silence_so_far, spent_silence}
 
 -- a request that may be sent leaves the bit as it is where it has no answer
 bit_left : (settings : LinkSettings) (request : Asked) (link : Link) → MaySend link request
@@ -24,7 +25,7 @@ bit_left : (settings : LinkSettings) (request : Asked) (link : Link) → MaySend
 bit_left settings Status Down may = refl
 bit_left settings Status Available may = refl
 bit_left settings Status (Next fcb) may = absurd may
-bit_left settings Status (Held fcb service missed) may = absurd may
+bit_left settings Status (Held fcb service missed) may = refl
 bit_left settings Reset Down may = absurd may
 bit_left settings Reset Available may = refl
 bit_left settings Reset (Next fcb) may = absurd may
@@ -161,23 +162,39 @@ left_there p o within out =
 pub held_as_before : (p : Primary) (o : Outstanding) (fcb : Bool) (service : Service)
     → p.turn < length p.stations → p.outstanding ≡ Some o → o.request ≡ Counted fcb service
     → (station_at (released p).stations p.turn).link
-    ≡ Held fcb service (missed_so_far (station_at p.stations p.turn).link)
+    ≡ Held fcb service (silence_so_far (station_at p.stations p.turn).link)
 held_as_before p o fcb service within out is =
     ap (λ (s : StationState). s.link) (left_there p o within out)
     ∙ ap (λ (r : Asked). after_silence p.settings r false (station_at p.stations p.turn).link) is
 
 down_left : (settings : LinkSettings) (link : Link) (request : Asked)
-    → is_service request ≡ false → after_silence settings request false link ≡ Down
-down_left settings link Status starts = refl
-down_left settings link Reset starts = refl
-down_left settings link (Counted fcb service) starts = cc
+    → is_service request ≡ false → is_held link ≡ false
+    → after_silence settings request false link ≡ Down
+down_left settings Down Status starts free = refl
+down_left settings Available Status starts free = refl
+down_left settings (Next fcb) Status starts free = refl
+down_left settings (Held fcb service silence) Status starts free = cc
+down_left settings link Reset starts free = refl
+down_left settings link (Counted fcb service) starts free = cc
 
 pub start_broken_off : (p : Primary) (o : Outstanding) → p.turn < length p.stations
     → p.outstanding ≡ Some o → is_service o.request ≡ false
+    → is_held (station_at p.stations p.turn).link ≡ false
     → (station_at (released p).stations p.turn).link ≡ Down
-start_broken_off p o within out starts =
+start_broken_off p o within out starts free =
     ap (λ (s : StationState). s.link) (left_there p o within out)
-    ∙ down_left p.settings (station_at p.stations p.turn).link o.request starts
+    ∙ down_left p.settings (station_at p.stations p.turn).link o.request starts free
+
+pub status_broken_off : (p : Primary) (o : Outstanding) (fcb : Bool) (service : Service)
+    (silence : Silence) → p.turn < length p.stations
+    → p.outstanding ≡ Some o → o.request ≡ Status
+    → (station_at p.stations p.turn).link ≡ Held fcb service silence
+    → (station_at (released p).stations p.turn).link
+    ≡ Held fcb service (spent_silence p.settings Never)
+status_broken_off p o fcb service silence within out asks is =
+    ap (λ (s : StationState). s.link) (left_there p o within out)
+    ∙ ap (λ (r : Asked). after_silence p.settings r false (station_at p.stations p.turn).link) asks
+    ∙ ap (λ (l : Link). after_silence p.settings Status false l) is
 
 pub others_released : (p : Primary) (k : ℕ) → k ≢ p.turn
     → station_at (released p).stations k ≡ station_at p.stations k

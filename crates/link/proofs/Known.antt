@@ -10,6 +10,9 @@ use Rattle.link.specs.Turns.{polls_from, wanted_command, commands_from, next_of,
 use Rattle.link.specs.Turns.{CommandsWaiting, place_after, chosen_or, first_after}
 use Rattle.link.specs.Exchanges.{Sending}
 use Rattle.link.specs.Primary.{Outstanding, Primary, choice, sending_by, sending_from, sending}
+use Rattle.link.specs.Procedure.{Silence}
+use Rattle.link.specs.Turns.{is_doubted}
+use Rattle.link.specs.Answers.{Status}
 
 abbrev pub IsKnownCommand : Link → (command : Option (List ℕ)) → Asked → Type 0
 IsKnownCommand link command (Counted fcb (Command asdu)) = (is_held link ≡ true)
@@ -25,7 +28,7 @@ IsKnownChoice stations waiting None = Unit {0}
 IsKnownChoice stations waiting (Some c) = IsKnownCommand (station_at stations c.station).link
     (waiting c.station) c.wanted.request
 
-held_known : (fcb : Bool) (service : Service) (missed : ℕ) (command : Option (List ℕ))
+held_known : (fcb : Bool) (service : Service) (missed : Silence) (command : Option (List ℕ))
     → IsKnownCommand (Held fcb service missed) command (Counted fcb service)
 held_known fcb Class1 missed command = tt
 held_known fcb Class2 missed command = tt
@@ -76,17 +79,19 @@ next_known link burst may_poll fcb s command (Class1Polling sent) =
     polls_known link command burst may_poll fcb s (Class1Polling sent)
 next_known link burst may_poll fcb s command Over = tt
 
-again_known : (burst : ℕ) (may_poll again fcb : Bool) (service : Service) (missed : ℕ)
+again_known : (burst : ℕ) (may_poll again fcb : Bool) (service : Service) (missed : Silence)
     (s : StationState) (command : Option (List ℕ)) (phase : Phase) →
     IsKnownWant (Held fcb service missed) command
     (wanted_by burst may_poll again s command (Held fcb service missed) phase)
 again_known burst may_poll again fcb service missed s command Starting =
-    go (may_poll || not (is_poll service))
+    go (is_doubted s missed) (may_poll || not (is_poll service))
   where
-    go : (b : Bool) → IsKnownWant (Held fcb service missed) command
-        (if b then wants (Counted fcb service) Commanding else None)
-    go true = held_known fcb service missed command
-    go false = tt
+    go : (doubted b : Bool) → IsKnownWant (Held fcb service missed) command
+        (if doubted then wants Status Over
+        else if b then wants (Counted fcb service) Commanding else None)
+    go true b = tt
+    go false true = held_known fcb service missed command
+    go false false = tt
 again_known burst may_poll true fcb service missed s command Commanding =
     held_known fcb service missed command
 again_known burst may_poll true fcb service missed s command Polling =

@@ -242,6 +242,7 @@ pub reset_from_down : (link : Link) (request : Asked) â†’ MaySend link request â
 reset_from_down Down request may is = refl
 reset_from_down Available request may is = refl
 reset_from_down (Next fcb) (Counted sent service) may is = cc
+reset_from_down (Held fcb service missed) Status may is = cc
 reset_from_down (Held fcb service missed) (Counted sent again) may is = cc
 reset_from_down link request may is = absurd may
 

@@ -1,5 +1,5 @@
 -- The flags of a station are those of its latest answer.
-use Rattle.std.specs.Prelude.{◌==◌, ◌/◌, ◌%◌, ◌&&◌}
+use Rattle.std.specs.Prelude.{◌==◌, ◌&&◌}
 use Rattle.std.specs.List.{AllByRecursion}
 use Rattle.std.proofs.Common.{◌≡◌, ℕ, Bool, true, false, List, [], ◌∷◌, ◌++◌, Option, Some, None}
 use Rattle.std.proofs.Common.{option_and_then, refl, sym, ap, ◌∙◌, if◌then◌else◌, rules}
@@ -7,7 +7,7 @@ use Rattle.arrayvec.specs.ArrayVec.{ArrayVec}
 use Rattle.link.specs.Control.{is_secondary, function_code, acd_bit, dfc_bit}
 use Rattle.link.specs.Control.{secondary_code as number}
 use Rattle.link.specs.declared.control.SecondaryFunction.TheVariants as function
-use Rattle.link.specs.Answers.{Frame, Single, Fixed, Data, Asked, Answer, answer_of, code_answer}
+use Rattle.link.specs.Answers.{Frame, Fixed, Data, Asked, Answer, answer_of, code_answer}
 use Rattle.link.specs.Answers.{data_answer}
 use Rattle.link.specs.Exchanges.{Exchange, answer_to}
 use Rattle.link.specs.Flags.{Flags, flags_in, flags_by, flags_after}

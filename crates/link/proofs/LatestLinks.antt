@@ -7,6 +7,7 @@ use Rattle.link.specs.Exchanges.{Exchange, answer_to}
 use Rattle.link.specs.Procedure.{LinkSettings, Link, Down, Available, Next, after, after_answer}
 use Rattle.link.specs.Procedure.{after_outcome, link_after, is_service}
 use Rattle.link.proofs.VisitAsked.{link_append}
+use Rattle.link.specs.Procedure.{Silence, Never, Held, after_silence, is_held, short_silence, spent_silence, once_more}
 
 -- the link behind an exchange whose link wasn't given up, by its request and its answer
 behind : (settings : LinkSettings) (station : ℕ) (x : Exchange) (link : Link)
@@ -29,6 +30,20 @@ served_by fcb service (Report asdu) link is = refl
 served_by fcb service NoData link is = refl
 served_by fcb service Unable link is = absurd (is refl)
 
+-- a status where no service is held
+none_held : (link : Link) → is_held link ≡ false → after_answer Status Ready link ≡ Available
+none_held Down free = refl
+none_held Available free = refl
+none_held (Next fcb) free = refl
+none_held (Held fcb service silence) free = cc
+
+none_there : (settings : LinkSettings) (closed : Bool) (link : Link) → is_held link ≡ false
+    → after_silence settings Status closed link ≡ Down
+none_there settings closed Down free = refl
+none_there settings closed Available free = refl
+none_there settings closed (Next fcb) free = refl
+none_there settings closed (Held fcb service silence) free = cc
+
 module _ (settings : LinkSettings) (station : ℕ) (link : Link) (before : List Exchange)
     (x : Exchange) where
   abbrev earlier : Link
@@ -37,10 +52,30 @@ module _ (settings : LinkSettings) (station : ℕ) (link : Link) (before : List 
   latest : link_after settings station link (before ++ x ∷ []) ≡ after settings station x earlier
   latest = link_append settings station link before (x ∷ [])
 
-  pub ready : x.given_up ≡ false → x.request ≡ Status → answer_to station x ≡ Some Ready →
+  pub ready : x.given_up ≡ false → x.request ≡ Status → is_held earlier ≡ false →
+      answer_to station x ≡ Some Ready →
       link_after settings station link (before ++ x ∷ []) ≡ Available
-  ready stands asks says =
+  ready stands asks free says =
       latest ∙ behind settings station x earlier Status (Some Ready) stands asks says
+      ∙ none_held earlier free
+
+  pub there : (fcb : Bool) (service : Service) (silence : Silence) → x.given_up ≡ false →
+      x.request ≡ Status → earlier ≡ Held fcb service silence →
+      answer_to station x ≡ Some Ready →
+      link_after settings station link (before ++ x ∷ [])
+      ≡ Held fcb service (short_silence 0 (once_more silence.probed))
+  there fcb service silence stands asks is says =
+      latest ∙ behind settings station x earlier Status (Some Ready) stands asks says
+      ∙ ap (after_answer Status Ready) is
+
+  pub away : (fcb : Bool) (service : Service) (silence : Silence) → x.given_up ≡ false →
+      x.request ≡ Status → earlier ≡ Held fcb service silence →
+      answer_to station x ≡ None →
+      link_after settings station link (before ++ x ∷ [])
+      ≡ Held fcb service (spent_silence settings Never)
+  away fcb service silence stands asks is says =
+      latest ∙ behind settings station x earlier Status None stands asks says
+      ∙ ap (after_silence settings Status x.closed) is
 
   pub reset : x.given_up ≡ false → x.request ≡ Reset → answer_to station x ≡ Some Confirmed →
       link_after settings station link (before ++ x ∷ []) ≡ Next true
@@ -69,9 +104,10 @@ module _ (settings : LinkSettings) (station : ℕ) (link : Link) (before : List 
       go false Reset other = absurd (other refl)
       go false (Counted fcb service) other = refl
 
-  pub silent : is_service x.request ≡ false → answer_to station x ≡ None →
+  pub silent : is_service x.request ≡ false → is_held earlier ≡ false →
+      answer_to station x ≡ None →
       link_after settings station link (before ++ x ∷ []) ≡ Down
-  silent starts says = latest
+  silent starts free says = latest
       ∙ ap (λ (m : Option Answer). if x.given_up then Down
       else after_outcome settings m x.request x.closed earlier) says
       ∙ go x.given_up x.request starts
@@ -79,7 +115,7 @@ module _ (settings : LinkSettings) (station : ℕ) (link : Link) (before : List 
       go : (b : Bool) (request : Asked) → is_service request ≡ false →
           (if b then Down else after_outcome settings None request x.closed earlier) ≡ Down
       go true request starts = refl
-      go false Status starts = refl
+      go false Status starts = none_there settings x.closed earlier free
       go false Reset starts = refl
       go false (Counted fcb service) starts = cc
 

@@ -1,24 +1,24 @@
 -- Polls wait for leave: no call begins one, but `next` with leave.
 use Rattle.std.specs.Prelude.{◌==◌, ◌||◌}
 use Rattle.std.proofs.Common.{◌≡◌, ℕ, suc, ◌<◌, ◌≤◌, ◌⊎◌, ◌&&◌, ◌%◌, nat_lt, Bool, true}
-use Rattle.std.proofs.Common.{false, not, List, ◌++◌, subst, length, slice_set}
-use Rattle.std.proofs.Common.{Option, Some, None, refl, sym, ap, subst, ◌∙◌, inl, inr}
+use Rattle.std.proofs.Common.{false, not, List, ◌++◌, length, slice_set}
+use Rattle.std.proofs.Common.{Option, Some, None, refl, sym, ap, ◌∙◌, inl, inr}
 use Rattle.std.proofs.Common.{if◌then◌else◌}
 use Rattle.std.proofs.lemmas.Bool.{cases_lt}
 use Rattle.std.proofs.lemmas.List.{get_or-set_same, get_or_past, set_past}
 use Rattle.ft12.specs.declared.frame.Front.{Front}
-use Rattle.link.specs.Answers.{Service, Frame, Single, Fixed, Data, Class1, Class2, Command, Asked}
+use Rattle.link.specs.Answers.{Frame, Single, Fixed, Data, Class1, Class2, Command, Asked}
 use Rattle.link.specs.Answers.{Status, Reset, Counted, Answer, Ready, Confirmed, Busy, Report}
 use Rattle.link.specs.Answers.{NoData, Unable, unable_answer, code_answer, single_answer}
 use Rattle.link.specs.Answers.{data_answer, comes_from, answer_of}
 use Rattle.link.specs.Exchanges.{Sending, whole_of}
 use Rattle.link.specs.Procedure.{LinkSettings, Link, Down, Available, Next, Held, missed_so_far}
-use Rattle.link.specs.Procedure.{after_answer, after_silence, has_repeats}
+use Rattle.link.specs.Procedure.{after_silence, has_repeats}
 use Rattle.link.specs.Turns.{StationState, Phase, Starting, Commanding, Polling, Class1Polling}
 use Rattle.link.specs.Turns.{Over, no_station, station_at, is_poll, wants, polls_from}
 use Rattle.link.specs.Turns.{wanted_command, commands_from, next_of, wanted_by, Wanted, Chosen}
 use Rattle.link.specs.Primary.{Outstanding, Primary, choice, after_choice, asked_from, asked}
-use Rattle.link.specs.Primary.{sending_by, sending_from, sending, station_answered, answered}
+use Rattle.link.specs.Primary.{sending_by, sending_from, sending}
 use Rattle.link.specs.Primary.{answer_at, said_by, open_octets, took, with_octets, received_after}
 use Rattle.link.specs.Primary.{received_from, received, outcome_by, outcome_of, outcome_at}
 use Rattle.link.specs.Primary.{outcome_after, outcome_from, received_outcome, station_unanswered}
@@ -28,6 +28,8 @@ use Rattle.link.specs.declared.outcome.Outcome.TheVariants as outcome
 use Rattle.link.specs.Leave.{is_poll_request, holds_poll, is_polling_by, is_polling, is_report}
 use Rattle.link.proofs.Turning.{present, goes_on, passes_on}
 use Rattle.link.specs.Turns.{CommandsWaiting}
+use Rattle.link.specs.Turns.{is_doubted}
+use Rattle.link.specs.Procedure.{probed_so_far, is_kept, spent_silence, short_silence}
 
 -- ---- what is wanted without leave
 
@@ -84,14 +86,16 @@ repeated burst again s command Available Over w is poll = cc
 repeated burst again s command (Next fcb) phase w is poll =
     absurd (no_next_poll burst fcb s command phase w is poll)
 repeated burst again s command (Held fcb service missed) Starting w is poll =
-    go (is_poll service) refl is
+    go (is_doubted s missed) (is_poll service) refl is
   where
-    go : (b : Bool) → is_poll service ≡ b
-        → (if false || not b then wants (Counted fcb service) Commanding else None)
+    go : (doubted b : Bool) → is_poll service ≡ b
+        → (if doubted then wants Status Over
+        else if false || not b then wants (Counted fcb service) Commanding else None)
         ≡ Some w →
         (again && is_poll service) ≡ true
-    go true e none = cc
-    go false e some = absurd (no_poll w (poll_is (Counted fcb service) Commanding w some ∙ e) poll)
+    go true b e asks = absurd (no_poll w (poll_is Status Over w asks) poll)
+    go false true e none = cc
+    go false false e some = absurd (no_poll w (poll_is (Counted fcb service) Commanding w some ∙ e) poll)
 repeated burst true s command (Held fcb service missed) Commanding w is poll =
     sym (poll_is (Counted fcb service) Commanding w is) ∙ poll
 repeated burst true s command (Held fcb service missed) Polling w is poll =
@@ -185,71 +189,9 @@ set_none f stations k s is none = go (cases_lt k (length stations))
     go (inr past) = ap (λ (l : List StationState). f (station_at l k)) (set_past stations k s past)
         ∙ ap f (get_or_past stations k no_station past) ∙ none
 
-and_none : (a b : Bool) → b ≡ false → (a && b) ≡ false
-and_none true b e = e
-and_none false b e = refl
-
--- no service is held after this answer, if it is one
-abbrev Ends : Asked → Link → Option Answer → Type 0
-Ends request link m = (answer : Answer) → m ≡ Some answer
-    → holds_poll (after_answer request answer link) ≡ false
-
-no_answer : (request : Asked) (link : Link) → Ends request link None
-no_answer request link answer e = cc
-
-one_answer : (request : Asked) (link : Link) (a : Answer) → holds_poll (after_answer request a link)
-    ≡ false
-    → Ends request link (Some a)
-one_answer request link a h answer e = (let same : a ≡ answer = cc in
-    subst (λ (x : Answer). holds_poll (after_answer request x link) ≡ false) same h)
-
-either : (request : Asked) (link : Link) (b : Bool) (x y : Option Answer) → Ends request link x
-    → Ends request link y
-    → Ends request link (if b then x else y)
-either request link true x y h k = h
-either request link false x y h k = k
-
-service_ends : (fcb : Bool) (service : Service) (link : Link) (answer : Answer)
-    → holds_poll (after_answer (Counted fcb service) answer link) ≡ false
-service_ends fcb service link Ready = refl
-service_ends fcb service link Confirmed = refl
-service_ends fcb service link Busy = refl
-service_ends fcb service link (Report asdu) = refl
-service_ends fcb service link NoData = refl
-service_ends fcb service link Unable = refl
-
--- the answers to a status are that it is ready or unable, to a reset that it is confirmed
-answer_ends : (address : ℕ) (request : Asked) (link : Link) (frame : Frame)
-    → Ends request link (answer_of address request frame)
-answer_ends address Status link Single = no_answer Status link
-answer_ends address Status link (Fixed c a) =
-    either Status link (comes_from address c a) _ None
-    (either Status link (c % 16 == 11) (Some Ready) (unable_answer (c % 16))
-    (one_answer Status link Ready refl)
-    (either Status link ((c % 16 == 14) || (c % 16 == 15)) (Some Unable) None
-    (one_answer Status link Unable refl)
-    (no_answer Status link)))
-    (no_answer Status link)
-answer_ends address Status link (Data c a body) = either Status link (comes_from address c a
-    && (c % 16 == 8)) None None (no_answer Status link) (no_answer Status link)
-answer_ends address Reset link Single = one_answer Reset link Confirmed refl
-answer_ends address Reset link (Fixed c a) =
-    either Reset link (comes_from address c a) _ None
-    (either Reset link (c % 16 == 0) (Some Confirmed) None
-    (one_answer Reset link Confirmed refl) (no_answer Reset link))
-    (no_answer Reset link)
-answer_ends address Reset link (Data c a body) =
-    either Reset link (comes_from address c a && (c % 16 == 8)) None None
-    (no_answer Reset link) (no_answer Reset link)
-answer_ends address (Counted fcb service) link frame =
-    λ answer e. service_ends fcb service link answer
-
-answered_none : (p : Primary) (request : Asked) (frame : Frame) (answer : Answer) →
-    holds_poll (after_answer request answer (station_at p.stations p.turn).link) ≡ false
-    → is_polling (answered p request frame answer) ≡ false
-answered_none p request frame answer e =
-    and_none p.again _ (set_none (λ (s : StationState). holds_poll s.link) p.stations p.turn
-    (station_answered (station_at p.stations p.turn) request frame answer) e refl)
+and_so : (a b : Bool) → (a ≡ true → b ≡ false) → (a && b) ≡ false
+and_so true b e = e refl
+and_so false b e = refl
 
 pub octets : (front : List ℕ → Front) (p : Primary) (octets : List ℕ)
     → is_polling (received front p octets) ≡ true
@@ -266,11 +208,7 @@ octets front p came poll = go p.outstanding refl poll
         is_polling p ≡ true
     said o e frame None is h = back o e h
     said o e frame (Some answer) is h =
-        let none : is_polling (answered p o.request frame answer) ≡ false =
-        answered_none p o.request frame answer (answer_ends (station_at p.stations p.turn).address
-        o.request
-        (station_at p.stations p.turn).link frame answer is) in
-        let both : false ≡ true = sym none ∙ h in cc
+        let both : false ≡ true = h in cc
 
     is_taken : (o : Outstanding) → p.outstanding ≡ Some o
         → (so_far : Option (List ℕ)) (m : Option Frame)
@@ -292,18 +230,24 @@ octets front p came poll = go p.outstanding refl poll
     go None e h = h
     go (Some o) e h = arrived o e o.arrived h
 
--- after silence a poll is held only where it was sent
+-- after silence a poll is to be sent again only where it was sent
 silent : (settings : LinkSettings) (request : Asked) (link : Link) → is_poll_request request ≡ false
+    → has_repeats settings (after_silence settings request true link) ≡ true
     → holds_poll (after_silence settings request true link) ≡ false
-silent settings Status link e = refl
-silent settings Reset link e = refl
-silent settings (Counted fcb service) link e =
-    go (nat_lt settings.retries (suc (missed_so_far link))) settings.hold
+silent settings Status Down e has = refl
+silent settings Status Available e has = refl
+silent settings Status (Next fcb) e has = refl
+silent settings Status (Held fcb service silence) e has = cc
+silent settings Reset link e has = refl
+silent settings (Counted fcb service) link e has =
+    go (nat_lt settings.retries (suc (missed_so_far link)))
+    (is_kept settings (probed_so_far link))
   where
     go : (b hold : Bool)
-        → holds_poll (if b then (if hold then Held fcb service (suc settings.retries) else Down)
+        → holds_poll (if b then (if hold then Held fcb service
+        (spent_silence settings (probed_so_far link)) else Down)
         else Held fcb service
-        (suc (missed_so_far link))) ≡ false
+        (short_silence (suc (missed_so_far link)) (probed_so_far link))) ≡ false
     go true true = e
     go true false = refl
     go false hold = e
@@ -318,9 +262,9 @@ due p at poll = go p.outstanding refl poll
     by o e h false is =
         let s = station_unanswered p.settings (station_at p.stations p.turn) o.request in
         let none : is_polling (unanswered p o) ≡ false =
-        and_none (has_repeats p.settings s.link) _ (set_none
+        and_so (has_repeats p.settings s.link) _ (λ has. set_none
         (λ (t : StationState). holds_poll t.link) p.stations p.turn s
-        (silent p.settings o.request (station_at p.stations p.turn).link is) refl) in
+        (silent p.settings o.request (station_at p.stations p.turn).link is has) refl) in
         let both : false ≡ true = sym none ∙ h in cc
 
     late : (o : Outstanding) → p.outstanding ≡ Some o → (b : Bool)
@@ -451,9 +395,7 @@ report front p octets is = go p.outstanding refl is
         o.request frame r.0
         (answers ∙ ap (λ (a : Answer). Some a) r.1) in (
           ap (λ (x : Option Outstanding). is_polling_by p x) e ∙ poll,
-          answered_none p o.request frame answer (answer_ends (station_at p.stations p.turn).address
-              o.request
-              (station_at p.stations p.turn).link frame answer answers),
+          refl,
         )
 
     is_taken : (o : Outstanding) → p.outstanding ≡ Some o

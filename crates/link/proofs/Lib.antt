@@ -4,6 +4,10 @@ pub mod Hearing
 pub mod OneVisits
 pub mod Lost
 pub mod Beginning
+pub mod Doubting
+pub mod DoubtedMatches
+pub mod Probing
+pub mod SparingStatuses
 pub mod Choice
 pub mod Choosing
 pub mod Controls

@@ -17,6 +17,7 @@ use Rattle.link.specs.Exchanges.{timed_current, view, views, whole_of, with_stat
 use Rattle.link.specs.Primary.{Primary, sending}
 use Rattle.link.specs.Runs.{Call, Next, Octets, Due, GivesUp, called, exchanged, exchanged_all}
 use Rattle.link.specs.Sent.{Sent, first_of, sent, sent_at, sent_by}
+use Rattle.link.specs.Runs.{Doubts}
 
 abbrev firsts : Exchanges → List Sent
 firsts e = map first_of (all_of e)
@@ -92,6 +93,7 @@ one_call p (Due now) e =
     passes p.settings.answer_ms now e.ended e.current ∙ nothing_more (firsts e)
 one_call p (GivesUp station) e =
     gives_up station e.ended e.current ∙ nothing_more (firsts e)
+one_call p Doubts e = nothing_more (firsts e)
 
 pub requests : (p : Primary) (calls : List Call) (e : Exchanges) →
     map first_of (all_of (exchanged_all p calls e)) ≡ map first_of (all_of e) ++ sent p calls

@@ -1,8 +1,8 @@
 -- A turn is one visit.
 use Rattle.std.specs.Prelude.{◌==◌}
-use Rattle.std.proofs.Common.{◌≡◌, ℕ, ◌<◌, ◌≤◌, nat_le, Bool, true, false, List, [], ◌∷◌}
+use Rattle.std.proofs.Common.{◌≡◌, ℕ, ◌<◌, Bool, true, false, List, [], ◌∷◌}
 use Rattle.std.proofs.Common.{◌++◌, length, slice_set, map, Option, Some, None, refl, sym, ap}
-use Rattle.std.proofs.Common.{subst, ◌∙◌, inl, inr, arith, if◌then◌else◌, All}
+use Rattle.std.proofs.Common.{subst, ◌∙◌, inl, inr, if◌then◌else◌, All}
 use Rattle.std.proofs.lemmas.Bool.{eqb-false}
 use Rattle.std.proofs.lemmas.List.{get_or-set_same, get_or-set_other}
 use Rattle.ft12.specs.declared.frame.Front.{Front}
@@ -43,6 +43,10 @@ use Rattle.link.proofs.Visiting.{begin_follows}
 use Rattle.link.proofs.VisitAsked.{FitsPhase, MayBeThere, rest_there, may_want}
 use Rattle.link.proofs.Statuses.{answered_ready, missed_ready}
 use Rattle.link.specs.Turns.{CommandsWaiting}
+use Rattle.link.specs.Runs.{Doubts}
+use Rattle.link.specs.Carried.{doubted}
+use Rattle.link.proofs.Doubting.{doubted_link}
+use Rattle.link.proofs.Beginning.{begun_doubted}
 
 -- the machine stands in this visit
 pub record IsAt (p : Primary) (v : Present) : Type 0 where
@@ -104,8 +108,8 @@ repeats_left settings may_poll again s command (Held fcb service missed) phase l
     go : (b : Bool) (f : Phase) → HasPlan settings.burst f left.plan
         → (b ≡ true → IsRepeatable settings (Held fcb service missed) left)
         → wanted_by settings.burst may_poll b s command (Held fcb service missed) f ≡ Some w
-        → nat_le missed settings.retries ≡ true
-    go true f has few e = let le : missed ≤ settings.retries = (few refl).more in grind (arith, le)
+        → has_repeats settings (Held fcb service missed) ≡ true
+    go true f has few e = (few refl).left_over
     go false Starting has few e = absurd has
     go false Over has few e = absurd has
     go false Commanding has few e = cc
@@ -313,14 +317,12 @@ octets_stay front p octets v within is_at = go p.outstanding refl
         say frame (Some answer) e =
             let s : StationState = station_answered (station_at p.stations p.turn) q.request frame
             answer in
-            moved (slice_set p.stations p.turn s) (phase_after answer p.phase) p.again None
-            (subst (λ (b : Bool). IsReady p.settings b (phase_after answer p.phase)
-            (station_at (slice_set p.stations p.turn s) p.turn).link v.left) (sym aw.0)
+            moved (slice_set p.stations p.turn s) (phase_after answer p.phase) false None
             (subst (λ (l : Link). IsReady p.settings false (phase_after answer p.phase) l v.left)
             (sym (ap (λ (r : StationState). r.link) (get_or-set_same p.stations p.turn s no_station
             within)))
             (answered_ready p.settings (station_at p.stations p.turn).address q.request frame answer
-            p.phase (station_at p.stations p.turn).link v.left e aw.1)))
+            p.phase (station_at p.stations p.turn).link v.left e aw.1))
             (begun_answered p q (station_at p.stations p.turn).address frame answer within is e
             is_at.begun)
 
@@ -384,6 +386,15 @@ given_up_stays p k v within is_at = record {
         (sym (get_or-set_other p.stations k p.turn (station_given_up (station_at p.stations k))
         no_station (eqb-false p.turn k other))) is_at.fits
 
+-- whether it was restarted changes no link
+doubted_stays : (p : Primary) (v : Present) → IsAt p v → IsAt (doubted p) v
+doubted_stays p v is_at = record {
+  turn = is_at.turn;
+  fits = subst (λ (l : Link). FitsPhase p.settings p.outstanding p.again p.phase l v.left)
+      (sym (doubted_link p.stations p.turn)) is_at.fits;
+  begun = begun_doubted p is_at.begun;
+}
+
 -- ---- each call
 
 pub record Stepped (p : Primary) (call : Call) (v : Present) : Type 0 where
@@ -409,6 +420,8 @@ step settings addresses p e v (Due moment) some may t is_at =
     record { after = v; step = refl; at = due_stays p moment v t.fits.turn is_at }
 step settings addresses p e v (GivesUp station) some may t is_at =
     record { after = v; step = refl; at = given_up_stays p station v may is_at }
+step settings addresses p e v Doubts some may t is_at =
+    record { after = v; step = refl; at = doubted_stays p v is_at }
 
 all_visits : (settings : LinkSettings) (addresses : List ℕ) → IsStable (front_of settings.size)
     → (p : Primary) (e : Exchanges) (v : Present) (calls : List Call) → 0 < settings.burst

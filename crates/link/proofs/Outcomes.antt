@@ -21,6 +21,7 @@ use Rattle.link.specs.Matching.{IsAllowed, IsReceived, IsAwaited, IsOver, IsCurr
 use Rattle.link.specs.Runs.{silence_outcome}
 use Rattle.link.proofs.Matching.{said_now, received_open}
 use Rattle.link.proofs.Called.{links_at}
+use Rattle.link.specs.Procedure.{Probed, Never, is_kept, spent_silence, short_silence}
 
 -- an exchange that is over isn't outstanding
 over_not : (front : List ℕ → Front) (address : ℕ) (x : OpenExchange) → IsOver front address x
@@ -201,19 +202,20 @@ early_due front settings addresses p e at x t latest out early =
     )
 
 -- a service that isn't sent again any more takes the link down
-held_falls : (settings : LinkSettings) (sent fcb : Bool) (asked service : Service) (missed : ℕ) →
-    goes_down (Counted sent asked) (held settings fcb service missed)
-    ≡ not (is_up (held settings fcb service missed))
-held_falls settings sent fcb asked service missed =
-    go (nat_lt settings.retries missed) settings.hold
+held_falls : (settings : LinkSettings) (sent fcb : Bool) (asked service : Service) (missed : ℕ)
+    (probed : Probed) →
+    goes_down (Counted sent asked) (held settings fcb service missed probed)
+    ≡ not (is_up (held settings fcb service missed probed))
+held_falls settings sent fcb asked service missed probed =
+    go (nat_lt settings.retries missed) (is_kept settings probed)
   where
     go : (b hold : Bool) →
         goes_down (Counted sent asked) (if b
-        then (if hold then Held fcb service (suc settings.retries) else Down) else
-        Held fcb service missed)
-        ≡ not (is_up (if b then (if hold then Held fcb service (suc settings.retries) else Down)
-        else Held fcb service
-        missed))
+        then (if hold then Held fcb service (spent_silence settings probed) else Down) else
+        Held fcb service (short_silence missed probed))
+        ≡ not (is_up (if b then (if hold then Held fcb service (spent_silence settings probed)
+        else Down) else Held fcb service
+        (short_silence missed probed)))
     go true true = refl
     go true false = refl
     go false hold = refl
@@ -224,16 +226,17 @@ falls : (settings : LinkSettings) (request : Asked) (link : Link) → MaySend li
 falls settings Status Down may = refl
 falls settings Status Available may = refl
 falls settings Status (Next fcb) may = absurd may
-falls settings Status (Held fcb service missed) may = absurd may
+falls settings Status (Held fcb service missed) may = refl
 falls settings Reset Down may = absurd may
 falls settings Reset Available may = refl
 falls settings Reset (Next fcb) may = absurd may
 falls settings Reset (Held fcb service missed) may = absurd may
 falls settings (Counted sent asked) Down may = absurd may
 falls settings (Counted sent asked) Available may = absurd may
-falls settings (Counted sent asked) (Next fcb) may = held_falls settings sent sent asked asked 1
+falls settings (Counted sent asked) (Next fcb) may =
+    held_falls settings sent sent asked asked 1 Never
 falls settings (Counted sent asked) (Held fcb service missed) may =
-    held_falls settings sent sent asked asked (suc missed)
+    held_falls settings sent sent asked asked (suc missed.missed) missed.probed
 
 pub logged_due : (front : List ℕ → Front) (settings : LinkSettings) (addresses : List ℕ)
     (p : Primary)

@@ -29,6 +29,9 @@ use Rattle.link.specs.Precedence.{left_by_request, polls_left}
 use Rattle.link.specs.Precedence.{CommandsGoFirst}
 use Rattle.link.proofs.Turning.{found, present}
 use Rattle.link.specs.Turns.{CommandsWaiting}
+use Rattle.link.specs.Runs.{Doubts}
+use Rattle.link.specs.Procedure.{Silence}
+use Rattle.link.specs.Turns.{is_doubted}
 
 -- how many new polls a visit has from this phase on, without a command
 abbrev pub rest : (burst : ℕ) → Phase → ℕ
@@ -126,16 +129,17 @@ no_more false = refl
 
 held_goes : (burst : ℕ) (may_poll again fcb : Bool) (s : StationState) (command : Option (List ℕ))
     (service : Service)
-    (missed : ℕ) (phase : Phase)
+    (missed : Silence) (phase : Phase)
     → GoesIt burst true phase (wanted_by burst may_poll again s command (Held fcb service missed)
     phase)
 held_goes burst may_poll again fcb s command service missed Starting =
-    go (may_poll || not (is_poll service))
+    go (is_doubted s missed) (may_poll || not (is_poll service))
   where
-    go : (b : Bool) → GoesIt burst true Starting (if b then wants (Counted fcb service) Commanding
-        else None)
-    go true = other (no_more (is_poll service)) (omega arith)
-    go false = tt
+    go : (doubted b : Bool) → GoesIt burst true Starting (if doubted then wants Status Over
+        else if b then wants (Counted fcb service) Commanding else None)
+    go true b = other (no_more false) (omega arith)
+    go false true = other (no_more (is_poll service)) (omega arith)
+    go false false = tt
 held_goes burst may_poll true fcb s command service missed Commanding =
     other (no_more (is_poll service)) (omega arith)
 held_goes burst may_poll true fcb s command service missed Polling =
@@ -404,6 +408,7 @@ other_rest p k (runs.Next now may_poll waiting) is = absurd is
 other_rest p k (Octets octets) is = octets_rest (front_of p.settings.size) p octets k
 other_rest p k (Due now) is = due_rest p now k
 other_rest p k (GivesUp station) is = give_up_rest p station k
+other_rest p k Doubts is = omega arith
 
 other_steps : (p : Primary) (k left : ℕ) (call : Call) → IsOther call → rest_at p k ≤ left
     → rest_at (called p call) k ≤ left
@@ -417,6 +422,7 @@ call_steps p k left (runs.Next now may_poll waiting) small =
 call_steps p k left (Octets octets) small = other_steps p k left (Octets octets) tt small
 call_steps p k left (Due now) small = other_steps p k left (Due now) tt small
 call_steps p k left (GivesUp station) small = other_steps p k left (GivesUp station) tt small
+call_steps p k left Doubts small = other_steps p k left Doubts tt small
 
 -- ---- a poll passes only where one is left
 
@@ -425,6 +431,7 @@ passes_some : (p : Primary) (k left : ℕ) (call : Call) → rest_at p k ≤ lef
 passes_some p k left (Octets octets) small is = let no : ⊥ = cc in absurd no
 passes_some p k left (Due now) small is = let no : ⊥ = cc in absurd no
 passes_some p k left (GivesUp station) small is = let no : ⊥ = cc in absurd no
+passes_some p k left Doubts small is = let no : ⊥ = cc in absurd no
 passes_some p k left (runs.Next now may_poll waiting) small is =
     go (command_waits_at p waiting k) refl is
   where

@@ -21,6 +21,8 @@ use Rattle.link.specs.Restored.{counted_from, bare_asked, asked_from, awaited_wi
 use Rattle.link.specs.Restored.{some_awaited, no_awaited, awaited_from, octets_from}
 use Rattle.link.specs.Restored.{listening, deaf_by, answered_with, primary_with}
 use Rattle.link.specs.Restored.{IsStateOf}
+use Rattle.link.specs.Saved.{held_number, held_of, held_as, unsure_numbers, unsure_from}
+use Rattle.link.specs.Procedure.{Probed, Never, Once, Twice}
 
 -- what is given only on a condition
 where_it_holds : {X : Type 0} (b : Bool) (x y : X) → (if b then Some x else None) ≡ Some y → x ≡ y
@@ -86,71 +88,134 @@ next_only bit [] l (Some fcb) is e =
     ∙ ap link_numbers (let same : Next fcb ≡ l = cc in same)
 next_only bit (n ∷ ns) l (Some fcb) is e = absurd cc
 
-held_only : (fcb : Bool) (missed : ℕ) (ns : List ℕ) (l : Link) (b : Bool) (o : Option Service)
-    → service_from ns ≡ o → (if b then held_with fcb missed o else None) ≡ Some l
-    → 3 ∷ bit_number fcb ∷ missed ∷ ns ≡ link_numbers l
-held_only fcb missed ns l false o is e = absurd cc
-held_only fcb missed ns l true None is e = absurd cc
-held_only fcb missed ns l true (Some s) is e =
-    ap (λ (m : List ℕ). 3 ∷ bit_number fcb ∷ missed ∷ m) (service_only ns s is)
-    ∙ ap link_numbers (let same : Held fcb s missed ≡ l = cc in same)
+module _ (spent : Bool) (probed : Probed) where
+  held_only : (fcb : Bool) (missed : ℕ) (ns : List ℕ) (l : Link) (b : Bool) (o : Option Service)
+      → service_from ns ≡ o → (if b then held_with spent probed fcb missed o else None) ≡ Some l
+      → held_number spent probed ∷ bit_number fcb ∷ missed ∷ ns ≡ link_numbers l
+  held_only fcb missed ns l false o is e = absurd cc
+  held_only fcb missed ns l true None is e = absurd cc
+  held_only fcb missed ns l true (Some s) is e =
+      ap (λ (m : List ℕ). held_number spent probed ∷ bit_number fcb ∷ missed ∷ m)
+      (service_only ns s is)
+      ∙ ap link_numbers (let same : Held fcb s (record {
+        missed = missed;
+        spent = spent;
+        probed = probed;
+      }) ≡ l = cc in same)
 
-held_bit : (bit : ℕ) (ns : List ℕ) (l : Link) (o : Option Bool) → bit_from bit ≡ o
-    → held_by o ns ≡ Some l → 3 ∷ bit ∷ ns ≡ link_numbers l
-held_bit bit ns l None is e = absurd cc
-held_bit bit [] l (Some fcb) is e = absurd cc
-held_bit bit (missed ∷ ns) l (Some fcb) is e =
-    ap (λ (n : ℕ). 3 ∷ n ∷ missed ∷ ns) (bit_only bit fcb is)
-    ∙ held_only fcb missed ns l (nat_lt missed 65536) (service_from ns) refl e
+  held_bit : (bit : ℕ) (ns : List ℕ) (l : Link) (o : Option Bool) → bit_from bit ≡ o
+      → held_by spent probed o ns ≡ Some l
+      → held_number spent probed ∷ bit ∷ ns ≡ link_numbers l
+  held_bit bit ns l None is e = absurd cc
+  held_bit bit [] l (Some fcb) is e = absurd cc
+  held_bit bit (missed ∷ ns) l (Some fcb) is e =
+      ap (λ (n : ℕ). held_number spent probed ∷ n ∷ missed ∷ ns) (bit_only bit fcb is)
+      ∙ held_only fcb missed ns l (nat_lt missed 65536) (service_from ns) refl e
+
+  held_rest : (ns : List ℕ) (l : Link) → held_from spent probed ns ≡ Some l
+      → held_number spent probed ∷ ns ≡ link_numbers l
+  held_rest [] l e = absurd cc
+  held_rest (bit ∷ ns) l e = held_bit bit ns l (bit_from bit) refl e
+
+abbrev how_numbered : Bool × Probed → ℕ
+how_numbered how = held_number how.0 how.1
+
+-- the number of a held service is its number alone
+kind_only : (kind : ℕ) (how : Bool × Probed) → held_of kind ≡ Some how → kind ≡ how_numbered how
+kind_only kind how = go (kind == 3) (kind == 4) (kind == 5) (kind == 6) (kind == 7) (kind == 8)
+    refl refl refl refl refl refl
+  where
+    same : (which : Bool × Probed) → Some which ≡ Some how → which ≡ how
+    same which e = cc
+
+    go : (a b c d f g : Bool) → (kind == 3) ≡ a → (kind == 4) ≡ b → (kind == 5) ≡ c
+        → (kind == 6) ≡ d → (kind == 7) ≡ f → (kind == 8) ≡ g
+        → (if a then Some (false, Never)
+        else if b then Some (true, Never)
+        else if c then Some (false, Once)
+        else if d then Some (true, Once)
+        else if f then Some (false, Twice)
+        else if g then Some (true, Twice)
+        else None) ≡ Some how → kind ≡ how_numbered how
+    go true b c d f g ia ib ic id if_ ig e =
+        eqb-true kind 3 ia ∙ ap how_numbered (same (false, Never) e)
+    go false true c d f g ia ib ic id if_ ig e =
+        eqb-true kind 4 ib ∙ ap how_numbered (same (true, Never) e)
+    go false false true d f g ia ib ic id if_ ig e =
+        eqb-true kind 5 ic ∙ ap how_numbered (same (false, Once) e)
+    go false false false true f g ia ib ic id if_ ig e =
+        eqb-true kind 6 id ∙ ap how_numbered (same (true, Once) e)
+    go false false false false true g ia ib ic id if_ ig e =
+        eqb-true kind 7 if_ ∙ ap how_numbered (same (false, Twice) e)
+    go false false false false false true ia ib ic id if_ ig e =
+        eqb-true kind 8 ig ∙ ap how_numbered (same (true, Twice) e)
+    go false false false false false false ia ib ic id if_ ig e = absurd cc
+
+held_kind : (kind : ℕ) (ns : List ℕ) (l : Link) (o : Option (Bool × Probed)) → held_of kind ≡ o
+    → held_as o ns ≡ Some l → kind ∷ ns ≡ link_numbers l
+held_kind kind ns l None is e = absurd cc
+held_kind kind ns l (Some how) is e =
+    ap (λ (n : ℕ). n ∷ ns) (kind_only kind how is) ∙ held_rest how.0 how.1 ns l e
 
 link_rest : (ns : List ℕ) (l : Link) → next_from ns ≡ Some l → 2 ∷ ns ≡ link_numbers l
 link_rest [] l e = absurd cc
 link_rest (bit ∷ ns) l e = next_only bit ns l (bit_from bit) refl e
 
-held_rest : (ns : List ℕ) (l : Link) → held_from ns ≡ Some l → 3 ∷ ns ≡ link_numbers l
-held_rest [] l e = absurd cc
-held_rest (bit ∷ ns) l e = held_bit bit ns l (bit_from bit) refl e
-
-link_kind : (kind : ℕ) (ns : List ℕ) (l : Link) (p q r t : Bool) → (kind == 0) ≡ p
-    → (kind == 1) ≡ q → (kind == 2) ≡ r → (kind == 3) ≡ t
+link_kind : (kind : ℕ) (ns : List ℕ) (l : Link) (p q r : Bool) → (kind == 0) ≡ p
+    → (kind == 1) ≡ q → (kind == 2) ≡ r
     → (if p then bare_link Down ns
     else if q then bare_link Available ns
     else if r then next_from ns
-    else if t then held_from ns
-    else None) ≡ Some l
+    else held_as (held_of kind) ns) ≡ Some l
     → kind ∷ ns ≡ link_numbers l
-link_kind kind ns l true q r t is one two three e =
+link_kind kind ns l true q r is one two e =
     bare_only link_numbers bare_link kind Down l ns (λ n more. refl) refl
     (ap (λ (n : ℕ). n ∷ []) (eqb-true kind 0 is)) e
-link_kind kind ns l false true r t is one two three e =
+link_kind kind ns l false true r is one two e =
     bare_only link_numbers bare_link kind Available l ns (λ n more. refl) refl
     (ap (λ (n : ℕ). n ∷ []) (eqb-true kind 1 one)) e
-link_kind kind ns l false false true t is one two three e =
+link_kind kind ns l false false true is one two e =
     ap (λ (n : ℕ). n ∷ ns) (eqb-true kind 2 two) ∙ link_rest ns l e
-link_kind kind ns l false false false true is one two three e =
-    ap (λ (n : ℕ). n ∷ ns) (eqb-true kind 3 three) ∙ held_rest ns l e
-link_kind kind ns l false false false false is one two three e = absurd cc
+link_kind kind ns l false false false is one two e = held_kind kind ns l (held_of kind) refl e
 
 link_only : (ns : List ℕ) (l : Link) → link_from ns ≡ Some l → ns ≡ link_numbers l
 link_only [] l e = absurd cc
 link_only (kind ∷ ns) l e =
-    link_kind kind ns l (kind == 0) (kind == 1) (kind == 2) (kind == 3) refl refl refl refl e
+    link_kind kind ns l (kind == 0) (kind == 1) (kind == 2) refl refl refl e
 
 -- ---- A station
 
-flags_by : (address acd dfc number gap : ℕ) (s : StationState) (a d g : Option Bool)
-    → bit_from acd ≡ a → bit_from dfc ≡ d → bit_from gap ≡ g
-    → bare_station address number a d g ≡ Some s
-    → address ∷ acd ∷ dfc ∷ number ∷ gap ∷ [] ≡ flags_numbers s
-flags_by address acd dfc number gap s None d g ia id ig e = absurd cc
-flags_by address acd dfc number gap s (Some a) None g ia id ig e = absurd cc
-flags_by address acd dfc number gap s (Some a) (Some d) None ia id ig e = absurd cc
-flags_by address acd dfc number gap s (Some a) (Some d) (Some g) ia id ig e =
-    ap (λ (n : ℕ). address ∷ n ∷ dfc ∷ number ∷ gap ∷ []) (bit_only acd a ia)
-    ∙ (ap (λ (n : ℕ). address ∷ bit_number a ∷ n ∷ number ∷ gap ∷ []) (bit_only dfc d id)
-    ∙ (ap (λ (n : ℕ). address ∷ bit_number a ∷ bit_number d ∷ number ∷ n ∷ [])
+-- what ends a line
+unsure_only : (ns : List ℕ) (unsure : Bool) → unsure_from ns ≡ Some unsure
+    → ns ≡ unsure_numbers unsure
+unsure_only [] false e = refl
+unsure_only [] true e = absurd cc
+unsure_only (n ∷ []) unsure e = go (n == 1) refl unsure e
+  where
+    go : (b : Bool) → (n == 1) ≡ b → (u : Bool) → (if b then Some true else None) ≡ Some u
+        → n ∷ [] ≡ unsure_numbers u
+    go true is true e = ap (λ (m : ℕ). m ∷ []) (eqb-true n 1 is)
+    go true is false e = absurd cc
+    go false is u e = absurd cc
+unsure_only (n ∷ m ∷ ns) unsure e = absurd cc
+
+flags_by : (address acd dfc number gap : ℕ) (ns : List ℕ) (s : StationState)
+    (a d g u : Option Bool)
+    → bit_from acd ≡ a → bit_from dfc ≡ d → bit_from gap ≡ g → unsure_from ns ≡ u
+    → bare_station address number a d g u ≡ Some s
+    → address ∷ acd ∷ dfc ∷ number ∷ gap ∷ ns ≡ flags_numbers s
+flags_by address acd dfc number gap ns s None d g u ia id ig iu e = absurd cc
+flags_by address acd dfc number gap ns s (Some a) None g u ia id ig iu e = absurd cc
+flags_by address acd dfc number gap ns s (Some a) (Some d) None u ia id ig iu e = absurd cc
+flags_by address acd dfc number gap ns s (Some a) (Some d) (Some g) None ia id ig iu e = absurd cc
+flags_by address acd dfc number gap ns s (Some a) (Some d) (Some g) (Some u) ia id ig iu e =
+    ap (λ (n : ℕ). address ∷ n ∷ dfc ∷ number ∷ gap ∷ ns) (bit_only acd a ia)
+    ∙ (ap (λ (n : ℕ). address ∷ bit_number a ∷ n ∷ number ∷ gap ∷ ns) (bit_only dfc d id)
+    ∙ (ap (λ (n : ℕ). address ∷ bit_number a ∷ bit_number d ∷ number ∷ n ∷ ns)
     (bit_only gap g ig)
-    ∙ ap flags_numbers (where_it_holds (nat_lt address 65536) _ s e)))
+    ∙ (ap (λ (l : List ℕ). address ∷ bit_number a ∷ bit_number d ∷ number ∷ bit_number g ∷ l)
+    (unsure_only ns u iu)
+    ∙ ap flags_numbers (where_it_holds (nat_lt address 65536) _ s e))))
 
 flags_only : (ns : List ℕ) (s : StationState) → flags_from ns ≡ Some s → ns ≡ flags_numbers s
 flags_only [] s e = absurd cc
@@ -158,9 +223,9 @@ flags_only (a ∷ []) s e = absurd cc
 flags_only (a ∷ b ∷ []) s e = absurd cc
 flags_only (a ∷ b ∷ c ∷ []) s e = absurd cc
 flags_only (a ∷ b ∷ c ∷ d ∷ []) s e = absurd cc
-flags_only (a ∷ b ∷ c ∷ d ∷ g ∷ []) s e =
-    flags_by a b c d g s (bit_from b) (bit_from c) (bit_from g) refl refl refl e
-flags_only (a ∷ b ∷ c ∷ d ∷ g ∷ h ∷ ns) s e = absurd cc
+flags_only (a ∷ b ∷ c ∷ d ∷ g ∷ ns) s e =
+    flags_by a b c d g ns s (bit_from b) (bit_from c) (bit_from g) (unsure_from ns) refl refl refl
+    refl e
 
 -- the two lines that a station was read of, and a third
 pub station_exact : (bare : StationState) (link : Link) (b : Option StationState) (o : Option Link)

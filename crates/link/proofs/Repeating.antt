@@ -1,8 +1,8 @@
 -- What goes out at once: repeats.
 use Rattle.std.specs.Prelude.{◌==◌}
-use Rattle.std.proofs.Common.{◌≡◌, ℕ, suc, ◌<◌, ◌≤◌, nat_lt, Bool, true, false, List, [], ◌∷◌, ◌++◌}
-use Rattle.std.proofs.Common.{length, slice_set, Option, Some, None, refl, sym, ap, subst, ◌∙◌}
-use Rattle.std.proofs.Common.{◌⊎◌, inl, inr, if◌then◌else◌}
+use Rattle.std.proofs.Common.{◌≡◌, ℕ, suc, nat_lt, Bool, true, false, List, [], ◌∷◌, ◌++◌}
+use Rattle.std.proofs.Common.{slice_set, Option, Some, None, refl, sym, ap, subst, ◌∙◌}
+use Rattle.std.proofs.Common.{if◌then◌else◌}
 use Rattle.std.proofs.lemmas.Bool.{eqb-true, eqb-false}
 use Rattle.std.proofs.lemmas.List.{get_or-set_other}
 use Rattle.ft12.specs.declared.frame.Front.{Front}
@@ -14,9 +14,9 @@ use Rattle.link.specs.Procedure.{LinkSettings, Link, Down, Available, Next, Held
 use Rattle.link.specs.Procedure.{is_service, has_repeats, after_answer, after_silence}
 use Rattle.link.specs.Procedure.{missed_so_far}
 use Rattle.link.specs.Turns.{StationState, no_station, Phase, Starting, Commanding, Polling}
-use Rattle.link.specs.Turns.{Class1Polling, Over, Wanted, station_at, wants, wanted_by, wanted}
-use Rattle.link.specs.Turns.{chosen_or, first_after, held_request}
-use Rattle.link.specs.Primary.{Outstanding, Primary, start, sending_by, sending_from, sending}
+use Rattle.link.specs.Turns.{Class1Polling, Over, station_at, wants, wanted_by, wanted}
+use Rattle.link.specs.Turns.{held_request}
+use Rattle.link.specs.Primary.{Outstanding, Primary, start}
 use Rattle.link.specs.Primary.{phase_after, answer_at, answered, station_answered, said_by}
 use Rattle.link.specs.Primary.{open_octets, took, with_octets, received_after, received_from}
 use Rattle.link.specs.Primary.{received, station_unanswered, unanswered, is_late, due_from}
@@ -30,31 +30,23 @@ use Rattle.link.proofs.Leaving.{set_none}
 use Rattle.link.proofs.Bursting.{not_both, silent_down, no_repeats, held_is, turn_sends}
 use Rattle.link.proofs.Following.{Follows, begun, State, waits, ended, Matches, none_out}
 use Rattle.link.proofs.Following.{asked_matches}
-use Rattle.link.specs.Turns.{CommandsWaiting}
+use Rattle.link.specs.Runs.{Doubts}
+use Rattle.link.specs.Carried.{doubted}
+use Rattle.link.proofs.Doubting.{doubted_link}
+use Rattle.link.specs.Procedure.{probed_so_far, is_kept, spent_silence, short_silence}
 
 -- ---- an answer
 
 answered_not_held : (request : Asked) (answer : Answer) (link : Link)
-    → (is_service request ≡ false → is_held link ≡ false)
-    → is_held (after_answer request answer link) ≡ false
-answered_not_held (Counted fcb service) Unable link new = refl
-answered_not_held (Counted fcb service) Ready link new = refl
-answered_not_held (Counted fcb service) Confirmed link new = refl
-answered_not_held (Counted fcb service) Busy link new = refl
-answered_not_held (Counted fcb service) (Report asdu) link new = refl
-answered_not_held (Counted fcb service) NoData link new = refl
-answered_not_held Status Ready link new = refl
-answered_not_held Status Unable link new = refl
-answered_not_held Status Confirmed link new = new refl
-answered_not_held Status Busy link new = new refl
-answered_not_held Status (Report asdu) link new = new refl
-answered_not_held Status NoData link new = new refl
-answered_not_held Reset Confirmed link new = refl
-answered_not_held Reset Ready link new = new refl
-answered_not_held Reset Unable link new = new refl
-answered_not_held Reset Busy link new = new refl
-answered_not_held Reset (Report asdu) link new = new refl
-answered_not_held Reset NoData link new = new refl
+    → is_service request ≡ true → is_held (after_answer request answer link) ≡ false
+answered_not_held (Counted fcb service) Unable link asks = refl
+answered_not_held (Counted fcb service) Ready link asks = refl
+answered_not_held (Counted fcb service) Confirmed link asks = refl
+answered_not_held (Counted fcb service) Busy link asks = refl
+answered_not_held (Counted fcb service) (Report asdu) link asks = refl
+answered_not_held (Counted fcb service) NoData link asks = refl
+answered_not_held Status answer link asks = cc
+answered_not_held Reset answer link asks = cc
 
 -- the phase behind an answer, where the link is up
 goes_on_behind : (request : Asked) (answer : Answer) (phase : Phase) (link link' : Link)
@@ -76,11 +68,11 @@ answer_matches : (p : Primary) (latest : Option Sending) (o : Outstanding) (fram
 answer_matches p None o frame answer e matches = absurd (none_out p.outstanding o matches.0 e)
 answer_matches p (Some s) o frame answer e (turn, ended free more again_is go_on) =
     absurd (none_out p.outstanding o free e)
-answer_matches p (Some s) o frame answer e (turn, waits x awaited same once follows new) = (
+answer_matches p (Some s) o frame answer e (turn, waits x awaited same once follows) = (
   turn,
-  ended refl (λ has. absurd (not_both (has_repeats p.settings link) has
-      (no_repeats p.settings link free_of)))
-      (λ again. absurd (not_both p.again again once))
+  ended refl (λ asks has. absurd (not_both (has_repeats p.settings link) has
+      (no_repeats p.settings link (free_of asks))))
+      (λ again. absurd (not_both false again refl))
       (goes_on_behind s.request answer p.phase (station_at p.stations p.turn).link link
       (λ down. set_none (λ (t : StationState). is_answered t.link) p.stations p.turn it
       (ap (λ (r : Asked). is_answered (after_answer r answer (station_at p.stations p.turn).link))
@@ -98,10 +90,10 @@ answer_matches p (Some s) o frame answer e (turn, waits x awaited same once foll
     asked_is = let one : Some x ≡ Some o = sym awaited ∙ e in
         let two : x ≡ o = cc in sym (ap (λ (y : Outstanding). y.request) two) ∙ same
 
-    free_of : is_held link ≡ false
-    free_of = set_none (λ (t : StationState). is_held t.link) p.stations p.turn it
+    free_of : is_service s.request ≡ true → is_held link ≡ false
+    free_of asks = set_none (λ (t : StationState). is_held t.link) p.stations p.turn it
         (answered_not_held o.request answer (station_at p.stations p.turn).link
-        (λ none. new (ap is_service (sym asked_is) ∙ none))) refl
+        (ap is_service asked_is ∙ asks)) refl
 
 -- The request that is out is the same.
 waits_matches : (p p' : Primary) (latest : Option Sending) (o o' : Outstanding)
@@ -119,14 +111,12 @@ waits_matches p p' (Some s) o o' e turn phase again stations out same (
 waits_matches p p' (Some s) o o' e turn phase again stations out same (
   at,
   waits x awaited is once
-      follows new,
+      follows,
 ) = (
   turn ∙ at,
   waits o' out (same ∙ (let one : Some x ≡ Some o = sym awaited ∙ e in
       let two : x ≡ o = cc in sym (ap (λ (y : Outstanding). y.request) two) ∙ is))
-      (again ∙ once) (subst (λ (f : Phase). Follows s.request f) (sym phase) follows)
-      (λ none. ap (λ (ss : List StationState). is_held (station_at ss p'.turn).link) stations
-      ∙ ap (λ (i : ℕ). is_held (station_at p.stations i).link) turn ∙ new none),
+      (again ∙ once) (subst (λ (f : Phase). Follows s.request f) (sym phase) follows),
 )
 
 octets_match : (front : List ℕ → Front) (p : Primary) (came : List ℕ) (latest : Option Sending)
@@ -168,19 +158,26 @@ octets_match front p came latest matches = go p.outstanding refl
 -- ---- no answer in time
 
 silence_holds : (settings : LinkSettings) (request : Asked) (link : Link)
-    → is_held (after_silence settings request true link) ≡ true
+    → has_repeats settings (after_silence settings request true link) ≡ true
     → request ≡ held_request (after_silence settings request true link)
-silence_holds settings Status link held = let no : ⊥ = cc in absurd no
-silence_holds settings Reset link held = let no : ⊥ = cc in absurd no
-silence_holds settings (Counted fcb service) link held =
-    go (nat_lt settings.retries (suc (missed_so_far link))) settings.hold held
+silence_holds settings Status Down has = let no : ⊥ = cc in absurd no
+silence_holds settings Status Available has = let no : ⊥ = cc in absurd no
+silence_holds settings Status (Next fcb) has = let no : ⊥ = cc in absurd no
+silence_holds settings Status (Held fcb service silence) has = let no : ⊥ = cc in absurd no
+silence_holds settings Reset link has = let no : ⊥ = cc in absurd no
+silence_holds settings (Counted fcb service) link has =
+    go (nat_lt settings.retries (suc (missed_so_far link)))
+    (is_kept settings (probed_so_far link)) has
   where
     go : (b hold : Bool)
-        → is_held (if b then (if hold then Held fcb service (suc settings.retries) else Down)
-        else Held fcb service (suc (missed_so_far link))) ≡ true
+        → has_repeats settings (if b then (if hold then Held fcb service
+        (spent_silence settings (probed_so_far link)) else Down)
+        else Held fcb service (short_silence (suc (missed_so_far link)) (probed_so_far link)))
+        ≡ true
         → Counted fcb service
-        ≡ held_request (if b then (if hold then Held fcb service (suc settings.retries) else Down)
-        else Held fcb service (suc (missed_so_far link)))
+        ≡ held_request (if b then (if hold then Held fcb service
+        (spent_silence settings (probed_so_far link)) else Down)
+        else Held fcb service (short_silence (suc (missed_so_far link)) (probed_so_far link)))
     go true true e = refl
     go true false e = let no : ⊥ = cc in absurd no
     go false hold e = refl
@@ -190,7 +187,7 @@ missed_matches : (p : Primary) (latest : Option Sending) (o : Outstanding) → p
 missed_matches p None o e matches = absurd (none_out p.outstanding o matches.0 e)
 missed_matches p (Some s) o e (turn, ended free more again_is go_on) =
     absurd (none_out p.outstanding o free e)
-missed_matches p (Some s) o e (turn, waits x awaited same once follows new) =
+missed_matches p (Some s) o e (turn, waits x awaited same once follows) =
     (turn, ended refl sends repeats answers)
   where
     it : StationState
@@ -203,8 +200,9 @@ missed_matches p (Some s) o e (turn, waits x awaited same once follows new) =
     asked_is = let one : Some x ≡ Some o = sym awaited ∙ e in
         let two : x ≡ o = cc in sym (ap (λ (y : Outstanding). y.request) two) ∙ same
 
-    sends : has_repeats p.settings link ≡ true → has_repeats p.settings it.link ≡ true
-    sends has = go (has_repeats p.settings it.link) refl
+    sends : is_service s.request ≡ true → has_repeats p.settings link ≡ true
+        → has_repeats p.settings it.link ≡ true
+    sends asks has = go (has_repeats p.settings it.link) refl
       where
         go : (b : Bool) → has_repeats p.settings it.link ≡ b
             → has_repeats p.settings it.link ≡ true
@@ -220,8 +218,7 @@ missed_matches p (Some s) o e (turn, waits x awaited same once follows new) =
         let is : link ≡ it.link = held_is p.stations p.turn it held in (
           subst (λ (b : Bool). Follows s.request (if b then p.phase else Over)) (sym has) follows,
           sym asked_is
-              ∙ silence_holds p.settings o.request (station_at p.stations p.turn).link
-              (sym (ap is_held is) ∙ held)
+              ∙ silence_holds p.settings o.request (station_at p.stations p.turn).link has
               ∙ ap held_request (sym is),
         )
 
@@ -275,13 +272,23 @@ give_up_matches p k (Some s) (turn, state) = (turn, go (p.turn == k) refl)
     go : (b : Bool) → (p.turn == k) ≡ b
         → State p.settings (if b then None else p.outstanding) (if b then false else p.again)
         (if b then Over else p.phase) link s.request
-    go true e = ended refl (λ has. absurd (none (has_repeats p.settings) refl e has))
+    go true e = ended refl (λ asks has. absurd (none (has_repeats p.settings) refl e has))
         (λ again. absurd (not_both false again refl))
         (λ up. absurd (none is_answered refl e up))
     go false e =
         subst (λ (l : Link). State p.settings p.outstanding p.again p.phase l s.request)
         (sym (ap (λ (t : StationState). t.link)
         (get_or-set_other p.stations k p.turn it no_station (eqb-false p.turn k e)))) state
+
+-- Whether a station was restarted changes no link.
+doubt_matches : (p : Primary) (latest : Option Sending) → Matches p latest
+    → Matches (doubted p) latest
+doubt_matches p None matches = matches
+doubt_matches p (Some s) (turn, state) = (
+  turn,
+  subst (λ (l : Link). State p.settings p.outstanding p.again p.phase l s.request)
+      (sym (doubted_link p.stations p.turn)) state,
+)
 
 pub call_matches : (p : Primary) (latest : Option Sending) (call : Call) → Matches p latest
     → Matches (called p call) (latest_after p call latest)
@@ -291,6 +298,7 @@ call_matches p latest (Octets octets) matches =
     octets_match (front_of p.settings.size) p octets latest matches
 call_matches p latest (Due now) matches = due_matches p now latest matches
 call_matches p latest (GivesUp station) matches = give_up_matches p station latest matches
+call_matches p latest Doubts matches = doubt_matches p latest matches
 
 -- ---- the repeat
 
@@ -318,15 +326,15 @@ again_wanted burst may_poll s command (Next fcb) phase held follows = let no : �
 
 repeats : (p : Primary) (latest : Option Sending) (call : Call) → Matches p latest
     → RepeatIsNext p latest call
-repeats p (Some s) (runs.Next now may_poll waiting) (turn, waits o awaited same once follows new) =
-    λ out has. absurd (none_out p.outstanding o out awaited)
+repeats p (Some s) (runs.Next now may_poll waiting) (turn, waits o awaited same once follows) =
+    λ asks out has. absurd (none_out p.outstanding o out awaited)
 repeats p (Some s) (runs.Next now may_poll waiting) (turn, ended free more again_is go_on) =
-    λ out has.
+    λ asks out has.
     let has_here : has_repeats p.settings (station_at p.stations p.turn).link ≡ true =
     subst (λ (i : ℕ). has_repeats p.settings (station_at p.stations i).link ≡ true) (sym turn) has
     in
     let held = held_by p.settings (station_at p.stations p.turn).link has_here in
-    let again = more has_here in
+    let again = more asks has_here in
     let it = again_is again held in
     let is =
     ap (λ (b : Bool). wanted p.settings.burst may_poll b (station_at p.stations p.turn)
@@ -341,6 +349,7 @@ repeats p (Some s) (runs.Next now may_poll waiting) (turn, ended free more again
 repeats p (Some s) (Octets octets) matches = tt
 repeats p (Some s) (Due now) matches = tt
 repeats p (Some s) (GivesUp station) matches = tt
+repeats p (Some s) Doubts matches = tt
 repeats p None call matches = tt
 
 pub repeat_on : (p : Primary) (latest : Option Sending) (calls : List Call) → Matches p latest

@@ -25,7 +25,9 @@ known_by settings station x link known =
         → (x.request ≡ Status)
         × (answer ≡ Ready)
     said None answer is k = cc
-    said (Some frame) answer is k = known_after station x.request frame answer link is k
+    said (Some frame) answer is k =
+        let known = known_after station x.request frame answer link is k in
+        (known.0, known.1)
 
     go : (m : Option Answer) → answer_to station x ≡ m
         → after_outcome settings m x.request x.closed link ≡ Available

@@ -17,6 +17,8 @@ use Rattle.link.specs.Runs.{nth_after}
 use Rattle.link.specs.Leave.{IsLeftToPolls}
 use Rattle.link.proofs.Turning.{rests}
 use Rattle.link.specs.Turns.{CommandsWaiting}
+use Rattle.link.specs.Turns.{is_doubted}
+use Rattle.link.specs.Answers.{Status}
 
 -- ---- round the stations
 
@@ -98,14 +100,15 @@ left burst may_poll s command Down none = cc
 left burst may_poll s command Available none = cc
 left burst may_poll s command (Next fcb) none = commands_none burst may_poll fcb s command none
 left burst may_poll s command (Held fcb service missed) none =
-    go may_poll (is_poll service) refl none
+    go (is_doubted s missed) may_poll (is_poll service) refl none
   where
-    go : (leave poll : Bool) → is_poll service ≡ poll → (if leave
-        || not poll then wants (Counted fcb service) Commanding else None) ≡ None →
+    go : (doubted leave poll : Bool) → is_poll service ≡ poll → (if doubted then wants Status Over
+        else if leave || not poll then wants (Counted fcb service) Commanding else None) ≡ None →
         (leave ≡ false) × (is_poll service ≡ true)
-    go true poll e h = cc
-    go false false e h = cc
-    go false true e h = (refl, e)
+    go true leave poll e h = cc
+    go false true poll e h = cc
+    go false false false e h = cc
+    go false false true e h = (refl, e)
 
 each_left : (p : Primary) (may_poll : Bool) (waiting : CommandsWaiting) → p.turn < length p.stations
     → p.outstanding ≡ None

@@ -11,6 +11,8 @@ use Rattle.link.specs.Runs.{Call, Next, Octets, Due, GivesUp, called, exchanged}
 use Rattle.link.specs.Runs.{MayCall, MayCallAll, called_all, exchanged_all}
 use Rattle.link.proofs.Called.{start_matches, receive_matches, due_matches, ask_matches}
 use Rattle.link.proofs.Called.{give_up_matches}
+use Rattle.link.specs.Runs.{Doubts}
+use Rattle.link.proofs.Called.{doubt_matches}
 
 pub call_matches : (settings : LinkSettings) (addresses : List ℕ)
     → IsStable (front_of settings.size)
@@ -28,6 +30,7 @@ call_matches settings addresses stable p e (Due now) may t =
     (due_matches settings addresses p e now t)
 call_matches settings addresses stable p e (GivesUp station) may t =
     give_up_matches settings addresses p e station may t
+call_matches settings addresses stable p e Doubts may t = doubt_matches settings addresses p e t
 
 pub calls_match : (settings : LinkSettings) (addresses : List ℕ) → IsStable (front_of settings.size)
     → (p : Primary) (e : Exchanges) (calls : List Call) →

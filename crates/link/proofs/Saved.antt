@@ -5,13 +5,14 @@ use Rattle.std.proofs.Common.{refl, sym, ap, ◌∙◌, arith}
 use Rattle.std.specs.List.{All, list_all}
 use Rattle.std.proofs.lemmas.List.Elements.{All-head, All-tail}
 use Rattle.link.specs.Answers.{Service, Class1, Class2, Command}
-use Rattle.link.specs.Procedure.{Link, Down, Available, Next, Held}
+use Rattle.link.specs.Procedure.{Link, Down, Available, Next, Held, Probed, Never, Once, Twice}
 use Rattle.std.proofs.Common.{zero, suc}
 use Rattle.std.specs.List.{AllByRecursion}
 use Rattle.std.proofs.lemmas.List.{take_more, drop_more, take_all, drop_all}
 use Rattle.link.specs.Turns.{StationState, station_at, no_station}
 use Rattle.link.specs.Saved.{bit_number, bit_from, service_numbers, link_numbers, command_from}
-use Rattle.link.specs.Saved.{command_service, service_from, held_with, held_missed, link_from}
+use Rattle.link.specs.Saved.{command_service, service_from, held_with, held_from, held_of, held_as}
+use Rattle.link.specs.Saved.{held_number, link_from, unsure_numbers, unsure_from}
 use Rattle.link.specs.Saved.{FitsSavedCommand, FitsSavedService, FitsSavedLink, LinkReadsBack}
 use Rattle.link.specs.Saved.{FitsSavedStation, flags_numbers, flags_from, station_by}
 use Rattle.link.specs.Saved.{no_command_numbers, lines_of}
@@ -41,20 +42,48 @@ service_back Class1 fits = refl
 service_back Class2 fits = refl
 service_back (Command asdu) fits = ap command_service (command_back asdu fits)
 
-held_back : (fcb : Bool) (service : Service) (missed : ℕ) → missed < 65536
-    → FitsSavedService service
-    → held_missed fcb (missed ∷ service_numbers service) ≡ Some (Held fcb service missed)
-held_back fcb service missed lt fits =
+held_back : (spent : Bool) (probed : Probed) (fcb : Bool) (service : Service) (missed : ℕ)
+    → missed < 65536 → FitsSavedService service
+    → held_from spent probed (bit_number fcb ∷ missed ∷ service_numbers service)
+    ≡ Some (Held fcb service (record { missed = missed; spent = spent; probed = probed }))
+held_back spent probed fcb service missed lt fits =
     let on : nat_lt missed 65536 ≡ true = grind arith in
-    rw on (ap (λ (s : Option Service). held_with fcb missed s) (service_back service fits))
+    rw (bit_back fcb, on) (ap (λ (s : Option Service). held_with spent probed fcb missed s)
+    (service_back service fits))
+
+kind_back : (spent : Bool) (probed : Probed) → held_of (held_number spent probed)
+    ≡ Some (spent, probed)
+kind_back false Never = refl
+kind_back true Never = refl
+kind_back false Once = refl
+kind_back true Once = refl
+kind_back false Twice = refl
+kind_back true Twice = refl
+
+as_held : (spent : Bool) (probed : Probed) (ns : List ℕ)
+    → link_from (held_number spent probed ∷ ns) ≡ held_as (held_of (held_number spent probed)) ns
+as_held false Never ns = refl
+as_held true Never ns = refl
+as_held false Once ns = refl
+as_held true Once ns = refl
+as_held false Twice ns = refl
+as_held true Twice ns = refl
 
 pub link_back : (link : Link) → FitsSavedLink link → LinkReadsBack link
 link_back Down fits = refl
 link_back Available fits = refl
 link_back (Next true) fits = refl
 link_back (Next false) fits = refl
-link_back (Held true service missed) fits = held_back true service missed fits.0 fits.1
-link_back (Held false service missed) fits = held_back false service missed fits.0 fits.1
+link_back (Held fcb service silence) fits =
+    let ns : List ℕ = bit_number fcb ∷ silence.missed ∷ service_numbers service in
+    as_held silence.spent silence.probed ns
+    ∙ ap (λ (how : Option (Bool × Probed)). held_as how ns)
+    (kind_back silence.spent silence.probed)
+    ∙ held_back silence.spent silence.probed fcb service silence.missed fits.0 fits.1
+
+unsure_back : (unsure : Bool) → unsure_from (unsure_numbers unsure) ≡ Some unsure
+unsure_back true = refl
+unsure_back false = refl
 
 bare_back : (s : StationState) → s.address < 65536
     → flags_from (flags_numbers s)
@@ -64,10 +93,11 @@ bare_back : (s : StationState) → s.address < 65536
       acd = s.acd;
       dfc = s.dfc;
       session = s.session;
+      unsure = s.unsure;
     })
 bare_back s lt =
     let on : nat_lt s.address 65536 ≡ true = grind arith in
-    rw (bit_back s.acd, bit_back s.dfc, bit_back s.session.has_gap, on) refl
+    rw (bit_back s.acd, bit_back s.dfc, bit_back s.session.has_gap, unsure_back s.unsure, on) refl
 
 pub first_line : (s : StationState) (rest all behind : List (List ℕ)) (flags : List ℕ)
     → all ≡ flags_numbers s ∷ link_numbers s.link ∷ rest
@@ -100,6 +130,7 @@ pub no_bare : (s : StationState) (ns : List ℕ) (r : Option StationState) → F
       acd = s.acd;
       dfc = s.dfc;
       session = s.session;
+      unsure = s.unsure;
     })
 no_bare s ns r fits is e = e ∙ ap flags_from is ∙ bare_back s fits.address
 
@@ -111,6 +142,7 @@ pub joined : (s bare : StationState) (link : Link) (a : Option StationState) (b 
       acd = s.acd;
       dfc = s.dfc;
       session = s.session;
+      unsure = s.unsure;
     })
     → b ≡ Some s.link → a ≡ Some bare → b ≡ Some link
     → station_by (Some bare) (Some link) ≡ Some s
@@ -122,6 +154,7 @@ joined s bare link a b ea eb fa fb =
       acd = s.acd;
       dfc = s.dfc;
       session = s.session;
+      unsure = s.unsure;
     })) x) (sym fb ∙ eb)
 
 pub some_same : (t s : StationState) → Some t ≡ Some s → t ≡ s

@@ -13,6 +13,7 @@ use Rattle.link.specs.Outstation.{Effect, effects_of}
 use Rattle.link.specs.Delivery.{learnt_by, learnt, pending_by, pending_after, is_reset, accepted_by}
 use Rattle.link.specs.Delivery.{commands, command_of, is_busy_by, is_answered_busy, first_sending}
 use Rattle.link.specs.Delivery.{sendings_not_busy}
+use Rattle.link.specs.Procedure.{probed_so_far, is_kept, spent_silence, short_silence}
 
 -- what may be said to a command
 abbrev pub SaysToCommand : Option Answer → Type 0
@@ -146,12 +147,13 @@ service_pends : (settings : LinkSettings) (fcb : Bool) (service : Service) (m : 
     link) (pending_by (Counted fcb service) m pending)
 service_pends settings fcb service None front false link pending = refl
 service_pends settings fcb service None front true link pending =
-    go (nat_lt settings.retries (suc (missed_so_far link))) settings.hold
+    go (nat_lt settings.retries (suc (missed_so_far link)))
+    (is_kept settings (probed_so_far link))
   where
     go : (b hold : Bool) → LinkPends
-        (if b then (if hold then Held fcb service (suc settings.retries) else Down)
-        else Held fcb service
-        (suc (missed_so_far link))) (Some service)
+        (if b then (if hold then Held fcb service (spent_silence settings (probed_so_far link))
+        else Down) else Held fcb service
+        (short_silence (suc (missed_so_far link)) (probed_so_far link))) (Some service)
     go true true = refl
     go true false = tt
     go false hold = refl
@@ -277,6 +279,9 @@ exchange_sendings settings station Available pending Reset front closed (Some Co
 exchange_sendings settings station Available pending Reset front closed (Some answer) rest pends may
     other e ih =
     idle_sendings station pending rest _ (first_reset pending) ih
+exchange_sendings settings station (Held fcb service silence) pending Status front closed m rest
+    pends may other e ih =
+    idle_sendings station pending rest _ (first_status pending) ih
 exchange_sendings settings station (Next fcb) pending (Counted sent service) front closed m rest
     pends may other e ih =
     sent_part pending sent service
@@ -313,6 +318,14 @@ exchange_pends settings station Available pending Reset front closed (Some Confi
     refl
 exchange_pends settings station Available pending Reset front closed (Some Unable) pends may = tt
 exchange_pends settings station Available pending Reset front closed (Some answer) pends may = tt
+exchange_pends settings station (Held fcb service silence) pending Status front closed None pends
+    may = pends
+exchange_pends settings station (Held fcb service silence) pending Status front closed (Some Ready)
+    pends may = pends
+exchange_pends settings station (Held fcb service silence) pending Status front closed (Some Unable)
+    pends may = tt
+exchange_pends settings station (Held fcb service silence) pending Status front closed (Some answer)
+    pends may = pends
 exchange_pends settings station (Next fcb) pending (Counted sent service) front closed m pends may =
     service_pends settings sent service m front closed (Next fcb) pending
 exchange_pends settings station (Held fcb service missed) pending (Counted sent again) front closed

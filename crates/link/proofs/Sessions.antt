@@ -1,6 +1,6 @@
 -- What the primary knows of an outstation, over whole runs.
 use Rattle.std.proofs.Common.{◌≡◌, ℕ, Bool, true, false, List, [], ◌∷◌, ◌++◌, flat_map, Option}
-use Rattle.std.proofs.Common.{Some, None, refl, sym, ap, subst, ◌∙◌, inl, inr, append_assoc, IsSome}
+use Rattle.std.proofs.Common.{Some, None, refl, sym, ap, subst, ◌∙◌, inl, inr, append_assoc}
 use Rattle.std.specs.List.{AllByRecursion}
 use Rattle.link.specs.Answers.{Service, Class1, Class2, Command, Asked, Status, Reset, Counted}
 use Rattle.link.specs.Answers.{Answer, Ready, Confirmed, Busy, Report, NoData, Unable}
@@ -10,63 +10,75 @@ use Rattle.link.specs.Procedure.{after, MaySend, KeepsFrameCountBit, is_up, IsSt
 use Rattle.link.specs.Outstation.{Effect, Given, unreset, Turn, all_done}
 use Rattle.link.specs.Delivery.{learnt, IsHonest, pending_by, pending_after, MayOwe, IsKnown}
 use Rattle.link.specs.Delivery.{is_reset, Session, before_reset, sessions, IsSessionKnown}
-use Rattle.link.specs.Delivery.{IsAllOrButLast, IsLatestAnswered, given_by, reports, is_gap}
+use Rattle.link.specs.Delivery.{IsAllOrButLast, given_by, reports, is_gap}
 use Rattle.link.specs.Delivery.{HasReports}
 use Rattle.link.proofs.Bit.{append-nil}
 use Rattle.link.proofs.Marks.{up_mark}
 use Rattle.link.proofs.KnownFrom.{reset_learns, known_from, idle_down, nothing_before}
 use Rattle.link.proofs.KnownFrom.{learnt_in_sessions}
+use Rattle.link.specs.Delivery.{answered_by, is_latest_answered}
+use Rattle.std.proofs.Common.{◌≢◌}
 
 -- Where the latest exchange was answered nothing is pending.
 answered_clears : (settings : LinkSettings) (link : Link) (request : Asked) (answer : Answer)
     (x : Exchange)
     (pending : Option Service) →
-    x.request ≡ request → MaySend link request → (is_up link ≡ false → pending ≡ None) →
+    x.request ≡ request → request ≢ Status → MaySend link request →
+    (is_up link ≡ false → pending ≡ None) →
     (is_up link ≡ true
     → is_up (after_outcome settings (Some answer) request x.closed link) ≡ true) →
     pending_by request (Some answer) pending ≡ None
-answered_clears settings Down Status answer x pending same may clear steady = clear refl
-answered_clears settings Available Status answer x pending same may clear steady = clear refl
-answered_clears settings Available Reset Confirmed x pending same may clear steady = refl
-answered_clears settings Available Reset answer x pending same may clear steady = clear refl
-answered_clears settings link (Counted fcb service) Ready x pending same may clear steady = refl
-answered_clears settings link (Counted fcb service) Confirmed x pending same may clear steady = refl
-answered_clears settings link (Counted fcb service) Busy x pending same may clear steady = refl
-answered_clears settings link (Counted fcb service) (Report asdu) x pending same may clear steady =
+answered_clears settings link Status answer x pending same other may clear steady =
+    absurd (other refl)
+answered_clears settings Available Reset Confirmed x pending same other may clear steady = refl
+answered_clears settings Available Reset answer x pending same other may clear steady = clear refl
+answered_clears settings link (Counted fcb service) Ready x pending same other may clear steady = refl
+answered_clears settings link (Counted fcb service) Confirmed x pending same other may clear steady = refl
+answered_clears settings link (Counted fcb service) Busy x pending same other may clear steady = refl
+answered_clears settings link (Counted fcb service) (Report asdu) x pending same other may clear steady =
     refl
-answered_clears settings link (Counted fcb service) NoData x pending same may clear steady = refl
-answered_clears settings (Next sent) (Counted fcb service) Unable x pending same may clear steady =
+answered_clears settings link (Counted fcb service) NoData x pending same other may clear steady = refl
+answered_clears settings (Next sent) (Counted fcb service) Unable x pending same other may clear steady =
     let e = steady refl in cc
-answered_clears settings (Held sent again missed) (Counted fcb service) Unable x pending same may
-    clear steady =
+answered_clears settings (Held sent again missed) (Counted fcb service) Unable x pending same
+    other may clear steady =
     let e = steady refl in cc
-answered_clears settings link request answer x pending same may clear steady = absurd may
+answered_clears settings link request answer x pending same other may clear steady = absurd may
 
 pub latest_known : (settings : LinkSettings) (station : ℕ) (link : Link) (pending : Option Service)
-    (xs : List Exchange) →
-    (is_up link ≡ false → pending ≡ None) → KeepsFrameCountBit settings station link xs
-    → IsSteady settings station link xs → IsLatestAnswered station xs →
-    (xs ≡ [] → pending ≡ None) → pending_after station pending xs ≡ None
-latest_known settings station link pending [] clear keeps steady latest none = none refl
-latest_known settings station link pending (x ∷ []) clear keeps steady latest none =
-    go (answer_to station x) refl latest
-  where
-    go : (m : Option Answer) → answer_to station x ≡ m → IsSome m
-        → pending_by x.request (answer_to station x) pending ≡ None
-    go None e l = cc
-    go (Some answer) e l =
-        ap (λ (m : Option Answer). pending_by x.request m pending) e
-        ∙ answered_clears settings link x.request answer x pending refl keeps.0 clear
-        (subst (λ (m : Option Answer). is_up link ≡ true
-        → is_up (after_outcome settings m x.request x.closed link)
-        ≡ true) e
-        (λ up. (up_mark x.given_up _ (steady.0 up)).1))
-latest_known settings station link pending (x ∷ (y ∷ ys)) clear keeps steady latest none =
+    (answered : Bool) (xs : List Exchange) →
+    (is_up link ≡ false → pending ≡ None) → (answered ≡ true → pending ≡ None)
+    → KeepsFrameCountBit settings station link xs
+    → IsSteady settings station link xs → is_latest_answered station answered xs ≡ true →
+    pending_after station pending xs ≡ None
+latest_known settings station link pending answered [] clear none keeps steady latest = none latest
+latest_known settings station link pending answered (x ∷ xs) clear none keeps steady latest =
     latest_known settings station (after settings station x link)
     (pending_by x.request (answer_to station x) pending)
-    (y ∷ ys)
-    (λ d. go (is_up link) refl d) keeps.1 steady.1 latest (λ e. cc)
+    (answered_by x.request (answer_to station x) answered) xs
+    (λ d. go (is_up link) refl d) (by x.request (answer_to station x) refl refl) keeps.1 steady.1
+    latest
   where
+    cleared : (r : Asked) (answer : Answer) → x.request ≡ r → answer_to station x ≡ Some answer
+        → r ≢ Status → pending_by r (Some answer) pending ≡ None
+    cleared r answer asks says other =
+        answered_clears settings link r answer x pending asks other
+        (subst (λ (a : Asked). MaySend link a) asks keeps.0) clear
+        (subst (λ (a : Asked). is_up link ≡ true
+        → is_up (after_outcome settings (Some answer) a x.closed link) ≡ true) asks
+        (subst (λ (m : Option Answer). is_up link ≡ true
+        → is_up (after_outcome settings m x.request x.closed link) ≡ true) says
+        (λ up. (up_mark x.given_up _ (steady.0 up)).1)))
+
+    by : (r : Asked) (m : Option Answer) → x.request ≡ r → answer_to station x ≡ m
+        → answered_by r m answered ≡ true → pending_by r m pending ≡ None
+    by Status m asks says is = none is
+    by Reset None asks says is = cc
+    by Reset (Some answer) asks says is = cleared Reset answer asks says (λ e. cc)
+    by (Counted fcb service) None asks says is = cc
+    by (Counted fcb service) (Some answer) asks says is =
+        cleared (Counted fcb service) answer asks says (λ e. cc)
+
     go : (u : Bool) → is_up link ≡ u → is_up (after settings station x link) ≡ false
         → pending_by x.request (answer_to station x) pending ≡ None
     go true up d = let e : is_up (after settings station x link) ≡ true = steady.0 up in cc

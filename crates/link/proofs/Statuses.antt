@@ -14,6 +14,7 @@ use Rattle.link.specs.Primary.{phase_after}
 use Rattle.link.specs.Visits.{Left}
 use Rattle.link.proofs.Visiting.{Awaits}
 use Rattle.link.proofs.Visiting.{HasPlan, IsReady, over, starting, serving}
+use Rattle.link.specs.Procedure.{Available, Next, Probed, probed_so_far, is_kept, spent_silence, short_silence}
 
 -- what may be said to the requests that start a link
 abbrev pub SaysToStatus : Option Answer → Type 0
@@ -76,9 +77,16 @@ pub answered_ready : (settings : LinkSettings) (a : ℕ) (request : Asked) (fram
 answered_ready settings a Status frame answer phase link left is aw =
     go answer (subst (λ (m : Option Answer). FitsStatus m) is (status_fits a frame)).fits
   where
+    ready : (link : Link) → Awaits settings Status phase link left
+        → IsReady settings false phase (after_answer Status Ready link) left
+    ready Down aw = starting aw.0 aw.1
+    ready Available aw = starting aw.0 aw.1
+    ready (Next fcb) aw = starting aw.0 aw.1
+    ready (Held fcb service silence) aw = over aw refl
+
     go : (answer : Answer) → SaysToStatus (Some answer)
         → IsReady settings false (phase_after answer phase) (after_answer Status answer link) left
-    go Ready fits = starting aw.0 aw.1
+    go Ready fits = ready link aw
     go Unable fits = over refl refl
     go other fits = absurd fits
 answered_ready settings a Reset frame answer phase link left is aw =
@@ -87,19 +95,22 @@ answered_ready settings a (Counted fcb service) frame answer phase link left is 
     served_ready settings answer phase (after_answer (Counted fcb service) answer link) left aw.0
 
 held_repeats : (settings : LinkSettings) (fcb : Bool) (service : Service) (missed : ℕ)
-    → has_repeats settings (held settings fcb service missed) ≡ true →
-    (missed_so_far (held settings fcb service missed) ≡ missed) × (missed ≤ settings.retries)
-held_repeats settings fcb service missed = go (nat_lt settings.retries missed) settings.hold
+    (probed : Probed)
+    → has_repeats settings (held settings fcb service missed probed) ≡ true →
+    (missed_so_far (held settings fcb service missed probed) ≡ missed)
+    × (missed ≤ settings.retries)
+held_repeats settings fcb service missed probed =
+    go (nat_lt settings.retries missed) (is_kept settings probed)
   where
     go : (b hold : Bool) →
-        has_repeats settings (if b then (if hold then Held fcb service (suc settings.retries)
+        has_repeats settings (if b then (if hold then Held fcb service
+        (spent_silence settings probed) else Down) else Held fcb
+        service (short_silence missed probed)) ≡ true →
+        (missed_so_far (if b then (if hold then Held fcb service (spent_silence settings probed)
         else Down) else Held fcb
-        service missed) ≡ true →
-        (missed_so_far (if b then (if hold then Held fcb service (suc settings.retries) else Down)
-        else Held fcb
-        service missed) ≡ missed)
+        service (short_silence missed probed)) ≡ missed)
         × (missed ≤ settings.retries)
-    go true true e = absurd (omega (arith, leb-true (suc settings.retries) settings.retries e))
+    go true true e = cc
     go true false e = cc
     go false hold e = (refl, leb-true missed settings.retries e)
 
@@ -109,19 +120,25 @@ pub missed_ready : (settings : LinkSettings) (request : Asked) (phase : Phase) (
     IsReady settings (has_repeats settings (after_silence settings request true link))
     (if has_repeats settings (after_silence settings request true link) then phase else Over)
     (after_silence settings request true link) left
-missed_ready settings Status phase link left aw = over refl refl
+missed_ready settings Status phase Down left aw = over refl refl
+missed_ready settings Status phase Available left aw = over refl refl
+missed_ready settings Status phase (Next fcb) left aw = over refl refl
+missed_ready settings Status phase (Held fcb service silence) left aw = over refl refl
 missed_ready settings Reset phase link left aw = over refl refl
 missed_ready settings (Counted fcb service) phase link left aw =
-    go (has_repeats settings (held settings fcb service (suc (missed_so_far link)))) refl
+    go (has_repeats settings (held settings fcb service (suc (missed_so_far link))
+    (probed_so_far link))) refl
   where
-    go : (b : Bool) → has_repeats settings (held settings fcb service (suc (missed_so_far link)))
-        ≡ b →
+    go : (b : Bool) → has_repeats settings (held settings fcb service (suc (missed_so_far link))
+        (probed_so_far link)) ≡ b →
         IsReady settings b (if b then phase
-        else Over) (held settings fcb service (suc (missed_so_far link))) left
+        else Over) (held settings fcb service (suc (missed_so_far link)) (probed_so_far link)) left
     go false e = over refl refl
     go true e =
-        let h = held_repeats settings fcb service (suc (missed_so_far link)) e in
+        let h = held_repeats settings fcb service (suc (missed_so_far link)) (probed_so_far link)
+        e in
         serving aw.0 (λ again. record {
+          left_over = e;
           more = omega (arith, h.0, h.1);
           enough =
               omega (arith, h.0, aw.1);

@@ -14,6 +14,7 @@ use Rattle.link.specs.Primary.{received_after, received_from, is_late, due_from,
 use Rattle.link.specs.Runs.{Call, Next, Octets, Due, GivesUp, called}
 use Rattle.link.specs.Timing.{since_by, since_after, EndsInTime, AnswersHaveTheirTime}
 use Rattle.link.specs.Turns.{CommandsWaiting}
+use Rattle.link.specs.Runs.{Doubts}
 
 -- What is outstanding went out at this moment.
 abbrev pub IsSince : Option Outstanding → Option ℕ → Type 0
@@ -86,6 +87,7 @@ call_since p (GivesUp station) since is = go (p.turn == station)
     go : (b : Bool) → IsSince (if b then None else p.outstanding) since
     go true = tt
     go false = is
+call_since p Doubts since is = is
 
 some_same : {a b : ℕ} → Some a ≡ Some b → a ≡ b
 some_same {a} {b} e = cc
@@ -109,6 +111,7 @@ in_time p (Due at) (Some since) is = ends p since at p.outstanding refl is
 in_time p (Next now may_poll waiting) (Some since) is = tt
 in_time p (Octets octets) (Some since) is = tt
 in_time p (GivesUp station) (Some since) is = tt
+in_time p Doubts (Some since) is = tt
 
 pub all_in_time : (p : Primary) (since : Option ℕ) (calls : List Call)
     → IsSince p.outstanding since → AnswersHaveTheirTime p since calls

@@ -13,6 +13,8 @@ use Rattle.link.specs.Turns.{commands_from, wanted_by, station_at}
 use Rattle.link.specs.Primary.{Outstanding, Primary, choice, sending_by, sending_from, sending}
 use Rattle.link.specs.Runs.{first_request}
 use Rattle.link.proofs.Choice.{MayChooseIt, choice_may}
+use Rattle.link.specs.Procedure.{Silence}
+use Rattle.link.specs.Turns.{is_doubted, Over}
 
 -- what the turn of this station begins with, by this link
 abbrev pub begins : Primary → (may_poll : Bool) → CommandsWaiting → (k : ℕ) → Link → Option Asked
@@ -35,11 +37,17 @@ pub available : (p : Primary) (may_poll : Bool) (waiting : CommandsWaiting) (k :
 available p may_poll waiting k is = ap (begins p may_poll waiting k) is
 
 pub held : (p : Primary) (may_poll : Bool) (waiting : CommandsWaiting) (k : ℕ) (fcb : Bool)
-    (service : Service) (missed : ℕ) → (station_at p.stations k).link ≡ Held fcb service missed
+    (service : Service) (silence : Silence)
+    → (station_at p.stations k).link ≡ Held fcb service silence
+    → is_doubted (station_at p.stations k) silence ≡ false
     → (may_poll ≡ true) ⊎ ((asdu : List ℕ) × (service ≡ Command asdu))
     → asks (first_request p may_poll waiting k) ≡ Some (Counted fcb service)
-held p may_poll waiting k fcb service missed is leave =
-    ap (begins p may_poll waiting k) is ∙ go may_poll (is_poll service) (by leave)
+held p may_poll waiting k fcb service silence is sure leave =
+    ap (begins p may_poll waiting k) is
+    ∙ ap (λ (b : Bool). asks (if b then wants Status Over
+    else if may_poll || not (is_poll service) then wants (Counted fcb service) Commanding
+    else None)) sure
+    ∙ go may_poll (is_poll service) (by leave)
   where
     by : (may_poll ≡ true) ⊎ ((asdu : List ℕ) × (service ≡ Command asdu))
         → (may_poll ≡ true) ⊎ (is_poll service ≡ false)
@@ -53,6 +61,17 @@ held p may_poll waiting k fcb service missed is leave =
     go false false leave = refl
     go false true (inl e) = cc
     go false true (inr e) = cc
+
+pub doubted : (p : Primary) (may_poll : Bool) (waiting : CommandsWaiting) (k : ℕ) (fcb : Bool)
+    (service : Service) (silence : Silence)
+    → (station_at p.stations k).link ≡ Held fcb service silence
+    → is_doubted (station_at p.stations k) silence ≡ true
+    → asks (first_request p may_poll waiting k) ≡ Some Status
+doubted p may_poll waiting k fcb service silence is unsure =
+    ap (begins p may_poll waiting k) is
+    ∙ ap (λ (b : Bool). asks (if b then wants Status Over
+    else if may_poll || not (is_poll service) then wants (Counted fcb service) Commanding
+    else None)) unsure
 
 pub command : (p : Primary) (may_poll : Bool) (waiting : CommandsWaiting) (k : ℕ) (fcb : Bool)
     (asdu : List ℕ) → (station_at p.stations k).link ≡ Next fcb → waiting k ≡ Some asdu

@@ -21,6 +21,7 @@ use Rattle.link.proofs.Links.{nil, with_one, link_after-push}
 use Rattle.link.proofs.Marks.{by_mark}
 use Rattle.link.proofs.Matching.{unreceived}
 use Rattle.link.proofs.Called.{links_at}
+use Rattle.link.specs.Procedure.{Silence, Probed, probed_so_far, is_kept, spent_silence, short_silence}
 
 -- ---- the link and what is pending
 
@@ -30,13 +31,14 @@ Suits (Held fcb service missed) pending = pending ≡ Some service
 Suits link pending = Unit {0}
 
 held_suits : (settings : LinkSettings) (fcb : Bool) (service : Service) (missed : ℕ)
-    → Suits (held settings fcb service missed) (Some service)
-held_suits settings fcb service missed = go (nat_lt settings.retries missed) settings.hold
+    (probed : Probed) → Suits (held settings fcb service missed probed) (Some service)
+held_suits settings fcb service missed probed =
+    go (nat_lt settings.retries missed) (is_kept settings probed)
   where
     go : (b hold : Bool)
-        → Suits (if b then (if hold then Held fcb service (suc settings.retries) else Down)
-        else Held fcb service
-        missed) (Some service)
+        → Suits (if b then (if hold then Held fcb service (spent_silence settings probed)
+        else Down) else Held fcb service
+        (short_silence missed probed)) (Some service)
     go true true = refl
     go true false = tt
     go false hold = refl
@@ -48,8 +50,15 @@ step_suits : (settings : LinkSettings) (request : Asked) (front : Option Frame) 
     Suits (after_outcome settings m request closed
     link)
     (pending_by request m pending)
-step_suits settings Status front closed None link pending suits = tt
-step_suits settings Status front closed (Some Ready) link pending suits = tt
+step_suits settings Status front closed None Down pending suits = tt
+step_suits settings Status front closed None Available pending suits = tt
+step_suits settings Status front closed None (Next fcb) pending suits = tt
+step_suits settings Status front closed None (Held fcb service silence) pending suits = suits
+step_suits settings Status front closed (Some Ready) Down pending suits = tt
+step_suits settings Status front closed (Some Ready) Available pending suits = tt
+step_suits settings Status front closed (Some Ready) (Next fcb) pending suits = tt
+step_suits settings Status front closed (Some Ready) (Held fcb service silence) pending suits =
+    suits
 step_suits settings Status front closed (Some Confirmed) link pending suits = suits
 step_suits settings Status front closed (Some Busy) link pending suits = suits
 step_suits settings Status front closed (Some (Report asdu)) link pending suits = suits
@@ -63,7 +72,7 @@ step_suits settings Reset front closed (Some (Report asdu)) link pending suits =
 step_suits settings Reset front closed (Some NoData) link pending suits = suits
 step_suits settings Reset front closed (Some Unable) link pending suits = suits
 step_suits settings (Counted fcb service) front true None link pending suits =
-    held_suits settings fcb service (suc (missed_so_far link))
+    held_suits settings fcb service (suc (missed_so_far link)) (probed_so_far link)
 step_suits settings (Counted fcb service) front false None link pending suits = refl
 step_suits settings (Counted fcb service) front closed (Some Ready) link pending suits = refl
 step_suits settings (Counted fcb service) front closed (Some Confirmed) link pending suits = refl
@@ -83,7 +92,7 @@ all_suit settings a link pending (x ∷ xs) suits =
     (by_mark (λ (l : Link). Suits l (pending_by x.request (answer_to a x) pending)) x.given_up _
     (step_suits settings x.request x.front x.closed (answer_to a x) link pending suits) tt)
 
-command_held : (fcb : Bool) (service : Service) (missed : ℕ)
+command_held : (fcb : Bool) (service : Service) (missed : Silence)
     → is_command_pending (Some service) ≡ holds_command (Held fcb service missed)
 command_held fcb Class1 missed = refl
 command_held fcb Class2 missed = refl
@@ -111,7 +120,9 @@ sent_holds : (settings : LinkSettings) (request : Asked) (link : Link) → MaySe
 sent_holds settings Status Down may = refl
 sent_holds settings Status Available may = refl
 sent_holds settings Status (Next fcb) may = absurd may
-sent_holds settings Status (Held fcb service missed) may = absurd may
+sent_holds settings Status (Held fcb Class1 missed) may = refl
+sent_holds settings Status (Held fcb Class2 missed) may = refl
+sent_holds settings Status (Held fcb (Command asdu) missed) may = refl
 sent_holds settings Reset Down may = refl
 sent_holds settings Reset Available may = refl
 sent_holds settings Reset (Next fcb) may = absurd may

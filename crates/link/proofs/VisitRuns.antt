@@ -20,6 +20,9 @@ use Rattle.link.proofs.Beginning.{begun_start}
 use Rattle.link.proofs.Visiting.{Awaits, IsReady, starting, IsStarting}
 use Rattle.link.proofs.Statuses.{answered_ready, missed_ready}
 use Rattle.link.proofs.VisitAsked.{one_longer, shown, IsLatest, FitsPhase, InVisit}
+use Rattle.link.specs.Carried.{doubted}
+use Rattle.link.proofs.Doubting.{doubted_link}
+use Rattle.link.proofs.Beginning.{begun_doubted}
 
 -- ---- what the other calls do
 
@@ -173,15 +176,13 @@ received_visits front addresses p ended cur octets many within v = go p.outstand
         say frame (Some answer) e =
             let s : StationState = station_answered (station_at p.stations p.turn) q.request frame
             answer in
-            moved (slice_set p.stations p.turn s) (phase_after answer p.phase) p.again None
-            (subst (λ (b : Bool). IsReady p.settings b (phase_after answer p.phase)
-            (station_at (slice_set p.stations p.turn s) p.turn).link v.now) (sym aw.0)
+            moved (slice_set p.stations p.turn s) (phase_after answer p.phase) false None
             (subst (λ (l : Link). IsReady p.settings false (phase_after answer p.phase) l v.now)
             (sym (ap (λ (r : StationState). r.link) (get_or-set_same p.stations p.turn s no_station
             within)))
             (answered_ready p.settings (station_at p.stations p.turn).address q.request frame answer
             p.phase
-            (station_at p.stations p.turn).link v.now e aw.1)))
+            (station_at p.stations p.turn).link v.now e aw.1))
             (begun_answered p q (station_at p.stations p.turn).address frame answer within is e
             v.begun)
 
@@ -260,6 +261,25 @@ due_visits front addresses p ended cur ms at many within v = go p.outstanding re
             (missed_ready p.settings q.request p.phase (station_at p.stations p.turn).link v.now
             aw.1))
             (begun_unanswered p q within v.begun)
+
+-- whether a station was restarted changes no link
+pub doubted_visits : (front : List ℕ → Front) (addresses : List ℕ) (p : Primary) (e : Exchanges)
+    (many : ℕ) → InVisit front addresses p e many → InVisit front addresses (doubted p) e many
+doubted_visits front addresses p e many v = record {
+  earlier = v.earlier;
+  are = v.are;
+  before = v.before;
+  mid = v.mid;
+  now = v.now;
+  leads = v.leads;
+  ended = v.ended;
+  first = v.first;
+  latest = v.latest;
+  fits = subst (λ (l : Link). FitsPhase p.settings p.outstanding p.again p.phase l v.now)
+      (sym (doubted_link p.stations p.turn)) v.fits;
+  begun = begun_doubted p v.begun;
+  many_are = v.many_are;
+}
 
 pub start_visits : (front : List ℕ → Front) (settings : LinkSettings) (addresses : List ℕ)
     → InVisit front addresses (start settings addresses) no_exchanges 0

@@ -15,6 +15,8 @@ use Rattle.link.specs.Turns.{Over, Wanted, wants, is_poll, wanted_poll, polls_fr
 use Rattle.link.specs.Turns.{commands_from, next_of, wanted_by}
 use Rattle.link.specs.Visits.{Left, class1_polls, services, whole_visit, MayFollow, IsVisitFrom}
 use Rattle.link.specs.Visits.{most_of_visit}
+use Rattle.link.specs.Procedure.{Silence, has_repeats}
+use Rattle.link.specs.Turns.{is_doubted}
 
 -- ---- visits
 
@@ -149,6 +151,7 @@ HasPlan burst Over plan = ⊥
 
 -- while this request is outstanding
 abbrev pub Awaits : LinkSettings → Asked → Phase → Link → Left → Type 0
+Awaits settings Status phase (Held fcb service silence) left = phase ≡ Over
 Awaits settings Status phase link left = (phase ≡ Starting) × (kind.Reset ∷ [] ≡ left.plan)
 Awaits settings Reset phase link left = phase ≡ Over
 Awaits settings (Counted fcb service) phase link left =
@@ -160,6 +163,7 @@ IsStarting Available left = kind.Reset ∷ [] ≡ left.plan
 IsStarting link left = ⊥
 
 pub record IsRepeatable (settings : LinkSettings) (link : Link) (left : Left) : Type 0 where
+  pub left_over : has_repeats settings link ≡ true
   pub more : missed_so_far link ≤ settings.retries
   pub enough : suc settings.retries ≤ left.repeats + missed_so_far link
 
@@ -324,14 +328,14 @@ start_follows settings may_poll again s command (Next fcb) left plan = absurd pl
 start_follows settings may_poll again s command (Held fcb service missed) left plan = absurd plan
 
 -- what is sent again
-repeat_follows : (settings : LinkSettings) (fcb : Bool) (service : Service) (missed : ℕ)
+repeat_follows : (settings : LinkSettings) (fcb : Bool) (service : Service) (missed : Silence)
     (phase : Phase) (left : Left)
     (repeats : ℕ) → left.repeats ≡ repeats →
     HasPlan settings.burst phase left.plan → IsRepeatable settings (Held fcb service missed) left →
     Follows settings (Held fcb service missed) left
     (record { request = Counted fcb service; following = phase })
 repeat_follows settings fcb service missed phase left zero is plan more =
-    let none : suc settings.retries ≤ missed = omega (arith, more.enough, is) in
+    let none : suc settings.retries ≤ missed.missed = omega (arith, more.enough, is) in
     absurd (omega (arith, none, more.more))
 repeat_follows settings fcb service missed phase left (suc repeats) is plan more = record {
   later = record { plan = left.plan; repeats = repeats };
@@ -425,14 +429,20 @@ begin_follows settings may_poll s command Available some fresh = absurd (fresh r
 begin_follows settings may_poll s command (Next fcb) some fresh =
     commands_follow settings may_poll fcb s command (whole_visit settings (Next fcb)) some refl
 begin_follows settings may_poll s command (Held fcb service missed) some fresh =
-    go (may_poll || not (is_poll service))
+    go (is_doubted s missed) (may_poll || not (is_poll service))
   where
-    go : (b : Bool)
+    go : (doubted b : Bool)
         → FollowsIt settings (Held fcb service missed)
         (whole_visit settings (Held fcb service missed))
-        (if b then wants (Counted fcb service) Commanding else None)
-    go false = tt
-    go true = record {
+        (if doubted then wants Status Over
+        else if b then wants (Counted fcb service) Commanding else None)
+    go true b = record {
+      later = record { plan = services settings.burst; repeats = settings.retries };
+      follow = (refl, refl);
+      awaits = refl;
+    }
+    go false false = tt
+    go false true = record {
       later = record { plan = services settings.burst; repeats = settings.retries };
       follow = (refl, refl);
       awaits = (refl, omega arith);

@@ -5,7 +5,7 @@ use Rattle.std.specs.Prelude.{None, if◌then◌else◌}
 use Rattle.link.specs.Answers.{Service, Command}
 use Rattle.link.specs.Bursts.{is_answered, poll_by, IsSent}
 use Rattle.link.specs.Exchanges.{Sending}
-use Rattle.link.specs.Procedure.{is_held, has_repeats}
+use Rattle.link.specs.Procedure.{is_held, has_repeats, is_service}
 use Rattle.link.specs.Turns.{StationState, CommandsWaiting, is_poll, station_at}
 use Rattle.link.specs.Primary.{Outstanding, Primary, sending}
 use Rattle.link.specs.Runs.{Call, Next, called}
@@ -26,7 +26,7 @@ latest_after p call latest = latest
 -- request is that one again: the same service to the same station, with the same frame count bit.
 abbrev pub RepeatIsNext : Primary → Option Sending → Call → Type 0
 RepeatIsNext p (Some latest) (Next now may_poll waiting) =
-    p.outstanding ≡ None →
+    is_service latest.request ≡ true → p.outstanding ≡ None →
     has_repeats p.settings (station_at p.stations latest.station).link ≡ true →
     sending p may_poll waiting ≡ Some latest
 RepeatIsNext p latest call = Unit {0}

@@ -6,7 +6,7 @@ use Rattle.link.specs.Answers.{Asked, Counted}
 use Rattle.link.specs.Exchanges.{Exchanges, given_up_at}
 use Rattle.link.specs.Flags.{link_at}
 use Rattle.link.specs.Procedure.{LinkSettings, Link, Down, Available, Next, Held, holds_command}
-use Rattle.link.specs.Procedure.{after_silence}
+use Rattle.link.specs.Procedure.{after_silence, Never, short_silence}
 use Rattle.link.specs.Turns.{StationState, Starting, Over, station_at}
 use Rattle.link.specs.Primary.{Primary, Outstanding, is_sending_command, station_down}
 use Rattle.link.specs.declared.seat.ResumedStation.{ResumedStation}
@@ -27,6 +27,7 @@ station_given_up s = record {
   acd = s.acd;
   dfc = s.dfc;
   session = s.session;
+  unsure = s.unsure;
 }
 
 -- The link to the station is given up. An exchange with it is over, and so is its turn.
@@ -77,6 +78,22 @@ abbrev pub commands_given_up : LinkSettings → (front : List ℕ → Front) →
 commands_given_up settings front addresses e =
     given_up_upto settings front addresses (length addresses) e
 
+-- ---- Stations that may have been restarted
+
+abbrev pub station_doubted : StationState → StationState
+station_doubted s = record {
+  address = s.address;
+  link = s.link;
+  acd = s.acd;
+  dfc = s.dfc;
+  session = s.session;
+  unsure = true;
+}
+
+-- Of no station is it known whether it was restarted, until it answers a service.
+abbrev pub doubted : Primary → Primary
+doubted p = record p { stations = map station_doubted p.stations }
+
 -- ---- A line of other stations
 
 -- a service without an answer so far is held
@@ -87,6 +104,7 @@ station_left settings s request = record {
   acd = s.acd;
   dfc = s.dfc;
   session = s.session;
+  unsure = s.unsure;
 }
 
 abbrev pub released_from : Primary → Option Outstanding → Primary
@@ -110,6 +128,7 @@ with_gap_mark s = record {
   acd = s.acd;
   dfc = s.dfc;
   session = record { number = s.session.number; has_gap = true };
+  unsure = s.unsure;
 }
 
 -- Of the station's latest session a report may be lost.
@@ -120,10 +139,12 @@ gap_marked station p = record p {
 
 -- a held service wasn't unanswered more often than it is repeated
 abbrev pub link_carried : (retries : ℕ) → Link → Link
-link_carried retries (Held fcb service missed) = Held fcb service (min retries missed)
+link_carried retries (Held fcb service silence) =
+    Held fcb service (short_silence (min retries silence.missed) Never)
 link_carried retries link = link
 
--- The station goes on: its link, what its latest answer showed, and its session.
+-- The station goes on: its link, what its latest answer showed, its session, and whether it is
+-- unsure.
 abbrev pub station_carried : (retries address : ℕ) → StationState → StationState
 station_carried retries address s = record {
   address = address;
@@ -131,6 +152,7 @@ station_carried retries address s = record {
   acd = s.acd;
   dfc = s.dfc;
   session = s.session;
+  unsure = s.unsure;
 }
 
 -- with the place that the station had, if it had one
@@ -159,9 +181,9 @@ abbrev pub bit_of : Link → Option Bool
 bit_of Down = None
 bit_of Available = None
 bit_of (Next fcb) = Some fcb
-bit_of (Held fcb service missed) = Some fcb
+bit_of (Held fcb service silence) = Some fcb
 
 -- the service without an answer that the link holds
 abbrev pub service_of : Link → Option Asked
-service_of (Held fcb service missed) = Some (Counted fcb service)
+service_of (Held fcb service silence) = Some (Counted fcb service)
 service_of link = None

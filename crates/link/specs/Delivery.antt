@@ -2,7 +2,7 @@
 -- acts once, and its answer is taken once. (The frame count bit of IEC 60870-5-2 is there to give
 -- this.)
 use Rattle.std.specs.Prelude.{◌≡◌, ℕ, ◌⊎◌, Bool, true, false, List, [], ◌∷◌, ◌++◌, Option, Some}
-use Rattle.std.specs.Prelude.{None, IsSome, if◌then◌else◌}
+use Rattle.std.specs.Prelude.{None, is_some, if◌then◌else◌}
 use Rattle.link.specs.Answers.{Frame, Service, Class1, Class2, Command, Asked, Status, Reset}
 use Rattle.link.specs.Answers.{Counted, Answer, Confirmed, Busy, Unable}
 use Rattle.link.specs.Exchanges.{Exchange, answer_to}
@@ -116,11 +116,20 @@ IsSessionKnown station session =
 abbrev pub IsAllOrButLast : {A : Type 0} → List A → List A → Type 0
 IsAllOrButLast {A} all some = (some ≡ all) ⊎ ((last : A) × (some ++ last ∷ [] ≡ all))
 
--- whether the latest exchange was answered; where there was none nothing is missing
+-- whether the latest exchange was answered, statuses left out; where there was none nothing is
+-- missing
+abbrev pub answered_by : Asked → Option Answer → (before : Bool) → Bool
+answered_by Status answer before = before
+answered_by Reset answer before = is_some answer
+answered_by (Counted fcb service) answer before = is_some answer
+
+abbrev pub is_latest_answered : (station : ℕ) → (before : Bool) → List Exchange → Bool
+is_latest_answered station before [] = before
+is_latest_answered station before (x ∷ xs) =
+    is_latest_answered station (answered_by x.request (answer_to station x) before) xs
+
 abbrev pub IsLatestAnswered : (station : ℕ) → List Exchange → Type 0
-IsLatestAnswered station [] = Unit {0}
-IsLatestAnswered station (x ∷ []) = IsSome (answer_to station x)
-IsLatestAnswered station (x ∷ (y ∷ ys)) = IsLatestAnswered station (y ∷ ys)
+IsLatestAnswered station xs = is_latest_answered station true xs ≡ true
 
 abbrev pub given_by : Effect → List (List ℕ)
 given_by (Given asdu) = asdu ∷ []

@@ -3,7 +3,7 @@
 use Rattle.std.specs.Prelude.{ℕ, Bool, true, false, List, [], ◌∷◌, Option, Some}
 use Rattle.ft12.specs.declared.frame.LinkSize.TheVariants.{One}
 use Rattle.link.specs.Answers.{Frame}
-use Rattle.link.specs.Procedure.{Link, LinkSettings}
+use Rattle.link.specs.Procedure.{Link, LinkSettings, Silence, Never, short_silence, spent_silence}
 use Rattle.link.specs.Requests.{reading_of}
 use Rattle.link.specs.Secondary.{Secondary, fresh_station, received_reading}
 use Rattle.link.specs.Turns.{StationState, no_session}
@@ -22,6 +22,7 @@ in_state link acd dfc =
       acd = acd;
       dfc = dfc;
       session = no_session;
+      unsure = false;
     }
 
 abbrev pub two_repeats : (hold : Bool) → LinkSettings
@@ -33,6 +34,17 @@ two_repeats hold =
       hold = hold;
       burst = 2;
     }
+
+-- a station behind a restart
+abbrev pub unsure_in : Link → StationState
+unsure_in link = record (in_state link false false) { unsure = true }
+
+abbrev pub missed : ℕ → Silence
+missed many = short_silence many Never
+
+-- two repeats had no answer, either
+abbrev pub silent : Silence
+silent = spent_silence (two_repeats true) Never
 
 -- the outstation 1 before its first reset, and right after a reset, with these reports to give
 abbrev pub unreset_with : (class1 class2 : List (List ℕ)) → Secondary

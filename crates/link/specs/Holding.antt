@@ -94,7 +94,7 @@ abbrev pub gathered : (n : ℕ) → List ℕ → Primary → Primary
 gathered n octets p = record p { outstanding = option_map (gathered_in n octets) p.outstanding }
 
 abbrev pub FitsLink : LinkSize → Link → Type 0
-FitsLink size (Held fcb service missed) = FitsService size service
+FitsLink size (Held fcb service silence) = FitsService size service
 FitsLink size link = Unit {0}
 
 -- The station's address and the command that it holds fit the line.

@@ -15,7 +15,7 @@ is_poll_request (Counted fcb service) = is_poll service
 
 -- A poll was sent, and isn't answered.
 abbrev pub holds_poll : Link → Bool
-holds_poll (Held fcb service missed) = is_poll service
+holds_poll (Held fcb service silence) = is_poll service
 holds_poll link = false
 
 abbrev pub is_polling_by : Primary → Option Outstanding → Bool
@@ -33,5 +33,5 @@ is_report other = false
 -- Nothing is left to be asked of the station but data, where this command waits for it.
 abbrev pub IsLeftToPolls : StationState → Option (List ℕ) → Link → Type 0
 IsLeftToPolls s command (Next fcb) = (command ≡ None) ⊎ (s.dfc ≡ true)
-IsLeftToPolls s command (Held fcb service missed) = is_poll service ≡ true
+IsLeftToPolls s command (Held fcb service silence) = is_poll service ≡ true
 IsLeftToPolls s command link = ⊥

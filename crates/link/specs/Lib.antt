@@ -11,6 +11,7 @@ pub mod Holding
 pub mod Matching
 pub mod Outstation
 pub mod Delivery
+pub mod Doubts
 pub mod Gaps
 pub mod Secondary
 pub mod Life

@@ -1,6 +1,6 @@
 -- The primary station of unbalanced transmission as a machine: whose turn it is, the request whose
 -- answer is awaited, and what a call of it does.
-use Rattle.std.specs.Prelude.{ℕ, ◌+◌, ◌==◌, ◌||◌, nat_le, Bool, true, false, not, List, []}
+use Rattle.std.specs.Prelude.{ℕ, ◌+◌, ◌==◌, ◌||◌, ◌&&◌, nat_le, Bool, true, false, not, List, []}
 use Rattle.std.specs.Prelude.{◌++◌, map, length, slice_set, Option, Some, None}
 use Rattle.std.specs.Prelude.{if◌then◌else◌}
 use Rattle.ft12.specs.declared.frame.Front.{Front}
@@ -12,7 +12,7 @@ use Rattle.link.specs.Control.{shows_acd, shows_dfc}
 use Rattle.std.specs.Io.Iter.{u64_saturate}
 use Rattle.link.specs.Exchanges.{Sending, whole_of}
 use Rattle.link.specs.Procedure.{LinkSettings, Down, after_answer, after_silence, is_held}
-use Rattle.link.specs.Procedure.{has_repeats, goes_down}
+use Rattle.link.specs.Procedure.{has_repeats, goes_down, is_service}
 use Rattle.link.specs.Requests.{request_frame, kind_of}
 use Rattle.link.specs.Turns.{StationState, SessionState, no_session, Phase, Starting, Over}
 use Rattle.link.specs.Turns.{station_at, is_poll, wanted, Chosen, chosen_or, first_after}
@@ -47,6 +47,7 @@ station_down address = record {
   acd = false;
   dfc = false;
   session = no_session;
+  unsure = false;
 }
 
 -- A primary of these stations, whose links are down. The first turn is the first station's.
@@ -83,6 +84,7 @@ station_asked s request = record {
   acd = s.acd;
   dfc = s.dfc;
   session = session_asked s.session request;
+  unsure = s.unsure;
 }
 
 abbrev pub after_choice : Primary → (now : ℕ) → Option Chosen → Primary
@@ -176,6 +178,7 @@ station_answered s request frame answer = record {
   acd = acd_of frame;
   dfc = dfc_of frame;
   session = session_answered s.session request answer;
+  unsure = s.unsure && not (is_service request);
 }
 
 -- The exchange of the station whose turn it is ends by an answer.
@@ -185,6 +188,7 @@ answered p request frame answer = record p {
       slice_set p.stations p.turn
       (station_answered (station_at p.stations p.turn) request frame answer);
   phase = phase_after answer p.phase;
+  again = false;
   outstanding = None;
 }
 
@@ -313,6 +317,7 @@ station_unanswered settings s request =
       acd = s.acd;
       dfc = s.dfc;
       session = s.session;
+      unsure = s.unsure;
     }
 
 -- The exchange of the station whose turn it is ends with no answer, and is spoilt where octets came

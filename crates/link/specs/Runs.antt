@@ -6,7 +6,7 @@ use Rattle.ft12.specs.declared.frame.LinkSize.{LinkSize}
 use Rattle.ft12.specs.Fronts.{front_of}
 use Rattle.link.specs.Exchanges.{Exchanges, Sending, no_exchanges, received_current, timed_current}
 use Rattle.link.specs.Exchanges.{begun_by, given_up_at}
-use Rattle.link.specs.Carried.{given_up}
+use Rattle.link.specs.Carried.{given_up, doubted}
 use Rattle.link.specs.Procedure.{LinkSettings, Link, is_up}
 use Rattle.link.specs.Requests.{FitsAsked, IsUserData}
 use Rattle.link.specs.Turns.{Starting, Wanted, CommandsWaiting, station_at, wanted, place_after}
@@ -18,6 +18,7 @@ pub data Call : Type 0 where
   Octets : (octets : List ℕ) → Call
   Due : (now : ℕ) → Call
   GivesUp : (station : ℕ) → Call
+  Doubts : Call
 
 -- the primary after a call
 abbrev pub called : Primary → Call → Primary
@@ -25,6 +26,7 @@ called p (Next now may_poll waiting) = asked p now may_poll waiting
 called p (Octets octets) = received (front_of p.settings.size) p octets
 called p (Due now) = timed_out p now
 called p (GivesUp station) = given_up station p
+called p Doubts = doubted p
 
 -- the exchanges of its line after the call
 abbrev pub exchanged : Primary → Call → Exchanges → Exchanges
@@ -36,6 +38,7 @@ exchanged p (Due now) e = record {
   current = timed_current p.settings.answer_ms now e.current;
 }
 exchanged p (GivesUp station) e = given_up_at station e
+exchanged p Doubts e = e
 
 -- What waits is user data that a frame can carry.
 abbrev pub AreUserData : LinkSize → CommandsWaiting → Type 0

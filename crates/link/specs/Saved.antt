@@ -4,7 +4,7 @@ use Rattle.std.specs.Prelude.{◌≡◌, ℕ, ◌<◌, ◌≤◌, ◌==◌, ◌&
 use Rattle.std.specs.Prelude.{if◌then◌else◌, List, [], ◌∷◌, All, length, Option, Some, None}
 use Rattle.std.specs.List.{list_all}
 use Rattle.link.specs.Answers.{Service, Class1, Class2, Command}
-use Rattle.link.specs.Procedure.{Link, Down, Available, Next, Held}
+use Rattle.link.specs.Procedure.{Link, Down, Available, Next, Held, Probed, Never, Once, Twice}
 use Rattle.link.specs.Turns.{StationState}
 
 abbrev pub bit_number : Bool → ℕ
@@ -20,11 +20,22 @@ service_numbers Class1 = 1 ∷ []
 service_numbers Class2 = 2 ∷ []
 service_numbers (Command asdu) = 3 ∷ asdu
 
+-- a held service, by whether a repeat is left, and how often the station answered a status
+abbrev pub held_number : (spent : Bool) → Probed → ℕ
+held_number false Never = 3
+held_number true Never = 4
+held_number false Once = 5
+held_number true Once = 6
+held_number false Twice = 7
+held_number true Twice = 8
+
 abbrev pub link_numbers : Link → List ℕ
 link_numbers Down = 0 ∷ []
 link_numbers Available = 1 ∷ []
 link_numbers (Next fcb) = 2 ∷ bit_number fcb ∷ []
-link_numbers (Held fcb service missed) = 3 ∷ bit_number fcb ∷ missed ∷ service_numbers service
+link_numbers (Held fcb service silence) =
+    held_number silence.spent silence.probed ∷ bit_number fcb ∷ silence.missed
+    ∷ service_numbers service
 
 -- a command of at most 12 octets
 abbrev pub command_from : List ℕ → Option (List ℕ)
@@ -63,30 +74,45 @@ abbrev pub next_from : List ℕ → Option Link
 next_from [] = None
 next_from (bit ∷ ns) = next_by (bit_from bit) ns
 
-abbrev pub held_with : Bool → (missed : ℕ) → Option Service → Option Link
-held_with fcb missed None = None
-held_with fcb missed (Some service) = Some (Held fcb service missed)
+abbrev pub held_with : (spent : Bool) → Probed → Bool → (missed : ℕ) → Option Service → Option Link
+held_with spent probed fcb missed None = None
+held_with spent probed fcb missed (Some service) =
+    Some (Held fcb service (record { missed = missed; spent = spent; probed = probed }))
 
-abbrev pub held_missed : Bool → List ℕ → Option Link
-held_missed fcb [] = None
-held_missed fcb (missed ∷ ns) =
-    if nat_lt missed 65536 then held_with fcb missed (service_from ns) else None
+abbrev pub held_missed : (spent : Bool) → Probed → Bool → List ℕ → Option Link
+held_missed spent probed fcb [] = None
+held_missed spent probed fcb (missed ∷ ns) =
+    if nat_lt missed 65536 then held_with spent probed fcb missed (service_from ns) else None
 
-abbrev pub held_by : Option Bool → List ℕ → Option Link
-held_by None ns = None
-held_by (Some fcb) ns = held_missed fcb ns
+abbrev pub held_by : (spent : Bool) → Probed → Option Bool → List ℕ → Option Link
+held_by spent probed None ns = None
+held_by spent probed (Some fcb) ns = held_missed spent probed fcb ns
 
-abbrev pub held_from : List ℕ → Option Link
-held_from [] = None
-held_from (bit ∷ ns) = held_by (bit_from bit) ns
+abbrev pub held_from : (spent : Bool) → Probed → List ℕ → Option Link
+held_from spent probed [] = None
+held_from spent probed (bit ∷ ns) = held_by spent probed (bit_from bit) ns
+
+-- which held service a number stands for
+abbrev pub held_of : ℕ → Option (Bool × Probed)
+held_of kind =
+    if kind == 3 then Some (false, Never)
+    else if kind == 4 then Some (true, Never)
+    else if kind == 5 then Some (false, Once)
+    else if kind == 6 then Some (true, Once)
+    else if kind == 7 then Some (false, Twice)
+    else if kind == 8 then Some (true, Twice)
+    else None
+
+abbrev pub held_as : Option (Bool × Probed) → List ℕ → Option Link
+held_as None ns = None
+held_as (Some how) ns = held_from how.0 how.1 ns
 
 abbrev pub link_by : ℕ → List ℕ → Option Link
 link_by kind ns =
     if kind == 0 then bare_link Down ns
     else if kind == 1 then bare_link Available ns
     else if kind == 2 then next_from ns
-    else if kind == 3 then held_from ns
-    else None
+    else held_as (held_of kind) ns
 
 -- the link that a line says
 abbrev pub link_from : List ℕ → Option Link
@@ -103,21 +129,32 @@ FitsSavedService Class2 = Unit {0}
 FitsSavedService (Command asdu) = FitsSavedCommand asdu
 
 abbrev pub FitsSavedLink : Link → Type 0
-FitsSavedLink (Held fcb service missed) = (missed < 65536) × FitsSavedService service
+FitsSavedLink (Held fcb service silence) = (silence.missed < 65536) × FitsSavedService service
 FitsSavedLink link = Unit {0}
 
 -- what a line says that was made of it is the link
 abbrev pub LinkReadsBack : Link → Type 0
 LinkReadsBack link = link_from (link_numbers link) ≡ Some link
 
+-- It may have been restarted: that stands at the end of a line, and nothing where it can't.
+abbrev pub unsure_numbers : Bool → List ℕ
+unsure_numbers false = []
+unsure_numbers true = 1 ∷ []
+
+abbrev pub unsure_from : List ℕ → Option Bool
+unsure_from [] = Some false
+unsure_from (n ∷ []) = if n == 1 then Some true else None
+unsure_from (n ∷ (m ∷ ms)) = None
+
 -- what a line has of a station but for its link
 abbrev pub flags_numbers : StationState → List ℕ
 flags_numbers s =
     s.address ∷ bit_number s.acd ∷ bit_number s.dfc ∷ s.session.number
-    ∷ bit_number s.session.has_gap ∷ []
+    ∷ bit_number s.session.has_gap ∷ unsure_numbers s.unsure
 
-abbrev pub bare_station : (address number : ℕ) → (acd dfc gap : Option Bool) → Option StationState
-bare_station address number (Some acd) (Some dfc) (Some gap) =
+abbrev pub bare_station : (address number : ℕ) → (acd dfc gap unsure : Option Bool) →
+    Option StationState
+bare_station address number (Some acd) (Some dfc) (Some gap) (Some unsure) =
     if nat_lt address 65536 then
     Some (record {
       address = address;
@@ -125,14 +162,15 @@ bare_station address number (Some acd) (Some dfc) (Some gap) =
       acd = acd;
       dfc = dfc;
       session = record { number = number; has_gap = gap };
+      unsure = unsure;
     })
     else None
-bare_station address number acd dfc gap = None
+bare_station address number acd dfc gap unsure = None
 
 -- a station that is down, with what such a line says
 abbrev pub flags_from : List ℕ → Option StationState
-flags_from (address ∷ acd ∷ dfc ∷ number ∷ gap ∷ []) =
-    bare_station address number (bit_from acd) (bit_from dfc) (bit_from gap)
+flags_from (address ∷ acd ∷ dfc ∷ number ∷ gap ∷ ns) =
+    bare_station address number (bit_from acd) (bit_from dfc) (bit_from gap) (unsure_from ns)
 flags_from ns = None
 
 abbrev pub station_by : Option StationState → Option Link → Option StationState
@@ -142,6 +180,7 @@ station_by (Some s) (Some link) = Some (record {
   acd = s.acd;
   dfc = s.dfc;
   session = s.session;
+  unsure = s.unsure;
 })
 station_by s link = None
 

@@ -4,7 +4,7 @@
 use Rattle.std.specs.Prelude.{◌≡◌, ℕ, zero, suc, ◌&&◌, ◌||◌, nat_lt, Bool, true, false, not, List}
 use Rattle.std.specs.Prelude.{length, slice_index_or, is_some, Option, Some, None, if◌then◌else◌}
 use Rattle.link.specs.Answers.{Service, Class1, Class2, Command, Asked, Status, Reset, Counted}
-use Rattle.link.specs.Procedure.{Link, Down, Available, Next, Held, is_held}
+use Rattle.link.specs.Procedure.{Silence, Link, Down, Available, Next, Held, is_held}
 pub use Rattle.link.specs.declared.turn.StationState.{StationState}
 pub use Rattle.link.specs.declared.session.SessionState.{SessionState}
 pub use Rattle.link.specs.declared.turn.Phase.{Phase}
@@ -14,7 +14,7 @@ pub use Rattle.link.specs.declared.turn.Wanted.{Wanted}
 pub use Rattle.link.specs.declared.turn.Chosen.{Chosen}
 pub use Rattle.link.specs.declared.turn.Wish.{Wish}
 pub use Rattle.link.specs.declared.turn.Wish.TheVariants.{AskStatus, AskReset, PollClass1}
-pub use Rattle.link.specs.declared.turn.Wish.TheVariants.{PollClass2, SendCommand, SendHeld}
+pub use Rattle.link.specs.declared.turn.Wish.TheVariants.{PollClass2, SendCommand, SendHeld, Probe}
 pub use Rattle.link.specs.declared.turn.Pick.{Pick}
 
 -- before the first answered reset
@@ -29,6 +29,7 @@ no_station = record {
   acd = false;
   dfc = false;
   session = no_session;
+  unsure = false;
 }
 
 abbrev pub station_at : List StationState → ℕ → StationState
@@ -79,17 +80,25 @@ next_of burst may_poll fcb s command (Class1Polling sent) =
     polls_from burst may_poll fcb s (Class1Polling sent)
 next_of burst may_poll fcb s command Over = None
 
+-- Behind a restart the station has answered no service, and it is silent to the one that it holds:
+-- whether it is there has to be asked.
+abbrev pub is_doubted : StationState → Silence → Bool
+is_doubted s silence = s.unsure && silence.spent
+
 -- What the station's turn has next, by its link: it is started, a held service is sent once (again
--- at once where its repeats aren't used up), and then come a command and polls.
+-- at once where its repeats aren't used up), and then come a command and polls. A turn of a station
+-- that is in doubt has its status alone.
 abbrev pub wanted_by : (burst : ℕ) → (may_poll again : Bool) → StationState → Option (List ℕ) →
     Link → Phase → Option Wanted
 wanted_by burst may_poll again s command Down Starting = wants Status Starting
 wanted_by burst may_poll again s command Available Starting = wants Reset Over
 wanted_by burst may_poll again s command (Next fcb) phase = next_of burst may_poll fcb s command
     phase
-wanted_by burst may_poll again s command (Held fcb service missed) Starting =
-    if may_poll || not (is_poll service) then wants (Counted fcb service) Commanding else None
-wanted_by burst may_poll true s command (Held fcb service missed) phase =
+wanted_by burst may_poll again s command (Held fcb service silence) Starting =
+    if is_doubted s silence then wants Status Over
+    else if may_poll || not (is_poll service) then wants (Counted fcb service) Commanding
+    else None
+wanted_by burst may_poll true s command (Held fcb service silence) phase =
     wants (Counted fcb service) phase
 wanted_by burst may_poll again s command link phase = None
 
@@ -126,7 +135,7 @@ command_request fcb (Some asdu) = Counted fcb (Command asdu)
 command_request fcb None = Status
 
 abbrev pub held_request : Link → Asked
-held_request (Held fcb service missed) = Counted fcb service
+held_request (Held fcb service silence) = Counted fcb service
 held_request link = Status
 
 -- a wish for a command is that of a station for which one waits; one for a held service is that of
@@ -139,6 +148,7 @@ IsPossible s command wish = Unit {0}
 -- what a wish of a station stands for
 abbrev pub wished : StationState → Option (List ℕ) → Wish → Wanted
 wished s command AskStatus = record { request = Status; following = Starting }
+wished s command Probe = record { request = Status; following = Over }
 wished s command AskReset = record { request = Reset; following = Over }
 wished s command (PollClass1 fcb sent) = record {
   request = Counted fcb Class1;

@@ -29,14 +29,14 @@ abbrev pub whole_visit : LinkSettings → Link → Left
 whole_visit settings Down = record { plan = kind.Status ∷ (kind.Reset ∷ []); repeats = 0 }
 whole_visit settings Available = record { plan = []; repeats = 0 }
 whole_visit settings (Next fcb) = record { plan = services settings.burst; repeats = 0 }
-whole_visit settings (Held fcb service missed) = record {
+whole_visit settings (Held fcb service silence) = record {
   plan = services settings.burst;
   repeats = suc settings.retries;
 }
 
 -- A held service is sent again. Every other request is one of the plan, and may be repeated.
 abbrev pub MayFollow : LinkSettings → Link → Left → Asked → Left → Type 0
-MayFollow settings (Held fcb service missed) left request later =
+MayFollow settings (Held fcb service silence) left request later =
     (later.plan ≡ left.plan) × (suc later.repeats ≡ left.repeats)
 MayFollow settings link left request later =
     ((left_out : List RequestKind) × (left_out ++ kind_of request ∷ later.plan ≡ left.plan))

@@ -10,9 +10,11 @@ ghost use Rattle.link.specs.Answers.{Single, Fixed, Status, Reset, Counted, Clas
 ghost use Rattle.link.specs.Answers.{Command, Ready, Confirmed, Busy, Report, NoData, Unable};
 ghost use Rattle.link.specs.Answers.{answer_of};
 ghost use Rattle.link.specs.Examples.{octet, other_octet, in_state, two_repeats, unreset_with};
+ghost use Rattle.link.specs.Examples.{unsure_in, missed, silent};
 ghost use Rattle.link.specs.Examples.{reset_with, answer_by, answer_behind};
 ghost use Rattle.link.specs.Flags.{clear, flags_in};
 ghost use Rattle.link.specs.Procedure.{Down, Available, Next, Held, after_silence, has_repeats};
+ghost use Rattle.link.specs.Procedure.{Once, Twice, after_answer, short_silence, spent_silence};
 ghost use Rattle.link.specs.Requests.{Foreign, Unknown, Asks, request_frame, reading_of};
 ghost use Rattle.link.specs.Secondary.{data_frame, control_of, short_of};
 ghost use Rattle.link.specs.Turns.{Starting, Commanding, Polling, Class1Polling, Over, wants};
@@ -181,29 +183,52 @@ pub fn turns_by_example()
         × (wanted 2 false false (in_state (Next true) true false) None Polling
         ≡ None) }
     ensures held { (wanted 2 true false
-        (in_state (Held true Class1 4) false true) (Some octet) Starting
+        (in_state (Held true Class1 silent) false true) (Some octet) Starting
         ≡ wants (Counted true Class1) Commanding)
-        × (wanted 2 false false (in_state (Held true Class1 4) false false) None Starting
+        × (wanted 2 false false (in_state (Held true Class1 silent) false false) None Starting
         ≡ None)
-        × (wanted 2 false false (in_state (Held true (Command octet) 4) false true) None Starting
-        ≡ wants (Counted true (Command octet)) Commanding)
-        × (wanted 2 false true (in_state (Held true Class2 1) false false) None (Class1Polling 0)
+        × (wanted 2 false false (in_state (Held true (Command octet) silent) false true) None
+        Starting ≡ wants (Counted true (Command octet)) Commanding)
+        × (wanted 2 false true (in_state (Held true Class2 (missed 1)) false false) None
+        (Class1Polling 0) ≡ wants (Counted true Class2) (Class1Polling 0))
+        × (wanted 2 true false (in_state (Held true Class2 (missed 1)) false false) None
+        (Class1Polling 0) ≡ None) }
+    ensures doubts { (wanted 2 true false (unsure_in (Held true Class1 silent)) None Starting
+        ≡ wants Status Over)
+        × (wanted 2 false false (unsure_in (Held true Class1 silent)) (Some octet) Starting
+        ≡ wants Status Over)
+        × (wanted 2 true false (unsure_in (Held true Class1 silent)) None Over ≡ None)
+        × (wanted 2 true false (unsure_in (Held true Class1 (missed 1))) None Starting
+        ≡ wants (Counted true Class1) Commanding)
+        × (wanted 2 true false (unsure_in (Next true)) None Starting
         ≡ wants (Counted true Class2) (Class1Polling 0))
-        × (wanted 2 true false (in_state (Held true Class2 1) false false) None (Class1Polling 0)
-        ≡ None) }
+        × (after_answer Status Ready (Held true Class1 silent)
+        ≡ Held true Class1 (short_silence 0 Once))
+        × (after_silence (two_repeats true) (Counted true Class1) true
+        (Held true Class1 (short_silence 2 Once))
+        ≡ Held true Class1 (spent_silence (two_repeats true) Once))
+        × (after_silence (two_repeats true) Status true
+        (Held true Class1 (spent_silence (two_repeats true) Once)) ≡ Held true Class1 silent)
+        × (after_answer Status Ready (Held true Class1 (spent_silence (two_repeats true) Once))
+        ≡ Held true Class1 (short_silence 0 Twice))
+        × (after_silence (two_repeats true) (Counted true Class1) true
+        (Held true Class1 (short_silence 1 Twice))
+        ≡ Held true Class1 (short_silence 2 Twice))
+        × (after_silence (two_repeats true) (Counted true Class1) true
+        (Held true Class1 (short_silence 2 Twice)) ≡ Down) }
     ensures repeats { (after_silence (two_repeats true) (Counted true Class1) true (Next true)
-        ≡ Held true Class1 1)
-        × (has_repeats (two_repeats true) (Held true Class1 1) ≡ true)
-        × (after_silence (two_repeats false) (Counted true Class1) true (Held true Class1 1)
-        ≡ Held true Class1 2)
-        × (has_repeats (two_repeats false) (Held true Class1 2) ≡ true)
-        × (after_silence (two_repeats true) (Counted true Class1) true (Held true Class1 2)
-        ≡ Held true Class1 3)
-        × (has_repeats (two_repeats true) (Held true Class1 3) ≡ false)
-        × (after_silence (two_repeats false) (Counted true Class1) true (Held true Class1 2)
+        ≡ Held true Class1 (missed 1))
+        × (has_repeats (two_repeats true) (Held true Class1 (missed 1)) ≡ true)
+        × (after_silence (two_repeats false) (Counted true Class1) true (Held true Class1 (missed 1))
+        ≡ Held true Class1 (missed 2))
+        × (has_repeats (two_repeats false) (Held true Class1 (missed 2)) ≡ true)
+        × (after_silence (two_repeats true) (Counted true Class1) true (Held true Class1 (missed 2))
+        ≡ Held true Class1 silent)
+        × (has_repeats (two_repeats true) (Held true Class1 silent) ≡ false)
+        × (after_silence (two_repeats false) (Counted true Class1) true (Held true Class1 (missed 2))
         ≡ Down)
-        × (after_silence (two_repeats true) (Counted true Class1) true (Held true Class1 3)
-        ≡ Held true Class1 3)
+        × (after_silence (two_repeats true) (Counted true Class1) true (Held true Class1 silent)
+        ≡ Held true Class1 silent)
         × (after_silence (two_repeats true) Status true Available ≡ Down)
         × (after_silence (two_repeats true) Reset true Available ≡ Down) }
     ensures round { (place_after 3 0 ≡ 1) × (place_after 3 1 ≡ 2) × (place_after 3 2 ≡ 0)

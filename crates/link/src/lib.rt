@@ -113,6 +113,7 @@ pub use laws::refinement::{
     commands_are_accepted, each_service_acts_once, frame_count_bits_alternate, reports_are_learnt,
     sessions_are_known, silence_is_no_reset,
 };
+pub use laws::restarts::{restarts_change_no_link, statuses_follow_restarts};
 pub use laws::runs::{
     frame_count_bits_are_kept, outcomes_are_answers, spoilt_exchanges_are_counted, turns_go_round,
 };
@@ -127,7 +128,7 @@ pub use laws::{
 pub use master::Master;
 pub use no_memory::NoMemory;
 pub use outcome::{Outcome, ReportRef};
-pub use procedure::Link;
+pub use procedure::{Link, Probed, Silence};
 pub use received_request::ReceivedRequest;
 pub use request::{Reading, Request, RequestKind, read_request};
 pub use seat::ResumedStation;

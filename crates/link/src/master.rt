@@ -98,6 +98,10 @@ impl StationState {
             ≡ station_answered self.old request.now (owned frame.entry) answer.now }
     {
         self.link.answer(request, answer);
+        // It has its link, or said itself that it hasn't.
+        if matches!(request, Asked::Counted(_, _)) {
+            self.unsure = false;
+        }
         // Each answer counts, whatever it answers: the flags are those of the latest
         // (docs/DECISIONS.md, "ACD when the polls begin").
         self.acd = acd_in(frame);
@@ -241,6 +245,7 @@ impl Master {
                     number: 0,
                     has_gap: false,
                 },
+                unsure: false,
             };
             stations.push(station).map_err(|_| NoMemory)?;
         }
@@ -605,6 +610,7 @@ impl Master {
             Some(answer) => {
                 self.stations[place].answer(&awaited.request, frame, &answer);
                 self.phase = phase_of(&answer, self.phase);
+                self.again = false;
                 outcome_for(place, gap, &awaited.request, answer)
             }
         }

@@ -1,7 +1,7 @@
 //! A station's state as lines of numbers, and back.
 //!
-//! A station has three lines: its address, flags and session; its link; and one that says that no
-//! command of it is kept here.
+//! A station has three lines: its address, flags and session, and whether it may have been restarted;
+//! its link; and one that says that no command of it is kept here.
 //! The part of a line whose length varies ends the line, so that no reader hands on a rest.
 ghost use Rattle.std.specs.Prelude.{◌≡◌, ◌++◌, ◌∷◌, ◌<◌, [], List, ℕ, length, OnOk, IfOk};
 ghost use Rattle.std.specs.Prelude.{MatchResult};
@@ -9,7 +9,7 @@ ghost use Rattle.std.specs.List.{AllByRecursion};
 ghost use Rattle.checkpoint.specs.declared.StateFault.TheVariants.{Wrong};
 ghost use Rattle.link.specs.Saved.{bit_number, bit_from, service_numbers, service_by, service_from};
 ghost use Rattle.link.specs.Saved.{link_numbers, link_by, link_from, next_from, held_from};
-ghost use Rattle.link.specs.Saved.{held_missed};
+ghost use Rattle.link.specs.Saved.{held_missed, held_number, held_of, unsure_from};
 ghost use Rattle.link.specs.Saved.{flags_numbers, flags_from, no_command_numbers};
 ghost use Rattle.link.specs.Saved.{command_from, lines_of};
 ghost use Rattle.link.specs.Saved.{FitsSavedService, FitsSavedLink};
@@ -17,7 +17,7 @@ ghost use Rattle.link.specs.Saved.{FitsSavedStation, StandBefore};
 ghost use Rattle.link.specs.Turns.{StationState};
 
 use crate::asdu::{CommandOctets, LONGEST_COMMAND};
-use crate::procedure::Link;
+use crate::procedure::{Link, Probed, Silence};
 use crate::service::Service;
 use crate::session::SessionState;
 use crate::turn::StationState;
@@ -69,6 +69,20 @@ pub(crate) fn put_service(service: &Service, line: &mut Vec<u64>) -> Result<(), 
     Ok(())
 }
 
+/// The kind of a line that says a held service.
+fn held_number(spent: bool, probed: Probed) -> u64
+    ensures { result ≡ held_number spent probed }
+{
+    match (probed, spent) {
+        (Probed::Never, false) => 3,
+        (Probed::Never, true) => 4,
+        (Probed::Once, false) => 5,
+        (Probed::Once, true) => 6,
+        (Probed::Twice, false) => 7,
+        (Probed::Twice, true) => 8,
+    }
+}
+
 /// Puts a station's second line: its link.
 fn put_link(link: &Link, line: &mut Vec<u64>) -> Result<(), AllocError>
     ensures line { OnOk result (line.new.items ≡ line.old.items ++ link_numbers link.now) }
@@ -81,10 +95,10 @@ fn put_link(link: &Link, line: &mut Vec<u64>) -> Result<(), AllocError>
             line.push(2)?;
             line.push(bit_number(*fcb))?;
         }
-        Link::Held(fcb, service, missed) => {
-            line.push(3)?;
+        Link::Held(fcb, service, silence) => {
+            line.push(held_number(silence.spent, silence.probed))?;
             line.push(bit_number(*fcb))?;
-            line.push(u64::from(*missed))?;
+            line.push(u64::from(silence.missed))?;
             put_service(service, line)?;
         }
     }
@@ -139,24 +153,45 @@ fn next_from(numbers: &[u64]) -> Option<Link>
 }
 
 /// A held service with this frame count bit: how often it was missed, and the service.
-fn held_missed(fcb: bool, numbers: &[u64]) -> Option<Link>
-    ensures { result ≡ held_missed fcb numbers.now }
+fn held_missed(spent: bool, probed: Probed, fcb: bool, numbers: &[u64]) -> Option<Link>
+    ensures { result ≡ held_missed spent probed fcb numbers.now }
 {
     let (missed, others) = numbers.split_first()?;
     if *missed > 65535 {
         return None;
     }
     let service = service_from(others)?;
-    Some(Link::Held(fcb, service, *missed as u16))
+    let silence = Silence {
+        missed: *missed as u16,
+        spent,
+        probed,
+    };
+    Some(Link::Held(fcb, service, silence))
 }
 
 /// A link that holds a service.
-fn held_from(numbers: &[u64]) -> Option<Link>
-    ensures { result ≡ held_from numbers.now }
+fn held_from(spent: bool, probed: Probed, numbers: &[u64]) -> Option<Link>
+    ensures { result ≡ held_from spent probed numbers.now }
 {
     let (bit, others) = numbers.split_first()?;
     let fcb = bit_from(*bit)?;
-    held_missed(fcb, others)
+    held_missed(spent, probed, fcb, others)
+}
+
+/// Of a held service of this kind, whether no repeat is left, and how often its station has
+/// answered a status.
+fn held_of(kind: u64) -> Option<(bool, Probed)>
+    ensures { result ≡ held_of kind }
+{
+    match kind {
+        3 => Some((false, Probed::Never)),
+        4 => Some((true, Probed::Never)),
+        5 => Some((false, Probed::Once)),
+        6 => Some((true, Probed::Once)),
+        7 => Some((false, Probed::Twice)),
+        8 => Some((true, Probed::Twice)),
+        _ => None,
+    }
 }
 
 /// The link of this kind, with these numbers behind it.
@@ -167,8 +202,11 @@ fn link_by(kind: u64, numbers: &[u64]) -> Option<Link>
         (0, []) => Some(Link::Down),
         (1, []) => Some(Link::Available),
         (2, others) => next_from(others),
-        (3, others) => held_from(others),
-        _ => None,
+        (0 | 1, _) => None,
+        (kind, others) => {
+            let (spent, probed) = held_of(kind)?;
+            held_from(spent, probed, others)
+        }
     }
 }
 
@@ -190,6 +228,10 @@ fn put_flags(station: &StationState, line: &mut Vec<u64>) -> Result<(), AllocErr
     line.push(bit_number(station.dfc))?;
     line.push(station.session.number)?;
     line.push(bit_number(station.session.has_gap))?;
+    // Earlier versions had nothing here, and their lines still say what they said.
+    if station.unsure {
+        line.push(1)?;
+    }
     Ok(())
 }
 
@@ -203,15 +245,27 @@ fn put_no_command(line: &mut Vec<u64>) -> Result<(), AllocError>
     Ok(())
 }
 
+/// Whether a station may have been restarted, by the end of its first line.
+fn unsure_from(numbers: &[u64]) -> Option<bool>
+    ensures { result ≡ unsure_from numbers.now }
+{
+    match numbers {
+        [] => Some(false),
+        [1] => Some(true),
+        _ => None,
+    }
+}
+
 /// A station that is down, with what its first line says.
 fn flags_from(numbers: &[u64]) -> Option<StationState>
     ensures { result ≡ flags_from numbers.now }
 {
     match numbers {
-        [address, acd, dfc, number, gap] => {
+        [address, acd, dfc, number, gap, others @ ..] => {
             let acd = bit_from(*acd)?;
             let dfc = bit_from(*dfc)?;
             let has_gap = bit_from(*gap)?;
+            let unsure = unsure_from(others)?;
             if *address > 65535 {
                 return None;
             }
@@ -224,6 +278,7 @@ fn flags_from(numbers: &[u64]) -> Option<StationState>
                     number: *number,
                     has_gap,
                 },
+                unsure,
             })
         }
         _ => None,
@@ -276,6 +331,7 @@ fn read_station<L: Lines>(lines: &mut L, line: &mut Vec<u64>) -> Result<StationS
         acd: bare.acd,
         dfc: bare.dfc,
         session: bare.session,
+        unsure: bare.unsure,
     })
 }
 

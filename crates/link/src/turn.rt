@@ -40,6 +40,8 @@ pub struct StationState {
     pub dfc: bool,
     /// Its latest session.
     pub session: SessionState,
+    /// It may have been restarted: a restart stands behind it, and it has answered no service since.
+    pub unsure: bool,
 }
 
 /// What is wanted next of a station, and the phase that follows once it is answered.
@@ -61,6 +63,8 @@ pub struct Chosen {
 #[derive(Clone, Copy)]
 pub enum Wish {
     AskStatus,
+    /// The status of a station that holds a service.
+    Probe,
     AskReset,
     /// A poll, with its frame count bit, and how many of class 1 the turn has sent with it.
     PollClass1(bool, u8),
@@ -186,6 +190,10 @@ impl StationState {
             (Link::Next(fcb), phase) => {
                 self.next_wish(burst, may_poll, *fcb, phase, user, place)
             }
+            // Is it there? It is asked alone, so that its answer keeps no other station waiting.
+            (Link::Held(_, _, silence), Phase::Starting) if self.unsure && silence.spent => {
+                Some(Wish::Probe)
+            }
             // A held service counts as no step of the turn: all of them follow (docs/DECISIONS.md,
             // "A held service").
             (Link::Held(_, service, _), Phase::Starting) if may_poll || !poll_service(service) => {
@@ -224,6 +232,10 @@ impl StationState {
             Wish::AskStatus => Wanted {
                 request: Asked::Status,
                 following: Phase::Starting,
+            },
+            Wish::Probe => Wanted {
+                request: Asked::Status,
+                following: Phase::Over,
             },
             // Its services wait for the next turn: the other stations are to be up before any is
             // polled (docs/DECISIONS.md, "A reset ends the turn").

@@ -18,7 +18,7 @@ use Rattle.link.specs.Outstation.{Turn, OutstationRun, unreset, all_done}
 use Rattle.link.specs.Secondary.{Secondary, fresh_station, outstation_of}
 use Rattle.gateway.specs.declared.settings.StationSettings.{StationSettings}
 use Rattle.gateway.specs.declared.settings.Silence.TheVariants.{Hold}
-use Rattle.gateway.specs.Config.{Settings, AreApart, AreDistinct}
+use Rattle.gateway.specs.Config.{Settings, AreApart, AreDistinct, AreStations}
 use Rattle.gateway.specs.Log.{Log}
 use Rattle.gateway.specs.Reports.{Setup, address_at, index_of, AreFound, exchanges_of}
 use Rattle.gateway.specs.Reports.{exchanges_with}
@@ -131,11 +131,12 @@ abbrev pub Delivered : Type 0
 Delivered = (p : Setup) (log : Log) → IsFaithful p log → Delivers p log
 
 abbrev pub Steadied : Type 0
-Steadied = (p : Setup) (log : Log) (i : ℕ) → IsFaithful p log → i < length p.addresses → p.link.hold
+Steadied = (c : Settings) (log : Log) (i : ℕ) → AreStations c.line.link c.line.sizes.ca c.stations
+    → IsFaithful (setup_of c) log → i < length (setup_of c).addresses → (setup_of c).link.hold
     ≡ true → IsOneLife log →
-    AllByRecursion (λ x. answer_to (address_at p.addresses i) x ≢ Some Unable)
-    (exchanges_with p i log)
-    → IsSteady p log i
+    AllByRecursion (λ x. answer_to (address_at (setup_of c).addresses i) x ≢ Some Unable)
+    (exchanges_with (setup_of c) i log)
+    → IsSteady (setup_of c) log i
 
 -- what it says of sessions
 abbrev pub SessionsKnown : Type 0
@@ -197,13 +198,14 @@ reported_all index (d ∷ ds) =
 
 served_so : (laws : Laws) → Delivered → Steadied → SessionsKnown → Idle → LossesKnown
     → (c : Settings) (ds : List Directive) (log : Log) (waiting : Option (List ℕ)) (i : ℕ)
-    (s : Secondary) (t : StationTally)
+    (s : Secondary) (t : StationTally) → AreStations c.line.link c.line.sizes.ca c.stations
     → IsFaithful (setup_of c) log → IsOneLife log → requests_in log < 2 ^ 64
     → i < length (setup_of c).addresses →
     Serves (setup_of c) (requests_to (setup_of c) ds i log) (exchanges_of (setup_of c) log) waiting
     i
     (first_station c ds i) s t → HasServed c ds log i s t
-served_so laws delivers steadies known idle losses c ds log waiting i s t faithful life small lt h =
+served_so laws delivers steadies known idle losses c ds log waiting i s t rules faithful life small lt
+    h =
     let p : Setup = setup_of c in
     let a : ℕ = address_at p.addresses i in
     let asked : requests_of (exchanges_with p i log) ≡ asked_of (requests_to p ds i log) =
@@ -220,7 +222,7 @@ served_so laws delivers steadies known idle losses c ds log waiting i s t faithf
       fronts = fronts.fronts;
     } in
     let steady : c.line.silence ≡ Hold → IsSteady p log i =
-    λ (held : c.line.silence ≡ Hold). steadies p log i faithful lt (ap holds held) life
+    λ (held : c.line.silence ≡ Hold). steadies c log i rules faithful lt (ap holds held) life
     (never_unable a (exchanges_with p i log) h.turns fronts.long
     (willing_turns (first_station c ds i) s (requests_to p ds i log) h.turns tt h.took)
     fronts.fronts) in
@@ -288,16 +290,16 @@ have_served c ds log n (s ∷ ss) (t ∷ ts) d long h =
 pub all_served : (laws : Laws) → Delivered → Steadied → SessionsKnown → Idle → LossesKnown
     → (c : Settings) (ds : List Directive) (log : Log) (answers : List (Option Frame))
     (stations : List Secondary)
-    (tallies : List StationTally) → AreDistinct c.stations →
+    (tallies : List StationTally) → AreStations c.line.link c.line.sizes.ca c.stations →
     (played : IsPlayed (plan_of c ds) log answers stations)
     → tallies ≡ tallies_of (plan_of c ds) log answers stations played.lived → requests_in log
     < 2 ^ 64
     → IsFaithful (setup_of c) log → HaveServed c ds log 0 stations tallies
-all_served laws delivers steadies known idle losses c ds log answers stations tallies apart played
+all_served laws delivers steadies known idle losses c ds log answers stations tallies rules played
     are small faithful =
     let p : Setup = setup_of c in
     let d : Secondary = fresh_station c.line.link 0 in
-    let fits : FitsPlan p (plan_of c ds) = fits_plan c ds apart in
+    let fits : FitsPlan p (plan_of c ds) = fits_plan c ds rules.distinct in
     let counts : List StationTally = tallies_of (plan_of c ds) log answers stations played.lived in
     let as_long : length counts ≡ length (plan_of c ds).stations =
     length_tallies (plan_of c ds) log answers stations played.lived in
@@ -322,7 +324,7 @@ all_served laws delivers steadies known idle losses c ds log answers stations ta
     subst (λ (k : ℕ). HasServed c ds log k (get_or stations i d) (tally_at counts i)) (sym same)
     (served_so laws delivers steadies known idle losses c ds log
     (waiting_in (plan_of c ds) log answers) i
-    (get_or stations i d) (tally_at counts i) faithful
+    (get_or stations i d) (tally_at counts i) rules faithful
     (one_life (plan_of c ds) log answers played.follows) small within
     (subst (λ (f : Secondary). Serves p (requests_to p ds i log) (exchanges_of p log)
     (waiting_in (plan_of c ds) log answers) i f (get_or stations i d) (tally_at counts i)) begins

@@ -1,6 +1,6 @@
 //! The end of a whole run over a simulated line.
 ghost use Rattle.std.specs.Prelude.{◌≡◌, List, IfOk, string_bytes};
-ghost use Rattle.gateway.specs.Config.{Settings, AreDistinct};
+ghost use Rattle.gateway.specs.Config.{Settings, AreStations};
 ghost use Rattle.gateway.specs.Setups.{setup_of};
 ghost use Rattle.gateway.specs.Traffic.{IsFaithful, HasRested};
 ghost use Rattle.sim.specs.declared.directive.Directive.{Directive};
@@ -29,7 +29,8 @@ impl Sim<'_> {
     /// run.
     pub fn closing(&self, alloc: Global) -> Result<String, AllocError>
         ensures { (c : Settings) (ds : List Directive) → self.now.plan ≡ plan_of c ds →
-            AreDistinct c.stations → calls_in self.now.log ≡ turns_of ds →
+            AreStations c.line.link c.line.sizes.ca c.stations →
+            calls_in self.now.log ≡ turns_of ds →
             IsFaithful (setup_of c) self.now.log → HasRested (setup_of c) self.now.log →
             IfOk result (λ text. IsRun c ds self.now.log (string_bytes text)) }
     {

@@ -17,7 +17,7 @@ ghost use Rattle.gateway.specs.Connections.{present};
 ghost use Rattle.gateway.specs.Course.{here_of};
 ghost use Rattle.gateway.specs.Frames.{Connection, monitor_objects_sent};
 ghost use Rattle.gateway.specs.declared.settings.StationSettings.{StationSettings};
-ghost use Rattle.gateway.specs.Config.{Settings, AreDistinct};
+ghost use Rattle.gateway.specs.Config.{Settings, AreStations};
 ghost use Rattle.gateway.specs.Log.{Log, Input, Came, Went, LineIn, Opened, TcpIn, CutOff, Ticked};
 ghost use Rattle.gateway.specs.Log.{Output};
 ghost use Rattle.gateway.specs.Log.{WallIs, LineOut, TcpOut, Closed, GapOut, events_of};
@@ -76,7 +76,8 @@ use link::station_is_an_outstation;
 pub fn stations_are_honest()
     ensures { (c : Settings) (ds : List Directive) (log : Log) (answers : List (Option Frame))
         (stations : List Secondary) (tallies : List StationTally) →
-        AreDistinct c.stations → (played : IsPlayed (plan_of c ds) log answers stations) →
+        AreStations c.line.link c.line.sizes.ca c.stations →
+        (played : IsPlayed (plan_of c ds) log answers stations) →
         tallies ≡ tallies_of (plan_of c ds) log answers stations played.lived →
         requests_in log < 2 ^ 64 → IsFaithful (setup_of c) log →
         HaveServed c ds log 0 stations tallies }

@@ -1,6 +1,6 @@
 //! A whole run over a simulated line, printed while it goes on.
 ghost use Rattle.std.specs.Prelude.{◌≡◌, ℕ, List, Option};
-ghost use Rattle.gateway.specs.Config.{Settings, AreDistinct};
+ghost use Rattle.gateway.specs.Config.{Settings, AreStations};
 ghost use Rattle.gateway.specs.Setups.{setup_of};
 ghost use Rattle.gateway.specs.Traffic.{IsFaithful, HasRested};
 ghost use Rattle.pages.specs.Pouring.{IsPoured};
@@ -95,7 +95,8 @@ fn close<W: Write>(
     out: &mut W,
 ) -> Result<(), SimFault>
     ensures { (c : Settings) (ds : List Directive) (before : Option (List ℕ)) →
-        sim.now.plan ≡ plan_of c ds → AreDistinct c.stations →
+        sim.now.plan ≡ plan_of c ds →
+        AreStations c.line.link c.line.sizes.ca c.stations →
         calls_in sim.now.log ≡ turns_of ds → IsFaithful (setup_of c) sim.now.log →
         HasRested (setup_of c) sim.now.log →
         IsPoured is_whole before (W.contents out.old) (lines_of_actions sim.now.log) →

@@ -103,22 +103,6 @@ moved_is : (is_moved : Bool) (c : Settings) (written : List ℕ) → IsMoved c w
 moved_is true c written moved = (λ _. moved, λ is. absurd (cc))
 moved_is false c written moved = (λ is. absurd (cc), λ _. moved)
 
--- giving up commands leaves the number of stations
-
-one_number : IsForOne → (k : ℕ) (s : Serial) (b : Bool) → awaits_command s.line k ≡ b
-    → length (command_given_up k s).line.stations ≡ length s.line.stations
-one_number law k s true e =
-    ap (λ (b : Bool). length (if b then link_given_up k s else s).line.stations) e
-    ∙ law.number s.line k
-one_number law k s false e =
-    ap (λ (b : Bool). length (if b then link_given_up k s else s).line.stations) e
-
-number : IsForOne → (n : ℕ) (s : Serial) → length (commands_given_up_upto n s).line.stations
-    ≡ length s.line.stations
-number law zero s = refl
-number law (suc n) s =
-    one_number law n (commands_given_up_upto n s) _ refl ∙ number law n s
-
 -- the head of the log is that which stands in the file
 head_is : (c : Settings) (log : Log) (o : Origin) (trusted : Bool)
     (file : List ℕ) (head : SegmentHead) (body written : List ℕ) (lines : List (List ℕ))
@@ -247,7 +231,7 @@ module _ {D : Type 0} {g : Ghosts D} where
       ap (λ (s : State). s.serial) it.went.given in
       let same : length it.left.serial.line.stations ≡ length before.line.stations =
       ap (λ (s : Serial). length s.line.stations) serial
-      ∙ number law (length before.line.stations) before in (
+      ∙ carrying.count law before in (
         it.wrote,
         it.left,
         elim it.gone [

@@ -27,7 +27,9 @@ ghost use Rattle.hex.specs.Hex.{IsBytes, encode_lower};
 ghost use Rattle.link.specs.Primary.{Outstanding, Primary};
 ghost use Rattle.link.specs.Restored.{asked_numbers, awaited_numbers, phase_numbers};
 ghost use Rattle.link.specs.Restored.{primary_lines, received_numbers};
-ghost use Rattle.link.specs.Saved.{bit_number, lines_of, link_numbers, service_numbers};
+ghost use Rattle.link.specs.Procedure.{Silence, Never, Once, Twice};
+ghost use Rattle.link.specs.Saved.{bit_number, held_number, lines_of, link_numbers};
+ghost use Rattle.link.specs.Saved.{service_numbers, unsure_numbers};
 ghost use Rattle.link.specs.declared.procedure.Link.TheVariants.{Available, Down, Held, Next};
 ghost use Rattle.link.specs.declared.service.Asked.TheVariants.{Counted, Reset, Status};
 ghost use Rattle.link.specs.declared.service.Service.{Service};
@@ -89,13 +91,20 @@ pub fn links_are_kept_in_this_form()
     ensures stations { (s : StationState) (others : List StationState) → (lines_of [] ≡ [])
         × (lines_of (s ∷ others)
         ≡ (s.address ∷ bit_number s.acd ∷ bit_number s.dfc ∷ s.session.number
-        ∷ bit_number s.session.has_gap ∷ []) ∷ link_numbers s.link ∷ (0 ∷ [])
+        ∷ bit_number s.session.has_gap ∷ unsure_numbers s.unsure) ∷ link_numbers s.link ∷ (0 ∷ [])
         ∷ lines_of others) }
-    ensures links { (fcb : Bool) (missed : ℕ) (service : Service) → (link_numbers Down ≡ 0 ∷ [])
+    // A station that is sure stands as it did before stations could be unsure.
+    ensures unsure { (unsure_numbers false ≡ []) × (unsure_numbers true ≡ 1 ∷ []) }
+    ensures links { (fcb : Bool) (silence : Silence) (service : Service) →
+        (link_numbers Down ≡ 0 ∷ [])
         × (link_numbers Available ≡ 1 ∷ [])
         × (link_numbers (Next fcb) ≡ 2 ∷ bit_number fcb ∷ [])
-        × (link_numbers (Held fcb service missed)
-        ≡ 3 ∷ bit_number fcb ∷ missed ∷ service_numbers service) }
+        × (link_numbers (Held fcb service silence)
+        ≡ held_number silence.spent silence.probed ∷ bit_number fcb ∷ silence.missed
+        ∷ service_numbers service) }
+    ensures held { (held_number false Never ≡ 3) × (held_number true Never ≡ 4)
+        × (held_number false Once ≡ 5) × (held_number true Once ≡ 6)
+        × (held_number false Twice ≡ 7) × (held_number true Twice ≡ 8) }
     ensures bits { (bit_number true ≡ 1) × (bit_number false ≡ 0) }
 {}
 

@@ -34,7 +34,7 @@ ghost use Rattle.traces.specs.Trace.{logged};
 
 use crate::opened::Opened;
 use crate::start::{Beginning, Found};
-use link::giving_up_is_for_one_station;
+use link::{giving_up_is_for_one_station, restarts_change_no_link};
 use segments::the_next_number_is_new;
 use sqlite_disk::Disk;
 
@@ -84,6 +84,7 @@ pub fn no_command_outlives_a_start<D: Disk + Drop>()
         awaits_command left.serial.line place ≡ false) }
 {
     giving_up_is_for_one_station();
+    restarts_change_no_link();
 }
 
 /// What is shown of a directory is what a start would make of it: a run begins as it is shown, over

@@ -8,6 +8,7 @@ ghost use Rattle.gateway.specs.declared.walls.Wall.{Wall};
 ghost use Rattle.link.specs.Carried.{awaits_command};
 ghost use Rattle.link.specs.Primary.{Outstanding, Primary};
 ghost use Rattle.link.specs.declared.procedure.Link.{Link};
+ghost use Rattle.link.specs.Procedure.{Silence};
 ghost use Rattle.link.specs.declared.procedure.Link.TheVariants.{Down, Available, Next, Held};
 ghost use Rattle.link.specs.declared.service.Asked.TheVariants.{Counted, Reset, Status};
 ghost use Rattle.link.specs.declared.service.Service.TheVariants.{Class1, Class2, Command};
@@ -130,7 +131,7 @@ pub fn links_are_told_as_they_stand()
         × ((fcb : Bool) (asdu : List ℕ) → o.request ≡ Counted fcb (Command asdu) →
         link_words (link_left p p.turn s) ≡ link_words (Next fcb)
         ++ codes ", command without an answer") }
-    ensures words { (asdu : List ℕ) (missed : ℕ) →
+    ensures words { (asdu : List ℕ) (missed : Silence) →
         (link_words Down ≡ codes " down")
         × (link_words Available ≡ codes " down, its status is known")
         × (link_words (Next false) ≡ codes " up, frame count bit 0")

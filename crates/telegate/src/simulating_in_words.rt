@@ -1,6 +1,6 @@
 //! Runs over simulated stations that are printed in words.
 ghost use Rattle.std.specs.Prelude.{◌≡◌, ℕ, Bool, List, Option};
-ghost use Rattle.gateway.specs.Config.{AreDistinct, Settings};
+ghost use Rattle.gateway.specs.Config.{AreStations, Settings};
 ghost use Rattle.gateway.specs.Setups.{setup_of};
 ghost use Rattle.gateway.specs.Traffic.{HasRested, IsFaithful};
 ghost use Rattle.ladder.specs.Described.{IsLadder};
@@ -58,7 +58,8 @@ pub(crate) fn simulate_in_words<W: Write>(
 /// Prints the lines with which a run ends, where all others were printed.
 fn close<W: Write>(alloc: Global, sim: &Sim<'_>, is_whole: bool, out: &mut W) -> Result<(), Fault>
     ensures { (c : Settings) (ds : List Directive) (is_coloured : Bool) (before : Option (List ℕ))
-        (words : List ℕ) → sim.now.plan ≡ plan_of c ds → AreDistinct c.stations →
+        (words : List ℕ) → sim.now.plan ≡ plan_of c ds →
+        AreStations c.line.link c.line.sizes.ca c.stations →
         calls_in sim.now.log ≡ turns_of ds → IsFaithful (setup_of c) sim.now.log →
         HasRested (setup_of c) sim.now.log →
         IsLadder (style_for c is_coloured) sim.now.log words →

@@ -2,9 +2,10 @@
 ghost use Rattle.std.specs.Prelude.{◌≡◌, ◌<◌, [], ◌∷◌, ℕ, true, false, length, Some};
 ghost use Rattle.link.specs.Turns.{station_at};
 ghost use Rattle.link.specs.Leave.{is_polling};
-ghost use Rattle.link.specs.Carried.{awaits_command, station_given_up};
+ghost use Rattle.link.specs.Carried.{awaits_command, station_given_up, station_doubted};
 ghost use Rattle.session.specs.Session.{is_open};
 ghost use Rattle.gateway.specs.Carried.{link_given_up, command_given_up, without_commands};
+ghost use Rattle.gateway.specs.Carried.{commands_given_up_upto, doubted_serial};
 ghost use Rattle.gateway.specs.Carried.{restarted};
 ghost use Rattle.gateway.specs.State.{with_serial, disconnected, IsBetweenSteps};
 ghost use Rattle.gateway.specs.Log.{Log, Restarted, Came};
@@ -13,7 +14,7 @@ ghost use Rattle.gateway.specs.Agrees.{Follows, Rests};
 
 use super::Gateway;
 use super::serial::SerialSide;
-use link::{giving_up_is_for_one_station, giving_up_is_logged};
+use link::{giving_up_is_for_one_station, giving_up_is_logged, restarts_change_no_link};
 
 impl SerialSide {
     /// Gives up the link to a station, and with it the command that stands on its line.
@@ -38,14 +39,27 @@ impl SerialSide {
         }
     }
 
-    /// The same for all stations.
-    fn give_up_commands(&mut self)
-        ensures state { self.new ≡ without_commands self.old }
+    /// The same for all stations, from the first on.
+    fn give_up_each_command(&mut self)
+        ensures state { self.new
+            ≡ commands_given_up_upto (length self.old.line.stations) self.old }
         ensures polls { is_polling self.new.line ≡ true → is_polling self.old.line ≡ true }
     {
         for station in 0..self.line.count() {
             self.give_up_command(station);
         }
+    }
+
+    /// The same for all stations, of which each may have been restarted, too.
+    fn give_up_commands(&mut self)
+        ensures state { self.new ≡ without_commands self.old }
+        ensures polls { is_polling self.new.line ≡ true → is_polling self.old.line ≡ true }
+    {
+        restarts_change_no_link();
+        self.give_up_each_command();
+        // Power of the whole substation may have been cut: whether a station has kept its link shows
+        // once it answers a service (docs/DECISIONS.md, "A station that was restarted, too").
+        self.line.doubt();
     }
 }
 
@@ -63,8 +77,8 @@ impl Gateway {
     ///
     /// The link of a station whose command is given up is down, and is reset before its next
     /// service; where an exchange with it was outstanding that is over, and the turn with it. The
-    /// command is counted as lost, as where a station goes down. No other station changes, and the
-    /// queue keeps each piece that no connection has acknowledged. A gateway that followed its log
+    /// command is counted as lost, as where a station goes down. No other link changes, and of no
+    /// station is it known whether it was restarted, too, until it answers a service. The queue keeps each piece that no connection has acknowledged. A gateway that followed its log
     /// between two steps then follows the log with this restart, so each promise on a log holds of
     /// all its lives together.
     pub fn restart(&mut self)
@@ -78,12 +92,14 @@ impl Gateway {
         ensures down { (k : ℕ) → k < length self.old.serial.line.stations →
             awaits_command self.old.serial.line k ≡ true →
             station_at self.new.serial.line.stations k
-            ≡ station_given_up (station_at self.old.serial.line.stations k) }
-        ensures others { (k : ℕ) → awaits_command self.old.serial.line k ≡ false →
+            ≡ station_doubted (station_given_up (station_at self.old.serial.line.stations k)) }
+        ensures others { (k : ℕ) → k < length self.old.serial.line.stations →
+            awaits_command self.old.serial.line k ≡ false →
             station_at self.new.serial.line.stations k
-            ≡ station_at self.old.serial.line.stations k }
+            ≡ station_doubted (station_at self.old.serial.line.stations k) }
         ensures unchanged { ((k : ℕ) → k < length self.old.serial.line.stations →
-            awaits_command self.old.serial.line k ≡ false) → self.new ≡ disconnected self.old }
+            awaits_command self.old.serial.line k ≡ false) →
+            self.new ≡ disconnected (with_serial (doubted_serial self.old.serial) self.old) }
         ensures between { IsBetweenSteps self.old → IsBetweenSteps self.new }
         ensures follows { (p : Setup) (log : Log) →
             Follows p self.old (Some log) → Rests p (Some log) →
@@ -91,6 +107,7 @@ impl Gateway {
     {
         giving_up_is_for_one_station();
         giving_up_is_logged();
+        restarts_change_no_link();
         self.give_up_commands();
         self.disconnect();
     }

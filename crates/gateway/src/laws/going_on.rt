@@ -11,7 +11,9 @@ ghost use Rattle.gateway.specs.State.{State};
 ghost use Rattle.gateway.specs.Carried.{place_of, start_of, station_started, carried};
 ghost use Rattle.gateway.specs.Unchanged.{MayGoOn};
 
-use link::{frame_count_bits_go_on, giving_up_is_for_one_station, sessions_go_on};
+use link::{
+    frame_count_bits_go_on, giving_up_is_for_one_station, restarts_change_no_link, sessions_go_on,
+};
 
 /// Each station of the new settings is the one that had its link address before, whatever places
 /// they have: it goes on, or its link is down, as the table says of it, and of no other. Where it
@@ -35,6 +37,7 @@ pub fn stations_go_on_by_their_addresses()
         ≡ station_down station.address }
 {
     giving_up_is_for_one_station();
+    restarts_change_no_link();
     frame_count_bits_go_on();
 }
 

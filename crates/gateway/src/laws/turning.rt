@@ -15,14 +15,14 @@ use command::{commands_are_forwarded, waiting_commands_stay};
 use link::{
     a_turn_is_one_visit, answers_have_their_time, commands_go_before_polls,
     giving_up_is_for_one_station, giving_up_is_logged, line_keeps_the_procedures,
-    no_station_starves, polls_go_on, repeats_come_at_once, turns_end,
-    turns_go_on_behind_held_services,
+    no_station_starves, polls_go_on, repeats_come_at_once, restarts_change_no_link,
+    statuses_follow_restarts, turns_end, turns_go_on_behind_held_services,
 };
 
 /// On each log of a run, however it ended, turns end, no station starves, commands go before polls,
 /// class 1 goes on while ACD is set, and repeats and the poll behind a command come at once, each
 /// turn is one visit, and each request is awaited for `answer_ms`, as the laws of the link have it
-/// over lists of calls. The list is the one that the log shows
+/// over lists of calls. Only behind a restart is a station that is up asked for its status. The list is the one that the log shows
 /// (`CallsOf`): in each step a request is asked for at the step's moment, with the commands that
 /// wait then, and with leave to poll exactly where the queue has room. The log's exchanges are
 /// those of these calls. At a restart the calls give up the link to each station with a command
@@ -46,6 +46,8 @@ pub fn logs_keep_turns()
     line_keeps_the_procedures();
     giving_up_is_logged();
     giving_up_is_for_one_station();
+    restarts_change_no_link();
+    statuses_follow_restarts();
     commands_are_forwarded();
     waiting_commands_stay();
 }

@@ -8,16 +8,18 @@ ghost use Rattle.link.specs.Carried.{reseated};
 ghost use Rattle.link.specs.Exchanges.{Sending};
 ghost use Rattle.link.specs.Holding.{IsFitting};
 ghost use Rattle.link.specs.Primary.{Primary, sending};
-ghost use Rattle.link.specs.Procedure.{LinkSettings, Down, Available, Next, Held, MaySend};
+ghost use Rattle.link.specs.Procedure.{LinkSettings, Silence, Down, Available, Next, Held};
+ghost use Rattle.link.specs.Procedure.{MaySend};
 ghost use Rattle.link.specs.Runs.{Call, first_request};
 ghost use Rattle.link.specs.Timing.{AnswersHaveTheirTime};
-ghost use Rattle.link.specs.Turns.{Wanted, CommandsWaiting, station_at};
+ghost use Rattle.link.specs.Turns.{Wanted, CommandsWaiting, station_at, is_doubted};
 ghost use Rattle.link.specs.declared.seat.ResumedStation.{ResumedStation};
 
 /// What a station's turn begins with is by its link, whichever station it is and whatever came
 /// before, new settings too. One that is down is asked for its status, and reset once that is
 /// known. A held service is sent again as it was, with its frame count bit, however often it had no
-/// answer. Else the command that waits comes first, if DFC is clear, or the poll that ACD asks for.
+/// answer; but behind a restart, once it has no repeat left, the station is asked for its status.
+/// Else the command that waits comes first, if DFC is clear, or the poll that ACD asks for.
 /// Only polls need leave. And no request goes out, at the begin of a turn or later, that the link
 /// may not be sent.
 pub fn turns_begin_by_the_link()
@@ -30,11 +32,18 @@ pub fn turns_begin_by_the_link()
         option_map (λ (w : Wanted). w.request) (first_request p may_poll waiting k)
         ≡ Some Reset }
     ensures held { (p : Primary) (may_poll : Bool) (waiting : CommandsWaiting) (k : ℕ) (fcb : Bool)
-        (service : Service) (missed : ℕ) →
-        (station_at p.stations k).link ≡ Held fcb service missed →
+        (service : Service) (silence : Silence) →
+        (station_at p.stations k).link ≡ Held fcb service silence →
+        is_doubted (station_at p.stations k) silence ≡ false →
         (may_poll ≡ true) ⊎ ((asdu : List ℕ) × (service ≡ Command asdu)) →
         option_map (λ (w : Wanted). w.request) (first_request p may_poll waiting k)
         ≡ Some (Counted fcb service) }
+    ensures doubted { (p : Primary) (may_poll : Bool) (waiting : CommandsWaiting) (k : ℕ)
+        (fcb : Bool) (service : Service) (silence : Silence) →
+        (station_at p.stations k).link ≡ Held fcb service silence →
+        is_doubted (station_at p.stations k) silence ≡ true →
+        option_map (λ (w : Wanted). w.request) (first_request p may_poll waiting k)
+        ≡ Some Status }
     ensures command { (p : Primary) (may_poll : Bool) (waiting : CommandsWaiting) (k : ℕ)
         (fcb : Bool) (asdu : List ℕ) → (station_at p.stations k).link ≡ Next fcb →
         waiting k ≡ Some asdu → (station_at p.stations k).dfc ≡ false →

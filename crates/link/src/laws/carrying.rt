@@ -8,16 +8,17 @@ ghost use Rattle.link.specs.Exchanges.{Exchanges, given_up_at, reports_of_exchan
 ghost use Rattle.link.specs.Gaps.{exchanges_at, gaps_at};
 ghost use Rattle.link.specs.Marks.{latest_given_up};
 ghost use Rattle.link.specs.Procedure.{LinkSettings, Down, Held, is_held, is_service};
-ghost use Rattle.link.specs.Procedure.{missed_so_far};
+ghost use Rattle.link.specs.Procedure.{Silence, Never, silence_so_far, short_silence};
+ghost use Rattle.link.specs.Procedure.{spent_silence};
 ghost use Rattle.link.specs.Turns.{StationState, station_at};
-ghost use Rattle.link.specs.Answers.{Service, Command, Counted};
+ghost use Rattle.link.specs.Answers.{Service, Command, Status, Counted};
 ghost use Rattle.link.specs.Primary.{Primary, Outstanding};
 ghost use Rattle.link.specs.Leave.{is_polling};
 ghost use Rattle.link.specs.Matching.{IsAllowed, Matches};
 ghost use Rattle.link.specs.Carried.{awaits_command, station_given_up, given_up};
 ghost use Rattle.link.specs.Carried.{gap_marked, released, station_carried, seated, reseated};
 ghost use Rattle.link.specs.Carried.{bit_of, service_of, without_commands, awaits_command_in};
-ghost use Rattle.link.specs.Carried.{commands_given_up};
+ghost use Rattle.link.specs.Carried.{commands_given_up, doubted};
 ghost use Rattle.link.specs.declared.seat.ResumedStation.{ResumedStation};
 
 /// A station whose link is given up awaits no command any more, and keeps all else; every other
@@ -32,8 +33,9 @@ pub fn giving_up_is_for_one_station()
         station_at (given_up k p).stations j ≡ station_at p.stations j }
     ensures awaited { (p : Primary) (k j : ℕ) → j ≢ k →
         awaits_command (given_up k p) j ≡ awaits_command p j }
-    ensures held { (p : Primary) (k : ℕ) (fcb : Bool) (asdu : List ℕ) (missed : ℕ) →
-        (station_at p.stations k).link ≡ Held fcb (Command asdu) missed →
+    ensures held { (p : Primary) (k : ℕ) (fcb : Bool) (asdu : List ℕ)
+        (silence : Silence) →
+        (station_at p.stations k).link ≡ Held fcb (Command asdu) silence →
         awaits_command p k ≡ true }
     ensures out { (p : Primary) (o : Outstanding) (fcb : Bool) (asdu : List ℕ) →
         p.outstanding ≡ Some o → o.request ≡ Counted fcb (Command asdu) →
@@ -61,9 +63,10 @@ pub fn frame_count_bits_go_on()
     ensures number { (p : Primary) → length (released p).stations ≡ length p.stations }
     ensures service { (retries address : ℕ) (s : StationState) →
         service_of (station_carried retries address s).link ≡ service_of s.link }
-    ensures missed { (retries address missed : ℕ) (s : StationState) (fcb : Bool)
-        (service : Service) → s.link ≡ Held fcb service missed →
-        (station_carried retries address s).link ≡ Held fcb service (min retries missed) }
+    ensures missed { (retries address : ℕ) (silence : Silence) (s : StationState) (fcb : Bool)
+        (service : Service) → s.link ≡ Held fcb service silence →
+        (station_carried retries address s).link
+        ≡ Held fcb service (short_silence (min retries silence.missed) Never) }
     ensures broken_off { (p : Primary) (o : Outstanding) (fcb : Bool) (service : Service) →
         p.turn < length p.stations → p.outstanding ≡ Some o → o.request ≡ Counted fcb service →
         service_of (station_at (released p).stations p.turn).link ≡ Some (Counted fcb service) }
@@ -77,16 +80,24 @@ pub fn frame_count_bits_go_on()
 
 /// A restart counts nothing as unanswered. A service whose exchange is broken off is held, as often
 /// unanswered as it was before. Where the exchange was to start the link, the link is down, so the
-/// status comes first. No other station changes, and none where nothing is outstanding. A link that
+/// status comes first; a service that is held while the status is asked stays held. No other
+/// station changes, and none where nothing is outstanding. A link that
 /// holds no service goes on as it is.
 pub fn what_is_broken_off_is_held()
     ensures service { (p : Primary) (o : Outstanding) (fcb : Bool) (service : Service) →
         p.turn < length p.stations → p.outstanding ≡ Some o → o.request ≡ Counted fcb service →
         (station_at (released p).stations p.turn).link
-        ≡ Held fcb service (missed_so_far (station_at p.stations p.turn).link) }
+        ≡ Held fcb service (silence_so_far (station_at p.stations p.turn).link) }
     ensures start { (p : Primary) (o : Outstanding) → p.turn < length p.stations →
         p.outstanding ≡ Some o → is_service o.request ≡ false →
+        is_held (station_at p.stations p.turn).link ≡ false →
         (station_at (released p).stations p.turn).link ≡ Down }
+    ensures status { (p : Primary) (o : Outstanding) (fcb : Bool) (service : Service)
+        (silence : Silence) → p.turn < length p.stations →
+        p.outstanding ≡ Some o → o.request ≡ Status →
+        (station_at p.stations p.turn).link ≡ Held fcb service silence →
+        (station_at (released p).stations p.turn).link
+        ≡ Held fcb service (spent_silence p.settings Never) }
     ensures others { (p : Primary) (k : ℕ) → k ≢ p.turn →
         station_at (released p).stations k ≡ station_at p.stations k }
     ensures over { (p : Primary) → (released p).outstanding ≡ None }
@@ -112,6 +123,7 @@ pub fn seats_have_their_addresses()
           acd = false;
           dfc = false;
           session = record { number = 0; has_gap = false };
+          unsure = false;
         } }
 {}
 
@@ -154,6 +166,8 @@ pub fn giving_up_is_logged()
         Matches settings addresses p e →
         Matches settings addresses (without_commands p)
         (commands_given_up settings (front_of settings.size) addresses e) }
+    ensures doubted { (settings : LinkSettings) (addresses : List ℕ) (p : Primary)
+        (e : Exchanges) → Matches settings addresses p e → Matches settings addresses (doubted p) e }
     ensures reports { (settings : LinkSettings) (size : LinkSize) (addresses : List ℕ)
         (address : ℕ → ℕ) (e : Exchanges) →
         reports_of_exchanges (front_of size) address

@@ -5,6 +5,7 @@ ghost use Rattle.std.specs.List.{AllByRecursion};
 ghost use Rattle.link.specs.Answers.{Unable};
 ghost use Rattle.link.specs.Exchanges.{Exchange, answer_to};
 ghost use Rattle.link.specs.Procedure.{LinkSettings, KeepsFrameCountBit, IsSteady, Down};
+ghost use Rattle.link.specs.Procedure.{AskNoneThatIsUp};
 ghost use Rattle.link.specs.Outstation.{Turn, all_done};
 ghost use Rattle.link.specs.Delivery.{learnt, IsHonest, IsKnown, IsSessionKnown, sessions};
 ghost use Rattle.link.specs.Delivery.{pending_after, IsAllOrButLast, IsLatestAnswered, reports};
@@ -14,11 +15,11 @@ ghost use Rattle.link.specs.Bits.{BitsFollow};
 
 /// From one exchange with a station to the next the frame count bit is as the standard has it: 1
 /// behind a reset that was confirmed, the other one behind a service that was served, and the same
-/// behind one that had no answer, which is sent again as it was. No service comes behind a status,
-/// nor behind a service that couldn't be served, nor behind a link that was given up.
+/// behind one that had no answer, which is sent again as it was. No service comes first, nor behind
+/// a service that couldn't be served. A status changes nothing of it.
 pub fn frame_count_bits_alternate()
     ensures { (settings : LinkSettings) (station : ℕ) (xs : List Exchange) →
-        KeepsFrameCountBit settings station Down xs → BitsFollow station xs }
+        KeepsFrameCountBit settings station Down xs → BitsFollow station None xs }
 {}
 
 /// In each session of the link an honest outstation has done what the primary learnt, and then at
@@ -96,12 +97,13 @@ pub fn reports_are_learnt()
         AllByRecursion (λ s. HasReports station s) (sessions station xs turns) }
 {}
 
-/// Where unanswered services are held, a link stays up as long as its station refuses nothing and
-/// it isn't given up at a restart.
+/// Where unanswered services are held, a link stays up as long as its station refuses nothing, it
+/// isn't given up at a restart, and no status is asked of a station that is up.
 pub fn silence_is_no_reset()
     ensures { (settings : LinkSettings) (station : ℕ) (xs : List Exchange) → settings.hold ≡ true →
         KeepsFrameCountBit settings station Down xs →
         AllByRecursion (λ x. answer_to station x ≢ Some Unable) xs →
         AllByRecursion (λ x. x.given_up ≡ false) xs →
+        AskNoneThatIsUp settings station Down xs →
         IsSteady settings station Down xs }
 {}

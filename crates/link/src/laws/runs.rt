@@ -26,8 +26,8 @@ ghost use Rattle.link.specs.Runs.{HaveNone, first_request, nth_after, silence_ou
 use ft12::front_is_computed;
 
 /// Whatever is called, the exchanges of a primary station keep the frame count bit of each station:
-/// a status and a reset are requested only of a station that isn't up, a reset only right after a
-/// status that was answered.
+/// a reset is requested only of a station that isn't up, right after a status that was answered; a
+/// status only of one that isn't up, or is silent to a service that has no repeat left.
 pub fn frame_count_bits_are_kept()
     ensures { (settings : LinkSettings) (addresses : List ℕ) (calls : List Call) (station : ℕ) →
         0 < length addresses → All (FitsAddress settings.size) addresses →

@@ -20,7 +20,8 @@ use ft12::front_is_computed;
 /// station. A station that is down is asked its status and then reset; what is answered that it
 /// can't be served, or not at all, ends the visit. One that is up is sent the service that it
 /// holds, then at most one new command, one class 2 poll and `burst` class 1 polls, each repeated
-/// at most `retries` times, and only while it has no answer. So a visit has an end. A reset goes
+/// at most `retries` times, and only while it has no answer. A status to a station that is up takes
+/// the place of the service that it holds. So a visit has an end. A reset goes
 /// out directly after a status of its own visit that was answered: no visit begins with one.
 pub fn turns_end()
     ensures visits { (settings : LinkSettings) (addresses : List ℕ) (calls : List Call) →

@@ -1,18 +1,19 @@
 //! What a restart makes of a primary station.
-ghost use Rattle.std.specs.Prelude.{◌≡◌, ◌<◌, ◌≤◌, All, false, length, IfOk};
+ghost use Rattle.std.specs.Prelude.{◌≡◌, ◌<◌, ◌≤◌, All, false, length, map, IfOk};
 ghost use Rattle.ft12.specs.declared.frame.LinkSize.{LinkSize};
 ghost use Rattle.link.specs.Requests.{IsUserData, FitsAddress, FitsService};
 ghost use Rattle.link.specs.Holding.{FitsLink, FitsStation};
 ghost use Rattle.link.specs.Procedure.{after_silence};
 ghost use Rattle.link.specs.Primary.{station_down as down_at};
 ghost use Rattle.link.specs.Carried.{awaits_command, given_up, station_left, released, gap_marked};
+ghost use Rattle.link.specs.Carried.{doubted, station_doubted};
 ghost use Rattle.link.specs.Carried.{link_carried, station_carried, seated, reseated};
 ghost use Rattle.link.specs.declared.seat.ResumedStation.{ResumedStation as SeatOf};
 
 use super::{Master, sends_command};
 use crate::asdu::CommandOctets;
 use crate::no_memory::NoMemory;
-use crate::procedure::Link;
+use crate::procedure::{Link, Probed, Silence};
 use crate::seat::ResumedStation;
 use crate::service::{Asked, Service};
 use crate::session::SessionState;
@@ -52,10 +53,11 @@ impl Link {
         ensures { self.new ≡ after_silence settings request.now false self.old }
     {
         match request {
-            Asked::Status | Asked::Reset => *self = Link::Down,
+            Asked::Status => self.status_missed(settings),
+            Asked::Reset => *self = Link::Down,
             Asked::Counted(fcb, service) => {
                 // As it was counted: a request that was broken off isn't one without an answer.
-                *self = Link::Held(*fcb, service.copied(), self.missed());
+                *self = Link::Held(*fcb, service.copied(), self.silence());
             }
         }
     }
@@ -69,8 +71,13 @@ impl Link {
             Link::Down => Link::Down,
             Link::Available => Link::Available,
             Link::Next(fcb) => Link::Next(*fcb),
-            Link::Held(fcb, service, missed) => {
-                Link::Held(*fcb, service.carried(), u16::from(retries).min(*missed))
+            Link::Held(fcb, service, silence) => {
+                let missed = u16::from(retries).min(silence.missed);
+                Link::Held(
+                    *fcb,
+                    service.carried(),
+                    Silence::short(missed, Probed::Never),
+                )
             }
         }
     }
@@ -89,7 +96,23 @@ impl StationState {
             acd: self.acd,
             dfc: self.dfc,
             session: self.session,
+            unsure: self.unsure,
         }
+    }
+}
+
+fn doubt(station: &mut StationState)
+    ensures { station.new ≡ station_doubted station.old }
+{
+    station.unsure = true;
+}
+
+/// It isn't known of these stations whether they were restarted.
+fn doubt_all(stations: &mut [StationState])
+    ensures { stations.new ≡ map station_doubted stations.old }
+{
+    for station in stations.iter_mut() {
+        doubt(station);
     }
 }
 
@@ -106,6 +129,7 @@ fn station_down(address: u16) -> StationState
             number: 0,
             has_gap: false,
         },
+        unsure: false,
     }
 }
 
@@ -149,6 +173,15 @@ impl Master {
             self.again = false;
             self.outstanding = None;
         }
+    }
+
+    /// At a restart: of no station is it known whether it was restarted, too, until it answers a
+    /// service. One that stays silent to it is asked for its status; if it answers that before the
+    /// silence and behind it, and then stays silent once more, its link is given up.
+    pub fn doubt(&mut self)
+        ensures { self.new ≡ doubted self.old }
+    {
+        doubt_all(&mut self.stations);
     }
 
     /// Marks that of the latest session of the station with this index a report may be lost: that

@@ -43,7 +43,7 @@ returns c = record {
       ∙ ap (λ (m : Option Answer). pending_by Reset m (pending_after station None before)) said));
   none = λ station xs all.
       ap (λ (p : Option Service). is_command_pending p) (stays station None xs all);
-  latest = λ station before x answer said.
-      latest_is station before x (subst (λ (m : Option Answer). IsSome m) (sym said) refl);
+  latest = λ station before x answer other said.
+      latest_is station before x other (subst (λ (m : Option Answer). IsSome m) (sym said) refl);
   no_exchange = λ station. tt;
 }

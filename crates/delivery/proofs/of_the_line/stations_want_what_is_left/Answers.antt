@@ -33,7 +33,7 @@ returns c = record {
   command = λ p station now may_poll fcb waiting asdu is there clear s goes.
       inr (by_link (station_at p.stations station) (waiting station) (Up fcb) is
       (waits (station_at p.stations station) (waiting station) asdu there clear));
-  others = λ p station other at octets. (tt, tt, tt);
+  others = λ p station other at octets. (tt, tt, tt, tt);
   none = λ p station. tt;
   each = λ p station call calls wants always. (wants, always);
 }

@@ -1,6 +1,6 @@
 use Rattle.std.proofs.Common.{◌≡◌, true, false, refl}
 use Rattle.link.specs.Answers.{Asked, Status, Reset, Counted}
-use Rattle.link.specs.Procedure.{Link, Down, Available, Next, Held, MaySend, is_up, is_service}
+use Rattle.link.specs.Procedure.{Link, Down, Available, Next, Held, MaySend, is_up, is_service, is_spent}
 use Rattle.link.specs.Procedure.{link_after}
 use Rattle.link.proofs.Links.{keeps_split}
 use Rattle.link.proofs.laws.services_need_a_station_that_is_up.Goals as goal
@@ -14,13 +14,14 @@ up_for (Next fcb) request may is = refl
 up_for (Held fcb service missed) request may is = refl
 up_for link request may is = absurd may
 
-down_for : (link : Link) (request : Asked) → MaySend link request → is_service request ≡ false
-    → is_up link ≡ false
-down_for Down request may is = refl
-down_for Available request may is = refl
-down_for (Next fcb) (Counted sent service) may is = cc
-down_for (Held fcb service missed) (Counted sent again) may is = cc
-down_for link request may is = absurd may
+probed_for : (link : Link) (request : Asked) → MaySend link request → is_service request ≡ false
+    → is_up link ≡ true → (request ≡ Status) × (is_spent link ≡ true)
+probed_for Down request may is up = cc
+probed_for Available request may is up = cc
+probed_for (Next fcb) (Counted sent service) may is up = cc
+probed_for (Held fcb service missed) Status may is up = (refl, may)
+probed_for (Held fcb service missed) (Counted sent again) may is up = cc
+probed_for link request may is up = absurd may
 
 pub returns-clause-service : goal.returns-clause-service
 returns-clause-service c =
@@ -29,5 +30,5 @@ returns-clause-service c =
 
 pub returns-clause-start : goal.returns-clause-start
 returns-clause-start c = λ settings station xs x keeps is up.
-    let down = down_for (link_after settings station Down xs) x.request
-    (keeps_split settings station Down xs x keeps).1 is in cc
+    probed_for (link_after settings station Down xs) x.request
+    (keeps_split settings station Down xs x keeps).1 is up

@@ -1,3 +1,4 @@
+use Rattle.gateway.specs.Setups.{setup_of}
 use Rattle.sim.proofs.Below.{Laws}
 use Rattle.sim.proofs.Served.{SessionsKnown, Steadied, all_served}
 use Rattle.sim.proofs.laws.stations_are_honest.Goals as goal
@@ -23,11 +24,12 @@ returns c =
       each_command = c.each_session_is_known.ensures.commands p log i turns faithful lt honest;
       joined = c.each_session_is_known.ensures.joined p log i turns faithful lt honest;
     } in
-    let steadies : Steadied = λ p log i faithful lt held life never.
-    c.silence_is_no_reset.ensures.held p log i faithful lt held never
-    (c.silence_is_no_reset.ensures.one_life p log i life) in
-    λ settings ds log answers stations tallies apart played are few faithful.
+    let steadies : Steadied = λ settings log i rules faithful lt held life never.
+    c.silence_is_no_reset.ensures.held (setup_of settings) log i faithful lt held never
+    (c.silence_is_no_reset.ensures.one_life (setup_of settings) log i life)
+    (c.silence_is_no_reset.ensures.none_asked settings log i rules faithful life) in
+    λ settings ds log answers stations tallies rules played are few faithful.
     all_served laws c.nothing_is_lost.ensures steadies known
     c.each_session_is_known.ensures.before c.losses_have_gaps.ensures.lost settings ds log answers
     stations tallies
-    apart played are few faithful
+    rules played are few faithful

@@ -29,7 +29,7 @@ returns-in-Turns g c =
     run_turns c.turns-turns.result (turns_of ds) c.in_ok-sim.sim.log port.log c.turns-turns.ensures
     (ap (λ (s : Simulated). s.log) c.in_ok-sim.ensures)
     (c.drive_printed-end.ensures.turns c.in-Turns.is) in
-    c.close.ensures settings ds before plan c.stations-stations.ensures.rules.distinct calls
+    c.close.ensures settings ds before plan c.stations-stations.ensures.rules calls
     (c.drive_printed-end.ensures.faithful p begun.0 begun.1)
     (at_turns end (HasRested p port.log) c.in-Turns.is (c.drive_printed-end.ensures.rests p begun.0
     begun.1))
@@ -56,7 +56,7 @@ returns-in-Finished g c =
     ended_calls port (c.drive_printed-end.ensures.finished c.in-Finished.is)
     c.page-page_is_clear.ensures.stands
     ∙ ap (λ (q : Plan). turns_of q.directives) plan in
-    c.close-in-Finished.ensures settings ds before plan c.stations-stations.ensures.rules.distinct
+    c.close-in-Finished.ensures settings ds before plan c.stations-stations.ensures.rules
     calls
     (c.drive_printed-end.ensures.faithful p begun.0 begun.1)
     (at_finish end (HasRested p port.log) c.in-Finished.is

@@ -27,8 +27,14 @@ returns-clause-services c = λ asdu. (refl, refl, refl)
 pub returns-clause-stations : goal.returns-clause-stations
 returns-clause-stations c = λ s others. (refl, refl)
 
+pub returns-clause-unsure : goal.returns-clause-unsure
+returns-clause-unsure c = (refl, refl)
+
 pub returns-clause-links : goal.returns-clause-links
-returns-clause-links c = λ fcb missed service. (refl, refl, refl, refl)
+returns-clause-links c = λ fcb silence service. (refl, refl, refl, refl)
+
+pub returns-clause-held : goal.returns-clause-held
+returns-clause-held c = (refl, refl, refl, refl, refl, refl)
 
 pub returns-clause-bits : goal.returns-clause-bits
 returns-clause-bits c = (refl, refl)

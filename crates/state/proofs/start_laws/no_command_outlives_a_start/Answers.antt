@@ -8,4 +8,7 @@ returns g c = gives_up {g = g.D.Disk} (record {
   others = c.giving_up_is_for_one_station.ensures.others;
   awaited = c.giving_up_is_for_one_station.ensures.awaited;
   number = c.giving_up_is_for_one_station.ensures.number;
+  doubts = c.restarts_change_no_link.ensures.station;
+  still = c.restarts_change_no_link.ensures.awaited;
+  as_many = c.restarts_change_no_link.ensures.number;
 })

@@ -42,7 +42,7 @@ returns-in-Turns g c =
     let is : port ≡ c.port-in-Turns.result.now = sym c.port-in-Turns.ensures in
     c.close.ensures settings ds c.args.is_coloured before scribe.logged
     (subst (λ (s : Simulated). s.plan ≡ plan_of settings ds) is plan)
-    c.stations-stations.ensures.rules.distinct
+    c.stations-stations.ensures.rules
     (subst (λ (s : Simulated). calls_in s.log ≡ turns_of ds) is calls)
     (subst (λ (s : Simulated). IsFaithful p s.log) is (c.drive_in_words-end.ensures.faithful p
     begun.0
@@ -89,7 +89,7 @@ returns-in-Finished g c =
     let is : port ≡ c.port-in-Finished.result.now = sym c.port-in-Finished.ensures in
     c.close-in-Finished.ensures settings ds c.args.is_coloured before scribe.logged
     (subst (λ (s : Simulated). s.plan ≡ plan_of settings ds) is plan)
-    c.stations-stations.ensures.rules.distinct
+    c.stations-stations.ensures.rules
     (subst (λ (s : Simulated). calls_in s.log ≡ turns_of ds) is calls)
     (subst (λ (s : Simulated). IsFaithful p s.log) is (c.drive_in_words-end.ensures.faithful p
     begun.0

@@ -20,11 +20,15 @@ law c = record {
   others = c.giving_up_is_for_one_station.ensures.others;
   awaited = c.giving_up_is_for_one_station.ensures.awaited;
   number = c.giving_up_is_for_one_station.ensures.number;
+  doubts = c.restarts_change_no_link.ensures.station;
+  still = c.restarts_change_no_link.ensures.awaited;
+  as_many = c.restarts_change_no_link.ensures.number;
 }
 
 logged : (c : goal.After-disconnect) → IsLogged
 logged c = record {
   matches = c.giving_up_is_logged.ensures.all;
+  doubted = c.giving_up_is_logged.ensures.doubted;
   reports = c.giving_up_is_logged.ensures.reports;
   gaps = c.giving_up_is_logged.ensures.gaps;
 }
@@ -58,9 +62,9 @@ returns-clause-down c = λ k lt e.
     ∙ carrying.down (law c) c.args.self.now.serial k lt e
 
 pub returns-clause-others : goal.returns-clause-others
-returns-clause-others c = λ k e.
+returns-clause-others c = λ k lt e.
     ap (λ (s : State). station_at s.serial.line.stations k) (is c)
-    ∙ carrying.others (law c) c.args.self.now.serial k e
+    ∙ carrying.others (law c) c.args.self.now.serial k lt e
 
 pub returns-clause-unchanged : goal.returns-clause-unchanged
 returns-clause-unchanged c = λ none.

@@ -11,6 +11,9 @@ returns c =
       others = one.others;
       awaited = one.awaited;
       number = one.number;
+      doubts = c.restarts_change_no_link.ensures.station;
+      still = c.restarts_change_no_link.ensures.awaited;
+      as_many = c.restarts_change_no_link.ensures.number;
     } in
     let bits = c.frame_count_bits_go_on.ensures in
     record {

@@ -7,6 +7,7 @@ returns c = whole_pieces (record {
   line = c.line_keeps_the_procedures.ensures;
   logged = record {
     matches = c.giving_up_is_logged.ensures.all;
+    doubted = c.giving_up_is_logged.ensures.doubted;
     reports = c.giving_up_is_logged.ensures.reports;
     gaps = c.giving_up_is_logged.ensures.gaps;
   };

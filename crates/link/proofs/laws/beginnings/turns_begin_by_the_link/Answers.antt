@@ -6,6 +6,7 @@ returns c = record {
   down = begins.down;
   available = begins.available;
   held = begins.held;
+  doubted = begins.doubted;
   command = begins.command;
   poll = begins.poll;
   may = begins.may;

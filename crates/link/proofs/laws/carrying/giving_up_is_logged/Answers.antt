@@ -1,5 +1,5 @@
 use Rattle.ft12.specs.Fronts.{front_of}
-use Rattle.link.proofs.Called.{give_up_matches}
+use Rattle.link.proofs.Called.{give_up_matches, doubt_matches}
 use Rattle.link.proofs.AllGivenUp as up
 use Rattle.link.proofs.laws.carrying.giving_up_is_logged.Goals as goal
 
@@ -12,6 +12,9 @@ returns-clause-one c = give_up_matches
 
 pub returns-clause-all : goal.returns-clause-all
 returns-clause-all c = up.all_matches
+
+pub returns-clause-doubted : goal.returns-clause-doubted
+returns-clause-doubted c = doubt_matches
 
 pub returns-clause-reports : goal.returns-clause-reports
 returns-clause-reports c = λ settings size addresses address e. up.same_reports settings

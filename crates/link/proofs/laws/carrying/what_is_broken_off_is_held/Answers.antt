@@ -5,6 +5,7 @@ pub returns : goal.returns
 returns c = record {
   service = on.held_as_before;
   start = on.start_broken_off;
+  status = on.status_broken_off;
   others = on.others_released;
   over = on.nothing_outstanding;
   idle = on.nothing_broken_off;

@@ -1,4 +1,4 @@
-use Rattle.std.proofs.Common.{refl, ap, None, []}
+use Rattle.std.proofs.Common.{refl, true, ap, None, []}
 use Rattle.link.specs.Procedure.{Down}
 use Rattle.link.specs.Outstation.{unreset}
 use Rattle.link.specs.Delivery.{commands}
@@ -39,4 +39,4 @@ returns-clause-answered c = λ settings station xs turns keeps steady honest lat
     ap commands
     (known_all _ _ _ (steady_from settings station Down None xs turns unreset honest.end [] refl
     (λ d. (refl, refl)) keeps steady honest.run honest.fronts)
-    (latest_known settings station Down None xs (λ d. refl) keeps steady latest (λ e. refl)))
+    (latest_known settings station Down None true xs (λ d. refl) (λ e. refl) keeps steady latest))

@@ -1,6 +1,6 @@
 use Rattle.std.proofs.Common.{◌∙◌}
 use Rattle.gateway.proofs.Carrying.{next}
-use Rattle.gateway.proofs.engine.serial.SerialSide.give_up_commands.Goals as goal
+use Rattle.gateway.proofs.engine.serial.SerialSide.give_up_each_command.Goals as goal
 
 pub loop-station-preserved : goal.loop-station-preserved
 loop-station-preserved c =

@@ -1,7 +1,7 @@
 use Rattle.std.proofs.Common.{◌≡◌, true, length}
 use Rattle.link.specs.Leave.{is_polling}
 use Rattle.gateway.specs.Carried.{commands_given_up_upto}
-use Rattle.gateway.proofs.engine.serial.SerialSide.give_up_commands.Given as goal
+use Rattle.gateway.proofs.engine.serial.SerialSide.give_up_each_command.Given as goal
 
 abbrev pub invariant-loop-station : goal.invariant-loop-station
 invariant-loop-station l = record {
