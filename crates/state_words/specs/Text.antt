@@ -16,6 +16,7 @@ use Rattle.state.specs.declared.looking.Seen.{Seen}
 use Rattle.state.specs.declared.looking.Sight.{Sight}
 use Rattle.state.specs.declared.start.Beginning.{Beginning}
 use Rattle.state_words.specs.Notes.{note_of, note_of_queue, note_of_settings}
+use Rattle.state_words.specs.Pending.{pending_lines}
 use Rattle.state_words.specs.Stations.{station_lines}
 
 -- the words of the log, if there is anything to say
@@ -82,7 +83,7 @@ place_lines s = segment_line s ++ unread_line (nat_lt s.events s.lines) s.events
 -- the log that a run would go on with
 abbrev pub log_lines : (is_moved : Bool) → Seen → List ℕ
 log_lines is_moved s = notes_lines is_moved s ++ place_lines s ++ gateway_lines s.gateway
-    ++ codes "kept under these settings:" ++ 10 ∷ []
+    ++ pending_lines s.gateway.serial.commands ++ codes "kept under these settings:" ++ 10 ∷ []
 
 -- with the settings at its head
 abbrev pub seen_lines : (is_moved : Bool) → Option Seen → List ℕ

@@ -4,6 +4,7 @@ ghost use Rattle.std.specs.Prelude.{true};
 ghost use Rattle.state_words.specs.Text as spec;
 
 use crate::notes::{note_of, note_of_queue, note_of_settings};
+use crate::pending::push_pending;
 use crate::stations::push_stations;
 use gateway::{Gateway, Wall};
 use runlog::{Note, Trouble};
@@ -162,6 +163,7 @@ fn push_seen(text: &mut String, seen: &Seen, is_moved: bool) -> Result<(), Alloc
     push_notes(text, seen, is_moved)?;
     push_place(text, seen)?;
     push_gateway(text, &seen.gateway)?;
+    push_pending(text, seen.gateway.commands())?;
     text.push_str("kept under these settings:\n")
 }
 
