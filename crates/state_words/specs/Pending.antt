@@ -1,6 +1,7 @@
 -- What a start gives up of a connection, in lines (texts of this gateway's own profile).
 use Rattle.std.specs.Prelude.{ℕ, List, [], ◌∷◌, ◌++◌, codes, Option, Some, None}
 use Rattle.std.specs.Fmt.{decimal}
+use Rattle.std.specs.List.{flat_map}
 use Rattle.asdu.specs.Sizes.{tcp}
 use Rattle.command.specs.State.{State}
 use Rattle.command.specs.declared.selection.Selection.{Selection}
@@ -34,16 +35,13 @@ abbrev pub answer_line : (asdu : List ℕ) → List ℕ
 answer_line asdu = asdu_line (codes "own answer") asdu
 
 abbrev pub waiting_lines : List Waiting → List ℕ
-waiting_lines [] = []
-waiting_lines (w ∷ ws) = waiting_line w ++ waiting_lines ws
+waiting_lines ws = flat_map (λ w. waiting_line w) ws
 
 abbrev pub selection_lines : List Selection → List ℕ
-selection_lines [] = []
-selection_lines (s ∷ ss) = selection_line s ++ selection_lines ss
+selection_lines ss = flat_map (λ s. selection_line s) ss
 
 abbrev pub answer_lines : List (List ℕ) → List ℕ
-answer_lines [] = []
-answer_lines (a ∷ answers) = answer_line a ++ answer_lines answers
+answer_lines answers = flat_map (λ a. answer_line a) answers
 
 -- the commands that wait, the selections, and the own answers that weren't sent
 abbrev pub pending_lines : State → List ℕ

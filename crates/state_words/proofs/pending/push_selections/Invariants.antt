@@ -2,12 +2,12 @@ use Rattle.std.proofs.Common.{◌≡◌, ◌≤◌, ◌-◌, ◌++◌, drop, len
 use Rattle.state_words.specs.Pending as spec
 use Rattle.state_words.proofs.pending.push_selections.Given as goal
 
-abbrev pub invariant-loop : goal.invariant-loop
-invariant-loop l = record {
+abbrev pub invariant-loop-selected : goal.invariant-loop-selected
+invariant-loop-selected l = record {
   text : string_bytes l.text ++ spec.selection_lines (drop l.place l.commands.selections)
       ≡ string_bytes l.initial.text ++ spec.selection_lines l.commands.selections;
   place : l.place ≤ length l.commands.selections;
 }
 
-abbrev pub decreases-loop : goal.decreases-loop
-decreases-loop l = length l.commands.selections - l.place
+abbrev pub decreases-loop-selected : goal.decreases-loop-selected
+decreases-loop-selected l = length l.commands.selections - l.place

@@ -2,12 +2,12 @@ use Rattle.std.proofs.Common.{◌≡◌, ◌≤◌, ◌-◌, ◌++◌, drop, len
 use Rattle.state_words.specs.Pending as spec
 use Rattle.state_words.proofs.pending.push_waiting.Given as goal
 
-abbrev pub invariant-loop : goal.invariant-loop
-invariant-loop l = record {
+abbrev pub invariant-loop-station : goal.invariant-loop-station
+invariant-loop-station l = record {
   text : string_bytes l.text ++ spec.waiting_lines (drop l.place l.commands.waiting)
       ≡ string_bytes l.initial.text ++ spec.waiting_lines l.commands.waiting;
   place : l.place ≤ length l.commands.waiting;
 }
 
-abbrev pub decreases-loop : goal.decreases-loop
-decreases-loop l = length l.commands.waiting - l.place
+abbrev pub decreases-loop-station : goal.decreases-loop-station
+decreases-loop-station l = length l.commands.waiting - l.place
