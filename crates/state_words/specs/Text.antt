@@ -71,6 +71,10 @@ abbrev pub gateway_lines : State → List ℕ
 gateway_lines s = moment_words s.moment ++ wall_words s.wall
     ++ station_lines s.serial.line 0 s.serial.line.stations
 
+-- with what its start would give up of the connection
+abbrev pub standing_lines : State → List ℕ
+standing_lines s = gateway_lines s ++ pending_lines s.serial.commands
+
 -- what a run that goes on with it would report
 abbrev pub notes_lines : (is_moved : Bool) → Seen → List ℕ
 notes_lines is_moved s =
@@ -82,8 +86,8 @@ place_lines s = segment_line s ++ unread_line (nat_lt s.events s.lines) s.events
 
 -- the log that a run would go on with
 abbrev pub log_lines : (is_moved : Bool) → Seen → List ℕ
-log_lines is_moved s = notes_lines is_moved s ++ place_lines s ++ gateway_lines s.gateway
-    ++ pending_lines s.gateway.serial.commands ++ codes "kept under these settings:" ++ 10 ∷ []
+log_lines is_moved s = notes_lines is_moved s ++ place_lines s ++ standing_lines s.gateway
+    ++ codes "kept under these settings:" ++ 10 ∷ []
 
 -- with the settings at its head
 abbrev pub seen_lines : (is_moved : Bool) → Option Seen → List ℕ

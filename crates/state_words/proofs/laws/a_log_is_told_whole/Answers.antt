@@ -7,10 +7,9 @@ use Rattle.settings.specs.Settings.{IsReadOfText}
 use Rattle.state.specs.Sights.{AreChanged}
 use Rattle.state.specs.declared.looking.Seen.{Seen}
 use Rattle.state_words.specs.Law.{line, rest_of_log}
-use Rattle.state_words.specs.Pending.{pending_lines}
 use Rattle.state_words.specs.Stations.{station_lines}
-use Rattle.state_words.specs.Text.{IsMovedFrom, beginning_lines, gateway_lines, place_lines}
-use Rattle.state_words.specs.Text.{seen_lines, state_text, wall_words}
+use Rattle.state_words.specs.Text.{IsMovedFrom, beginning_lines, place_lines, seen_lines}
+use Rattle.state_words.specs.Text.{standing_lines, state_text, wall_words}
 use Rattle.state_words.proofs.laws.a_log_is_told_whole.Goals as goal
 
 joined : (first words number more other end : List ℕ)
@@ -34,26 +33,24 @@ returns-clause-no_clock c s is =
     ∙ ap (λ l. l ++ stations)
     (sym (append_assoc first (codes ", wall clock not told yet") (10 ∷ [])))
 
-apart : (changed first place gateway pending kept end text : List ℕ)
-    → changed ++ first ++ place ++ gateway ++ pending ++ kept ++ end ++ text
-    ≡ changed ++ (first ++ place ++ gateway ++ pending ++ (kept ++ end) ++ text)
-apart changed first place gateway pending kept end text = simp append_assoc refl
+apart : (changed first place gateway kept end text : List ℕ)
+    → changed ++ first ++ place ++ gateway ++ kept ++ end ++ text
+    ≡ changed ++ (first ++ place ++ gateway ++ (kept ++ end) ++ text)
+apart changed first place gateway kept end text = simp append_assoc refl
 
 abbrev queued_line : Seen → List ℕ
 queued_line s = line (codes "state: goes on, " ++ decimal (taken_in s.gateway) ++ codes " queued")
 
 kept_lines : (s : Seen) → seen_lines false (Some s) ≡ rest_of_log s
 kept_lines s =
-    apart [] (queued_line s) (place_lines s) (gateway_lines s.gateway)
-    (pending_lines s.gateway.serial.commands) (codes "kept under these settings:") (10 ∷ [])
-    s.settings.items
+    apart [] (queued_line s) (place_lines s) (standing_lines s.gateway)
+    (codes "kept under these settings:") (10 ∷ []) s.settings.items
 
 moved_lines : (s : Seen)
     → seen_lines true (Some s) ≡ line (codes "state: settings have changed") ++ rest_of_log s
 moved_lines s =
     apart (line (codes "state: settings have changed")) (queued_line s) (place_lines s)
-    (gateway_lines s.gateway) (pending_lines s.gateway.serial.commands)
-    (codes "kept under these settings:") (10 ∷ []) s.settings.items
+    (standing_lines s.gateway) (codes "kept under these settings:") (10 ∷ []) s.settings.items
 
 -- settings that both texts say are no change
 unmoved : (written text : List ℕ) (is_moved : Bool) (c : Settings) → IsReadOfText text (Ok c)
