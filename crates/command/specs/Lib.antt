@@ -21,6 +21,7 @@ pub mod Numbers
 pub mod Saved
 pub mod Restored
 pub mod Refusals
+pub mod Pending
 pub mod Carried
 pub mod Passing
 pub mod Confirming

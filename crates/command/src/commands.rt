@@ -12,6 +12,7 @@ ghost use Rattle.command.specs.Mirrors.{all_over, one_confirmed, confirmed, mirr
 ghost use Rattle.command.specs.Mirrors.{element_of as element_in};
 
 mod carrying;
+mod pending;
 mod refusing;
 
 use crate::act::{Act, OwnAnswer};

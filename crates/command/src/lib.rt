@@ -68,4 +68,5 @@ pub use laws::{
     what_is_on_a_line_outlives_new_settings, worked_examples_hold,
 };
 pub use refusal::Refusal;
+pub use selection::SelectedObject;
 pub use station::StationInfo;

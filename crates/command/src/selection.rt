@@ -34,6 +34,19 @@ pub(crate) struct Selection {
     pub stage: SelectStage,
 }
 
+/// What is selected, and where.
+#[derive(Clone, Copy)]
+pub struct SelectedObject {
+    /// The place of its station among the stations.
+    pub station: usize,
+    /// The type of the command on the line, which has no time tag.
+    pub kind: u8,
+    /// The common address.
+    pub ca: u16,
+    /// The object's address.
+    pub address: u32,
+}
+
 /// What concerns selections.
 #[derive(Clone, Copy)]
 pub(crate) enum Sign {

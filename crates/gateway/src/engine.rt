@@ -279,6 +279,14 @@ impl Gateway {
         self.wall
     }
 
+    /// What is kept of commands: those that wait, selections, and own answers that weren't sent. A
+    /// restart gives up all of these.
+    pub fn commands(&self) -> &Commands
+        ensures { result.now ≡ self.now.serial.commands }
+    {
+        &self.serial.commands
+    }
+
     /// The primary station of the line.
     pub fn line(&self) -> &Master
         ensures { result.now ≡ self.now.serial.line }

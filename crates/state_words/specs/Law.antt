@@ -7,7 +7,7 @@ use Rattle.link.specs.declared.turn.StationState.{StationState}
 use Rattle.runlog.specs.Logging.{taken_in}
 use Rattle.state.specs.declared.looking.Seen.{Seen}
 use Rattle.state_words.specs.Stations.{awaited_at, left_by}
-use Rattle.state_words.specs.Text.{gateway_lines, place_lines}
+use Rattle.state_words.specs.Text.{place_lines, standing_lines}
 
 -- these words and the end of their line
 abbrev pub line : List ℕ → List ℕ
@@ -21,5 +21,5 @@ link_left p station s = left_by p.settings (awaited_at p station) s.link
 abbrev pub rest_of_log : Seen → List ℕ
 rest_of_log s =
     line (codes "state: goes on, " ++ decimal (taken_in s.gateway) ++ codes " queued")
-    ++ place_lines s ++ gateway_lines s.gateway ++ line (codes "kept under these settings:")
+    ++ place_lines s ++ standing_lines s.gateway ++ line (codes "kept under these settings:")
     ++ s.settings.items

@@ -16,6 +16,7 @@ use Rattle.state.specs.declared.looking.Seen.{Seen}
 use Rattle.state.specs.declared.looking.Sight.{Sight}
 use Rattle.state.specs.declared.start.Beginning.{Beginning}
 use Rattle.state_words.specs.Notes.{note_of, note_of_queue, note_of_settings}
+use Rattle.state_words.specs.Pending.{pending_lines}
 use Rattle.state_words.specs.Stations.{station_lines}
 
 -- the words of the log, if there is anything to say
@@ -70,6 +71,10 @@ abbrev pub gateway_lines : State → List ℕ
 gateway_lines s = moment_words s.moment ++ wall_words s.wall
     ++ station_lines s.serial.line 0 s.serial.line.stations
 
+-- with what its start would give up of the connection
+abbrev pub standing_lines : State → List ℕ
+standing_lines s = gateway_lines s ++ pending_lines s.serial.commands
+
 -- what a run that goes on with it would report
 abbrev pub notes_lines : (is_moved : Bool) → Seen → List ℕ
 notes_lines is_moved s =
@@ -81,7 +86,7 @@ place_lines s = segment_line s ++ unread_line (nat_lt s.events s.lines) s.events
 
 -- the log that a run would go on with
 abbrev pub log_lines : (is_moved : Bool) → Seen → List ℕ
-log_lines is_moved s = notes_lines is_moved s ++ place_lines s ++ gateway_lines s.gateway
+log_lines is_moved s = notes_lines is_moved s ++ place_lines s ++ standing_lines s.gateway
     ++ codes "kept under these settings:" ++ 10 ∷ []
 
 -- with the settings at its head

@@ -3,12 +3,13 @@
 //!
 //! [`describe_state`] puts into lines what `state::look` has found: how a run would begin, in the
 //! words that it would log then; the segment that counts; and how the links stand behind its
-//! events. Proved: the text is this function of what was found ([`describe_state`]'s contract), and
+//! events, with what a start would give up. Proved: the text is this function of what was found ([`describe_state`]'s contract), and
 //! the link of a station is shown as a request without an answer so far leaves it.
 #![tactic(auto)]
 
 mod laws;
 mod notes;
+mod pending;
 mod stations;
 mod text;
 

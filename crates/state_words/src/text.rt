@@ -4,6 +4,7 @@ ghost use Rattle.std.specs.Prelude.{true};
 ghost use Rattle.state_words.specs.Text as spec;
 
 use crate::notes::{note_of, note_of_queue, note_of_settings};
+use crate::pending::push_pending;
 use crate::stations::push_stations;
 use gateway::{Gateway, Wall};
 use runlog::{Note, Trouble};
@@ -136,6 +137,15 @@ fn push_gateway(text: &mut String, gateway: &Gateway) -> Result<(), AllocError>
     push_stations(text, gateway.line())
 }
 
+/// The gateway, and what a start would give up of the connection.
+fn push_standing(text: &mut String, gateway: &Gateway) -> Result<(), AllocError>
+    ensures { OnOk result (string_bytes text.new ≡ string_bytes text.old
+        ++ spec.standing_lines gateway.now) }
+{
+    push_gateway(text, gateway)?;
+    push_pending(text, gateway.commands())
+}
+
 /// What a run that goes on with a log would report.
 fn push_notes(text: &mut String, seen: &Seen, is_moved: bool) -> Result<(), AllocError>
     ensures { OnOk result (string_bytes text.new ≡ string_bytes text.old
@@ -161,7 +171,7 @@ fn push_seen(text: &mut String, seen: &Seen, is_moved: bool) -> Result<(), Alloc
 {
     push_notes(text, seen, is_moved)?;
     push_place(text, seen)?;
-    push_gateway(text, &seen.gateway)?;
+    push_standing(text, &seen.gateway)?;
     text.push_str("kept under these settings:\n")
 }
 
