@@ -1,0 +1,165 @@
+"""Has the prover judge texts that differ from a crate's own, over the libraries that stand built."""
+import contextlib
+import os
+import re
+import shutil
+import subprocess
+import tempfile
+import threading
+
+import tables
+
+TOP = tables.TOP
+KIT = os.path.dirname(os.path.dirname(os.path.realpath(shutil.which("rt") or "/opt/rattle/bin/rt")))
+# The longest that one check may take, in seconds.
+LIMIT = 1800
+# What the prover says of functions, one line or several for each.
+FUNCTION = re.compile(r"^fn (?:\w+::)(\S+): (.*)$", re.M)
+
+
+def libraries():
+    """The libraries that each crate names, by crates.txt."""
+    named = {}
+    with open(os.path.join(TOP, "crates.txt"), encoding="utf-8") as file:
+        for line in file:
+            head, colon, tail = line.partition("#")[0].partition(":")
+            if colon:
+                named[head.split()[0]] = tail.split()
+    return named
+
+
+def below(crate, named):
+    """The crate and all crates of the repository that it stands on."""
+    found = [crate]
+    for it in found:
+        found += [name for name in named[it] if name in named and name not in found]
+    return found
+
+
+def library(crate):
+    """Where the built library of a crate stands."""
+    return os.path.join(TOP, "crates", crate, "out", "rlib", f"{crate}.rlib")
+
+
+class Said:
+    """What a check said."""
+
+    def __init__(self, text, status):
+        self.text, self.status = text, status
+        self.lines = {}
+        for name, line in FUNCTION.findall(text):
+            self.lines.setdefault(name, []).append(line)
+
+    def of(self, wanted):
+        """The lines of the function whose path ends so."""
+        return [line for name, lines in self.lines.items() if f"::{name}".endswith(f"::{wanted}") for line in lines]
+
+    def reached(self):
+        """Whether the check came as far as the proofs, and ended there."""
+        return self.status in (0, 1) and bool(self.lines)
+
+
+# The checks that run now. Once they are to stop, none begins.
+RUNNING, STOPPED = set(), threading.Event()
+
+
+def started(words, here, out):
+    """Begins a check, unless all are to stop."""
+    if STOPPED.is_set():
+        raise SystemExit("edits: stopped")
+    process = subprocess.Popen(words, cwd=here, stdin=subprocess.DEVNULL, stdout=out, stderr=subprocess.STDOUT)
+    RUNNING.add(process)
+    return process
+
+
+def stop():
+    """Ends all checks."""
+    STOPPED.set()
+    for process in list(RUNNING):
+        process.kill()
+
+
+class Room:
+    """A copy of a crate's text, and of those below it that are turned too. What its checks prove it keeps."""
+
+    def __init__(self, crate, named, folder, turned=()):
+        self.crate, self.named, self.seconds = crate, named, 0.0
+        self.folder = tempfile.mkdtemp(prefix=f"{crate}-", dir=folder)
+        self.here = os.path.join(self.folder, crate)
+        ours = below(crate, named)
+        # A crate between two that are turned is read as source, too, since its library stands over the one as it was.
+        self.sources = [name for name in ours[1:] if set(below(name, named)) & set(turned)]
+        for name in [crate, *self.sources]:
+            for part in tables.PARTS:
+                whole = os.path.join(TOP, "crates", name, part)
+                if os.path.isdir(whole):
+                    shutil.copytree(whole, os.path.join(self.folder, name, part))
+        self.seed = os.path.join(self.folder, "seed")
+        kept = os.path.join(TOP, "crates", crate, "out", "incremental")
+        if os.path.isdir(kept):
+            shutil.copytree(kept, self.seed, copy_function=linked)
+        os.makedirs(self.seed, exist_ok=True)
+
+    def given(self):
+        """The prover's words for the libraries of the crate, and for those of its sources."""
+        readers, ours = [self.crate, *self.sources], below(self.crate, self.named)[1:]
+        named = {name for reader in readers for name in self.named[reader]} | {"std"}
+        words = ["-L", f"dependency={KIT}/rlibs"]
+        for name in sorted(named - set(self.sources)):
+            words += ["--extern", f"{name}={library(name) if name in ours else f'{KIT}/rlibs/{name}.rlib'}"]
+        for name in ours:
+            if name in self.sources:
+                words += ["--lib", f"{name}:{','.join(['std', *self.named[name]])}={self.folder}/{name}/src/lib.rt"]
+            else:
+                words += ["-L", f"dependency={os.path.dirname(library(name))}"]
+        return words
+
+    def words(self):
+        """The prover's words for a check of the crate."""
+        root = next(it for it in ("src/lib.rt", "src/main.rt") if os.path.isfile(os.path.join(self.here, it)))
+        words = [os.path.join(KIT, "bin", "rattle"), "check", "--crate-name", self.crate, root, *self.given()]
+        words += ["--antt-project", f"{KIT}/rattle/logic/antt-project.json", "--logic-built", f"{KIT}/logic_built"]
+        return [*words, "--links", f"{self.crate}=", "--jobs", "1", "--incremental", self.seed]
+
+    def check(self, only=()):
+        """Has the crate checked as it stands, or these functions alone."""
+        words = [*self.words(), *(word for name in only for word in ("--only", name))]
+        with tempfile.TemporaryFile("w+", errors="replace") as out:
+            process = started(words, self.here, out)
+            clock = threading.Timer(LIMIT, process.kill)
+            clock.start()
+            _, status, used = os.wait4(process.pid, 0)
+            clock.cancel()
+            process.returncode = os.waitstatus_to_exitcode(status)
+            RUNNING.discard(process)
+            out.seek(0)
+            text = out.read()
+        self.seconds += used.ru_utime + used.ru_stime
+        return Said(text, process.returncode)
+
+
+def prove(crate):
+    """Has a crate proved as it stands, and its library built. That takes a second where it is."""
+    here = os.path.join(TOP, "crates", crate)
+    verb = "check" if os.path.isfile(os.path.join(here, "src", "main.rt")) else "lib"
+    done = subprocess.run(["rt", verb, "--jobs", "1"], cwd=here, stdin=subprocess.DEVNULL, capture_output=True, text=True)
+    if done.returncode:
+        raise SystemExit(f"edits: {crate} itself isn't proved:\n{done.stdout[-1500:]}")
+
+
+def ready(crate, named, is_gate):
+    """Has the crate and what it stands on proved. Behind `rt ci` they are, and its libraries have no stamp."""
+    libraries = reversed(below(crate, named)[1:])
+    if not is_gate:
+        prove(crate)
+    elif any(not os.path.isdir(library(it)) or os.path.isfile(f"{os.path.dirname(library(it))}/stamp") for it in libraries):
+        for it in libraries:
+            prove(it)
+
+
+def linked(one, other):
+    """Copies a file of kept work, what was proved by a link: a check replaces such a file, and changes none."""
+    with contextlib.suppress(OSError):
+        if one.endswith(".oantt"):
+            return os.link(one, other)
+    return shutil.copy2(one, other)
