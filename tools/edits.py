@@ -124,20 +124,20 @@ def shown(verdict, mark=""):
     print(f"{verdict.seconds:4.0f} s {mark}{verdict.word:7}{twin:13} {verdict.edit.label}: {verdict.line[:160]}", flush=True)
 
 
-def noted(verdicts, whole):
-    """Notes in the tables what the tries came to, and of a crate that was tried whole at which text."""
-    by_crate = {}
-    for verdict in verdicts:
-        by_crate.setdefault(verdict.edit.crate, []).append(verdict)
-    for crate, found in by_crate.items():
-        for verdict in found:
-            if verdict.is_good():
-                verdict.edit.seen, verdict.edit.tried = verdict.word, datetime.date.today()
-                verdict.edit.refused_by = verdict.refused_by
-        is_whole = crate in whole and all(it.is_good() or not it.edit.seen for it in found)
+def noted(verdict):
+    """Notes in its table how an edit is refused, if it is as it should be."""
+    if verdict.is_good():
+        edit = verdict.edit
+        edit.seen, edit.tried, edit.refused_by = verdict.word, datetime.date.today(), verdict.refused_by
+        tables.note(edit.crate, [edit], {})
+
+
+def noted_whole(crate, verdicts):
+    """Notes in a crate's table at which text all of its edits were tried, if none that was seen refused is let through now."""
+    found = [it for it in verdicts if it.edit.crate == crate]
+    if len(found) == len(tables.read(crate).edits) and all(it.is_good() or not it.edit.seen for it in found):
         each = round(sum(it.seconds for it in found) / len(found))
-        head = {"text": f'"{tables.text_of(crate)}"', "seconds": each} if is_whole else {}
-        tables.note(crate, [it.edit for it in found], head)
+        tables.note(crate, [], {"text": f'"{tables.text_of(crate)}"', "seconds": each})
 
 
 def by_hand(given):
@@ -148,11 +148,11 @@ def by_hand(given):
     def tell(verdict):
         verdicts.append(verdict)
         shown(verdict, "" if verdict.is_good() else "FAILED ")
+        noted(verdict)
 
-    try:
-        tried(edits, given, tell)
-    finally:
-        noted(verdicts, whole)
+    tried(edits, given, tell)
+    for crate in whole:
+        noted_whole(crate, verdicts)
     good = sum(it.is_good() for it in verdicts)
     return good, len(edits) - good
 

@@ -1,4 +1,5 @@
 """Judges must-fail edits: which functions an edit turns, which edits fit into one check, and why one is refused."""
+import glob
 import os
 import re
 
@@ -30,8 +31,7 @@ def function_at(file, text, place):
     if end and end.end() <= place:
         return None
     if not head[1]:
-        module = re.sub(r"^src/|(?:/mod)?\.rt$", "", file).replace("/", "::")
-        return head[2] if module in ("lib", "main") else f"{module}::{head[2]}"
+        return within(file, head[2])
     owners = [owner for owner in OWNER.finditer(text, 0, head.start())]
     return f"{owner_name(owners[-1])}::{head[2]}" if owners else None
 
@@ -58,30 +58,60 @@ def functions_of(edit, here):
     return found
 
 
-def bodies_of(here):
-    """The text of each function of a crate, by its last name: what calls it is looked for there."""
+def sources_of(here):
+    """The texts of a crate's files of src/, by their paths below the crate."""
     found = {}
-    for at, _, files in os.walk(os.path.join(here, "src")):
-        for name in files:
-            with open(os.path.join(at, name), encoding="utf-8") as it:
-                text = it.read()
-            heads = list(HEAD.finditer(text))
-            for head, following in zip(heads, [*heads[1:], None]):
-                body = text[head.start() : following.start() if following else len(text)]
-                found[head[2]] = found.get(head[2], "") + body
+    for path in sorted(glob.glob(os.path.join(here, "src", "**", "*.rt"), recursive=True)):
+        with open(path, encoding="utf-8") as it:
+            found[os.path.relpath(path, here)] = it.read()
     return found
 
 
+def calls_of(here):
+    """The functions that each function of a crate may call, also by way of others, by their names: a method is any of its name."""
+    bodies, owners = {}, {}
+    for file, text in sources_of(here).items():
+        heads = list(HEAD.finditer(text))
+        for head, following in zip(heads, [*heads[1:], None]):
+            name = function_at(file, text, head.end()) or within(file, head[2])
+            body = re.sub(r"//.*", "", text[head.end() : following.start() if following else len(text)])
+            bodies[name] = body.replace("Self::", f"{name.split('::')[-2] if '::' in name else ''}::")
+            owners.setdefault(head[2], set()).add(name)
+    found = {}
+    for name, body in bodies.items():
+        called = {it for word in re.findall(r"\.(\w+)(?=\(|::<)", body) for it in owners.get(word, ()) if is_method(it)}
+        for owner, word in re.findall(r"(?<![.\w])(?:(\w+)(?:::<[^()]*>)?::)?(\w+)(?=\(|::<)", body):
+            of_type = owner[:1].isupper()
+            called |= {it for it in owners.get(word, ()) if is_method(it) == of_type and (not of_type or it.split("::")[-2].startswith(owner))}
+        found[name] = called
+    for through in found:
+        for names in found.values():
+            if through in names:
+                names |= found[through]
+    return found
+
+
+def is_method(name):
+    """Whether a function's path has a type."""
+    return "::" in name and name.split("::")[-2][:1].isupper()
+
+
 def laws_of(here):
-    """The names of the crate's laws."""
-    return {name for name, text in bodies_of(here).items() if LAW.search(text)}
+    """The paths of the crate's laws."""
+    return {within(file, law) for file, text in sources_of(here).items() for law in LAW.findall(text)}
+
+
+def within(file, name):
+    """The path of what stands in a file of src/ under a name."""
+    module = re.sub(r"^src/|(?:/mod)?\.rt$", "", file).replace("/", "::")
+    return name if module in ("lib", "main") else f"{module}::{name}"
 
 
 class Round:
     """Edits of distinct functions, none of which calls another one's, that one check judges."""
 
-    def __init__(self, bodies):
-        self.bodies, self.edits, self.turned, self.judged, self.texts = bodies, [], set(), set(), {}
+    def __init__(self, calls):
+        self.calls, self.edits, self.turned, self.judged, self.texts = calls, [], set(), set(), {}
 
     def takes(self, edit, turned, judged, here):
         """Adds an edit if it fits, and tells whether it did."""
@@ -100,16 +130,15 @@ class Round:
         """Whether one of the functions is one of the round's, calls one, or is called by one."""
         if (turned | judged) & (self.turned | self.judged):
             return True
-        return self.calls(judged, self.turned) or self.calls(self.judged, turned)
+        return self.may_call(judged, self.turned) or self.may_call(self.judged, turned)
 
-    def calls(self, callers, called):
-        text = "\n".join(self.bodies.get(name.split("::")[-1], "") for name in callers)
-        return any(re.search(rf"\b{name.split('::')[-1]}\b\s*(?:\(|::<)", text) for name in called)
+    def may_call(self, callers, called):
+        return any(called & self.calls.get(name, set()) for name in callers)
 
 
 def rounds_of(edits, here):
     """The rounds for edits that turn bodies, and the edits that are to be tried alone."""
-    rounds, alone, bodies = [], [], bodies_of(here)
+    rounds, alone, calls = [], [], calls_of(here)
     for edit in edits:
         turned = None if edit.turns_a_definition() else functions_of(edit, here)
         judged = set(edit.refused_by) or turned
@@ -117,7 +146,7 @@ def rounds_of(edits, here):
             # What turns a definition or a constant may have other functions refused too.
             alone.append(edit)
         elif not any(it.takes(edit, turned, judged, here) for it in rounds):
-            rounds.append(Round(bodies))
+            rounds.append(Round(calls))
             rounds[-1].takes(edit, turned, judged, here)
     return rounds, alone
 
@@ -144,9 +173,10 @@ def told_of(said, function):
 
 
 def why(said, function):
-    """Why a function isn't proved, in a word and with the line that says it best, or None if it is, or only what it calls isn't."""
+    """Why a function isn't proved, in a word and with the line that says it best. None if it is, or if it calls one that isn't: then its
+    own goals may be left for that alone."""
     lines = [line for line in said.of(function) if line.startswith(("not proved", "no proof"))]
-    if not lines:
+    if not lines or any("it calls `" in line for line in lines):
         return None
     told = told_of(said, function)
     refused = PROOF.findall(told)
@@ -156,8 +186,7 @@ def why(said, function):
     names = [line for line in refused if NAMES.search(line)]
     if names:
         return "names", names[0].strip()
-    is_callers = all(re.search(r"it calls `", line) for line in lines)
-    return None if is_callers else ("proof", (refused or lines)[0].strip())
+    return "proof", (refused or lines)[0].strip()
 
 
 def best(found):
@@ -197,7 +226,7 @@ def by_all(said, edit, laws):
     unproved = {name for name in said.lines if any(line.startswith(("not proved", "no proof")) for line in said.lines[name])}
     found = {name: why(said, name) for name in unproved}
     own = sorted(name for name, reason in found.items() if reason)
-    if edit.turns_a_definition() and own and all(name.split("::")[-1] in laws for name in own):
+    if edit.turns_a_definition() and own and set(own) <= laws:
         return "law", ", ".join(own), own
     if not own:
         return UNKNOWN, "no function is refused by itself", []

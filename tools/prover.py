@@ -95,10 +95,11 @@ class Room:
                 if os.path.isdir(whole):
                     shutil.copytree(whole, os.path.join(self.folder, name, part))
         self.seed = os.path.join(self.folder, "seed")
-        kept = os.path.join(TOP, "crates", crate, "out", "incremental")
-        if os.path.isdir(kept):
-            shutil.copytree(kept, self.seed, copy_function=linked)
-        os.makedirs(self.seed, exist_ok=True)
+        os.mkdir(self.seed)
+        for name in [*self.sources, crate]:
+            kept = os.path.join(TOP, "crates", name, "out", "incremental")
+            if os.path.isdir(kept):
+                shutil.copytree(kept, self.seed, copy_function=linked, dirs_exist_ok=True)
 
     def given(self):
         """The prover's words for the libraries of the crate, and for those of its sources."""
@@ -147,9 +148,9 @@ def prove(crate):
         raise SystemExit(f"edits: {crate} itself isn't proved:\n{done.stdout[-1500:]}")
 
 
-def ready(crate, named, is_gate):
+def ready(crate, named, is_gate=False):
     """Has the crate and what it stands on proved. Behind `rt ci` they are, and its libraries have no stamp."""
-    libraries = reversed(below(crate, named)[1:])
+    libraries = below(crate, named)[:0:-1]
     if not is_gate:
         prove(crate)
     elif any(not os.path.isdir(library(it)) or os.path.isfile(f"{os.path.dirname(library(it))}/stamp") for it in libraries):
@@ -159,6 +160,8 @@ def ready(crate, named, is_gate):
 
 def linked(one, other):
     """Copies a file of kept work, what was proved by a link: a check replaces such a file, and changes none."""
+    with contextlib.suppress(OSError):
+        os.remove(other)
     with contextlib.suppress(OSError):
         if one.endswith(".oantt"):
             return os.link(one, other)

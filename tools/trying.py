@@ -91,6 +91,9 @@ class Trier:
         before = self.room.seconds
         texts = tables.turned(edit, self.room.here)
         found = judging.UNKNOWN, "", []
+        if self.is_gate and edit.turns_a_definition():
+            # A check of all of the crate would prove each body that rests on the definition.
+            judged = judged or judging.laws_of(self.room.here)
         if judged:
             by = judging.by_laws if edit.turns_a_definition() else judging.by_functions
             found = by(self.checked(edit.name, texts, sorted(judged)), judged)
