@@ -1,24 +1,50 @@
-"""Judges must-fail edits: which functions an edit turns, which edits fit into one check, and why one is refused."""
+"""Judges must-fail edits: which functions an edit turns, which edits fit into one check, and why
+the prover refuses one."""
 import glob
 import os
 import re
 
 import tables
 
-# The head of a function, of an impl or of a trait, with what is indented before it.
+# The head of a function, with what is indented before it, and that of an impl or of a trait.
 HEAD = re.compile(r"^( *)(?:pub(?:\(\w+\))? )?(?:const |unsafe )*fn (\w+)", re.M)
-OWNER = re.compile(r"^impl\b(?:<\n(?: .*\n)*?>|<.*?>(?= ))? ?(?:([A-Z]\w*)(?:<(.*)>)? for )?&?(?:'\w+ )?(?:mut )?([A-Z]\w*)|^(?:pub )?trait (\w+)", re.M)
+OWNER = re.compile(
+    r"^impl\b(?:<\n(?: .*\n)*?>|<.*?>(?= ))? ?"
+    r"(?:([A-Z]\w*)(?:<(.*)>)? for )?&?(?:'\w+ )?(?:mut )?([A-Z]\w*)"
+    r"|^(?:pub )?trait (\w+)",
+    re.M,
+)
 # A law: a public function without parameters and result. Its body is empty, or calls other laws.
 LAW = re.compile(r"^pub fn (\w+)(?:<[^>]*>)?\(\)$", re.M)
-# What the prover says where a goal isn't proved, where it knows values at which one is false, and where a proof by hand names what is gone.
-GOAL = re.compile(r"^note: (?:\./)?src/\S+: it is not proved|`search` did not prove", re.M)
-VALUES = re.compile(r"^note: .*(?:allow values at which|may be false: the known facts|the goal fails,? at).*$", re.M)
-NAMES = re.compile(r"has no field|is not in scope|has no `")
+# What stands in front of the arguments of a call: of a method, and of another function.
+METHOD = re.compile(r"\.(\w+)(?=\(|::<)")
+CALLED = re.compile(r"(?<![.\w])(?:(\w+)(?:::<[^()]*>)?::)?(\w+)(?=\(|::<)")
+# What the prover says where a goal isn't proved, where it knows values at which one is false, and
+# where a proof by hand doesn't fit, or names what is gone.
+GOAL = re.compile(r"^note: (?:\./)?src/\S+: it is not proved.*|^.*`search` did not prove.*", re.M)
+VALUES = re.compile(
+    r"^note: .*(?:allow values at which|may be false: the known facts|the goal fails,? at).*", re.M
+)
 PROOF = re.compile(r"^(?:\./)?proofs/\S+: error.*$", re.M)
+NAMES = re.compile(r"has no field|is not in scope|has no `")
+# An error in a text of src/ or specs/, and what it says where the text can't be read.
+WRONG = re.compile(
+    r"^(?:\./)?(?:src|specs)/\S+?:\d+:\d+: error(?:\[[\w-]+\])?: (?:(`[^`]*`): )?(.*)", re.M
+)
+UNREADABLE = re.compile(
+    r"is not in scope|has no field|is no name|operand is missing|expected the end|cannot continue"
+)
 # The most edits of one check: each costs memory.
 MOST = 10
-# Words that say that the prover refuses an edit, and that it doesn't, or that nothing is known.
-REFUSED, PROVED, BAD, UNKNOWN = ("values", "goal", "proof", "names", "law"), "PROVED", "bad edit", "not tried"
+# Words that say that the prover refuses an edit, that it doesn't, and that nothing is known.
+REFUSED = ("values", "goal", "proof", "names", "law")
+PROVED, BAD, UNKNOWN, LEFT = "PROVED", "bad edit", "not tried", "left out"
+
+
+def within(file, name):
+    """The path of what stands in a file of src/ under a name."""
+    module = re.sub(r"^src/|(?:/mod)?\.rt$", "", file).replace("/", "::")
+    return name if module in ("lib", "main") else f"{module}::{name}"
 
 
 def function_at(file, text, place):
@@ -32,12 +58,12 @@ def function_at(file, text, place):
         return None
     if not head[1]:
         return within(file, head[2])
-    owners = [owner for owner in OWNER.finditer(text, 0, head.start())]
+    owners = list(OWNER.finditer(text, 0, head.start()))
     return f"{owner_name(owners[-1])}::{head[2]}" if owners else None
 
 
 def owner_name(owner):
-    """The name that the prover gives to what an impl or a trait has: the type, and behind it the trait."""
+    """The prover's name for what an impl or a trait has: the type, and behind it the trait."""
     trait, given, name, declared = owner.groups()
     return declared or name + (trait or "") + re.sub(r"\W", "", given or "")
 
@@ -49,7 +75,7 @@ def functions_of(edit, here):
         if file.startswith("src/"):
             with open(os.path.join(here, file), encoding="utf-8") as it:
                 text = it.read()
-            # Where an old text begins with the end of what stands before it, its first word counts.
+            # An old text may begin with the indentation of its line.
             start = text.index(old) + len(old) - len(old.lstrip())
             name = function_at(file, text, start)
             if name is None:
@@ -67,23 +93,43 @@ def sources_of(here):
     return found
 
 
-def calls_of(here):
-    """The functions that each function of a crate may call, also by way of others, by their names: a method is any of its name."""
-    bodies, owners = {}, {}
+def laws_of(here):
+    """The paths of the crate's laws."""
+    texts = sources_of(here)
+    return {within(file, law) for file, text in texts.items() for law in LAW.findall(text)}
+
+
+def bodies_of(here):
+    """The text of each function of a crate, without comments, by its path."""
+    found = {}
     for file, text in sources_of(here).items():
         heads = list(HEAD.finditer(text))
-        for head, following in zip(heads, [*heads[1:], None]):
+        for head, end in zip(heads, [*(it.start() for it in heads[1:]), len(text)]):
             name = function_at(file, text, head.end()) or within(file, head[2])
-            body = re.sub(r"//.*", "", text[head.end() : following.start() if following else len(text)])
-            bodies[name] = body.replace("Self::", f"{name.split('::')[-2] if '::' in name else ''}::")
-            owners.setdefault(head[2], set()).add(name)
+            body = re.sub(r"//.*", "", text[head.end() : end])
+            found[name] = body.replace("Self::", f"{owner_of(name)}::")
+    return found
+
+
+def owner_of(name):
+    """The type of a method's path, or "" of another function's."""
+    owner = name.split("::")[-2] if "::" in name else ""
+    return owner if owner[:1].isupper() else ""
+
+
+def calls_of(here):
+    """The functions that each function of a crate may call, also by way of others. A method that
+    is called may be any of its name."""
+    bodies, named = bodies_of(here), {}
+    for name in bodies:
+        named.setdefault(name.split("::")[-1], set()).add(name)
     found = {}
     for name, body in bodies.items():
-        called = {it for word in re.findall(r"\.(\w+)(?=\(|::<)", body) for it in owners.get(word, ()) if is_method(it)}
-        for owner, word in re.findall(r"(?<![.\w])(?:(\w+)(?:::<[^()]*>)?::)?(\w+)(?=\(|::<)", body):
-            of_type = owner[:1].isupper()
-            called |= {it for it in owners.get(word, ()) if is_method(it) == of_type and (not of_type or it.split("::")[-2].startswith(owner))}
-        found[name] = called
+        methods = [it for word in METHOD.findall(body) for it in named.get(word, ())]
+        found[name] = {it for it in methods if owner_of(it)}
+        for owner, word in CALLED.findall(body):
+            owner = owner if owner[:1].isupper() else ""
+            found[name] |= {it for it in named.get(word, ()) if is_of(owner, it)}
     for through in found:
         for names in found.values():
             if through in names:
@@ -91,27 +137,17 @@ def calls_of(here):
     return found
 
 
-def is_method(name):
-    """Whether a function's path has a type."""
-    return "::" in name and name.split("::")[-2][:1].isupper()
-
-
-def laws_of(here):
-    """The paths of the crate's laws."""
-    return {within(file, law) for file, text in sources_of(here).items() for law in LAW.findall(text)}
-
-
-def within(file, name):
-    """The path of what stands in a file of src/ under a name."""
-    module = re.sub(r"^src/|(?:/mod)?\.rt$", "", file).replace("/", "::")
-    return name if module in ("lib", "main") else f"{module}::{name}"
+def is_of(owner, name):
+    """Whether a function is one of this type's, or none of a type if that is ""."""
+    return owner_of(name).startswith(owner) if owner else not owner_of(name)
 
 
 class Round:
     """Edits of distinct functions, none of which calls another one's, that one check judges."""
 
     def __init__(self, calls):
-        self.calls, self.edits, self.turned, self.judged, self.texts = calls, [], set(), set(), {}
+        self.calls, self.edits, self.texts = calls, [], {}
+        self.turned, self.judged = set(), set()
 
     def takes(self, edit, turned, judged, here):
         """Adds an edit if it fits, and tells whether it did."""
@@ -152,41 +188,45 @@ def rounds_of(edits, here):
 
 
 def unreadable(said):
-    """The line that says that a text of src/ or specs/ can't be read, so that no contract was tried."""
-    for line in said.text.split("\n"):
-        found = re.match(r"(?:\./)?(?:src|specs)/\S+?:\d+:\d+: error(?:\[[\w-]+\])?: (?:(`[^`]*`): )?(.*)", line)
-        if found and (not found[1] or re.search(r"is not in scope|has no field|is no name|operand is missing|expected the end|cannot continue", found[2])):
-            return line
+    """What says that a text of src/ or specs/ can't be read, so that no contract was tried."""
+    for found in WRONG.finditer(said.text):
+        if not found[1] or UNREADABLE.search(found[2]):
+            return found[0]
     return ""
 
 
 def told_of(said, function):
-    """What is said of a function: the lines between the one on the function before it and its own, and those that name its proof's file."""
+    """What is said of a function: what stands between the line of the one before it and its own,
+    and the lines that name a file of its proof."""
     blocks, told = re.split(r"^(?=fn )", said.text, flags=re.M), []
     for before, block in zip(blocks, blocks[1:]):
         name = re.match(r"fn \w+::(\S+):", block)
         if name and f"::{name[1]}".endswith(f"::{function}"):
-            told.append("\n".join(before.split("\n")[1:]) + "\n" + block.split("\n")[0])
+            # The block before begins with the line of the function before.
+            told += [*before.split("\n")[1:], block.split("\n")[0]]
             folder = f"proofs/{name[1].replace('::', '/')}/"
-            told += [line for line in said.text.split("\n") if folder in line and (VALUES.match(line) or PROOF.match(line))]
+            lines = [line for line in said.text.split("\n") if folder in line]
+            told += [line for line in lines if VALUES.match(line) or PROOF.match(line)]
     return "\n".join(told)
 
 
 def why(said, function):
-    """Why a function isn't proved, in a word and with the line that says it best. None if it is, or if it calls one that isn't: then its
-    own goals may be left for that alone."""
-    lines = [line for line in said.of(function) if line.startswith(("not proved", "no proof"))]
+    """Why a function isn't proved, in a word and with the line that says it best. None if it is,
+    or if it calls one that isn't: its own goals may then be left for that alone."""
+    lines = [line for line in said.of(function) if is_unproved(line)]
     if not lines or any("it calls `" in line for line in lines):
         return None
     told = told_of(said, function)
     refused = PROOF.findall(told)
-    for word, found in (("values", VALUES.findall(told)), ("goal", [it for it in told.split("\n") if GOAL.search(it)])):
+    names = [line for line in refused if NAMES.search(line)]
+    reasons = (("values", VALUES.findall(told)), ("names", names), ("goal", GOAL.findall(told)))
+    for word, found in (*reasons, ("proof", refused or lines)):
         if found:
             return word, found[0].strip()
-    names = [line for line in refused if NAMES.search(line)]
-    if names:
-        return "names", names[0].strip()
-    return "proof", (refused or lines)[0].strip()
+
+
+def is_unproved(line):
+    return line.startswith(("not proved", "no proof"))
 
 
 def best(found):
@@ -195,47 +235,50 @@ def best(found):
 
 
 def by_functions(said, functions):
-    """The word of an edit that these functions have to refuse, the line that says it best, and those that refuse it."""
+    """The word of an edit that these functions have to refuse, the line that says it best, and
+    those that refuse it."""
     if unreadable(said):
         return BAD, unreadable(said), []
     if not said.reached():
         return UNKNOWN, said.text.strip().split("\n")[-1], []
     found = {name: why(said, name) for name in functions}
     refused = sorted(name for name, reason in found.items() if reason)
-    if not refused:
-        is_sure = all(said.of(name) and all(it == "proved" for it in said.of(name)) for name in functions)
-        return (PROVED, "", []) if is_sure else (UNKNOWN, "no line says of its function that it is proved", [])
-    word, line = best(found[name] for name in refused)
-    return word, line, refused
+    if refused:
+        return *best(found[name] for name in refused), refused
+    lines = [said.of(name) for name in functions]
+    if all(it and set(it) == {"proved"} for it in lines):
+        return PROVED, "", []
+    return UNKNOWN, "no line says that its function is proved", []
 
 
 def by_laws(said, laws):
     """The same of an edit that turns a definition, and that one of these laws has to refuse."""
     word, line, refused = by_functions(said, laws)
-    return ("law", f"{', '.join(refused)}: {line}", refused) if word in REFUSED else (word, line, refused)
+    if word not in REFUSED:
+        return word, line, refused
+    return "law", f"{', '.join(refused)}: {line}", refused
 
 
 def by_all(said, edit, laws):
-    """The same by a check of the whole crate."""
+    """The same of any edit, by a check of the whole crate."""
     if unreadable(said):
         return BAD, unreadable(said), []
     if not said.reached():
         return UNKNOWN, said.text.strip().split("\n")[-1], []
     if said.status == 0:
         return PROVED, "", []
-    unproved = {name for name in said.lines if any(line.startswith(("not proved", "no proof")) for line in said.lines[name])}
-    found = {name: why(said, name) for name in unproved}
+    found = {name: why(said, name) for name in said.lines}
     own = sorted(name for name, reason in found.items() if reason)
-    if edit.turns_a_definition() and own and set(own) <= laws:
-        return "law", ", ".join(own), own
     if not own:
         return UNKNOWN, "no function is refused by itself", []
-    word, line = best(found[name] for name in own)
-    return word, line, own
+    if edit.turns_a_definition() and set(own) <= laws:
+        return "law", ", ".join(own), own
+    return *best(found[name] for name in own), own
 
 
 def is_good(edit, word, is_twin_proved):
-    """Whether an edit is refused as it should be: at a goal, by laws alone if it turns a definition, or by a proof where its twin is proved."""
+    """Whether an edit is refused as it should be: at a goal, by a proof where its twin is proved,
+    or by laws if it turns a definition."""
     if edit.turns_a_definition():
         return word == "law"
-    return word in ("values", "goal") or word == "proof" and is_twin_proved
+    return word in ("values", "goal") or word == "proof" and bool(is_twin_proved)

@@ -1,4 +1,4 @@
-"""Has the prover judge texts that differ from a crate's own, over the libraries that stand built."""
+"""Has the prover judge texts that differ from a crate's own, over the libraries that are built."""
 import contextlib
 import os
 import re
@@ -41,6 +41,12 @@ def library(crate):
     return os.path.join(TOP, "crates", crate, "out", "rlib", f"{crate}.rlib")
 
 
+def root(here):
+    """The first file of a crate: of a program or of a library."""
+    is_program = os.path.isfile(os.path.join(here, "src", "main.rt"))
+    return "src/main.rt" if is_program else "src/lib.rt"
+
+
 class Said:
     """What a check said."""
 
@@ -52,7 +58,8 @@ class Said:
 
     def of(self, wanted):
         """The lines of the function whose path ends so."""
-        return [line for name, lines in self.lines.items() if f"::{name}".endswith(f"::{wanted}") for line in lines]
+        names = [name for name in self.lines if f"::{name}".endswith(f"::{wanted}")]
+        return [line for name in names for line in self.lines[name]]
 
     def reached(self):
         """Whether the check came as far as the proofs, and ended there."""
@@ -67,7 +74,8 @@ def started(words, here, out):
     """Begins a check, unless all are to stop."""
     if STOPPED.is_set():
         raise SystemExit("edits: stopped")
-    process = subprocess.Popen(words, cwd=here, stdin=subprocess.DEVNULL, stdout=out, stderr=subprocess.STDOUT)
+    how = {"stdin": subprocess.DEVNULL, "stdout": out, "stderr": subprocess.STDOUT}
+    process = subprocess.Popen(words, cwd=here, **how)
     RUNNING.add(process)
     return process
 
@@ -80,14 +88,15 @@ def stop():
 
 
 class Room:
-    """A copy of a crate's text, and of those below it that are turned too. What its checks prove it keeps."""
+    """A copy of a crate's text, and of those below it that are turned too. It keeps what its checks
+    prove."""
 
     def __init__(self, crate, named, folder, turned=()):
         self.crate, self.named, self.seconds = crate, named, 0.0
         self.folder = tempfile.mkdtemp(prefix=f"{crate}-", dir=folder)
         self.here = os.path.join(self.folder, crate)
         ours = below(crate, named)
-        # A crate between two that are turned is read as source, too, since its library stands over the one as it was.
+        # What stands over a turned crate is read as source, too: its library is over the other.
         self.sources = [name for name in ours[1:] if set(below(name, named)) & set(turned)]
         for name in [crate, *self.sources]:
             for part in tables.PARTS:
@@ -107,20 +116,22 @@ class Room:
         named = {name for reader in readers for name in self.named[reader]} | {"std"}
         words = ["-L", f"dependency={KIT}/rlibs"]
         for name in sorted(named - set(self.sources)):
-            words += ["--extern", f"{name}={library(name) if name in ours else f'{KIT}/rlibs/{name}.rlib'}"]
+            built = library(name) if name in ours else f"{KIT}/rlibs/{name}.rlib"
+            words += ["--extern", f"{name}={built}"]
         for name in ours:
             if name in self.sources:
-                words += ["--lib", f"{name}:{','.join(['std', *self.named[name]])}={self.folder}/{name}/src/lib.rt"]
+                uses = ",".join(["std", *self.named[name]])
+                words += ["--lib", f"{name}:{uses}={self.folder}/{name}/src/lib.rt"]
             else:
                 words += ["-L", f"dependency={os.path.dirname(library(name))}"]
         return words
 
     def words(self):
         """The prover's words for a check of the crate."""
-        root = next(it for it in ("src/lib.rt", "src/main.rt") if os.path.isfile(os.path.join(self.here, it)))
-        words = [os.path.join(KIT, "bin", "rattle"), "check", "--crate-name", self.crate, root, *self.given()]
-        words += ["--antt-project", f"{KIT}/rattle/logic/antt-project.json", "--logic-built", f"{KIT}/logic_built"]
-        return [*words, "--links", f"{self.crate}=", "--jobs", "1", "--incremental", self.seed]
+        words = [f"{KIT}/bin/rattle", "check", "--crate-name", self.crate, root(self.here)]
+        words += [*self.given(), "--antt-project", f"{KIT}/rattle/logic/antt-project.json"]
+        words += ["--logic-built", f"{KIT}/logic_built", "--links", f"{self.crate}="]
+        return [*words, "--jobs", "1", "--incremental", self.seed]
 
     def check(self, only=()):
         """Has the crate checked as it stands, or these functions alone."""
@@ -142,24 +153,29 @@ class Room:
 def prove(crate):
     """Has a crate proved as it stands, and its library built. That takes a second where it is."""
     here = os.path.join(TOP, "crates", crate)
-    verb = "check" if os.path.isfile(os.path.join(here, "src", "main.rt")) else "lib"
-    done = subprocess.run(["rt", verb, "--jobs", "1"], cwd=here, stdin=subprocess.DEVNULL, capture_output=True, text=True)
+    words = ["rt", "check" if root(here) == "src/main.rt" else "lib", "--jobs", "1"]
+    how = {"stdin": subprocess.DEVNULL, "capture_output": True, "text": True}
+    done = subprocess.run(words, cwd=here, **how)
     if done.returncode:
         raise SystemExit(f"edits: {crate} itself isn't proved:\n{done.stdout[-1500:]}")
 
 
 def ready(crate, named, is_gate=False):
-    """Has the crate and what it stands on proved. Behind `rt ci` they are, and its libraries have no stamp."""
-    libraries = below(crate, named)[:0:-1]
+    """Has the crate and what it stands on proved. Behind `rt ci` they are: there libraries have no
+    stamp."""
     if not is_gate:
         prove(crate)
-    elif any(not os.path.isdir(library(it)) or os.path.isfile(f"{os.path.dirname(library(it))}/stamp") for it in libraries):
-        for it in libraries:
+        return
+    built = {it: library(it) for it in below(crate, named)[:0:-1]}
+    stamps = [os.path.join(os.path.dirname(it), "stamp") for it in built.values()]
+    if any(map(os.path.isfile, stamps)) or not all(map(os.path.isdir, built.values())):
+        for it in built:
             prove(it)
 
 
 def linked(one, other):
-    """Copies a file of kept work, what was proved by a link: a check replaces such a file, and changes none."""
+    """Copies a file of kept work, and what was proved by a link: a check replaces such a file, and
+    changes none."""
     with contextlib.suppress(OSError):
         os.remove(other)
     with contextlib.suppress(OSError):

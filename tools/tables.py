@@ -107,19 +107,20 @@ def turned(edit, here, pairs=None, before=None):
             with open(os.path.join(here, file), encoding="utf-8") as it:
                 after[file] = it.read()
         if after[file].count(old) != 1:
-            line = old.strip().split("\n")[0]
-            raise ValueError(f"{edit.label}: {file} has its old text {after[file].count(old)} times: {line}")
+            line, count = old.strip().split("\n")[0], after[file].count(old)
+            raise ValueError(f"{edit.label}: {file} has its old text {count} times: {line}")
         after[file] = after[file].replace(old, new)
     return after
 
 
 def misplaced(edit):
     """What is wrong with the old texts of an edit and of its twin."""
-    faults = []
-    for pairs in filter(None, (edit.pairs, edit.twin)):
-        for file in dict.fromkeys(file for file, _, _ in pairs):
+    here, faults = os.path.join(TOP, "crates", edit.crate), []
+    for pairs in (edit.pairs, edit.twin):
+        after = {}
+        for pair in pairs:
             try:
-                turned(edit, os.path.join(TOP, "crates", edit.crate), [it for it in pairs if it[0] == file])
+                after = turned(edit, here, [pair], after)
             except (ValueError, OSError) as fault:
                 faults.append(str(fault))
     return faults
@@ -134,15 +135,17 @@ def asked():
 def missing(edits):
     """What is wrong between the specification's names and the edits that bear one."""
     names, borne = asked(), {edit.specification for edit in edits} - {""}
-    faults = [f"{name}: no edit bears this name of the specification" for name in names if name not in borne]
-    return faults + [f"{name}: the specification has no such wrong body" for name in sorted(borne - set(names))]
+    without = [name for name in names if name not in borne]
+    faults = [f"{name}: no edit bears this name of the specification" for name in without]
+    others = sorted(borne - set(names))
+    return faults + [f"{name}: the specification has no such wrong body" for name in others]
 
 
 def text_of(crate):
     """The sum of all that a crate's proof is made from, but what stands below it."""
-    total = hashlib.sha256()
+    total, here = hashlib.sha256(), os.path.join(TOP, "crates", crate)
     for part in PARTS:
-        for path in sorted(glob.glob(os.path.join(TOP, "crates", crate, part, "**", "*.*t"), recursive=True)):
+        for path in sorted(glob.glob(os.path.join(here, part, "**", "*.*t"), recursive=True)):
             with open(path, "rb") as file:
                 total.update(repr((os.path.relpath(path, TOP), file.read())).encode())
     return total.hexdigest()[:16]
@@ -180,7 +183,8 @@ def note(crate, edits, head):
     if head:
         begin, edits_begin, rest = table.partition("\n[[")
         said = [line for line in begin.split("\n") if line.startswith("#")]
-        table = "\n".join([*said, *(f"{word} = {value}" for word, value in head.items()), ""]) + edits_begin + rest
+        said += [f"{word} = {value}" for word, value in head.items()]
+        table = "\n".join([*said, ""]) + edits_begin + rest
     tomllib.loads(table)
     with open(place(crate), "w", encoding="utf-8") as file:
         file.write(table)

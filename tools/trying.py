@@ -1,4 +1,5 @@
-"""Tries must-fail edits: many at once where one check can judge them, and what that doesn't refuse alone."""
+"""Tries must-fail edits: many at once where one check can judge them, and what that doesn't refuse
+alone."""
 import contextlib
 import dataclasses
 import os
@@ -22,9 +23,6 @@ class Verdict:
     twin: bool | None = None
     seconds: float = 0.0
 
-    def is_refused(self):
-        return self.word in judging.REFUSED
-
     def is_good(self):
         return self.twin is not False and judging.is_good(self.edit, self.word, self.twin)
 
@@ -32,10 +30,9 @@ class Verdict:
 class Trier:
     """Tries edits of one crate that turn the same crates below it, over one room."""
 
-    def __init__(self, crate, named, folder, far=(), is_gate=False, log=None):
-        self.crate, self.named, self.folder, self.far = crate, named, folder, far
-        self.is_gate, self.log = is_gate, log
-        self.room = prover.Room(crate, named, folder, far)
+    def __init__(self, room, log=None, may=None):
+        # Of the gate: whether there is time left for these edits.
+        self.room, self.log, self.may, self.is_gate = room, log, may, may is not None
 
     @contextlib.contextmanager
     def put(self, texts):
@@ -61,8 +58,9 @@ class Trier:
             if said.status < 0:
                 said = self.room.check(only)
         if self.log:
-            os.makedirs(os.path.join(self.log, self.crate), exist_ok=True)
-            with open(os.path.join(self.log, self.crate, f"{name}.txt"), "a", encoding="utf-8") as file:
+            os.makedirs(os.path.join(self.log, self.room.crate), exist_ok=True)
+            path = os.path.join(self.log, self.room.crate, f"{name}.txt")
+            with open(path, "a", encoding="utf-8") as file:
                 file.write(f"only: {' '.join(only)}\n{said.text}\n")
         return said
 
@@ -71,6 +69,9 @@ class Trier:
         rounds, alone = judging.rounds_of(edits, self.room.here)
         again = []
         for number, one in enumerate(rounds):
+            if self.is_gate and not self.may([edit for edit, _ in one.edits]):
+                yield from (Verdict(edit, judging.LEFT) for edit, _ in one.edits)
+                continue
             before = self.room.seconds
             only = sorted(one.judged)
             said = self.checked(f"round-{number}", one.texts, only)
@@ -87,7 +88,10 @@ class Trier:
             yield self.alone(edit, edit.refused_by)
 
     def alone(self, edit, judged):
-        """The verdict of an edit that is tried alone: by these functions, and if they don't refuse it by all of the crate."""
+        """The verdict of an edit that is tried alone: by these functions, and if they don't refuse
+        it by all of the crate."""
+        if self.is_gate and not self.may([edit]):
+            return Verdict(edit, judging.LEFT)
         before = self.room.seconds
         texts = tables.turned(edit, self.room.here)
         found = judging.UNKNOWN, "", []
@@ -98,17 +102,19 @@ class Trier:
             by = judging.by_laws if edit.turns_a_definition() else judging.by_functions
             found = by(self.checked(edit.name, texts, sorted(judged)), judged)
         if found[0] not in judging.REFUSED and not (self.is_gate and self.is_dear(edit)):
-            found = judging.by_all(self.checked(edit.name, texts), edit, judging.laws_of(self.room.here))
+            laws = judging.laws_of(self.room.here)
+            found = judging.by_all(self.checked(edit.name, texts), edit, laws)
         return self.with_twin(Verdict(edit, *found, seconds=self.room.seconds - before))
 
     def is_dear(self, edit):
-        """Whether the gate leaves out a check of the whole crate: nothing hangs on an edit that was never seen refused."""
+        """Whether the gate leaves out a check of the whole crate: nothing hangs on an edit that was
+        never seen refused."""
         return not edit.seen and not edit.specification
 
     def with_twin(self, verdict):
-        """The verdict, with whether the edit's twin is proved. The gate asks only where that decides."""
-        edit = verdict.edit
-        if edit.twin and verdict.is_refused() and (verdict.word == "proof" or not self.is_gate):
+        """The verdict, with whether the edit's twin is proved. The gate asks if that decides."""
+        edit, is_asked = verdict.edit, verdict.word == "proof" or not self.is_gate
+        if edit.twin and verdict.word in judging.REFUSED and is_asked:
             before = self.room.seconds
             texts = tables.turned(edit, self.room.here, edit.twin)
             said = self.checked(f"{edit.name}-twin", texts, verdict.refused_by)
