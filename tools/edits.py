@@ -58,7 +58,7 @@ import trying
 
 # What the gate spends at most on edits that the specification doesn't name, and for how much of it
 # edits are drawn, in processor seconds.
-BOUND, DRAWN = 1200, 600
+BOUND, DRAWN = 900, 600
 # The most edits that are drawn of a crate.
 MOST = 10
 # The memory that a check takes, in bytes.

@@ -137,6 +137,27 @@ def calls_of(here):
     return found
 
 
+def places_of(here):
+    """The module of each type of a crate, by its name."""
+    found = {}
+    for file, text in sources_of(here).items():
+        for name in re.findall(r"^(?:pub(?:\(\w+\))? )?(?:struct|enum|trait) (\w+)", text, re.M):
+            found[name] = within(file, name)
+    return found
+
+
+def whole_path(name, places):
+    """The path of a function below its crate, as its proof's folder has it, or None."""
+    owner = owner_of(name)
+    if not owner:
+        return name
+    types = [it for it in places if owner.startswith(it)]
+    if not types:
+        return None
+    of = max(types, key=len)
+    return f"{places[of]}{owner[len(of):]}::{name.split('::')[-1]}"
+
+
 def is_of(owner, name):
     """Whether a function is one of this type's, or none of a type if that is ""."""
     return owner_of(name).startswith(owner) if owner else not owner_of(name)
@@ -229,6 +250,11 @@ def is_unproved(line):
     return line.startswith(("not proved", "no proof"))
 
 
+def is_proved(line):
+    """Whether a function is proved, or would be but for a hole in the proof of what it calls."""
+    return line in ("proved", "no holes") or line.startswith("depends on a hole")
+
+
 def best(found):
     """The strongest of some reasons."""
     return min(found, key=lambda it: REFUSED.index(it[0]))
@@ -246,7 +272,7 @@ def by_functions(said, functions):
     if refused:
         return *best(found[name] for name in refused), refused
     lines = [said.of(name) for name in functions]
-    if all(it and set(it) == {"proved"} for it in lines):
+    if all(it and all(map(is_proved, it)) for it in lines):
         return PROVED, "", []
     return UNKNOWN, "no line says that its function is proved", []
 

@@ -103,7 +103,7 @@ class Room:
                 whole = os.path.join(TOP, "crates", name, part)
                 if os.path.isdir(whole):
                     shutil.copytree(whole, os.path.join(self.folder, name, part))
-        self.seed = os.path.join(self.folder, "seed")
+        self.seed, self.holes = os.path.join(self.folder, "seed"), []
         os.mkdir(self.seed)
         for name in [*self.sources, crate]:
             kept = os.path.join(TOP, "crates", name, "out", "incremental")
@@ -131,7 +131,37 @@ class Room:
         words = [f"{KIT}/bin/rattle", "check", "--crate-name", self.crate, root(self.here)]
         words += [*self.given(), "--antt-project", f"{KIT}/rattle/logic/antt-project.json"]
         words += ["--logic-built", f"{KIT}/logic_built", "--links", f"{self.crate}="]
+        words += ["--allow-holes"] if self.holes else []
         return [*words, "--jobs", "1", "--incremental", self.seed]
+
+    def is_new(self):
+        """Whether no check has kept work there yet."""
+        return not os.listdir(self.seed)
+
+    @contextlib.contextmanager
+    def taken(self, functions):
+        """Has functions taken by their contracts, with a hole in place of each proof."""
+        self.holes = [os.path.join("proofs", *name.split("::")) for name in functions]
+        try:
+            for hole, name in zip(self.holes, functions):
+                self.put_hole(os.path.join(self.here, hole), name)
+            yield
+        finally:
+            for hole in self.holes:
+                shutil.rmtree(os.path.join(self.here, hole), ignore_errors=True)
+                whole = os.path.join(TOP, "crates", self.crate, hole)
+                if os.path.isdir(whole):
+                    shutil.copytree(whole, os.path.join(self.here, hole))
+            self.holes = []
+
+    def put_hole(self, folder, name):
+        """Writes the proof of a function as a hole."""
+        shutil.rmtree(folder, ignore_errors=True)
+        os.makedirs(folder)
+        module, last = name.replace("::", "."), name.split("::")[-1]
+        with open(os.path.join(folder, "Proof.antt"), "w", encoding="utf-8") as file:
+            file.write(f"use Rattle.{self.crate}.proofs.{module}.Statement as stated\n\n")
+            file.write(f"pub {last}_spec : {{M : Type 1}} → stated.statement M\n{last}_spec = ?\n")
 
     def check(self, only=()):
         """Has the crate checked as it stands, or these functions alone."""

@@ -33,6 +33,7 @@ class Trier:
     def __init__(self, room, log=None, may=None):
         # Of the gate: whether there is time left for these edits.
         self.room, self.log, self.may, self.is_gate = room, log, may, may is not None
+        self.has_work = not room.is_new()
 
     @contextlib.contextmanager
     def put(self, texts):
@@ -74,7 +75,8 @@ class Trier:
                 continue
             before = self.room.seconds
             only = sorted(one.judged)
-            said = self.checked(f"round-{number}", one.texts, only)
+            with self.room.taken(self.called(one)):
+                said = self.checked(f"round-{number}", one.texts, only)
             share = (self.room.seconds - before) / len(one.edits)
             for edit, judged in one.edits:
                 word, line, refused = judging.by_functions(said, judged)
@@ -86,6 +88,15 @@ class Trier:
             yield self.alone(edit, judged if is_new else ())
         for edit in alone:
             yield self.alone(edit, edit.refused_by)
+
+    def called(self, one):
+        """The functions that a round's functions call. Behind `rt ci` they were proved just now, but
+        nothing of that is kept: so their contracts are taken for granted."""
+        if not self.is_gate or self.has_work:
+            return []
+        reached = set().union(*(one.calls.get(name, set()) for name in one.judged)) - one.judged
+        places = judging.places_of(self.room.here)
+        return sorted(filter(None, (judging.whole_path(name, places) for name in reached)))
 
     def alone(self, edit, judged):
         """The verdict of an edit that is tried alone: by these functions, and if they don't refuse
