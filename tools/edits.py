@@ -215,12 +215,15 @@ def gate(given):
     asked, drawn, changed = planned(given.date)
     told = f"{len(asked)} of the specification, {len(drawn)} drawn by --date {given.date}"
     print(f"edits: {told}, {len(changed)} of changed crates", flush=True)
-    counts, spent = {True: 0, False: 0, None: 0}, {True: 0.0, False: 0.0}
+    counts, spent = {True: 0, False: 0, None: 0, judging.LEFT: 0}, {True: 0.0, False: 0.0}
 
     def may(edits):
         return any(edit.specification for edit in edits) or spent[False] < BOUND
 
     def tell(verdict):
+        if verdict.word == judging.LEFT:
+            counts[judging.LEFT] += 1
+            return
         is_passed = passes(verdict)
         counts[is_passed] += 1
         spent[bool(verdict.edit.specification)] += verdict.seconds
@@ -230,7 +233,8 @@ def gate(given):
 
     tried([*asked, *drawn, *changed], given, tell, may)
     told = f"{spent[True]:.0f} s for the specification's, {spent[False]:.0f} s for the others"
-    print(f"edits: {told}; {counts[None]} were left out or count for nothing")
+    left = f"{counts[judging.LEFT]} left out, {counts[None]} that count for nothing"
+    print(f"edits: {told}; {left}")
     return counts[True], counts[False]
 
 
