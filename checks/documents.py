@@ -39,7 +39,7 @@ PLAIN += [f"docs/{name}.md" for name in ("PROFILE", "INTEROPERABILITY", "LIBRARY
 PLAIN += [f"docs/{name}.md" for name in ("PROOFS", "MISREADINGS", "MISREADINGS_GATEWAY", "CHANGING")]
 PLAIN += [f"docs/{name}.md" for name in ("ARCHITECTURE", "DECISIONS", "MISREADINGS_PROGRAM", "TESTS", "GATE")]
 # What a sentence names as a file: a path with one of these endings, or in one of these folders.
-NAMED = re.compile(r"`?(?<![\w/])((?:bench|checks|crates|docs|examples|packaging|tests|tools|specs|src|\.ci)/[\w./*-]*\w|[\w-]+\.(?:md|txt|py))`?")
+NAMED = re.compile(r"`?(?<![\w/])((?:bench|checks|crates|docs|edits|examples|packaging|tests|tools|specs|src|\.ci)/[\w./*-]*\w|[\w-]+\.(?:md|txt|py))`?")
 
 # What cites a demand of another paper: a capital letter with a number (R32 is a type of the
 # standard), or a section or row of a paper that isn't here.

@@ -38,13 +38,13 @@ WORD = re.compile(r"[A-Za-z_][A-Za-z0-9_]*")
 SPAN = re.compile(r"``?([^`\n]+?)``?(?!`)")
 PATH = re.compile(r"(?:[A-Za-z_][A-Za-z0-9_]*::)+[A-Za-z_][A-Za-z0-9_]*(?:\(\))?")
 NAME = re.compile(r"[A-Za-z][A-Za-z0-9_]*(?:\(\))?")
-FILE = re.compile(r"(?:bench|checks|crates|docs|examples|packaging|specs|src|tests|tools)/[\w./-]+\.\w+")
+FILE = re.compile(r"(?:bench|checks|crates|docs|edits|examples|packaging|specs|src|tests|tools)/[\w./-]+\.\w+")
 # A type of the standard (IEC 60870-5-101, 7.2.1), or an octet or a digit in hexadecimal.
 STANDARD = re.compile(r"[MCPF]_[A-Z]{2}_[A-Z]{2}_\d|[0-9A-F]{2}|[A-Z]\w?")
 # Where prose stands beside the crates, and where names stand that are no Rust.
 PAGES = ["README.md", "CONTRIBUTING.md", "SECURITY.md", "docs/*.md", "packaging/*.md", "crates/*/README.md"]
 PAGES += ["docs/pictures/make.py"]
-BESIDE = ["crates/*/must-fail/*", "checks/**/*.py", "bench/**/*", "tools/*.py", "examples/**/*"]
+BESIDE = ["checks/**/*.py", "bench/**/*", "tools/*.py", "examples/**/*"]
 BESIDE += ["packaging/**/*", "crates.txt", "test", "build", "telegate"]
 # What others have: systemd's keys, and what Rust's numbers and texts bring.
 OTHERS = re.compile(r"Limit[A-Z]+|(?:[ui](?:8|16|32|64|128|size)|bool|str|char|f64)::\w+")

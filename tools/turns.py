@@ -28,11 +28,10 @@ import glob
 import os
 import random
 import re
-import subprocess
-import sys
 import tempfile
 
-import edits
+import judging
+import prover
 
 # Worked examples, what a checkpoint keeps of a state, and what is only in another place.
 PASSED_OVER = re.compile(r"Examples|Lib|Restored|Saved|Borrowed")
@@ -139,7 +138,7 @@ def modules_of(here):
     source, found = os.path.join(here, "src"), []
     for path in sorted(glob.glob(os.path.join(source, "**", "*.rt"), recursive=True)):
         with open(path) as file:
-            if edits.LAW.search(file.read()):
+            if judging.LAW.search(file.read()):
                 found.append(os.path.relpath(path, source)[:-3].replace(os.sep, "::"))
     return found
 
@@ -153,10 +152,16 @@ def tried(turn, check):
     for number, line in changed.items():
         lines[number] = line
     try:
-        edits.put({path: "\n".join(lines)})
+        put(path, "\n".join(lines))
         return check()
     finally:
-        edits.put({path: before})
+        put(path, before)
+
+
+def put(path, text):
+    """Writes a file."""
+    with open(path, "w") as file:
+        file.write(text)
 
 
 def shown(turn, here):
@@ -166,13 +171,13 @@ def shown(turn, here):
     return "\n    ".join([f"{place} {name} ({kind})", *(line.strip() for line in changed.values())])
 
 
-def verdict(turn, here, said, is_proved):
+def verdict(turn, here, said):
     """The word of a turn, and the laws that it breaks."""
     file = re.escape(os.path.relpath(turn[0], here))
-    if re.search(rf"^(\./)?{file}:\S+ error: ", said, re.M):
+    if re.search(rf"^(\./)?{file}:\S+ error: ", said.text, re.M):
         return "no turn", []
-    laws = sorted(set(re.findall(r"^fn \S*?(\w+): (?!proved)", said, re.M)))
-    if is_proved:
+    laws = sorted(name.split("::")[-1] for name, lines in said.lines.items() if lines != ["proved"])
+    if said.status == 0:
         return "STAYS", laws
     return "refused" if not laws or any("example" not in law for law in laws) else "BY EXAMPLE", laws
 
@@ -180,24 +185,14 @@ def verdict(turn, here, said, is_proved):
 def of_crate(crate, given, named):
     """Tries turns of a crate and tells of each. Answers the word of each."""
     told = []
-    with tempfile.TemporaryDirectory() as room:
-        here = edits.copied(crate, room, named)
-        laws = given.law or modules_of(here)
-        command = ["rt", "check", "--jobs", "1", *(word for law in laws for word in ("--only", law))]
-
-        def check():
-            done = subprocess.run(
-                command, cwd=here, stdin=subprocess.DEVNULL, stdout=subprocess.PIPE, stderr=subprocess.STDOUT, text=True
-            )
-            return done.stdout, done.returncode == 0
-
-        said, is_proved = check()
-        if not is_proved:
-            sys.exit(f"turns: the laws of {crate} aren't proved as they are:\n{said[-1000:]}")
-        for turn in drawn(turns_of(here, given.files), given.seed, given.count):
-            word, laws = verdict(turn, here, *tried(turn, check))
+    prover.ready(crate, named)
+    with tempfile.TemporaryDirectory() as folder:
+        room = prover.Room(crate, named, folder)
+        laws = given.law or modules_of(room.here)
+        for turn in drawn(turns_of(room.here, given.files), given.seed, given.count):
+            word, refused = verdict(turn, room.here, tried(turn, lambda: room.check(laws)))
             told.append(word)
-            print("\n    > ".join([f"{word} {crate}/{shown(turn, here)}", *filter(None, [" ".join(laws)])]), flush=True)
+            print("\n    > ".join([f"{word} {crate}/{shown(turn, room.here)}", *filter(None, [" ".join(refused)])]), flush=True)
     return told
 
 
@@ -210,10 +205,10 @@ def main():
     words.add_argument("--list", action="store_true")
     words.add_argument("crate", nargs="+", metavar="CRATE")
     given = words.parse_args()
-    named = edits.libraries()
+    named = prover.libraries()
     told = []
     for crate in given.crate:
-        here = os.path.join(edits.TOP, "crates", crate)
+        here = os.path.join(prover.TOP, "crates", crate)
         if given.list:
             for turn in drawn(turns_of(here, given.files), given.seed, given.count):
                 print(f"{crate}/{shown(turn, here)}")
