@@ -106,14 +106,13 @@ impl<R: Print + Eprint> StandardOutput<'_, R> {
     /// Gives what waits, as far as there is room. `false` says that it can't be written.
     fn give(&mut self) -> bool {
         for _ in 0..MOST_PIECES {
-            let Some(left) = self.waiting.get(self.gone..) else {
-                return true;
-            };
+            let waiting = self.waiting.as_slice();
             // A write that waited would hold up the line and the control centre (docs/DECISIONS.md,
             // "Nobody who reads holds a run up").
-            if left.is_empty() || !has_room(STANDARD_OUTPUT) {
+            if waiting.len() <= self.gone || !has_room(STANDARD_OUTPUT) {
                 return true;
             }
+            let left = &waiting[self.gone..];
             let len = left.len().min(MOST_AT_ONCE);
             if self.rt.write_all(&left[..len]).is_err() {
                 return false;

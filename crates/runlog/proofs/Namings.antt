@@ -11,6 +11,7 @@ use Rattle.runlog.specs.Names.{name_at, name_for, name_in, name_words, named_tex
 use Rattle.runlog.specs.Naming.{AreOthers, IsAbout, IsAboutTheLine, SaysStation, in_brackets}
 use Rattle.runlog.specs.Naming.{Asked, Up, Silent, Again, Down, Gap, OfCommand, Skipped}
 use Rattle.runlog.specs.Naming.{MirrorDropped, Spoilt, Late, Reached, ReachedAgain, Lost, NotThere}
+use Rattle.runlog.specs.Naming.{SilentLine, StillSilent}
 use Rattle.runlog.specs.Notes.{line_text, skip_words, words}
 use Rattle.runlog.specs.OrderWords.{order_words, type_name}
 use Rattle.runlog.specs.declared.fate.CommandFate.TheVariants as fate
@@ -66,6 +67,8 @@ pub says_so : (link : ℕ) (what : Note) → IsAbout link what → SaysStation l
 says_so link what (Asked _) = says_first link what (codes " asked for its status") refl
 says_so link what (Up _) = says_first link what (codes " up") refl
 says_so link what (Silent _) = says_first link what (codes " doesn't answer") refl
+says_so link what (StillSilent _) = says_first link what _
+    (spaced link (codes "still doesn't answer: if it was restarted, restart telegate too"))
 says_so link what (Again _) = says_first link what (codes " answers again") refl
 says_so link what (Down _) = says_first link what (codes " down") refl
 says_so link what (Gap _) = says_first link what (codes " gap: reports of it may be lost") refl
@@ -100,6 +103,7 @@ subject_is : (link : ℕ) (what : Note) → IsAbout link what
 subject_is link what (Asked _) = refl
 subject_is link what (Up _) = refl
 subject_is link what (Silent _) = refl
+subject_is link what (StillSilent _) = refl
 subject_is link what (Again _) = refl
 subject_is link what (Down _) = refl
 subject_is link what (Gap _) = refl
@@ -114,6 +118,7 @@ line_subject what Reached = refl
 line_subject what ReachedAgain = refl
 line_subject what Lost = refl
 line_subject what NotThere = refl
+line_subject what SilentLine = refl
 
 not_it : (a b : ℕ) → (a ≡ b → ⊥) → (a == b) ≡ false
 not_it a b other = grind (arith, other)
@@ -189,7 +194,7 @@ other_subject note.LineReached station line = absurd (line Reached)
 other_subject note.LineReachedAgain station line = absurd (line ReachedAgain)
 other_subject note.LineLost station line = absurd (line Lost)
 other_subject note.LineNotThere station line = absurd (line NotThere)
-other_subject note.LineSilent station line = absurd (line Silent)
+other_subject note.LineSilent station line = absurd (line SilentLine)
 other_subject (note.Listening a) station line = refl
 other_subject (note.Opened a) station line = refl
 other_subject note.Started station line = refl

@@ -32,7 +32,7 @@ pub data IsAboutTheLine : Note → Type 0 where
   ReachedAgain : IsAboutTheLine note.LineReachedAgain
   Lost : IsAboutTheLine note.LineLost
   NotThere : IsAboutTheLine note.LineNotThere
-  Silent : IsAboutTheLine note.LineSilent
+  SilentLine : IsAboutTheLine note.LineSilent
 
 -- the station's number stands in the line's words
 pub record SaysStation (link : ℕ) (what : Note) : Type 0 where

@@ -8,11 +8,11 @@ returns-clause-lines c = (refl, refl)
 
 pub returns-clause-ends : goal.returns-clause-ends
 unfolding digits
-returns-clause-ends c = (refl, refl, refl, refl, refl, refl, refl, refl)
+returns-clause-ends c = (refl, refl, refl, refl, refl, refl, refl, refl, refl, refl)
 
 pub returns-clause-stations : goal.returns-clause-stations
 unfolding digits
-returns-clause-stations c = (refl, refl, refl, refl, refl, refl, refl)
+returns-clause-stations c = (refl, refl, refl, refl, refl, refl, refl, refl)
 
 pub returns-clause-cuts : goal.returns-clause-cuts
 returns-clause-cuts c = (refl, refl, refl)
