@@ -17,6 +17,8 @@ import ends
 RESET, COMMAND, STATUS, CLASS1, CLASS2 = 0, 3, 9, 10, 11
 ACD, FCB = 0x20, 0x20
 SPONTANEOUS, ACTIVATED = 3, 7
+# The bit of a command's value that says select.
+SELECT = 0x80
 
 
 # The sizes that the scripts set, in octets: of cause, common address and object address.
@@ -41,7 +43,9 @@ class Outstation:
         self.urgent = collections.deque()
         self.made = 0
         self.given = 0
+        # The commands that it executed, and those that it was only to select.
         self.accepted = []
+        self.selected = []
         # How many requests had a new frame count bit, and how many resets came. A reset whose answer wasn't sent is repeated, and
         # counts once.
         self.served = 0
@@ -60,14 +64,22 @@ class Outstation:
             return b"\xe5"
         return ends.fixed(function | (ACD if self.has_urgent() else 0), self.address)
 
+    def target(self, octets):
+        """The object address and the value of a command."""
+        place = 2 + self.sizes[0] + self.sizes[1]
+        return int.from_bytes(octets[place : place + self.sizes[2]], "little"), octets[place + self.sizes[2]]
+
+    def forget(self):
+        """It is started again: it knows nothing of its link, and answers nothing but a request for its status until the link is reset."""
+        self.bit = self.last = None
+
     def serve(self, function, octets):
         """The answer to a service whose frame count bit is new."""
         self.served += 1
         if function == COMMAND:
-            place = 2 + self.sizes[0] + self.sizes[1]
-            number = int.from_bytes(octets[place : place + self.sizes[2]], "little")
-            self.accepted.append(number)
-            self.urgent.append(asdu(octets[0], ACTIVATED, self.address, number, octets[place + self.sizes[2]], self.sizes))
+            number, value = self.target(octets)
+            (self.selected if value & SELECT else self.accepted).append(number)
+            self.urgent.append(asdu(octets[0], ACTIVATED, self.address, number, value, self.sizes))
             return self.short(0)
         if function == CLASS1 and self.urgent:
             report = self.urgent.popleft()
@@ -106,6 +118,10 @@ class Field(threading.Thread):
         # The stations that are silent altogether, and whether one is from its next command on.
         self.silent = set()
         self.mute_at_command = False
+        # The commands as they came on the line, repeats among them, each with its station and its object address.
+        self.commands = []
+        # How long an answer takes, in seconds. (A line that never rests takes a whole processor.)
+        self.pause = 0.0
         self.requests = 0
         self.line = None
         self.start()
@@ -134,8 +150,11 @@ class Field(threading.Thread):
         _, address, frame = line.request()
         self.requests += 1
         control = frame[1] if frame[0] == 0x10 else frame[4]
-        if self.mute_at_command and control % 16 == COMMAND:
-            self.silent.add(address)
+        if control % 16 == COMMAND:
+            self.commands.append((address, self.stations[address].target(frame[6:-2])[0]))
+            if self.mute_at_command:
+                self.silent.add(address)
+        time.sleep(self.pause)
         if address in self.silent or self.chance.random() < self.loss:
             return
         station = self.stations[address]
