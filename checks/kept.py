@@ -161,6 +161,9 @@ USUAL = {"cause": 1, "ca": 1, "ioa": 2, "answer_ms": 1000, "retries": 2, "silenc
 # How long it is waited for what must come, in seconds.
 PATIENCE = 60
 
+# How long an answer takes where nothing depends on it, in seconds: a line that never rests takes a processor.
+PAUSE = 0.004
+
 
 def until(holds, seconds=PATIENCE):
     """Waits until this holds, and answers whether it does."""
@@ -202,6 +205,16 @@ class Gateway:
         self.process.wait()
         told = self.logged()
         self.said += told
+        return told
+
+    def end(self, kind):
+        """It is killed or stopped (SIGTERM), or its power is cut; answers what it logged."""
+        if kind == "term":
+            self.process.terminate()
+            self.process.wait(PATIENCE)
+        told = self.kill()
+        if kind == "power":
+            cut_power(self.folder, random.Random(5))
         return told
 
     def logged(self):
@@ -281,6 +294,16 @@ def queue_up(gateway, reports):
     # The answer to the last report's poll is heard, and stands on the disk, once the station's next poll has come.
     served = {station: station.served for station in stations}
     until(lambda: all(station.served > served[station] for station in stations))
+
+
+def has_gone_round(field, turns=6):
+    """Waits until each station has answered so many more requests."""
+    served = {a: s.served for a, s in field.stations.items()}
+    return until(lambda: all(s.served >= served[a] + turns for a, s in field.stations.items()), 20)
+
+
+def gaps(told):
+    return sorted({int(number) for number in re.findall(r"station (\d+) gap", told)})
 
 
 def numbered(gateway, *numbers):

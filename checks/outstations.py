@@ -6,6 +6,7 @@ count bit of the one before, it repeats its last answer. If the bit is new, it g
 report, or accepts the command. The line loses requests and answers at random.
 """
 import collections
+import datetime
 import random
 import select
 import socket
@@ -16,9 +17,10 @@ import ends
 
 RESET, COMMAND, STATUS, CLASS1, CLASS2 = 0, 3, 9, 10, 11
 ACD, FCB = 0x20, 0x20
-SPONTANEOUS, ACTIVATED = 3, 7
-# The bit of a command's value that says select.
-SELECT = 0x80
+SPONTANEOUS, ACTIVATION, CONFIRMATION, NEGATIVE = 3, 6, 7, 0x40
+# Single commands without a time tag and with one; a command's value, and the bit of it that says select.
+SINGLE, TAGGED = 45, 58
+ON, SELECT = 1, 0x80
 
 
 # The sizes that the scripts set, in octets: of cause, common address and object address.
@@ -79,7 +81,7 @@ class Outstation:
         if function == COMMAND:
             number, value = self.target(octets)
             (self.selected if value & SELECT else self.accepted).append(number)
-            self.urgent.append(asdu(octets[0], ACTIVATED, self.address, number, value, self.sizes))
+            self.urgent.append(asdu(octets[0], CONFIRMATION, self.address, number, value, self.sizes))
             return self.short(0)
         if function == CLASS1 and self.urgent:
             report = self.urgent.popleft()
@@ -232,8 +234,72 @@ class Visitor(threading.Thread):
             if (station, number) in self.sure:
                 self.again.append((station, number))
             heard.append((station, number))
-        elif octets[0] == 45 and cause == ACTIVATED and not octets[2] & 0x40:
+        elif octets[0] == 45 and cause == CONFIRMATION and not octets[2] & 0x40:
             self.confirmed.append(number)
+
+
+def tag_now():
+    """The time tag of now (CP56Time2a, UTC)."""
+    now = datetime.datetime.now(datetime.timezone.utc)
+    ms = now.second * 1000 + now.microsecond // 1000
+    return ms.to_bytes(2, "little") + bytes([now.minute, now.hour, now.day, now.month, now.year % 100])
+
+
+def command(station, number, value=ON, kind=SINGLE):
+    """A command in the sizes of 104."""
+    tag = tag_now() if kind == TAGGED else b""
+    return bytes([kind, 1, ACTIVATION, 0, station, 0]) + number.to_bytes(3, "little") + bytes([value]) + tag
+
+
+class Operator:
+    """A control centre on one connection, with data transfer started: what came, and what it sends."""
+
+    def __init__(self, listener, acknowledges=True):
+        self.acknowledges, self.asdus = acknowledges, []
+        end = time.monotonic() + 60
+        while not self.reaches(listener) and time.monotonic() < end:
+            time.sleep(0.01)
+        self.started = False
+        self.centre.send(ends.START)
+        self.waits(lambda: self.started)
+
+    def reaches(self, listener):
+        try:
+            self.centre = ends.Centre(socket.create_connection(listener, timeout=1))
+        except OSError:
+            return False
+        return True
+
+    def hears(self, seconds):
+        """Takes what comes within so many seconds."""
+        apdus = self.centre.heard(seconds) or []
+        for apdu in apdus:
+            if apdu == ends.STARTED:
+                self.started = True
+            elif apdu == ends.TEST:
+                self.centre.send(ends.TESTED)
+            elif apdu[2] % 2 == 0:
+                self.asdus.append(apdu[6:])
+        if not self.acknowledges:
+            # Commands bear this number too.
+            self.centre.received = 0
+        elif any(apdu[2] % 2 == 0 for apdu in apdus):
+            self.centre.acknowledge()
+
+    def waits(self, holds, seconds=20):
+        end = time.monotonic() + seconds
+        while not holds() and time.monotonic() < end:
+            self.hears(0.02)
+        return holds()
+
+    def answers(self, cause):
+        """The commands that were answered with this cause, by station and object address."""
+        found = [asdu for asdu in self.asdus if asdu[0] in (SINGLE, TAGGED) and asdu[2] == cause]
+        return [(asdu[4], int.from_bytes(asdu[6:9], "little")) for asdu in found]
+
+    def reports(self):
+        """The reports that came, by station and number."""
+        return [(asdu[4], int.from_bytes(asdu[6:9], "little")) for asdu in self.asdus if asdu[0] == 1]
 
 
 def faults_of(field, visitor):

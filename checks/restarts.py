@@ -16,99 +16,18 @@ substation.
 
 All of it is on the loopback.
 """
-import datetime
-import random
 import re
-import signal
 import socket
 import tempfile
 import threading
 import time
 
-import ends
 import kept
-from kept import alone, cut_power, drained, looked, numbered, queue_up, quiet, resets_of, shadowed, until
+from kept import PAUSE, alone, drained, gaps, has_gone_round, looked, queue_up, quiet, resets_of, shadowed, until
+from outstations import CONFIRMATION, NEGATIVE, ON, SELECT, SINGLE, TAGGED, Operator, command
 
-ACTIVATION, CONFIRMATION, NEGATIVE = 6, 7, 0x40
-SINGLE, TAGGED = 45, 58
-ON, SELECT = 1, 0x80
 # A common address that no station has: the gateway itself answers a command to it.
 NOWHERE = 200
-# How long an answer takes, in seconds: a busy line takes a processor.
-PAUSE = 0.004
-
-
-def tag_now():
-    """The time tag of now (CP56Time2a, UTC)."""
-    now = datetime.datetime.now(datetime.timezone.utc)
-    ms = now.second * 1000 + now.microsecond // 1000
-    return ms.to_bytes(2, "little") + bytes([now.minute, now.hour, now.day, now.month, now.year % 100])
-
-
-def command(station, number, value=ON, kind=SINGLE):
-    """A command in the sizes of 104."""
-    tag = tag_now() if kind == TAGGED else b""
-    return bytes([kind, 1, ACTIVATION, 0, station, 0]) + number.to_bytes(3, "little") + bytes([value]) + tag
-
-
-class Operator:
-    """A control centre on one connection, with data transfer started: what came, and what it sends."""
-
-    def __init__(self, listener, acknowledges=True):
-        self.acknowledges, self.asdus = acknowledges, []
-        until(lambda: self.reaches(listener))
-        self.started = False
-        self.centre.send(ends.START)
-        self.waits(lambda: self.started)
-
-    def reaches(self, listener):
-        try:
-            self.centre = ends.Centre(socket.create_connection(listener, timeout=1))
-        except OSError:
-            return False
-        return True
-
-    def hears(self, seconds):
-        """Takes what comes within so many seconds."""
-        apdus = self.centre.heard(seconds) or []
-        for apdu in apdus:
-            if apdu == ends.STARTED:
-                self.started = True
-            elif apdu == ends.TEST:
-                self.centre.send(ends.TESTED)
-            elif apdu[2] % 2 == 0:
-                self.asdus.append(apdu[6:])
-        if not self.acknowledges:
-            # Commands bear this number too.
-            self.centre.received = 0
-        elif any(apdu[2] % 2 == 0 for apdu in apdus):
-            self.centre.acknowledge()
-
-    def waits(self, holds, seconds=20):
-        end = time.monotonic() + seconds
-        while not holds() and time.monotonic() < end:
-            self.hears(0.02)
-        return holds()
-
-    def answers(self, cause):
-        """The commands that were answered with this cause, by station and object address."""
-        found = [asdu for asdu in self.asdus if asdu[0] in (SINGLE, TAGGED) and asdu[2] == cause]
-        return [(asdu[4], int.from_bytes(asdu[6:9], "little")) for asdu in found]
-
-    def reports(self):
-        """The reports that came, by station and number."""
-        return [(asdu[4], int.from_bytes(asdu[6:9], "little")) for asdu in self.asdus if asdu[0] == 1]
-
-
-def end(gateway, kind):
-    """The gateway is killed or stopped, or the power is cut."""
-    if kind == "term":
-        gateway.process.send_signal(signal.SIGTERM)
-        gateway.process.wait(20)
-    told = gateway.kill()
-    if kind == "power":
-        cut_power(gateway.folder, random.Random(5))
-    return told
 
 
 def named(lines, station, number):
@@ -161,7 +80,7 @@ class Commands:
         if self.on_line == 1:
             field.silent.update(field.stations)
         time.sleep(0.1)
-        end(gateway, self.kind)
+        gateway.end(self.kind)
         operator.centre.stream.close()
         # A last request may still be on its way.
         time.sleep(0.1)
@@ -179,12 +98,6 @@ class Commands:
         later = field.commands[self.sent :]
         count.judge(f"no command goes out {when}", not later, (later, self.gateway.logged()))
         count.compare(f"no station operates one {when}", {a: s.accepted for a, s in field.stations.items()}, self.executed)
-
-
-def has_gone_round(field, turns=6):
-    """Waits until each station has answered so many more requests."""
-    served = {a: s.served for a, s in field.stations.items()}
-    return until(lambda: all(s.served >= served[a] + turns for a, s in field.stations.items()), 20)
 
 
 def commands_at_a_restart(count, program, *, delay=0.0, is_there=False, **more):
@@ -264,10 +177,6 @@ COMMANDS = {
 SHORT = {"answer_ms": 60, "retries": 1}
 
 
-def gaps(told):
-    return sorted({int(number) for number in re.findall(r"station (\d+) gap", told)})
-
-
 def have_come(count, gateway, what):
     """New reports of each station come behind all that were queued, or a gap is told of it."""
     queue_up(gateway, 2)
@@ -290,7 +199,7 @@ def all_without_power(count, program, stations, silence):
         gateway.start()
         gateway.waits(*(f"station {a} up" for a in addresses))
         queue_up(gateway, 3)
-        end(gateway, "power")
+        gateway.end("power")
         for station in field.stations.values():
             station.forget()
         before = {a: s.served for a, s in field.stations.items()}
