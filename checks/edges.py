@@ -223,6 +223,7 @@ class Hanging(Field):
                     self.hear(line)
             except (OSError, EOFError):
                 line.stream.close()
+                self.line = None
 
 
 def a_server_that_hangs(count, program):
@@ -404,7 +405,7 @@ def names_of_stations(count, program):
                     count.judge(f"the log's name of {address}", f"station {address} asked for its status [{name}]\n" in told(), told())
                 shown = subprocess.run([program, "status", f"127.0.0.1:{status}"], capture_output=True, text=True, timeout=60).stdout
                 for address, name in ((7, "Near Mill"), (263, "Far Mill")):
-                    count.judge(f"the table's name of {address}", re.search(rf"^ *{address} +\d+ +{name}", shown, re.M), shown)
+                    count.judge(f"the table's name of {address}", re.search(rf"^ *{address} +\d+ .* {name}$", shown, re.M), shown)
             finally:
                 process.kill()
                 process.wait()

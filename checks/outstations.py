@@ -119,6 +119,8 @@ class Field(threading.Thread):
         self.loss = loss
         # The stations that are silent altogether, and whether one is from its next command on.
         self.silent = set()
+        # Those whose answers are lost.
+        self.unheard = set()
         self.mute_at_command = False
         # The commands as they came on the line, repeats among them, each with its station and its object address.
         self.commands = []
@@ -147,6 +149,7 @@ class Field(threading.Thread):
                     self.hear(line)
             except (OSError, EOFError):
                 line.stream.close()
+                self.line = None
 
     def hear(self, line):
         _, address, frame = line.request()
@@ -163,7 +166,7 @@ class Field(threading.Thread):
         answer = station.answer(control, frame[6:-2])
         # Where the next request has come already, the gateway has given this one up, and an answer would be taken for the next one's.
         is_late = bool(select.select([line.stream], [], [], 0)[0])
-        is_heard = answer is not None and not is_late and self.chance.random() >= self.loss
+        is_heard = answer is not None and not is_late and address not in self.unheard and self.chance.random() >= self.loss
         station.is_reset_unheard = control % 16 == RESET and not is_heard
         if is_heard:
             line.answer(answer)

@@ -83,7 +83,7 @@ class Commands:
         gateway.end(self.kind)
         operator.centre.stream.close()
         # A last request may still be on its way.
-        time.sleep(0.1)
+        until(lambda: field.line is None)
         field.mute_at_command = False
         self.sent, self.executed = len(field.commands), {a: list(s.accepted) for a, s in field.stations.items()}
 
@@ -273,12 +273,45 @@ def one_started_again(count, program, in_a_run):
         field.server.close()
 
 
+def a_station_that_comes_back(count, program):
+    """A station leaves the settings amid a poll, and comes back: its last report is lost, and a gap tells it."""
+    with tempfile.TemporaryDirectory() as folder:
+        gateway = quiet(program, folder, addresses=(1, 2), **SHORT)
+        field = gateway.field
+        field.pause = PAUSE
+        gateway.start()
+        gateway.waits("station 1 up", "station 2 up")
+        queue_up(gateway, 2)
+        field.unheard.add(2)
+        field.stations[2].report(1)
+        until(lambda: field.stations[2].given == 3)
+        gateway.kill()
+        until(lambda: field.line is None)
+        field.unheard.clear()
+        gateway.set(stations=[(1, 1, "")], **SHORT)
+        gateway.start()
+        gateway.waits("settings have changed", "goes on")
+        served = field.stations[1].served
+        until(lambda: field.stations[1].served > served)
+        told = gateway.kill()
+        gateway.set(**SHORT)
+        gateway.start()
+        gateway.waits("station 2 up")
+        has_gone_round(field, 2)
+        got = drained(gateway)
+        told += gateway.kill()
+        count.judge("a report is lost", 3 not in got[2], got)
+        count.compare("its gap is told", gaps(told), [2])
+        field.server.close()
+
+
 def commands_part(name, more):
     return f"restart {name}", lambda count, program, _folder: commands_at_a_restart(count, program, **more)
 
 
 PARTS = [
     *(commands_part(name, more) for name, more in COMMANDS.items()),
+    alone("restart station that comes back", a_station_that_comes_back),
     alone("link substation, two stations", all_without_power, 2, "hold"),
     alone("link substation, three stations", all_without_power, 3, "hold"),
     alone("link substation, reset", all_without_power, 2, "reset"),

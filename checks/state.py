@@ -74,6 +74,13 @@ class Lives:
         self.gateway = Gateway(program, folder, self.field, listener, environment=shadowed(folder), **settings)
         self.visitor = Visitor(listener, [1, 2, 3], visit_chance, commands=commands)
         self.count = 0
+        # The commands of an earlier life that went out in a later one, and how many there were of each when the present life began.
+        self.late, self.sent, self.heard = [], 0, 0
+
+    def note_late(self):
+        """Behind a life: which of the commands that it put on the line came before it."""
+        numbers = [number for _, number in self.field.commands[self.heard :]]
+        self.late += [number for number in numbers if number < 10_000 + self.sent]
 
     def taken(self):
         return sum(len(station.accepted) for station in self.field.stations.values())
@@ -90,7 +97,11 @@ class Lives:
         self.gateway.kill()
         if self.count % 2:
             cut_power(self.folder, self.kill_chance)
+        # A last request may still be on its way.
+        until(lambda: self.field.line is None)
+        self.note_late()
         self.count += 1
+        self.sent, self.heard = len(self.visitor.sent), len(self.field.commands)
 
     def judge(self, count, name):
         """One more life without faults, in which all that is left has to come."""
@@ -105,6 +116,7 @@ class Lives:
             time.sleep(0.05)
         time.sleep(0.2)
         gateway.kill()
+        self.note_late()
         visitor.is_over = True
         faults = faults_of(field, visitor)
         made = sum(station.made for station in field.stations.values())
@@ -112,6 +124,8 @@ class Lives:
         told = f"{self.count} lives, {made} reports, {self.taken()} commands, resets {resets}, {len(visitor.connections)} connections"
         print(f"{name}: {told}", flush=True)
         count.judge(name, not faults and made > 0 and self.taken() > 0, (faults, made, self.taken()))
+        if "restart" not in kept.LATER:
+            count.judge(f"{name}: no command goes out behind a restart", not self.late, self.late)
         told = gateway.said
         wrong = [text for text in ("put aside", "isn't kept", "each link is reset") if text in told]
         count.judge(f"{name}: what it tells", not wrong, (wrong, told[-2000:]))
