@@ -108,13 +108,14 @@ def a_record_that_is_not_read(count, program):
         drain(out, pieces, 1)
         os.close(out)
         record = b"".join(pieces).decode()
-        told = re.findall(r"^.*left out.*$", record, re.M)
-        count.judge("what was left out is told with its number", any(re.search(r"[1-9]\d*", line.partition("left out")[0]) for line in told), record[-600:])
+        lines = record[: record.rindex("\n") + 1].splitlines(keepends=True)
+        told = [place for place, line in enumerate(lines, 1) if re.fullmatch(r"# left out: [1-9]\d* lines\n", line)]
+        count.judge("what was left out is told with its number", told, record[-600:])
         place = os.path.join(folder, "record")
         with open(place, "w") as file:
-            file.write(record[: record.rindex("\n") + 1])
+            file.writelines(lines)
         audit = subprocess.run([program, "audit", gateway.config, place], capture_output=True, text=True, timeout=120)
-        count.judge("audit names the hole", "left out" in audit.stdout, (audit.stdout, audit.stderr, audit.returncode))
+        count.judge("audit names the hole", told and (audit.stdout, audit.returncode) == (f"line {told[0]} differs\n", 1), (audit, told))
         gateway.field.server.close()
 
 
@@ -147,7 +148,8 @@ def a_log_that_is_not_read(count, program, make):
         drain(out, pieces, 1)
         os.close(out)
         log = b"".join(pieces).decode(errors="replace")
-        count.judge("what was left out of the log is told with its number", re.search(r"[1-9]\d* (lines? )?left out", log), log[-600:])
+        told = re.search(r"[1-9]\d* lines? left out: nobody read them in time\n", log)
+        count.judge("what was left out of the log is told with its number", told, log[-600:])
         whole = [line for line in log.split("\n")[:-1] if not re.match(r"\d{4}-\d\d-\d\dT\S+Z \d+ \S", line)]
         count.judge("and no line is broken", not whole, whole)
         gateway.field.server.close()
@@ -226,6 +228,10 @@ class Hanging(Field):
                 self.line = None
 
 
+SILENT = "line silent: requests went out and nothing came, it is dialled anew"
+HINT = "station 2 still doesn't answer: if it was restarted, restart telegate too"
+
+
 def a_server_that_hangs(count, program):
     """The line's server hangs with its connection open: it is dialled anew, said so, and nothing is lost."""
     with tempfile.TemporaryDirectory() as folder:
@@ -247,11 +253,29 @@ def a_server_that_hangs(count, program):
             count.compare("nothing is lost", got, kept.all_came(gateway))
             count.compare("no link is reset", kept.resets_of(gateway), resets)
             told = gateway.logged()
-            count.judge("the log says so", re.search(r"line .*(anew|no answer|lost|nothing)", told) and not gaps(told), told)
+            count.judge("the log says so", f" {SILENT}\n" in told and "line reached again" in told and not gaps(told), told)
             time.sleep(2)
             count.compare("and only once", field.dialled, dialled + 1)
         gateway.kill()
         field.server.close()
+
+
+def a_hint(count, program):
+    """A station that was started again stays silent where it is held: a minute later the log says what brings it back."""
+    with tempfile.TemporaryDirectory() as folder:
+        gateway = a_gateway(program, folder, answer_ms=60, retries=1)
+        # What is known here needs no processor.
+        gateway.field.pause = 0.05
+        gateway.start()
+        gateway.waits("station 1 up", "station 2 up")
+        gateway.field.stations[2].forget()
+        until(lambda: HINT in gateway.logged(), 80)
+        told = gateway.logged()
+        places = [told.find(text) for text in ("station 2 doesn't answer\n", f"{HINT}\n")]
+        count.judge("the log says what brings a station back", 0 <= places[0] < places[1], told)
+        count.judge("and nothing of another one", "station 1 still" not in told, told)
+        gateway.kill()
+        gateway.field.server.close()
 
 
 # The clock that counts from the system's start jumps ahead by an hour once TRIGGER is there. Where OPENED is given, each sync of a directory
@@ -510,6 +534,7 @@ PARTS = [
     alone("log on a full device", full_device, "log"),
     alone("edges packaged words audited", audited_over_a_restart),
     alone("edges server that hangs", a_server_that_hangs),
+    alone("edges hint where a station is silent", a_hint),
     alone("edges jump of the clock", a_jump_of_the_clock),
     alone("listener", the_listener),
     alone("words", many_words),

@@ -259,8 +259,6 @@ def one_started_again(count, program, in_a_run):
             gateway.waits("station 2 doesn't answer")
             time.sleep(1)
             count.compare("a held link isn't reset amid a run", resets_of(gateway), before)
-            told = gateway.logged()
-            count.judge("the log says what brings it back", re.search(r"station 2 .*(start|restart)", told), told)
         gateway.kill()
         field.stations[2].forget()
         gateway.start()
@@ -315,8 +313,8 @@ PARTS = [
     alone("link substation, two stations", all_without_power, 2, "hold"),
     alone("link substation, three stations", all_without_power, 3, "hold"),
     alone("link substation, reset", all_without_power, 2, "reset"),
-    alone("link line away", line_away, "away"),
-    alone("link stations silent", line_away, "silent"),
+    alone("line away", line_away, "away"),
+    alone("stations silent", line_away, "silent"),
     alone("link one of three", one_started_again, False),
     alone("link one of three amid a run", one_started_again, True),
 ]
