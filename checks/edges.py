@@ -67,8 +67,11 @@ def small_stream():
     return out.detach(), to.detach()
 
 
-def is_full(to):
-    return not select.select([], [to], [], 0)[1]
+def comes_to_rest(field):
+    """Waits until the line has been polled for three seconds, or no more."""
+    end = time.monotonic() + 3
+    while time.monotonic() < end and requests_in(field, 0.5):
+        pass
 
 
 def drain(out, into, seconds):
@@ -91,6 +94,20 @@ def goes_on(count, what, gateway):
     operator.centre.stream.close()
 
 
+def tests_on(gateway):
+    """A control centre sends tests, each of which is an event with an action: a record of some 900,000 octets, as long as it is served."""
+    with socket.create_connection(gateway.listener, timeout=5) as stream:
+        stream.settimeout(3)
+        try:
+            for _ in range(100):
+                stream.sendall(ends.TEST * 170)
+                left = 170 * len(ends.TESTED)
+                while left:
+                    left -= len(stream.recv(left)) or left
+        except OSError:
+            pass
+
+
 def a_record_that_is_not_read(count, program):
     """A record goes to a reader that stops, and reads on later."""
     with tempfile.TemporaryDirectory() as folder:
@@ -98,7 +115,9 @@ def a_record_that_is_not_read(count, program):
         out, to = small_pipe()
         process = subprocess.Popen(run_of(program, gateway, "--redial", "--record"), stdin=subprocess.DEVNULL, stdout=to, stderr=subprocess.DEVNULL)
         gateway.process = process
-        count.judge("the record's pipe gets full", until(lambda: is_full(to), 20), "")
+        until(lambda: gateway.field.requests > 10, 20)
+        tests_on(gateway)
+        comes_to_rest(gateway.field)
         goes_on(count, "record", gateway)
         pieces = []
         drain(out, pieces, 2)
@@ -123,22 +142,15 @@ def a_log_that_is_not_read(count, program, make):
     """A log goes to a reader that stops. 32 stations come up, so that it is full soon."""
     with tempfile.TemporaryDirectory() as folder:
         gateway = a_gateway(program, folder, stations=32)
+        site = os.path.join(folder, "site.toml")
+        with open(site, "w") as file:
+            file.writelines(f'[[station]]\nlink = {station}\nname = "{station:->40}"\n' for station in gateway.field.stations)
         out, to = make()
-        process = subprocess.Popen(run_of(program, gateway, "--redial", "--log"), stdin=subprocess.DEVNULL, stdout=subprocess.DEVNULL, stderr=to)
+        words = run_of(program, gateway, "--redial", "--log", "--site", site)
+        process = subprocess.Popen(words, stdin=subprocess.DEVNULL, stdout=subprocess.DEVNULL, stderr=to)
         gateway.process = process
-        end = time.monotonic() + 20
-        while not is_full(to) and time.monotonic() < end:
-            # Each connection is logged.
-            time.sleep(0.1)
-            try:
-                socket.create_connection(gateway.listener, timeout=1).close()
-            except OSError:
-                pass
-        count.judge("the log's pipe gets full", is_full(to), "")
-        # What comes now finds no room.
-        for _ in range(4):
-            socket.create_connection(gateway.listener, timeout=5).close()
-            time.sleep(0.6)
+        until(lambda: gateway.field.requests > 10, 20)
+        comes_to_rest(gateway.field)
         goes_on(count, "log", gateway)
         pieces = []
         drain(out, pieces, 3)

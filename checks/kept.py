@@ -427,5 +427,8 @@ def wanted_parts(parts):
 
 def play(parts, words=None):
     """Runs the parts side by side, each in a process of its own, and ends the script."""
+    if not any(due([part]) for part in parts):
+        print("skipped: what it judges isn't there yet")
+        sys.exit(0)
     words = {**(words or {}), "--part": {"default": "", "help": "this part alone, in this process"}}
     frame.main(*wanted_parts(parts), side_by_side=True, words=words)
