@@ -50,7 +50,7 @@ class Life:
         gateway, field = self.gateway, self.field
         gateway.start()
         gateway.waits("listening")
-        has_gone_round(field, 1)
+        has_gone_round(gateway, 1)
         number = 100 + len(field.commands)
         operator = Operator(gateway.listener)
         for station in field.stations.values():
@@ -93,7 +93,7 @@ class Life:
             station.report(2)
         operator = Operator(gateway.listener)
         operator.waits(lambda: self.has_all(operator), 8)
-        has_gone_round(field, 2)
+        has_gone_round(gateway, 2)
         operator.hears(0.05)
         self.has_all(operator)
         told = gateway.kill()
@@ -383,7 +383,7 @@ class Failing:
 
     def is_up(self):
         """Whether it polls on."""
-        return has_gone_round(self.field, 4) and self.gateway.process.poll() is None
+        return has_gone_round(self.gateway, 4) and self.gateway.process.poll() is None
 
 
 def says_why(told, reason):
@@ -415,7 +415,7 @@ def fails_amid_a_run(count, program, name):
         resets = resets_of(gateway)
         gateway.start()
         is_known = gateway.waits("stale")
-        has_gone_round(field)
+        has_gone_round(gateway)
         told = gateway.kill()
         count.judge(f"{name}: the next start knows it", is_known and gaps(told) == [1, 2], told)
         count.compare(f"{name}: each link is reset once", resets_of(gateway), {a: n + 1 for a, n in resets.items()})
@@ -463,7 +463,7 @@ def no_file(count, program):
         os.mkdir(gateway.state)
         os.mkfifo(os.path.join(gateway.state, "segments"))
         gateway.start()
-        is_up = has_gone_round(gateway.field, 4)
+        is_up = has_gone_round(gateway, 4)
         count.judge("a FIFO: it goes on", is_up and gateway.process.poll() is None, (gateway.process.poll(), gateway.logged()))
         told = gateway.kill()
         count.judge("a FIFO: it names the file", re.search(r"state.*segments", told), told)

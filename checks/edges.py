@@ -194,7 +194,7 @@ def audited_over_a_restart(count, program):
                 words = run_of(program, gateway, "--redial", "--log", "--log-severity", "--state", gateway.state, "--record")
                 gateway.process = subprocess.Popen(words, stdin=subprocess.DEVNULL, stdout=record, stderr=log)
             gateway.waits("listening")
-            has_gone_round(gateway.field)
+            has_gone_round(gateway)
             operator = Operator(gateway.listener)
             for station in gateway.field.stations.values():
                 station.report(2)
@@ -361,7 +361,7 @@ def a_jump_of_the_clock(count, program):
         count.judge("a control centre before", first.started, gateway.logged())
         with open(trigger, "w"):
             pass
-        has_gone_round(gateway.field, 2)
+        has_gone_round(gateway, 2)
         began = time.monotonic()
         with socket.create_connection(gateway.listener, timeout=30) as stream:
             stream.sendall(ends.START)

@@ -296,10 +296,13 @@ def queue_up(gateway, reports):
     until(lambda: all(station.served > served[station] for station in stations))
 
 
-def has_gone_round(field, turns=6):
-    """Waits until each station has answered so many more requests."""
-    served = {a: s.served for a, s in field.stations.items()}
-    return until(lambda: all(s.served >= served[a] + turns for a, s in field.stations.items()), 20)
+def has_gone_round(gateway, turns=6):
+    """Waits until each station has answered so many more requests, and says whether it has. A run that has ended asks no more."""
+    stations, is_over = gateway.field.stations, lambda: gateway.process.poll() is not None
+    served = {a: s.served for a, s in stations.items()}
+    has = lambda: all(s.served >= served[a] + turns for a, s in stations.items())
+    until(lambda: has() or is_over(), 20)
+    return has()
 
 
 def gaps(told):
@@ -375,14 +378,14 @@ def row_of(lines, address):
     return next((line for line in lines if line.startswith(f"station {address} ")), "")
 
 
-# Parts whose names begin with one of these words judge what the program doesn't do yet: they run if --only or --part names them.
+# Parts whose names begin so judge what the program doesn't do yet: they run if --only or --part names them.
 LATER = ("restart", "link", "disk", "edges")
 
 
 def due(parts):
     """The parts that run: those that the program already does, or all of them where the call names some."""
     is_named = any(word.startswith(("--only", "--part")) for word in sys.argv[1:])
-    return [part for part in parts if is_named or frame.name_of(part).split(" ")[0] not in LATER]
+    return [part for part in parts if is_named or not frame.name_of(part).startswith(LATER)]
 
 
 def alone(name, part, *more):
