@@ -238,7 +238,8 @@ def notes_in(octets):
 def put_back(folder, target, since, choice, chance):
     """A directory that a crash may leave: so many octets of what was written since, or torn sectors."""
     os.makedirs(os.path.join(target, "copy"))
-    shutil.copytree(os.path.join(folder, "state"), os.path.join(target, "state"))
+    # Without the note that tells a copy from the files that were written.
+    shutil.copytree(os.path.join(folder, "state"), os.path.join(target, "state"), ignore=shutil.ignore_patterns("origin*"))
     left = choice
     for name in os.listdir(os.path.join(target, "state")):
         source, path = os.path.join(folder, "copy", name), os.path.join(target, "state", name)

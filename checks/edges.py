@@ -88,7 +88,7 @@ def drain(out, into, seconds):
 def goes_on(count, what, gateway):
     """Whether the line is polled on, and a control centre is served."""
     polls = requests_in(gateway.field, 3)
-    count.judge(f"{what}: the line is polled", polls > 60, polls)
+    count.judge(f"{what}: the line is polled", polls > 10, polls)
     operator = Operator(gateway.listener)
     count.judge(f"{what}: a control centre is served", operator.started, "")
     operator.centre.stream.close()
