@@ -350,12 +350,20 @@ def copy_newest(folder):
             shutil.copy(newest, os.path.join(folder, name))
 
 
+def without_note(folder):
+    """As versions left it that noted nothing of its files."""
+    for name in os.listdir(folder):
+        if name.startswith("origin"):
+            os.remove(os.path.join(folder, name))
+
+
 # By name: what is changed, what the start says, and the numbers of the reports that come then.
 VERSIONS = {
     "newer file": (form_of_newer, "state is stale: each link is reset", [5, 6]),
     "two of one number": (copy_newest, "state is stale: each link is reset", [3, 4, 5, 6]),
     "both files": (form_of_both, "state can't be read: put aside", [5, 6]),
     "unknown key": (lambda folder: write_checkpoint(newest_of(folder), with_unknown_key), "state can't be read: put aside", [5, 6]),
+    "no note": (without_note, "state: goes on, ", [3, 4, 5, 6]),
     "offered command": (lambda folder: write_checkpoint(newest_of(folder), with_offered_commands), "state: goes on, ", [3, 4, 5, 6]),
 }
 
