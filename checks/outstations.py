@@ -225,11 +225,11 @@ class Visitor(threading.Thread):
                 tested.append(heard[:])
                 told = len(heard)
             if self.chance.random() < self.commands:
-                number = 10_000 + len(self.sent)
-                self.sent.append(number)
-                # In the sizes of 104: cause and common address of two octets, object address of three.
-                station = self.chance.choice(self.stations)
-                centre.command(bytes([45, 1, 6, 0, station, 0]) + number.to_bytes(3, "little") + b"\x01")
+                # Now and then several in one piece, so that some of them wait.
+                first = 10_000 + len(self.sent)
+                numbers = range(first, first + self.chance.choice([1, 1, 1, 4]))
+                self.sent += numbers
+                centre.command(*(command(self.chance.choice(self.stations), number) for number in numbers))
 
     def take(self, octets, heard):
         cause, station, number = octets[2] % 64, octets[4], int.from_bytes(octets[6:9], "little")
