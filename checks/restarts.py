@@ -23,7 +23,7 @@ import threading
 import time
 
 import kept
-from kept import PAUSE, alone, drained, gaps, has_gone_round, looked, queue_up, quiet, resets_of, shadowed, until
+from kept import PAUSE, alone, drained, gaps, has_gone_round, looked, queue_up, quiet, resets_of, row_of, shadowed, until
 from outstations import CONFIRMATION, NEGATIVE, ON, SELECT, SINGLE, TAGGED, Operator, command
 
 # A common address that no station has: the gateway itself answers a command to it.
@@ -72,7 +72,7 @@ class Commands:
             selects = [*self.commands, self.selection]
             operator.centre.command(*(command(*target, ON | SELECT) for target in selects))
             operator.waits(lambda: set(selects) <= set(operator.answers(CONFIRMATION)))
-        before = len(field.commands)
+        before = self.before = len(field.commands)
         field.mute_at_command = True
         kind = TAGGED if self.tagged else SINGLE
         operator.centre.command(*(command(NOWHERE, 300 + n) for n in range(self.own)), *(command(*target, kind=kind) for target in self.commands))
@@ -86,6 +86,17 @@ class Commands:
         until(lambda: field.line is None)
         field.mute_at_command = False
         self.sent, self.executed = len(field.commands), {a: list(s.accepted) for a, s in field.stations.items()}
+
+    def on_the_line(self):
+        """The commands that went out, and have no answer."""
+        return sorted(set(self.field.commands[self.before :]))
+
+    def waiting(self):
+        """What else a start gives up: what it is, and its target."""
+        targets = [("waiting command", target) for target in self.commands if target not in self.on_the_line()]
+        targets += [("selection", self.selection)] if self.selection else []
+        # Beside the reports two own answers went out.
+        return targets + [("own answer", (NOWHERE, 300 + n)) for n in range(2, self.own)]
 
     def judge_quiet(self, count, when):
         """No command is on the line since the end, so that no station operated one."""
@@ -121,22 +132,32 @@ def commands_at_a_restart(count, program, *, delay=0.0, is_there=False, **more):
         field.server.close()
 
 
-def what_is_named(count, program, **more):
-    """`telegate state` shows what a start would give up, and the start's log names it."""
+def what_is_shown(count, program, **more):
+    """`telegate state` shows each command, selection and own answer that a start would give up, and no other."""
     with tempfile.TemporaryDirectory() as folder:
         case = Commands(program, folder, **more)
         case.begin()
-        gateway = case.gateway
+        shown, _, _ = looked(case.gateway, case.gateway.state)
+        found = [re.match(r"(.*) of type \d+ to (\d+)/(\d+), given up at a start$", line) for line in shown]
+        seen = sorted((it[1], int(it[2]), int(it[3])) for it in found if it)
+        count.compare("what is given up", seen, sorted((what, *target) for what, target in case.waiting()))
+        for station, _ in case.on_the_line():
+            row = row_of(shown, station)
+            count.judge(f"the command on the line to {station}", "command without an answer, given up at a start" in row, shown)
+        case.field.server.close()
+
+
+def what_is_logged(count, program, **more):
+    """The log of a start names each command, selection and own answer that it gives up."""
+    with tempfile.TemporaryDirectory() as folder:
+        case = Commands(program, folder, **more)
+        case.begin()
         case.field.silent.clear()
-        shown, _, _ = looked(gateway, gateway.state)
-        gateway.start()
-        gateway.waits("listening")
-        has_gone_round(gateway)
-        log = [kept_as(line) for line in gateway.kill().splitlines()]
-        # Of the own answers as many are on their way as the centre may leave unacknowledged beside the reports.
-        waiting = [(NOWHERE, 300 + n) for n in range(case.own)][2:]
-        for target in [*case.commands, *([case.selection] if case.selection else []), *waiting]:
-            count.judge(f"`telegate state` shows {target}", named(shown, *target), shown)
+        case.gateway.start()
+        case.gateway.waits("listening")
+        has_gone_round(case.gateway)
+        log = [kept_as(line) for line in case.gateway.kill().splitlines()]
+        for target in [*case.on_the_line(), *(target for _, target in case.waiting())]:
             count.judge(f"the log names {target}", named(log, *target), log)
         case.field.server.close()
 
@@ -315,7 +336,8 @@ def commands_part(name, judged, more):
 
 PARTS = [
     *(commands_part(f"restart {name}", commands_at_a_restart, more) for name, more in COMMANDS.items()),
-    *(commands_part(f"restart named, {name}", what_is_named, more) for name, more in NAMED.items()),
+    *(commands_part(f"restart shown: {name}", what_is_shown, more) for name, more in NAMED.items()),
+    *(commands_part(f"restart logged: {name}", what_is_logged, more) for name, more in NAMED.items()),
     alone("restart station that comes back", a_station_that_comes_back),
     alone("link substation, two stations", all_without_power, 2, "hold"),
     alone("link substation, three stations", all_without_power, 3, "hold"),
