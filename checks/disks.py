@@ -485,15 +485,15 @@ def slow_syncs(count, program):
 
 
 def damage_part(name, damage, cases):
-    return f"disk {name}", lambda count, program, _folder: damaged(count, program, damage, cases)
+    return name, lambda count, program, _folder: damaged(count, program, damage, cases)
 
 
 PARTS = [
-    damage_part("bits", turn_a_bit, 12),
-    damage_part("sectors", zero_a_sector, 8),
-    damage_part("short files", cut_short, 8),
-    damage_part("cut to used", cut_to_used, 2),
-    damage_part("exchanged", exchange, 6),
+    damage_part("disk bits", turn_a_bit, 12),
+    damage_part("disk sectors", zero_a_sector, 8),
+    damage_part("disk short files", cut_short, 8),
+    damage_part("shortened behind its last line", cut_to_used, 2),
+    damage_part("sectors exchanged", exchange, 6),
     alone("disk older copy", older_copy, False),
     alone("disk clone", older_copy, True),
     *(alone(f"disk fails amid a run: {name}", fails_amid_a_run, name) for name in FAULTS),
