@@ -234,12 +234,14 @@ LIBRARY = r"""
 #include <time.h>
 #include <unistd.h>
 
-static const char *watched, *trigger;
+static const char *watched, *trigger, *unseen, *counted;
 static int fault, slow;
 
 __attribute__((constructor)) static void begin(void) {
     watched = getenv("WATCHED");
     trigger = getenv("TRIGGER");
+    unseen = getenv("UNSEEN");
+    counted = getenv("COUNTED");
     fault = getenv("ERRNO") ? atoi(getenv("ERRNO")) : 0;
     slow = getenv("SLOW") ? atoi(getenv("SLOW")) : 0;
 }
@@ -290,10 +292,35 @@ ssize_t pwrite64(int file, const void *octets, size_t count, off64_t at) {
 
 ssize_t pwrite(int file, const void *octets, size_t count, off_t at) { return pwrite64(file, octets, count, at); }
 
+// How many octets were read of a file of the state stands in the file COUNTED, a line for each time.
+static ssize_t seen(int file, ssize_t count) {
+    if (!counted || count <= 0 || !is_open(file)) return count;
+    int to = open(counted, O_WRONLY | O_CREAT | O_APPEND, 0600);
+    if (to >= 0) {
+        dprintf(to, "%zd\n", count);
+        close(to);
+    }
+    return count;
+}
+
 ssize_t pread64(int file, void *octets, size_t count, off64_t at) {
     REAL(ssize_t, "pread64", int, void *, size_t, off64_t);
     FAIL_IF(fault == EIO && is_open(file));
-    return real(file, octets, count, at);
+    return seen(file, real(file, octets, count, at));
+}
+
+ssize_t read(int file, void *octets, size_t count) {
+    REAL(ssize_t, "read", int, void *, size_t);
+    FAIL_IF(fault == EIO && is_open(file));
+    return seen(file, real(file, octets, count));
+}
+
+// The file UNSEEN alone can't be looked for.
+int statx(int at, const char *path, int flags, unsigned mask, struct statx *out) {
+    REAL(int, "statx", int, const char *, int, unsigned, struct statx *);
+    size_t size = strlen(path), end = unseen ? strlen(unseen) : 0;
+    FAIL_IF(end && size > end && !strcmp(path + size - end, unseen) && is_watched(path));
+    return real(at, path, flags, mask, out);
 }
 
 ssize_t pread(int file, void *octets, size_t count, off_t at) { return pread64(file, octets, count, at); }
@@ -353,7 +380,7 @@ FAULTS = {
 class Failing:
     """A gateway whose disk can be made to fail at any moment."""
 
-    def __init__(self, program, folder, fault, *, slow=0, flags=()):
+    def __init__(self, program, folder, fault, *, slow=0, flags=(), **more):
         self.trigger = os.path.join(folder, "trigger")
         environment = {
             **os.environ,
@@ -363,6 +390,7 @@ class Failing:
             "ERRNO": str(fault),
             "SLOW": str(slow),
             "RUNTIME_DIRECTORY": os.path.join(folder, "runtime"),
+            **more,
         }
         os.mkdir(environment["RUNTIME_DIRECTORY"])
         self.gateway = quiet(program, folder, environment=environment, flags=flags, **SHORT)
@@ -484,6 +512,45 @@ def slow_syncs(count, program):
         case.field.server.close()
 
 
+def mark_unseen(count, program):
+    """A state is marked as stale, and the mark can't be looked for: no start takes it for absent."""
+    with tempfile.TemporaryDirectory() as folder:
+        case = Failing(program, folder, 0)
+        case.begin()
+        case.gateway.kill()
+        # Where both marks stand, the state is stale.
+        with open(os.path.join(case.gateway.state, "stale"), "w"):
+            pass
+        case.gateway.environment |= {"ERRNO": str(errno.EIO), "UNSEEN": "/stale"}
+        case.fail()
+        case.gateway.start()
+        until(lambda: case.gateway.process.poll() is not None or "listening" in case.gateway.logged(), 20)
+        has_gone_round(case.gateway, 1)
+        told = case.gateway.kill()
+        count.judge("a mark that can't be looked for", "goes on" not in told or "stale" in told, told)
+        count.judge("something is said of it", "state" in told, told)
+        case.field.server.close()
+
+
+def each_octet_once(count, program):
+    """A start reads no octet of its two files twice."""
+    with tempfile.TemporaryDirectory() as folder:
+        counted = os.path.join(folder, "counted")
+        case = Failing(program, folder, 0, COUNTED=counted)
+        case.begin()
+        case.gateway.kill()
+        case.fail()
+        case.gateway.start()
+        count.judge("it goes on", case.gateway.waits("goes on", "listening"), case.gateway.logged())
+        with open(counted) as file:
+            octets = sum(map(int, file))
+        size = sum(os.path.getsize(os.path.join(case.gateway.state, name)) for name in ("segments", "segments-wal"))
+        print(f"a start read {octets} octets of files of {size}", flush=True)
+        count.judge("no octet is read twice", 0 < octets <= size + 4096, (octets, size))
+        case.gateway.kill()
+        case.field.server.close()
+
+
 def damage_part(name, damage, cases):
     return name, lambda count, program, _folder: damaged(count, program, damage, cases)
 
@@ -501,6 +568,8 @@ PARTS = [
     *(alone(f"disk or stop: {name}", stops, name) for name in ("EIO", "read-only")),
     alone("disk FIFO", no_file),
     alone("disk slow", slow_syncs),
+    alone("disk each octet once", each_octet_once),
+    alone("mark that can't be looked for", mark_unseen),
 ]
 
 
