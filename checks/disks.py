@@ -319,7 +319,10 @@ ssize_t read(int file, void *octets, size_t count) {
 int statx(int at, const char *path, int flags, unsigned mask, struct statx *out) {
     REAL(int, "statx", int, const char *, int, unsigned, struct statx *);
     size_t size = strlen(path), end = unseen ? strlen(unseen) : 0;
-    FAIL_IF(end && size > end && !strcmp(path + size - end, unseen) && is_watched(path));
+    if (end && size > end && !strcmp(path + size - end, unseen) && is_watched(path)) {
+        errno = EIO;
+        return -1;
+    }
     return real(at, path, flags, mask, out);
 }
 
@@ -521,7 +524,7 @@ def mark_unseen(count, program):
         # Where both marks stand, the state is stale.
         with open(os.path.join(case.gateway.state, "stale"), "w"):
             pass
-        case.gateway.environment |= {"ERRNO": str(errno.EIO), "UNSEEN": "/stale"}
+        case.gateway.environment |= {"UNSEEN": "/stale"}
         case.fail()
         case.gateway.start()
         until(lambda: case.gateway.process.poll() is not None or "listening" in case.gateway.logged(), 20)
