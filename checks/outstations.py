@@ -258,10 +258,12 @@ class Operator:
     """A control centre on one connection, with data transfer started: what came, and what it sends."""
 
     def __init__(self, listener, acknowledges=True):
-        self.acknowledges, self.asdus = acknowledges, []
+        self.acknowledges, self.asdus, self.centre = acknowledges, [], None
         end = time.monotonic() + 60
         while not self.reaches(listener) and time.monotonic() < end:
             time.sleep(0.01)
+        if self.centre is None:
+            raise ConnectionError(f"nobody accepts a connection at {listener}")
         self.started = False
         self.centre.send(ends.START)
         self.waits(lambda: self.started)
