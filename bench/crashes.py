@@ -36,8 +36,8 @@ import time
 sys.path.append(os.path.join(os.path.dirname(os.path.dirname(os.path.abspath(__file__))), "checks"))
 import ends
 import frame
+import kept
 import outstations
-import state
 
 # Each call that gives octets to a socket counts too. (What the library itself writes goes to files.)
 SOCKETS = r"""
@@ -127,7 +127,7 @@ class Field(outstations.Field):
     def hear(self, line):
         self.is_quiet = False
         # In each world one gateway lives, unless it is cut before it comes to that.
-        state.until(lambda: len(self.visitor.connections) > self.visitor.earlier, 0.3)
+        kept.until(lambda: len(self.visitor.connections) > self.visitor.earlier, 0.3)
         # Slow enough that commands come in between.
         time.sleep(0.004)
         try:
@@ -138,7 +138,7 @@ class Field(outstations.Field):
 
     def rest(self):
         """All that came is heard."""
-        state.until(lambda: getattr(self, "is_quiet", True))
+        kept.until(lambda: getattr(self, "is_quiet", True))
 
 
 # By name: the number of places in the queue, the window, and what the outstations and the control centre do.
@@ -162,7 +162,7 @@ class World:
         self.field = Field(stations or {a: Outstation(a, random.Random(chance.random()), **of_stations) for a in addresses}, chance)
         listener = ("127.0.0.1", ends.free_port())
         environment = dict(os.environ, LD_PRELOAD=LIBRARY_AT, WATCHED=os.path.join(folder, "state"), COPY=os.path.join(folder, "copy"))
-        self.gateway = state.Gateway(
+        self.gateway = kept.Gateway(
             setting.program, folder, self.field, listener, environment=environment, answer_ms=100, silence=setting.silence, retries=10, **settings
         )
         self.usual = environment
@@ -196,7 +196,7 @@ class World:
             station.busy = 0.0
         gateway.environment = self.usual
         gateway.start()
-        state.until(lambda: not any("didn't come" in fault for fault in self.faults()), LONGEST)
+        kept.until(lambda: not any("didn't come" in fault for fault in self.faults()), LONGEST)
         time.sleep(0.1)
         gateway.kill()
         self.rest()
@@ -238,7 +238,8 @@ def notes_in(octets):
 def put_back(folder, target, since, choice, chance):
     """A directory that a crash may leave: so many octets of what was written since, or torn sectors."""
     os.makedirs(os.path.join(target, "copy"))
-    shutil.copytree(os.path.join(folder, "state"), os.path.join(target, "state"))
+    # Without the note that tells a copy from the files that were written.
+    shutil.copytree(os.path.join(folder, "state"), os.path.join(target, "state"), ignore=shutil.ignore_patterns("origin*"))
     left = choice
     for name in os.listdir(os.path.join(target, "state")):
         source, path = os.path.join(folder, "copy", name), os.path.join(target, "state", name)
@@ -335,7 +336,7 @@ def table(count, program, folder):
     given = count.options
     # By a lie a file is on the disk as it was at the end of its life's start.
     lying = "static int synced(int file, int answer) {\n    static int first = 6;\n    if (first-- <= 0) return answer;"
-    library = state.LIBRARY.replace("static int synced(int file, int answer) {", lying) if given.lying else state.LIBRARY
+    library = kept.LIBRARY.replace("static int synced(int file, int answer) {", lying) if given.lying else kept.LIBRARY
     LIBRARY_AT = ends.library(folder, "cut", library + SOCKETS)
     settings = [Setting(program, run, n, silence) for run in RUNS for n in (1, 3) for silence in ("hold", "reset") if given.run in run]
     tasks = [(setting, actions, given.seed) for setting in settings for actions in range(1, given.actions + 1, given.every)]

@@ -69,7 +69,7 @@ def library(folder, name, source):
 class Run:
     """`telegate run` over settings of which [live] is still missing, with its line and its listener on the loopback."""
 
-    def __init__(self, program, settings, environment=None, line_server=None):
+    def __init__(self, program, settings, environment=None, line_server=None, words=(), log=subprocess.PIPE):
         self.server = line_server or socket.create_server(("127.0.0.1", 0))
         self.server.settimeout(PATIENCE)
         self.listener = ("127.0.0.1", free_port())
@@ -78,7 +78,7 @@ class Run:
             file.write(f'{settings}[live]\nline = "{line}"\nlisten = "{self.listener[0]}:{self.listener[1]}"\n')
         self.config = file.name
         self.process = subprocess.Popen(
-            [program, "run", self.config], stdin=subprocess.DEVNULL, stderr=subprocess.PIPE, env=environment
+            [program, "run", *words, self.config], stdin=subprocess.DEVNULL, stderr=log, env=environment
         )
         self.line = Line(self.server.accept()[0])
 
@@ -88,7 +88,8 @@ class Run:
     def __exit__(self, *_):
         self.process.kill()
         self.process.wait()
-        self.process.stderr.close()
+        if self.process.stderr:
+            self.process.stderr.close()
         self.line.stream.close()
         self.server.close()
         os.remove(self.config)
@@ -107,7 +108,7 @@ class Run:
     def ended(self):
         """Closes the line, and answers the exit status and what stood on standard error."""
         self.line.stream.close()
-        said = self.process.communicate(timeout=PATIENCE)[1]
+        said = self.process.communicate(timeout=PATIENCE)[1] or b""
         return self.process.returncode, said.decode()
 
 

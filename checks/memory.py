@@ -9,15 +9,18 @@ without a close, comes again, and sends octets that begin no APDU.
 
 Between the 5th poll and the 3,000th the C library isn't asked for memory once (malloc, calloc,
 realloc, aligned_alloc, posix_memalign, mmap, mremap, brk, sbrk). A library in front of the C
-library's counts the requests; `cc` makes it in a folder of its own.
+library's counts the requests; `cc` makes it in a folder of its own. The run is judged once plain,
+and once with `--state`, `--log`, `--status` and somebody who looks at its pages.
 """
 import mmap
 import os
+import socket
 import sys
 import tempfile
 
 import ends
 import frame
+import kept
 
 STATIONS = 32
 FIRST, LAST = 5, 3000
@@ -165,16 +168,36 @@ def count_of(shared):
     return int.from_bytes(shared[:8], sys.byteorder)
 
 
-def measured(program):
-    """The requests at the start and at the end, and what was done between."""
-    with tempfile.TemporaryDirectory() as folder:
+class Looks:
+    """A visitor of the status pages, now and then."""
+
+    PATHS = ("/", "/status.json", "/metrics", "/status.txt", "/nowhere")
+
+    def __init__(self, port):
+        self.port, self.answers = port, []
+
+    def at(self, poll):
+        """Asks for a page at each fiftieth poll, and takes the answer some polls later, so that the line goes on meanwhile."""
+        if self.port and poll % 50 == 25:
+            self.stream = socket.create_connection(("127.0.0.1", self.port), timeout=ends.PATIENCE)
+            self.stream.sendall(f"GET {self.PATHS[poll // 50 % 5]} HTTP/1.1\r\n\r\n".encode())
+        elif self.port and poll % 50 == 45:
+            with self.stream:
+                self.answers.append(self.stream.recv(12))
+
+
+def measured(program, is_whole):
+    """The requests at the start and at the end, and what was done between. A whole run keeps a state, logs and shows itself."""
+    port = ends.free_port() if is_whole else None
+    with tempfile.TemporaryDirectory() as folder, open(os.path.join(folder, "log"), "wb") as log:
         counts = os.path.join(folder, "requests")
         with open(counts, "wb") as file:
             file.write(bytes(8))
         environment = dict(os.environ, LD_PRELOAD=ends.library(folder, "memory", LIBRARY), REQUESTS=counts)
         with open(counts, "rb") as file, mmap.mmap(file.fileno(), 8, prot=mmap.PROT_READ) as shared:
-            with ends.Run(program, SETTINGS, environment) as run:
-                visits = Visits(run)
+            words = ["--log", "--state", os.path.join(folder, "state"), "--status", f"127.0.0.1:{port}"] if is_whole else []
+            with ends.Run(program, SETTINGS, environment, words=words, log=log) as run:
+                visits, looks = Visits(run), Looks(port)
                 if ends.STARTED not in (visits.centre.heard(ends.PATIENCE) or []):
                     raise RuntimeError("STARTDT act isn't confirmed")
                 stations, first = Outstations(), None
@@ -188,13 +211,16 @@ def measured(program):
                         run.line.answer(answer)
                     if stations.polls > before:
                         visits.at(stations.polls)
+                        looks.at(stations.polls)
                 last = count_of(shared)
-                return first, last, stations, visits, run.ended()
+                status = run.ended()[0]
+        with open(log.name) as file:
+            return first, last, stations, visits, looks, status, file.read()
 
 
-def requests(count, program, _folder):
+def requests(count, program, is_whole):
     """None comes between the first polls and the last."""
-    first, last, stations, visits, ended = measured(program)
+    first, last, stations, visits, looks, status, said = measured(program, is_whole)
     print(
         f"requests for memory: {first} at poll {FIRST}, {last} at poll {LAST}; {stations.requests} requests on the line, "
         f"{stations.commands} commands, {visits.connections} connections, {visits.frames} I frames"
@@ -203,8 +229,19 @@ def requests(count, program, _folder):
     count.judge("none between", last == first, (first, last))
     count.judge("commands went down", stations.commands > 20, stations.commands)
     count.judge("reports went up", visits.frames > 1000, visits.frames)
-    count.judge("the line's end ends it", ended == (3, "device failed\n"), ended)
+    count.judge("the line's end ends it", status == 3 and said.endswith("device failed\n"), (status, said[-300:]))
+    if is_whole:
+        found = [answer[:12] for answer in looks.answers]
+        count.judge("pages were looked at", found.count(b"HTTP/1.1 200") > 40 and found.count(b"HTTP/1.1 404") > 8, found)
+        count.judge("the state was kept", "isn't kept" not in said, said[-2000:])
 
 
 if __name__ == "__main__":
-    frame.main(requests)
+    frame.main(
+        *kept.due(
+            [
+                ("plain run", lambda count, program, _folder: requests(count, program, False)),
+                ("disk run with a state, a log and visitors", lambda count, program, _folder: requests(count, program, True)),
+            ]
+        )
+    )

@@ -6,6 +6,7 @@ count bit of the one before, it repeats its last answer. If the bit is new, it g
 report, or accepts the command. The line loses requests and answers at random.
 """
 import collections
+import datetime
 import random
 import select
 import socket
@@ -16,7 +17,10 @@ import ends
 
 RESET, COMMAND, STATUS, CLASS1, CLASS2 = 0, 3, 9, 10, 11
 ACD, FCB = 0x20, 0x20
-SPONTANEOUS, ACTIVATED = 3, 7
+SPONTANEOUS, ACTIVATION, CONFIRMATION, NEGATIVE = 3, 6, 7, 0x40
+# Single commands without a time tag and with one; a command's value, and the bit of it that says select.
+SINGLE, TAGGED = 45, 58
+ON, SELECT = 1, 0x80
 
 
 # The sizes that the scripts set, in octets: of cause, common address and object address.
@@ -41,7 +45,9 @@ class Outstation:
         self.urgent = collections.deque()
         self.made = 0
         self.given = 0
+        # The commands that it executed, and those that it was only to select.
         self.accepted = []
+        self.selected = []
         # How many requests had a new frame count bit, and how many resets came. A reset whose answer wasn't sent is repeated, and
         # counts once.
         self.served = 0
@@ -60,14 +66,22 @@ class Outstation:
             return b"\xe5"
         return ends.fixed(function | (ACD if self.has_urgent() else 0), self.address)
 
+    def target(self, octets):
+        """The object address and the value of a command."""
+        place = 2 + self.sizes[0] + self.sizes[1]
+        return int.from_bytes(octets[place : place + self.sizes[2]], "little"), octets[place + self.sizes[2]]
+
+    def forget(self):
+        """It is started again: it knows nothing of its link, and answers nothing but a request for its status until the link is reset."""
+        self.bit = self.last = None
+
     def serve(self, function, octets):
         """The answer to a service whose frame count bit is new."""
         self.served += 1
         if function == COMMAND:
-            place = 2 + self.sizes[0] + self.sizes[1]
-            number = int.from_bytes(octets[place : place + self.sizes[2]], "little")
-            self.accepted.append(number)
-            self.urgent.append(asdu(octets[0], ACTIVATED, self.address, number, octets[place + self.sizes[2]], self.sizes))
+            number, value = self.target(octets)
+            (self.selected if value & SELECT else self.accepted).append(number)
+            self.urgent.append(asdu(octets[0], CONFIRMATION, self.address, number, value, self.sizes))
             return self.short(0)
         if function == CLASS1 and self.urgent:
             report = self.urgent.popleft()
@@ -105,7 +119,13 @@ class Field(threading.Thread):
         self.loss = loss
         # The stations that are silent altogether, and whether one is from its next command on.
         self.silent = set()
+        # Those whose answers are lost.
+        self.unheard = set()
         self.mute_at_command = False
+        # The commands as they came on the line, repeats among them, each with its station and its object address.
+        self.commands = []
+        # How long an answer takes, in seconds. (A line that never rests takes a whole processor.)
+        self.pause = 0.0
         self.requests = 0
         self.line = None
         self.start()
@@ -129,20 +149,24 @@ class Field(threading.Thread):
                     self.hear(line)
             except (OSError, EOFError):
                 line.stream.close()
+                self.line = None
 
     def hear(self, line):
         _, address, frame = line.request()
         self.requests += 1
         control = frame[1] if frame[0] == 0x10 else frame[4]
-        if self.mute_at_command and control % 16 == COMMAND:
-            self.silent.add(address)
+        if control % 16 == COMMAND:
+            self.commands.append((address, self.stations[address].target(frame[6:-2])[0]))
+            if self.mute_at_command:
+                self.silent.add(address)
+        time.sleep(self.pause)
         if address in self.silent or self.chance.random() < self.loss:
             return
         station = self.stations[address]
         answer = station.answer(control, frame[6:-2])
         # Where the next request has come already, the gateway has given this one up, and an answer would be taken for the next one's.
         is_late = bool(select.select([line.stream], [], [], 0)[0])
-        is_heard = answer is not None and not is_late and self.chance.random() >= self.loss
+        is_heard = answer is not None and not is_late and address not in self.unheard and self.chance.random() >= self.loss
         station.is_reset_unheard = control % 16 == RESET and not is_heard
         if is_heard:
             line.answer(answer)
@@ -201,11 +225,11 @@ class Visitor(threading.Thread):
                 tested.append(heard[:])
                 told = len(heard)
             if self.chance.random() < self.commands:
-                number = 10_000 + len(self.sent)
-                self.sent.append(number)
-                # In the sizes of 104: cause and common address of two octets, object address of three.
-                station = self.chance.choice(self.stations)
-                centre.command(bytes([45, 1, 6, 0, station, 0]) + number.to_bytes(3, "little") + b"\x01")
+                # Now and then several in one piece, so that some of them wait.
+                first = 10_000 + len(self.sent)
+                numbers = range(first, first + self.chance.choice([1, 1, 1, 4]))
+                self.sent += numbers
+                centre.command(*(command(self.chance.choice(self.stations), number) for number in numbers))
 
     def take(self, octets, heard):
         cause, station, number = octets[2] % 64, octets[4], int.from_bytes(octets[6:9], "little")
@@ -213,8 +237,74 @@ class Visitor(threading.Thread):
             if (station, number) in self.sure:
                 self.again.append((station, number))
             heard.append((station, number))
-        elif octets[0] == 45 and cause == ACTIVATED and not octets[2] & 0x40:
+        elif octets[0] == 45 and cause == CONFIRMATION and not octets[2] & 0x40:
             self.confirmed.append(number)
+
+
+def tag_now():
+    """The time tag of now (CP56Time2a, UTC)."""
+    now = datetime.datetime.now(datetime.timezone.utc)
+    ms = now.second * 1000 + now.microsecond // 1000
+    return ms.to_bytes(2, "little") + bytes([now.minute, now.hour, now.day, now.month, now.year % 100])
+
+
+def command(station, number, value=ON, kind=SINGLE):
+    """A command in the sizes of 104."""
+    tag = tag_now() if kind == TAGGED else b""
+    return bytes([kind, 1, ACTIVATION, 0, station, 0]) + number.to_bytes(3, "little") + bytes([value]) + tag
+
+
+class Operator:
+    """A control centre on one connection, with data transfer started: what came, and what it sends."""
+
+    def __init__(self, listener, acknowledges=True):
+        self.acknowledges, self.asdus, self.centre = acknowledges, [], None
+        end = time.monotonic() + 60
+        while not self.reaches(listener) and time.monotonic() < end:
+            time.sleep(0.01)
+        if self.centre is None:
+            raise ConnectionError(f"nobody accepts a connection at {listener}")
+        self.started = False
+        self.centre.send(ends.START)
+        self.waits(lambda: self.started)
+
+    def reaches(self, listener):
+        try:
+            self.centre = ends.Centre(socket.create_connection(listener, timeout=1))
+        except OSError:
+            return False
+        return True
+
+    def hears(self, seconds):
+        """Takes what comes within so many seconds."""
+        apdus = self.centre.heard(seconds) or []
+        for apdu in apdus:
+            if apdu == ends.STARTED:
+                self.started = True
+            elif apdu == ends.TEST:
+                self.centre.send(ends.TESTED)
+            elif apdu[2] % 2 == 0:
+                self.asdus.append(apdu[6:])
+        if not self.acknowledges:
+            # Commands bear this number too.
+            self.centre.received = 0
+        elif any(apdu[2] % 2 == 0 for apdu in apdus):
+            self.centre.acknowledge()
+
+    def waits(self, holds, seconds=20):
+        end = time.monotonic() + seconds
+        while not holds() and time.monotonic() < end:
+            self.hears(0.02)
+        return holds()
+
+    def answers(self, cause):
+        """The commands that were answered with this cause, by station and object address."""
+        found = [asdu for asdu in self.asdus if asdu[0] in (SINGLE, TAGGED) and asdu[2] == cause]
+        return [(asdu[4], int.from_bytes(asdu[6:9], "little")) for asdu in found]
+
+    def reports(self):
+        """The reports that came, by station and number."""
+        return [(asdu[4], int.from_bytes(asdu[6:9], "little")) for asdu in self.asdus if asdu[0] == 1]
 
 
 def faults_of(field, visitor):

@@ -34,6 +34,8 @@ WRONG = re.compile(
 UNREADABLE = re.compile(
     r"is not in scope|has no field|is no name|operand is missing|expected the end|cannot continue"
 )
+# A function that a line names behind 'it calls', by its path below the crate.
+CALLEE = re.compile(r"\w+::([\w:+]+)`")
 # The most edits of one check: each costs memory.
 MOST = 10
 # Words that say that the prover refuses an edit, that it doesn't, and that nothing is known.
@@ -235,7 +237,9 @@ def why(said, function):
     """Why a function isn't proved, in a word and with the line that says it best. None if it is,
     or if it calls one that isn't: its own goals may then be left for that alone."""
     lines = [line for line in said.of(function) if is_unproved(line)]
-    if not lines or any("it calls `" in line for line in lines):
+    called = [name for line in lines for name in CALLEE.findall(line.partition("it calls `")[2])]
+    # One that has a hole in place of its proof is named there, too.
+    if not lines or any(map(is_unproved, (it for name in called for it in said.of(name)))):
         return None
     told = told_of(said, function)
     refused = PROOF.findall(told)

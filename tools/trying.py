@@ -90,8 +90,8 @@ class Trier:
             yield self.alone(edit, edit.refused_by)
 
     def called(self, one):
-        """The functions that a round's functions call. Behind `rt ci` they were proved just now, but
-        nothing of that is kept: so their contracts are taken for granted."""
+        """The functions that a round's functions call. Behind `rt ci` they were proved just now,
+        but nothing of that is kept: so their contracts are taken for granted."""
         if not self.is_gate or self.has_work:
             return []
         reached = set().union(*(one.calls.get(name, set()) for name in one.judged)) - one.judged

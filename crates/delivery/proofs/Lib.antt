@@ -51,6 +51,7 @@ pub mod Unpassed
 pub mod Accounts
 pub mod NewSettings
 pub mod NoMore
+pub mod NoRestart
 pub mod Standing
 pub mod Having
 pub mod Apart

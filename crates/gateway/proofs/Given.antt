@@ -242,7 +242,7 @@ module _ (p : Setup) where
       subst (λ (e : Course). AreGiven e.works.history) (sym r.5) ((g.1, g.0), refl)
   so_far (Came now Restarted ∷ log) d r =
       let g = kept_over (λ (w : Works). AreGiven w.history) (λ station w g. ((g.1, g.0), refl))
-      r.1.works (left log r.0 r.1 r.4 (so_far log r.0 r.2)) in
+      (λ w g. g) r.1.works (left log r.0 r.1 r.4 (so_far log r.0 r.2)) in
       subst (λ (e : Course). AreGiven e.works.history) (sym r.5.1) ((g.1, g.0), refl)
   so_far (Went now (LineOut octets) ∷ log) d r =
       subst (λ (e : Course). AreGiven e.works.history) (sym r.2.is)

@@ -19,7 +19,10 @@ fn push_object(
         ++ spec.object_line words.now kind ca object) }
 {
     text.push_str(words)?;
-    writeln!(text, " of type {kind} to {ca}/{object}, given up at a start")
+    writeln!(
+        text,
+        " of type {kind} to {ca}/{object}, given up at a start"
+    )
 }
 
 /// That of an ASDU of the connection.
@@ -53,7 +56,13 @@ fn push_selections(text: &mut String, commands: &Commands) -> Result<(), AllocEr
 {
     let mut place = 0;
     while let Some(selected) = commands.selection_at(place) {
-        push_object(text, "selection", selected.kind, selected.ca, selected.address)?;
+        push_object(
+            text,
+            "selection",
+            selected.kind,
+            selected.ca,
+            selected.address,
+        )?;
         place += 1;
     }
     Ok(())

@@ -1,0 +1,580 @@
+#!/usr/bin/env python3
+"""Damages the state of `telegate run --state`, and lets its disk fail or be slow: nothing is lost
+without a gap, nothing is operated twice, and the line is polled on.
+
+    checks/disks.py [--program FILE] [--only NAME] [--part NAME] [--seed N]
+
+- In a state that a killed run left a bit is turned, a sector reads as zeros, the file ends early, two
+  sectors are exchanged, or an older copy of the directory is put back. Each start goes on without a
+  loss, or says what is wrong with the state and tells a gap of each station that lost a report.
+- A library in front of the C library's lets each call for a file of the state fail, from a moment
+  on: with an error of the disk, because the file system is read-only, for want of space or of
+  permission. Or a file of the state is none. The run goes on, and names file and reason. With
+  `--state-or-stop` it ends with status 3.
+- The library lets each sync last for 150 ms: the log says so.
+
+The damage is drawn by a fixed seed. All of it is on the loopback.
+"""
+import errno
+import os
+import random
+import re
+import shutil
+import tempfile
+import time
+
+import ends
+import kept
+from kept import PAUSE, alone, gaps, has_gone_round, looked, queue_up, quiet, resets_of, until
+from outstations import CONFIRMATION, Operator, command
+
+SECTOR = 512
+# The last lines may not be synced, and what is left of them is no damage.
+TAIL = 300
+SHORT = {"answer_ms": 250, "retries": 1}
+
+
+class Life:
+    """A run that was killed: with reports that were taken, reports that wait, a command that was operated, and one on the line."""
+
+    def __init__(self, program, folder, lives=1):
+        self.folder = folder
+        self.gateway = quiet(program, folder, **SHORT)
+        self.field = self.gateway.field
+        self.field.pause = PAUSE
+        self.heard, self.wrong = set(), []
+        for _ in range(lives):
+            self.live()
+
+    def live(self):
+        gateway, field = self.gateway, self.field
+        gateway.start()
+        gateway.waits("listening")
+        has_gone_round(gateway, 1)
+        number = 100 + len(field.commands)
+        operator = Operator(gateway.listener)
+        for station in field.stations.values():
+            station.report(2)
+        operator.waits(lambda: self.has_all(operator))
+        operator.centre.command(command(1, number))
+        operator.waits(lambda: (1, number) in operator.answers(CONFIRMATION))
+        operator.centre.stream.close()
+        queue_up(gateway, 6)
+        operator = Operator(gateway.listener, acknowledges=False)
+        field.mute_at_command = True
+        operator.centre.command(command(2, number + 1))
+        until(lambda: (2, number + 1) in field.commands)
+        operator.hears(0.05)
+        gateway.kill()
+        operator.centre.stream.close()
+        time.sleep(0.05)
+        field.mute_at_command = False
+        field.silent.clear()
+
+    def has_all(self, operator):
+        """Notes what came, and says whether that is all that the stations have."""
+        made = {(a, n) for a, s in self.field.stations.items() for n in range(1, s.made + 1)}
+        self.wrong += [asdu.hex() for asdu in operator.asdus if asdu[0] == 1 and ((asdu[4], int.from_bytes(asdu[6:9], "little")) not in made or asdu[9] != 1)]
+        self.heard |= set(operator.reports())
+        return {(a, s.made) for a, s in self.field.stations.items()} <= self.heard
+
+    def newest(self):
+        """The file of the state that was written last."""
+        files = [os.path.join(self.gateway.state, name) for name in ("segments", "segments-wal")]
+        return max(filter(os.path.exists, files), key=number_of)
+
+    def goes_on(self):
+        """Starts it again, lets new reports come, and answers what is wrong, and what the start says of the state."""
+        gateway, field = self.gateway, self.field
+        gateway.start()
+        if not gateway.waits("listening"):
+            return [f"it doesn't start: {gateway.kill()}"], "no start"
+        for station in field.stations.values():
+            station.report(2)
+        operator = Operator(gateway.listener)
+        operator.waits(lambda: self.has_all(operator), 8)
+        has_gone_round(gateway, 2)
+        operator.hears(0.05)
+        self.has_all(operator)
+        told = gateway.kill()
+        operator.centre.stream.close()
+        faults = []
+        for address, station in field.stations.items():
+            lost = [n for n in range(1, station.given + 1) if (address, n) not in self.heard]
+            if station.given < station.made:
+                faults.append(f"station {address} is dead: {station.given} of {station.made} reports")
+            if lost and address not in gaps(told) and "put aside" not in told:
+                faults.append(f"station {address} lost {lost} without a gap")
+            if len(set(station.accepted)) < len(station.accepted):
+                faults.append(f"station {address} operated twice: {station.accepted}")
+        if self.wrong:
+            faults.append(f"reports that no station gave: {self.wrong}")
+        says = [text for text in ("put aside", "stale", "begins anew", "goes on") if text in told]
+        field.server.close()
+        return faults, says[0] if says else told
+
+
+def number_of(path):
+    """The number of the log in a file of the state."""
+    with open(path, "rb") as file:
+        found = re.search(rb"segment ([0-9a-f]{16})", file.read(200))
+    return int(found[1], 16) if found else 0
+
+
+def used(path):
+    """The octets of a file up to the zeros at its end."""
+    with open(path, "rb") as file:
+        return file.read().rstrip(b"\0")
+
+
+def write_at(path, place, octets):
+    with open(path, "r+b") as file:
+        file.seek(place)
+        file.write(octets)
+
+
+def turn_a_bit(life, chance, part):
+    """One bit of an octet, in this tenth of what is used."""
+    path = life.newest()
+    octets = used(path)
+    place = int((len(octets) - TAIL) * (part + chance.random()) / 10)
+    write_at(path, place, bytes([octets[place] ^ 1 << chance.randrange(8)]))
+    return f"bit of octet {place} of {len(octets)}"
+
+
+def zero_a_sector(life, chance, part):
+    path = life.newest()
+    size = len(used(path)) - TAIL
+    sectors = size // SECTOR
+    place = min(sectors - 1, int(sectors * (part + chance.random()) / 10)) * SECTOR
+    write_at(path, place, bytes(SECTOR))
+    return f"sector at {place} of {size + TAIL}"
+
+
+def cut_short(life, chance, part):
+    path = life.newest()
+    size = len(used(path)) - TAIL
+    place = int(size * (part + chance.random()) / 10)
+    os.truncate(path, place)
+    return f"file ends at {place} of {size + TAIL}"
+
+
+def cut_to_used(life, chance, part):
+    """The file ends behind its last line: it is shorter than what was kept free for it."""
+    path = life.newest()
+    os.truncate(path, len(used(path)))
+    return "file ends behind its last line"
+
+
+def exchange(life, chance, part):
+    path = life.newest()
+    octets = used(path)
+    sectors = (len(octets) - TAIL) // SECTOR
+    one, other = chance.sample(range(sectors), 2)
+    blocks = [octets[n * SECTOR : (n + 1) * SECTOR] for n in (one, other)]
+    write_at(path, one * SECTOR, blocks[1])
+    write_at(path, other * SECTOR, blocks[0])
+    return f"sectors {one} and {other} of {sectors} exchanged"
+
+
+def damaged(count, program, damage, cases):
+    """Each case is a run that is killed, a damage, and a start."""
+    seen, chance = {}, random.Random(count.options.seed)
+    for case in range(cases):
+        with tempfile.TemporaryDirectory() as folder:
+            life = Life(program, folder, lives=1 + case % 2)
+            what = damage(life, chance, case * 10 // cases)
+            faults, says = life.goes_on()
+            seen[says] = seen.get(says, 0) + 1
+            count.judge(f"{what}", not faults, (faults, says))
+    print(f"{damage.__name__.replace('_', ' ')}: {seen}", flush=True)
+
+
+def older_copy(count, program, is_clone):
+    """A copy of the directory from before is put back, or a run goes on in a copy of it."""
+    with tempfile.TemporaryDirectory() as folder:
+        life = Life(program, folder)
+        state, copy = life.gateway.state, os.path.join(folder, "older")
+        shutil.copytree(state, copy)
+        if not is_clone:
+            life.live()
+        shutil.rmtree(state)
+        if is_clone:
+            # Another file of the same name and number has taken the place.
+            os.rename(copy, os.path.join(folder, "first"))
+            shutil.copytree(os.path.join(folder, "first"), state)
+        else:
+            os.rename(copy, state)
+            copy_again(state)
+        faults, says = life.goes_on()
+        count.judge("a copy: what came of it", not faults, (faults, says))
+        count.compare("a copy is stale by itself", says, "stale")
+
+
+def copy_again(folder):
+    """Each file is copied, as a backup that is put back is."""
+    for name in os.listdir(folder):
+        path = os.path.join(folder, name)
+        shutil.copy2(path, path + ".new")
+        os.rename(path + ".new", path)
+
+
+# Each call that changes a file of the state fails with ERRNO, or each sync lasts for SLOW ms, from the moment on at which TRIGGER is there.
+LIBRARY = r"""
+#define _GNU_SOURCE
+#include <dlfcn.h>
+#include <errno.h>
+#include <fcntl.h>
+#include <stdarg.h>
+#include <stdio.h>
+#include <stdlib.h>
+#include <string.h>
+#include <sys/stat.h>
+#include <sys/types.h>
+#include <time.h>
+#include <unistd.h>
+
+static const char *watched, *trigger, *unseen, *counted;
+static int fault, slow;
+
+__attribute__((constructor)) static void begin(void) {
+    watched = getenv("WATCHED");
+    trigger = getenv("TRIGGER");
+    unseen = getenv("UNSEEN");
+    counted = getenv("COUNTED");
+    fault = getenv("ERRNO") ? atoi(getenv("ERRNO")) : 0;
+    slow = getenv("SLOW") ? atoi(getenv("SLOW")) : 0;
+}
+
+static int is_watched(const char *path) {
+    size_t front = watched ? strlen(watched) : 0;
+    return front && !strncmp(path, watched, front) && (!path[front] || path[front] == '/') && !access(trigger, F_OK);
+}
+
+static int is_open(int file) {
+    char link[64], path[4096];
+    snprintf(link, sizeof link, "/proc/self/fd/%d", file);
+    ssize_t n = readlink(link, path, sizeof path - 1);
+    if (n < 0) return 0;
+    path[n] = 0;
+    return is_watched(path);
+}
+
+#define REAL(type, name, ...) static type (*real)(__VA_ARGS__); if (!real) real = dlsym(RTLD_NEXT, name)
+#define FAIL_IF(holds) if (fault && (holds)) { errno = fault; return -1; }
+
+// A disk that fails gives nothing at all; one that is read-only or full can be read.
+static int refuses(int flags) { return fault == EIO || fault == EACCES || (flags & (O_WRONLY | O_RDWR | O_CREAT)); }
+
+int open(const char *path, int flags, ...) {
+    va_list rest;
+    va_start(rest, flags);
+    int mode = va_arg(rest, int);
+    va_end(rest);
+    REAL(int, "open", const char *, int, ...);
+    FAIL_IF(refuses(flags) && fault != ENOSPC && is_watched(path));
+    return real(path, flags, mode);
+}
+
+int open64(const char *path, int flags, ...) {
+    va_list rest;
+    va_start(rest, flags);
+    int mode = va_arg(rest, int);
+    va_end(rest);
+    return open(path, flags, mode);
+}
+
+ssize_t pwrite64(int file, const void *octets, size_t count, off64_t at) {
+    REAL(ssize_t, "pwrite64", int, const void *, size_t, off64_t);
+    FAIL_IF(is_open(file));
+    return real(file, octets, count, at);
+}
+
+ssize_t pwrite(int file, const void *octets, size_t count, off_t at) { return pwrite64(file, octets, count, at); }
+
+// How many octets were read of a file of the state stands in the file COUNTED, a line for each time.
+static ssize_t seen(int file, ssize_t count) {
+    if (!counted || count <= 0 || !is_open(file)) return count;
+    int to = open(counted, O_WRONLY | O_CREAT | O_APPEND, 0600);
+    if (to >= 0) {
+        dprintf(to, "%zd\n", count);
+        close(to);
+    }
+    return count;
+}
+
+ssize_t pread64(int file, void *octets, size_t count, off64_t at) {
+    REAL(ssize_t, "pread64", int, void *, size_t, off64_t);
+    FAIL_IF(fault == EIO && is_open(file));
+    return seen(file, real(file, octets, count, at));
+}
+
+ssize_t read(int file, void *octets, size_t count) {
+    REAL(ssize_t, "read", int, void *, size_t);
+    FAIL_IF(fault == EIO && is_open(file));
+    return seen(file, real(file, octets, count));
+}
+
+// The file UNSEEN alone can't be looked for.
+int statx(int at, const char *path, int flags, unsigned mask, struct statx *out) {
+    REAL(int, "statx", int, const char *, int, unsigned, struct statx *);
+    size_t size = strlen(path), end = unseen ? strlen(unseen) : 0;
+    if (end && size > end && !strcmp(path + size - end, unseen) && is_watched(path)) {
+        errno = EIO;
+        return -1;
+    }
+    return real(at, path, flags, mask, out);
+}
+
+ssize_t pread(int file, void *octets, size_t count, off_t at) { return pread64(file, octets, count, at); }
+
+int ftruncate64(int file, off64_t size) {
+    REAL(int, "ftruncate64", int, off64_t);
+    FAIL_IF(is_open(file));
+    return real(file, size);
+}
+
+int ftruncate(int file, off_t size) { return ftruncate64(file, size); }
+
+int rename(const char *from, const char *to) {
+    REAL(int, "rename", const char *, const char *);
+    FAIL_IF(fault != ENOSPC && is_watched(from));
+    return real(from, to);
+}
+
+int mkdir(const char *path, mode_t mode) {
+    REAL(int, "mkdir", const char *, mode_t);
+    FAIL_IF(is_watched(path));
+    return real(path, mode);
+}
+
+int unlink(const char *path) {
+    REAL(int, "unlink", const char *);
+    FAIL_IF(fault != ENOSPC && is_watched(path));
+    return real(path);
+}
+
+static int synced(int file, int (*real)(int)) {
+    FAIL_IF(is_open(file));
+    if (slow && is_open(file)) nanosleep(&(struct timespec){slow / 1000, slow % 1000 * 1000000L}, NULL);
+    return real(file);
+}
+
+int fdatasync(int file) {
+    REAL(int, "fdatasync", int);
+    return synced(file, real);
+}
+
+int fsync(int file) {
+    REAL(int, "fsync", int);
+    return synced(file, real);
+}
+"""
+
+# What the system calls each of these faults.
+FAULTS = {
+    "EIO": (errno.EIO, "Input/output error"),
+    "read-only": (errno.EROFS, "Read-only file system"),
+    "no permission": (errno.EACCES, "Permission denied"),
+    "no space": (errno.ENOSPC, "No space left on device"),
+}
+
+
+class Failing:
+    """A gateway whose disk can be made to fail at any moment."""
+
+    def __init__(self, program, folder, fault, *, slow=0, flags=(), **more):
+        self.trigger = os.path.join(folder, "trigger")
+        environment = {
+            **os.environ,
+            "LD_PRELOAD": ends.library(folder, "failing", LIBRARY),
+            "WATCHED": os.path.join(folder, "state"),
+            "TRIGGER": self.trigger,
+            "ERRNO": str(fault),
+            "SLOW": str(slow),
+            "RUNTIME_DIRECTORY": os.path.join(folder, "runtime"),
+            **more,
+        }
+        os.mkdir(environment["RUNTIME_DIRECTORY"])
+        self.gateway = quiet(program, folder, environment=environment, flags=flags, **SHORT)
+        self.field = self.gateway.field
+        self.field.pause = PAUSE
+
+    def begin(self):
+        self.gateway.start()
+        self.gateway.waits("station 1 up", "station 2 up")
+        queue_up(self.gateway, 2)
+
+    def fail(self):
+        with open(self.trigger, "w"):
+            pass
+
+    def mend(self):
+        os.remove(self.trigger)
+
+    def is_up(self):
+        """Whether it polls on."""
+        return has_gone_round(self.gateway, 4) and self.gateway.process.poll() is None
+
+
+def says_why(told, reason):
+    """Whether a line names a file or the directory of the state, and this reason."""
+    return any(reason.lower() in line.lower() and "state" in line for line in told.splitlines())
+
+
+def fails_amid_a_run(count, program, name):
+    """The disk fails amid a run, and is well again at a later start: what was kept comes, and gaps tell the rest."""
+    fault, reason = FAULTS[name]
+    with tempfile.TemporaryDirectory() as folder:
+        case = Failing(program, folder, fault)
+        gateway, field = case.gateway, case.field
+        case.begin()
+        case.fail()
+        count.judge(f"{name}: it goes on", case.is_up(), (gateway.process.poll(), gateway.logged()))
+        told = gateway.logged()
+        count.judge(f"{name}: it says so", "isn't kept" in told, told)
+        count.judge(f"{name}: and why", says_why(told, reason), told)
+        if gateway.process.poll() is None:
+            queue_up(gateway, 2)
+        gateway.kill()
+        # Nothing could be marked there: a start while it still fails knows of it, and so does one behind that.
+        gateway.start()
+        count.judge(f"{name}: a start goes on without a state", case.is_up(), gateway.logged())
+        told = gateway.kill()
+        count.judge(f"{name}: and says why", says_why(told, reason), told)
+        case.mend()
+        resets = resets_of(gateway)
+        gateway.start()
+        is_known = gateway.waits("stale")
+        has_gone_round(gateway)
+        told = gateway.kill()
+        count.judge(f"{name}: the next start knows it", is_known and gaps(told) == [1, 2], told)
+        count.compare(f"{name}: each link is reset once", resets_of(gateway), {a: n + 1 for a, n in resets.items()})
+        field.server.close()
+
+
+def fails_at_a_start(count, program, name):
+    """The directory can't be used at the first start."""
+    fault, reason = FAULTS[name]
+    with tempfile.TemporaryDirectory() as folder:
+        case = Failing(program, folder, fault)
+        os.mkdir(case.gateway.state)
+        case.fail()
+        case.gateway.start()
+        count.judge(f"{name} at a start: it goes on", case.is_up(), (case.gateway.process.poll(), case.gateway.logged()))
+        told = case.gateway.kill()
+        count.judge(f"{name} at a start: it says why", says_why(told, reason), told)
+        case.field.server.close()
+
+
+def stops(count, program, name):
+    """With --state-or-stop a run ends with 3, amid a run and at a start."""
+    fault, reason = FAULTS[name]
+    with tempfile.TemporaryDirectory() as folder:
+        case = Failing(program, folder, fault, flags=["--state-or-stop"])
+        case.begin()
+        case.fail()
+        until(lambda: case.gateway.process.poll() is not None, 20)
+        count.compare(f"{name}, --state-or-stop: it ends", case.gateway.process.poll(), 3)
+        told = case.gateway.kill()
+        count.judge(f"{name}, --state-or-stop: it says why", says_why(told, reason), told)
+        case.gateway.start()
+        until(lambda: case.gateway.process.poll() is not None, 20)
+        count.compare(f"{name}, --state-or-stop: a start ends", case.gateway.process.poll(), 3)
+        told = case.gateway.kill()
+        count.judge(f"{name}, --state-or-stop: it says why", says_why(told, reason), told)
+        case.field.server.close()
+
+
+def no_file(count, program):
+    """A FIFO stands in the place of a file of the state."""
+    with tempfile.TemporaryDirectory() as folder:
+        gateway = quiet(program, folder, **SHORT)
+        gateway.field.pause = PAUSE
+        os.mkdir(gateway.state)
+        os.mkfifo(os.path.join(gateway.state, "segments"))
+        gateway.start()
+        is_up = has_gone_round(gateway, 4)
+        count.judge("a FIFO: it goes on", is_up and gateway.process.poll() is None, (gateway.process.poll(), gateway.logged()))
+        told = gateway.kill()
+        count.judge("a FIFO: it names the file", re.search(r"state.*segments", told), told)
+        gateway.field.server.close()
+
+
+def slow_syncs(count, program):
+    """A sync that lasts is told with its time."""
+    with tempfile.TemporaryDirectory() as folder:
+        case = Failing(program, folder, 0, slow=150)
+        case.begin()
+        case.fail()
+        told = until(lambda: re.search(r"sync\D*1[5-9]\d ms|1[5-9]\d ms.*sync", case.gateway.logged()), 10)
+        count.judge("a slow sync is told with its time", told, case.gateway.logged())
+        queue_up(case.gateway, 1)
+        count.judge("and the state is kept", "isn't kept" not in case.gateway.logged(), case.gateway.logged())
+        case.gateway.kill()
+        case.field.server.close()
+
+
+def mark_unseen(count, program):
+    """A state is marked as stale, and the mark can't be looked for: no start takes it for absent."""
+    with tempfile.TemporaryDirectory() as folder:
+        case = Failing(program, folder, 0)
+        case.begin()
+        case.gateway.kill()
+        # Where both marks stand, the state is stale.
+        with open(os.path.join(case.gateway.state, "stale"), "w"):
+            pass
+        case.gateway.environment |= {"UNSEEN": "/stale"}
+        case.fail()
+        case.gateway.start()
+        until(lambda: case.gateway.process.poll() is not None or "listening" in case.gateway.logged(), 20)
+        has_gone_round(case.gateway, 1)
+        told = case.gateway.kill()
+        count.judge("a mark that can't be looked for", "goes on" not in told or "stale" in told, told)
+        count.judge("something is said of it", "state" in told, told)
+        case.field.server.close()
+
+
+def each_octet_once(count, program):
+    """A start reads no octet of its two files twice."""
+    with tempfile.TemporaryDirectory() as folder:
+        counted = os.path.join(folder, "counted")
+        case = Failing(program, folder, 0, COUNTED=counted)
+        case.begin()
+        case.gateway.kill()
+        case.fail()
+        case.gateway.start()
+        count.judge("it goes on", case.gateway.waits("goes on", "listening"), case.gateway.logged())
+        with open(counted) as file:
+            octets = sum(map(int, file))
+        size = sum(os.path.getsize(os.path.join(case.gateway.state, name)) for name in ("segments", "segments-wal"))
+        print(f"a start read {octets} octets of files of {size}", flush=True)
+        count.judge("no octet is read twice", 0 < octets <= size + 4096, (octets, size))
+        case.gateway.kill()
+        case.field.server.close()
+
+
+def damage_part(name, damage, cases):
+    return name, lambda count, program, _folder: damaged(count, program, damage, cases)
+
+
+PARTS = [
+    damage_part("disk bits", turn_a_bit, 12),
+    damage_part("disk sectors", zero_a_sector, 8),
+    damage_part("disk short files", cut_short, 8),
+    damage_part("shortened behind its last line", cut_to_used, 2),
+    damage_part("sectors exchanged", exchange, 6),
+    alone("disk older copy", older_copy, False),
+    alone("disk clone", older_copy, True),
+    *(alone(f"disk fails amid a run: {name}", fails_amid_a_run, name) for name in FAULTS),
+    *(alone(f"disk fails at a start: {name}", fails_at_a_start, name) for name in FAULTS),
+    *(alone(f"disk or stop: {name}", stops, name) for name in ("EIO", "read-only")),
+    alone("disk FIFO", no_file),
+    alone("disk slow", slow_syncs),
+    alone("disk each octet once", each_octet_once),
+    alone("mark that can't be looked for", mark_unseen),
+]
+
+
+if __name__ == "__main__":
+    kept.play(PARTS, {"--seed": {"type": int, "default": 1}})
