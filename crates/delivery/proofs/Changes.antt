@@ -31,8 +31,10 @@ use Rattle.link.specs.Primary.{sending, sending_by}
 use Rattle.link.specs.Primary.{station_answered, station_asked, station_unanswered, timed_out, took}
 use Rattle.link.specs.Primary.{unanswered, with_octets}
 use Rattle.link.specs.Procedure.{after_outcome, after_silence, has_repeats, held, is_up}
-use Rattle.link.specs.Procedure.{link_after, missed_so_far, probed_so_far, silence_so_far, Silence}
-use Rattle.link.specs.Procedure.{Probed, is_kept, short_silence, spent_silence}
+use Rattle.link.specs.Procedure.{link_after, missed_so_far, probed_so_far, silence_so_far}
+use Rattle.link.specs.declared.procedure.Silence.{Silence}
+use Rattle.link.specs.Procedure.{is_kept, short_silence, spent_silence}
+use Rattle.link.specs.declared.procedure.Probed.{Probed}
 use Rattle.link.specs.Turns.{CommandsWaiting, chosen_or, first_after, no_station}
 use Rattle.link.specs.Turns.{station_at, wanted_by, wants, is_poll}
 use Rattle.link.proofs.Links.{set_view}
