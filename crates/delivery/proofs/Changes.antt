@@ -18,7 +18,6 @@ use Rattle.link.specs.declared.settings.LinkSettings.{LinkSettings}
 use Rattle.link.specs.declared.turn.StationState.{StationState}
 use Rattle.link.specs.Answers.{answer_of}
 use Rattle.link.specs.declared.turn.Chosen.{Chosen}
-use Rattle.link.specs.declared.turn.Wanted.{Wanted}
 use Rattle.link.specs.declared.turn.Phase.{Phase}
 use Rattle.link.specs.declared.turn.Phase.TheVariants.{Starting, Commanding, Polling}
 use Rattle.link.specs.declared.turn.Phase.TheVariants.{Class1Polling, Over}

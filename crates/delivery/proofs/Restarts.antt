@@ -251,6 +251,18 @@ module _ (laws : LinkLaws) (stay : AnswersStay) (p : Setup) where
   pub all_given : (w : Works) (e : Exchanges) → IsGiven p w w e
       → IsGiven p w (restarted_works w) (commands_given_up p.link front p.addresses e)
   all_given w e g =
+      let upto : IsGiven p w (commands_given_up_works_upto (length w.serial.line.stations) w)
+      (commands_given_up p.link front p.addresses e) =
       subst (λ (n : ℕ). IsGiven p w (commands_given_up_works_upto n w)
       (commands_given_up p.link front p.addresses e)) (sym g.matches.count)
-      (upto_given w e (length p.addresses) (omega arith) g)
+      (upto_given w e (length p.addresses) (omega arith) g) in
+      record {
+        matches = laws.doubted p.link p.addresses
+            (commands_given_up_works_upto (length w.serial.line.stations) w).serial.line
+            (commands_given_up p.link front p.addresses e) upto.matches;
+        logged = upto.logged;
+        silent = upto.silent;
+        fits = upto.fits;
+        mirrored = upto.mirrored;
+        skipped = upto.skipped;
+      }

@@ -347,8 +347,10 @@ held_counts s fcb service n missed probed alike same =
         else Held fcb service (short_silence missed probed)) n
     by_repeats true true is = (
       alike,
-      ((λ no. let e : true ≡ false = sym is ∙ no in cc),
-          (λ spent. kept_holds s.hold (not (is_twice probed)) is)),
+      (
+        (λ no. let e : true ≡ false = sym is ∙ no in cc),
+        (λ spent. kept_holds s.hold (not (is_twice probed)) is),
+      ),
     )
     by_repeats true false is = tt
     by_repeats false c is = (alike, (same, (λ spent. cc)))
@@ -371,8 +373,10 @@ status_counts s None closed Available n may c = tt
 status_counts s None closed (Next fcb) n may c = absurd may
 status_counts s None closed (Held fcb service silence) n may c = (
   refl,
-  ((λ no. let e : true ≡ false = sym (never_gone s (c.1.1 may)) ∙ no in cc),
-      (λ spent. c.1.1 may)),
+  (
+    (λ no. let e : true ≡ false = sym (never_gone s (c.1.1 may)) ∙ no in cc),
+    (λ spent. c.1.1 may),
+  ),
 )
 status_counts s (Some Ready) closed Down n may c = tt
 status_counts s (Some Ready) closed Available n may c = tt
