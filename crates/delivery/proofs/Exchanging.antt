@@ -19,7 +19,8 @@ use Rattle.link.specs.declared.outcome.Outcome.TheVariants as outcome
 use Rattle.link.specs.Exchanges.{Exchange, LineExchange, OpenExchange, Exchanges, all_of, answer_to}
 use Rattle.link.specs.Exchanges.{view, views, with_station}
 use Rattle.link.specs.declared.settings.LinkSettings.{LinkSettings}
-use Rattle.link.specs.Procedure.{held, Silence}
+use Rattle.link.specs.Procedure.{held}
+use Rattle.link.specs.declared.procedure.Silence.{Silence}
 use Rattle.link.specs.Primary.{outcome_of}
 use Rattle.link.specs.Delivery.{pending_by, pending_after, first_sending}
 use Rattle.command.specs.History.{History, Sent, Accepted, Refused, GivenUp}
@@ -119,7 +120,7 @@ alike_logged s a k xs request front later closed over given h new alike down sam
       given_up = given;
     } in
     record {
-      steps = ap (λ (l : LineLogged). l.steps) same ∙ t.steps ∙ steps_more s a 0 None xs x
+      steps = ap (λ (l : LineLogged). l.steps) same ∙ t.steps ∙ steps_more s a unmissed None xs x
           ∙ ap (λ (o : Option Answer). steps_in s a unmissed None xs
           ++ (map (λ (asdu : List ℕ). Begun asdu) (first_sending pending request)
           ++ (said_of request o
@@ -128,7 +129,7 @@ alike_logged s a k xs request front later closed over given h new alike down sam
           ∙ ap (λ (b : Bool). steps_in s a unmissed None xs ++
           (map (λ (asdu : List ℕ). Begun asdu) (first_sending pending request)
           ++ (said_of request (answer_to a y) ++ lost_if (given || b)))) down
-          ∙ sym (steps_more s a 0 None xs y);
+          ∙ sym (steps_more s a unmissed None xs y);
       last = λ asdu e. ap (λ (l : LineLogged). l.last) same
           ∙ t.last asdu (pending_more a None xs x
           ∙ ap (λ (o : Option Answer). pending_by request o pending) alike
@@ -187,14 +188,14 @@ module _ (s : LinkSettings) (a k : ℕ) (xs : List Exchange) (request : Asked)
       let old : List LineStep = steps_in s a unmissed None xs in
       let more : List LineStep = said_of request m ++ lost_if (goes_down s missed request over m) in
       let was : steps_in s a unmissed None (xs ++ before_it ∷ []) ≡ old ++ first =
-      steps_more s a 0 None xs before_it ∙ ap (λ (o : Option Answer). old
+      steps_more s a unmissed None xs before_it ∙ ap (λ (o : Option Answer). old
       ++ (first ++ (said_of request o ++ lost_if (goes_down s missed request false o)))) none
       ∙ ap (λ (l : List LineStep). old
       ++ (first ++ (l ++ lost_if (goes_down s missed request false None))))
       (none_said request)
       ∙ ap (λ (b : Bool). old ++ (first ++ lost_if b)) (still_up s missed request)
       ∙ ap (λ (l : List LineStep). old ++ l) (append-nil first) in
-      steps_more s a 0 None xs after_it ∙ ap (λ (o : Option Answer). old
+      steps_more s a unmissed None xs after_it ∙ ap (λ (o : Option Answer). old
       ++ (first ++ (said_of request o ++ lost_if (goes_down s missed request over o)))) is
       ∙ sym (append_assoc old first more) ∙ ap (λ (l : List LineStep). l ++ more) (sym was)
 

@@ -14,7 +14,9 @@ use Rattle.link.specs.declared.turn.StationState.{StationState}
 use Rattle.link.specs.declared.turn.Phase.TheVariants.{Starting}
 use Rattle.link.specs.declared.seat.ResumedStation.{ResumedStation}
 use Rattle.link.specs.Carried.{reseated, seated, link_carried}
-use Rattle.link.specs.Procedure.{Silence, Never, short_silence}
+use Rattle.link.specs.Procedure.{short_silence}
+use Rattle.link.specs.declared.procedure.Silence.{Silence}
+use Rattle.link.specs.declared.procedure.Probed.TheVariants.{Never}
 use Rattle.link.specs.Primary.{Primary, sending, acd_of, dfc_of, session_answered}
 use Rattle.link.specs.Turns.{CommandsWaiting, station_at}
 use Rattle.delivery.specs.NextRequests.{first_answered}

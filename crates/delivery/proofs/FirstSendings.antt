@@ -22,7 +22,6 @@ use Rattle.command.specs.History.{GivesOwnAnswers}
 use Rattle.gateway.specs.Log.{Log, Came, Went, Opened, LineIn, TcpIn, CutOff, Ticked, WallIs}
 use Rattle.gateway.specs.Log.{Restarted, LineOut, TcpOut, Closed, GapOut, latest}
 use Rattle.gateway.specs.Connections.{Channel, present, ends, receiving, no_channel}
-use Rattle.session.specs.declared.kinds.Close.{Close}
 use Rattle.gateway.specs.Streams.{spelled}
 use Rattle.gateway.specs.Reports.{Setup}
 use Rattle.gateway.specs.Serial.{is_first_command}
@@ -34,7 +33,6 @@ use Rattle.delivery.specs.FirstSendings.{first_sent, SendsNoneFirst, SendsFirst,
 use Rattle.delivery.specs.FirstSendings.{IsBehind, OpensNone}
 use Rattle.delivery.specs.Joined.{IsJoined}
 use Rattle.delivery.specs.Merges.{IsSublist}
-use Rattle.delivery.specs.Octets.{is_opening}
 use Rattle.delivery.proofs.Arriving.{logs_as_octets, spelled_grows}
 use Rattle.delivery.proofs.Plain.{plain_line}
 use Rattle.delivery.proofs.Sublists.{sub_all, sub_of_sub, sub_append, sub_prefix, all_of_sub}
