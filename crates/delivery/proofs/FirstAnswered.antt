@@ -60,13 +60,15 @@ command_next settings address missed spoilt now fcb leave true Class1 s rest asd
     rw waits refl
 command_next settings address missed spoilt now fcb leave true Class2 s rest asdu waiting waits =
     rw waits refl
-command_next settings address missed spoilt now fcb leave true (Command held) s rest asdu waiting waits =
+command_next settings address missed spoilt now fcb leave true (Command held) s rest asdu waiting
+    waits =
     rw waits refl
 command_next settings address missed spoilt now fcb leave false Class1 s rest asdu waiting waits =
     rw waits refl
 command_next settings address missed spoilt now fcb leave false Class2 s rest asdu waiting waits =
     rw waits refl
-command_next settings address missed spoilt now fcb leave false (Command held) s rest asdu waiting waits =
+command_next settings address missed spoilt now fcb leave false (Command held) s rest asdu waiting
+    waits =
     rw waits refl
 
 poll_next : (settings : LinkSettings) (address missed spoilt now : ℕ) (fcb unsure : Bool)

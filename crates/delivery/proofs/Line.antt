@@ -421,7 +421,8 @@ module _ (laws : LinkLaws) (p : Setup) (q : Primary) (e : Exchanges)
               (subst (λ (i : ℕ). answer_to (address i) (view front x).exchange ≡ None) here
               (none_yet o x w))
               (last_may p.link (address k) Down ended (view front x).exchange kept)
-              (counts p.link (address k) Down unmissed ended (front_keeps p.link (address k) Down ended
+              (counts p.link (address k) Down unmissed ended
+              (front_keeps p.link (address k) Down ended
               (view front x).exchange kept) tt) logged before
 
       go : (o : Option Outstanding) (c : Option OpenExchange) → q.outstanding ≡ o → e.current ≡ c

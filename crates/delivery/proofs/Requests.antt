@@ -265,7 +265,8 @@ closed_one s a k xs request front link h new none may counts same t =
         → said_of request None ++ lost_if (is_silent s (missed_after a unmissed xs) request true)
         ≡ lost_if b
     says b is =
-        ap (λ (l : List LineStep). l ++ lost_if (is_silent s (missed_after a unmissed xs) request true))
+        ap (λ (l : List LineStep). l
+        ++ lost_if (is_silent s (missed_after a unmissed xs) request true))
         (none_said request) ∙ ap lost_if is
 
     go : (b : Bool) → is_silent s (missed_after a unmissed xs) request true ≡ b

@@ -66,7 +66,8 @@ silence_holds s fcb service true link n may c holds =
         → holds_command
         (if b
         then (if kept then Held fcb service (spent_silence s (probed_so_far link)) else Down)
-        else Held fcb service (short_silence (suc (missed_so_far link)) (probed_so_far link))) ≡ true
+        else Held fcb service (short_silence (suc (missed_so_far link)) (probed_so_far link)))
+        ≡ true
         → (not (is_kept s (probed_so_far link)) && nat_lt s.retries (suc n.missed)) ≡ false
     go b true less is holds =
         ap (λ (h : Bool). not h && nat_lt s.retries (suc n.missed)) is

@@ -399,7 +399,8 @@ one_counts s Reset None front closed link n may c = tt
 one_counts s Reset (Some Ready) front closed link n may c =
     down_counts s link unmissed (may_reset link may)
 one_counts s Reset (Some Confirmed) front closed link n may c = refl
-one_counts s Reset (Some Busy) front closed link n may c = down_counts s link unmissed (may_reset link may)
+one_counts s Reset (Some Busy) front closed link n may c =
+    down_counts s link unmissed (may_reset link may)
 one_counts s Reset (Some (Report asdu)) front closed link n may c =
     down_counts s link unmissed (may_reset link may)
 one_counts s Reset (Some NoData) front closed link n may c =

@@ -397,7 +397,8 @@ pub fn turns_go_on_where_a_held_service_begins_them()
 pub fn turns_go_on_behind_new_settings()
     ensures command { (settings : LinkSettings) (seat : ResumedStation)
         (seats : List ResumedStation) (before : Primary) (place now : ℕ)
-        (missed : Silence) (fcb leave : Bool) (service : Service) (asdu : List ℕ) (waiting : CommandsWaiting) →
+        (missed : Silence) (fcb leave : Bool) (service : Service) (asdu : List ℕ)
+        (waiting : CommandsWaiting) →
         seat.before ≡ Some place →
         (station_at before.stations place).link ≡ Held fcb service missed →
         waiting 0 ≡ Some asdu →
