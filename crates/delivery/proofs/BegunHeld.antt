@@ -33,7 +33,8 @@ use Rattle.link.specs.Procedure.{is_held, is_service, after_answer, after_silenc
 use Rattle.link.specs.Procedure.{is_kept, probed_so_far, short_silence, spent_silence}
 use Rattle.link.specs.Runs.{Call, Next, Octets, Due, GivesUp, Doubts, called, called_all}
 use Rattle.link.specs.Turns.{CommandsWaiting, no_station, station_at, is_poll, wants, wanted_poll}
-use Rattle.link.specs.Turns.{polls_from, wanted_command, commands_from, wanted_by, wanted, is_doubted}
+use Rattle.link.specs.Turns.{polls_from, wanted_command, commands_from, wanted_by, wanted}
+use Rattle.link.specs.Turns.{is_doubted}
 use Rattle.link.specs.Turns.{place_after, chosen_or, first_after}
 use Rattle.delivery.specs.NextRequests.{ArePassing, IsOutNoMore}
 
@@ -137,7 +138,8 @@ begun p leave waiting s goes other held served = by (choice p leave waiting) ref
         let at : c.station ≡ s.station = ap (λ (x : Sending). x.station) one in
         let asks : is_service c.wanted.request ≡ true =
         ap (λ (x : Sending). is_service x.request) one ∙ served in
-        let f : c.wanted.following ≡ Commanding = held_follows p.settings.burst leave (station_at p.stations c.station)
+        let f : c.wanted.following ≡ Commanding =
+        held_follows p.settings.burst leave (station_at p.stations c.station)
         (waiting c.station) (station_at p.stations c.station).link c.wanted
         (subst (λ (i : ℕ). is_held (station_at p.stations i).link ≡ true) (sym at) held) asks
         (first_begins p.settings.burst leave p.stations waiting (length p.stations) p.turn c

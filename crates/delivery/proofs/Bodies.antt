@@ -2,7 +2,7 @@
 use Rattle.std.specs.Prelude.{slice_index, if◌then◌else◌}
 use Rattle.std.specs.Int.{byte_at, div_ceil}
 use Rattle.std.specs.List.{flat_map, AllByRecursion}
-use Rattle.std.proofs.Common.{◌≡◌, ℕ, zero, suc, ◌+◌, ◌*◌, ◌/◌, ◌%◌, ◌^◌, ◌<◌, ◌≤◌, Bool, true}
+use Rattle.std.proofs.Common.{◌≡◌, ℕ, zero, suc, ◌+◌, ◌*◌, ◌%◌, ◌^◌, ◌<◌, ◌≤◌, Bool, true}
 use Rattle.std.proofs.Common.{false, Option, Some, None, List, [], ◌∷◌, ◌++◌, length, take, drop}
 use Rattle.std.proofs.Common.{map, refl, ap, sym, subst, ◌∙◌, arith, length-append}
 use Rattle.std.proofs.lemmas.List.{take-append-drop}
@@ -20,7 +20,7 @@ use Rattle.asdu.specs.declared.sizes.Sizes.{Sizes}
 use Rattle.asdu.specs.Sizes.{ca_len, header_len, ioa_len, tcp}
 use Rattle.asdu.specs.Asdu.{AsduValue, Info, IsAsdu, IsInfo, IsTag, AreSuccessive, AreInOrder}
 use Rattle.asdu.specs.Asdu.{IsOriginator, body, content, header, located, originator_octets}
-use Rattle.asdu.specs.Asdu.{spelled, tag_octets, vsq}
+use Rattle.asdu.specs.Asdu.{tag_octets, vsq}
 use Rattle.asdu.specs.Layout.{address_octets, common_address_place, content_octets, objects_place}
 use Rattle.asdu.specs.Layout.{object_address_at}
 use Rattle.asdu.specs.Translation.{IsPiece, chunks, in_chunks, piece_size, piece_with}

@@ -18,7 +18,6 @@ use Rattle.link.specs.declared.settings.LinkSettings.{LinkSettings}
 use Rattle.link.specs.declared.turn.StationState.{StationState}
 use Rattle.link.specs.Answers.{answer_of}
 use Rattle.link.specs.declared.turn.Chosen.{Chosen}
-use Rattle.link.specs.declared.turn.Wanted.{Wanted}
 use Rattle.link.specs.declared.turn.Phase.{Phase}
 use Rattle.link.specs.declared.turn.Phase.TheVariants.{Starting, Commanding, Polling}
 use Rattle.link.specs.declared.turn.Phase.TheVariants.{Class1Polling, Over}
@@ -31,8 +30,10 @@ use Rattle.link.specs.Primary.{sending, sending_by}
 use Rattle.link.specs.Primary.{station_answered, station_asked, station_unanswered, timed_out, took}
 use Rattle.link.specs.Primary.{unanswered, with_octets}
 use Rattle.link.specs.Procedure.{after_outcome, after_silence, has_repeats, held, is_up}
-use Rattle.link.specs.Procedure.{link_after, missed_so_far, probed_so_far, silence_so_far, Silence}
-use Rattle.link.specs.Procedure.{Probed, is_kept, short_silence, spent_silence}
+use Rattle.link.specs.Procedure.{link_after, missed_so_far, probed_so_far, silence_so_far}
+use Rattle.link.specs.declared.procedure.Silence.{Silence}
+use Rattle.link.specs.Procedure.{is_kept, short_silence, spent_silence}
+use Rattle.link.specs.declared.procedure.Probed.{Probed}
 use Rattle.link.specs.Turns.{CommandsWaiting, chosen_or, first_after, no_station}
 use Rattle.link.specs.Turns.{station_at, wanted_by, wants, is_poll}
 use Rattle.link.proofs.Links.{set_view}

@@ -85,7 +85,8 @@ module _ (p : Setup) where
         → 3 ≤ length xs → slice_index xs 2 < 256 → fault_of wall xs ≡ Some why
         → a ≡ Some (refused_as why xs)
     answered older now wall xs None why is long fits so = absurd (none (
-        sym (answers_then p newer (Judged now wall xs None ∷ older) (subst (Answers p) is answers)).0
+        sym (answers_then p newer (Judged now wall xs None ∷ older)
+        (subst (Answers p) is answers)).0
         ∙ so))
       where
         none : None ≡ Some why → ⊥

@@ -16,7 +16,7 @@ use Rattle.gateway.specs.Works.{Works, unless_silent_works}
 use Rattle.delivery.specs.Commands.{LineStep, Begun, Confirmed, Busy, Lost, said_of, missed_by}
 use Rattle.delivery.specs.Commands.{goes_down, steps_at, steps_in, confirmed_by, steps_logged}
 use Rattle.delivery.specs.Commands.{sent_to}
-use Rattle.link.specs.Procedure.{Silence}
+use Rattle.link.specs.declared.procedure.Silence.{Silence}
 use Rattle.delivery.proofs.Accepted.{commands-append}
 
 confirmed-append : (xs ys : List LineStep) → confirmed_by (xs ++ ys)

@@ -19,7 +19,8 @@ use Rattle.link.specs.declared.outcome.Outcome.TheVariants as outcome
 use Rattle.link.specs.Exchanges.{Exchange, LineExchange, OpenExchange, Exchanges, all_of, answer_to}
 use Rattle.link.specs.Exchanges.{view, views, with_station}
 use Rattle.link.specs.declared.settings.LinkSettings.{LinkSettings}
-use Rattle.link.specs.Procedure.{held, Silence}
+use Rattle.link.specs.Procedure.{held}
+use Rattle.link.specs.declared.procedure.Silence.{Silence}
 use Rattle.link.specs.Primary.{outcome_of}
 use Rattle.link.specs.Delivery.{pending_by, pending_after, first_sending}
 use Rattle.command.specs.History.{History, Sent, Accepted, Refused, GivenUp}
@@ -88,7 +89,8 @@ pub alike_logged : (s : LinkSettings) (a k : ℕ) (xs : List Exchange) (request 
     (front later : Option Frame)
     (closed over given : Bool) (h new : History) →
     option_and_then (answer_of a request) front ≡ option_and_then (answer_of a request) later →
-    goes_down s (missed_after a unmissed xs) request closed (option_and_then (answer_of a request) later)
+    goes_down s (missed_after a unmissed xs) request closed
+    (option_and_then (answer_of a request) later)
     ≡ goes_down s (missed_after a unmissed xs) request over
     (option_and_then (answer_of a request) later) →
     line_logged k new ≡ line_logged k h →
@@ -119,7 +121,7 @@ alike_logged s a k xs request front later closed over given h new alike down sam
       given_up = given;
     } in
     record {
-      steps = ap (λ (l : LineLogged). l.steps) same ∙ t.steps ∙ steps_more s a 0 None xs x
+      steps = ap (λ (l : LineLogged). l.steps) same ∙ t.steps ∙ steps_more s a unmissed None xs x
           ∙ ap (λ (o : Option Answer). steps_in s a unmissed None xs
           ++ (map (λ (asdu : List ℕ). Begun asdu) (first_sending pending request)
           ++ (said_of request o
@@ -128,7 +130,7 @@ alike_logged s a k xs request front later closed over given h new alike down sam
           ∙ ap (λ (b : Bool). steps_in s a unmissed None xs ++
           (map (λ (asdu : List ℕ). Begun asdu) (first_sending pending request)
           ++ (said_of request (answer_to a y) ++ lost_if (given || b)))) down
-          ∙ sym (steps_more s a 0 None xs y);
+          ∙ sym (steps_more s a unmissed None xs y);
       last = λ asdu e. ap (λ (l : LineLogged). l.last) same
           ∙ t.last asdu (pending_more a None xs x
           ∙ ap (λ (o : Option Answer). pending_by request o pending) alike
@@ -177,7 +179,8 @@ module _ (s : LinkSettings) (a k : ℕ) (xs : List Exchange) (request : Asked)
 
   -- the steps grow by what the answer says, or its want
   grown : (m : Option Answer) → answer_to a before_it ≡ None → answer_to a after_it ≡ m →
-      steps_in s a unmissed None (xs ++ after_it ∷ []) ≡ steps_in s a unmissed None (xs ++ before_it ∷ [])
+      steps_in s a unmissed None (xs ++ after_it ∷ [])
+      ≡ steps_in s a unmissed None (xs ++ before_it ∷ [])
       ++ (said_of request m ++ lost_if (goes_down s (missed_after a unmissed xs) request over m))
   grown m none is =
       let pending : Option Service = pending_after a None xs in
@@ -187,14 +190,14 @@ module _ (s : LinkSettings) (a k : ℕ) (xs : List Exchange) (request : Asked)
       let old : List LineStep = steps_in s a unmissed None xs in
       let more : List LineStep = said_of request m ++ lost_if (goes_down s missed request over m) in
       let was : steps_in s a unmissed None (xs ++ before_it ∷ []) ≡ old ++ first =
-      steps_more s a 0 None xs before_it ∙ ap (λ (o : Option Answer). old
+      steps_more s a unmissed None xs before_it ∙ ap (λ (o : Option Answer). old
       ++ (first ++ (said_of request o ++ lost_if (goes_down s missed request false o)))) none
       ∙ ap (λ (l : List LineStep). old
       ++ (first ++ (l ++ lost_if (goes_down s missed request false None))))
       (none_said request)
       ∙ ap (λ (b : Bool). old ++ (first ++ lost_if b)) (still_up s missed request)
       ∙ ap (λ (l : List LineStep). old ++ l) (append-nil first) in
-      steps_more s a 0 None xs after_it ∙ ap (λ (o : Option Answer). old
+      steps_more s a unmissed None xs after_it ∙ ap (λ (o : Option Answer). old
       ++ (first ++ (said_of request o ++ lost_if (goes_down s missed request over o)))) is
       ∙ sym (append_assoc old first more) ∙ ap (λ (l : List LineStep). l ++ more) (sym was)
 
@@ -223,7 +226,8 @@ module _ (s : LinkSettings) (a k : ℕ) (xs : List Exchange) (request : Asked)
   quiet_logged m h new none is nothing same t = record {
     steps = ap (λ (l : LineLogged). l.steps) same ∙ t.steps
         ∙ sym (append-nil (steps_in s a unmissed None (xs ++ before_it ∷ [])))
-        ∙ ap (λ (l : List LineStep). steps_in s a unmissed None (xs ++ before_it ∷ []) ++ l) (sym nothing)
+        ∙ ap (λ (l : List LineStep). steps_in s a unmissed None (xs ++ before_it ∷ []) ++ l)
+        (sym nothing)
         ∙ sym (grown m none is);
     last = λ asdu e. ap (λ (l : LineLogged). l.last) same
         ∙ t.last asdu (still_pending m none is (Command asdu) e);
@@ -248,8 +252,10 @@ module _ (s : LinkSettings) (a k : ℕ) (xs : List Exchange) (request : Asked)
       ∙ ap (λ (o : Option Answer). pending_by request o pending) is ∙ done in
       record {
         steps = steps ∙ ap (λ (l : List LineStep). l ++ step (last_sent k h) ∷ []) t.steps
-            ∙ ap (λ (x : List ℕ). steps_in s a unmissed None (xs ++ before_it ∷ []) ++ step x ∷ []) it
-            ∙ ap (λ (l : List LineStep). steps_in s a unmissed None (xs ++ before_it ∷ []) ++ l) (sym says)
+            ∙ ap (λ (x : List ℕ). steps_in s a unmissed None (xs ++ before_it ∷ []) ++ step x ∷ [])
+            it
+            ∙ ap (λ (l : List LineStep). steps_in s a unmissed None (xs ++ before_it ∷ []) ++ l)
+            (sym says)
             ∙ sym (grown m none is);
         last = λ other e. let no : None ≡ Some (Command other) = sym over ∙ e in cc;
         sent = sent ∙ t.sent ∙ sym same_sendings;
@@ -258,7 +264,8 @@ module _ (s : LinkSettings) (a k : ℕ) (xs : List Exchange) (request : Asked)
   -- what stands on the line is lost
   pub lost_logged : (m : Option Answer) (h new : History) → answer_to a before_it ≡ None
       → answer_to a after_it ≡ m
-      → said_of request m ++ lost_if (goes_down s (missed_after a unmissed xs) request over m) ≡ Lost ∷ []
+      → said_of request m ++ lost_if (goes_down s (missed_after a unmissed xs) request over m)
+      ≡ Lost ∷ []
       →
       line_logged k new ≡ line_logged k (GivenUp k false ∷ h)
       → IsLogged s a (xs ++ before_it ∷ []) k h
@@ -268,7 +275,8 @@ module _ (s : LinkSettings) (a k : ℕ) (xs : List Exchange) (request : Asked)
         ∙ ap (λ (b : Bool). if b then steps_logged k h ++ Lost
         ∷ [] else steps_logged k h) (eq-eqb k k refl)
         ∙ ap (λ (l : List LineStep). l ++ Lost ∷ []) t.steps
-        ∙ ap (λ (l : List LineStep). steps_in s a unmissed None (xs ++ before_it ∷ []) ++ l) (sym says)
+        ∙ ap (λ (l : List LineStep). steps_in s a unmissed None (xs ++ before_it ∷ []) ++ l)
+        (sym says)
         ∙ sym (grown m none is);
     last = λ asdu e. ap (λ (l : LineLogged). l.last) same
         ∙ t.last asdu (still_pending m none is (Command asdu) e);
@@ -304,7 +312,8 @@ pub received_one : (s : LinkSettings) (a k : ℕ) (xs : List Exchange) (request 
     } ∷ []) k new
 received_one s a k xs request front later None h new none is proper same t =
     quiet_logged s a k xs request front later false None h new none is
-    (ap (λ (l : List LineStep). l ++ lost_if (goes_down s (missed_after a unmissed xs) request false None))
+    (ap (λ (l : List LineStep). l
+    ++ lost_if (goes_down s (missed_after a unmissed xs) request false None))
     (none_said request) ∙ ap lost_if (still_up s (missed_after a unmissed xs) request)) same t
 received_one s a k xs Status front later (Some answer.Ready) h new none is proper same t =
     quiet_logged s a k xs Status front later false (Some answer.Ready) h new none is refl same t

@@ -14,7 +14,9 @@ use Rattle.link.specs.declared.turn.StationState.{StationState}
 use Rattle.link.specs.declared.turn.Phase.TheVariants.{Starting}
 use Rattle.link.specs.declared.seat.ResumedStation.{ResumedStation}
 use Rattle.link.specs.Carried.{reseated, seated, link_carried}
-use Rattle.link.specs.Procedure.{Silence, Never, short_silence}
+use Rattle.link.specs.Procedure.{short_silence}
+use Rattle.link.specs.declared.procedure.Silence.{Silence}
+use Rattle.link.specs.declared.procedure.Probed.TheVariants.{Never}
 use Rattle.link.specs.Primary.{Primary, sending, acd_of, dfc_of, session_answered}
 use Rattle.link.specs.Turns.{CommandsWaiting, station_at}
 use Rattle.delivery.specs.NextRequests.{first_answered}
@@ -58,13 +60,15 @@ command_next settings address missed spoilt now fcb leave true Class1 s rest asd
     rw waits refl
 command_next settings address missed spoilt now fcb leave true Class2 s rest asdu waiting waits =
     rw waits refl
-command_next settings address missed spoilt now fcb leave true (Command held) s rest asdu waiting waits =
+command_next settings address missed spoilt now fcb leave true (Command held) s rest asdu waiting
+    waits =
     rw waits refl
 command_next settings address missed spoilt now fcb leave false Class1 s rest asdu waiting waits =
     rw waits refl
 command_next settings address missed spoilt now fcb leave false Class2 s rest asdu waiting waits =
     rw waits refl
-command_next settings address missed spoilt now fcb leave false (Command held) s rest asdu waiting waits =
+command_next settings address missed spoilt now fcb leave false (Command held) s rest asdu waiting
+    waits =
     rw waits refl
 
 poll_next : (settings : LinkSettings) (address missed spoilt now : ℕ) (fcb unsure : Bool)

@@ -3,7 +3,8 @@ use Rattle.std.specs.Prelude.{◌==◌, slice_get}
 use Rattle.std.specs.Option.{option_map_or}
 use Rattle.std.specs.Prelude.{option_map, get_or}
 use Rattle.std.proofs.Common.{◌≡◌, ℕ, zero, suc, ◌-◌, ◌<◌, ◌≤◌, Bool, true, false, List, [], ◌∷◌}
-use Rattle.std.proofs.Common.{◌++◌, map, drop, length, Option, Some, None, refl, ap, sym, subst, ◌∙◌}
+use Rattle.std.proofs.Common.{◌++◌, map, drop, length, Option, Some, None, refl, ap, sym, subst}
+use Rattle.std.proofs.Common.{◌∙◌}
 use Rattle.std.proofs.Common.{◌⊎◌, inl, inr, length-append, arith, if◌then◌else◌}
 use Rattle.std.specs.List.{AllByRecursion}
 use Rattle.std.proofs.lemmas.List.{map-append}
@@ -22,7 +23,6 @@ use Rattle.command.specs.History.{GivesOwnAnswers}
 use Rattle.gateway.specs.Log.{Log, Came, Went, Opened, LineIn, TcpIn, CutOff, Ticked, WallIs}
 use Rattle.gateway.specs.Log.{Restarted, LineOut, TcpOut, Closed, GapOut, latest}
 use Rattle.gateway.specs.Connections.{Channel, present, ends, receiving, no_channel}
-use Rattle.session.specs.declared.kinds.Close.{Close}
 use Rattle.gateway.specs.Streams.{spelled}
 use Rattle.gateway.specs.Reports.{Setup}
 use Rattle.gateway.specs.Serial.{is_first_command}
@@ -34,7 +34,6 @@ use Rattle.delivery.specs.FirstSendings.{first_sent, SendsNoneFirst, SendsFirst,
 use Rattle.delivery.specs.FirstSendings.{IsBehind, OpensNone}
 use Rattle.delivery.specs.Joined.{IsJoined}
 use Rattle.delivery.specs.Merges.{IsSublist}
-use Rattle.delivery.specs.Octets.{is_opening}
 use Rattle.delivery.proofs.Arriving.{logs_as_octets, spelled_grows}
 use Rattle.delivery.proofs.Plain.{plain_line}
 use Rattle.delivery.proofs.Sublists.{sub_all, sub_of_sub, sub_append, sub_prefix, all_of_sub}

@@ -27,6 +27,7 @@ use Rattle.link.specs.Primary.{outcome_from, outcome_of, due_outcome, due_outcom
 use Rattle.link.specs.Matching.{Matches, IsCurrent, IsAwaited, IsOver, AreLinks, past}
 use Rattle.command.specs.History.{History}
 use Rattle.gateway.specs.Reports.{Setup, address_at}
+use Rattle.link.specs.declared.procedure.Silence.{Silence}
 use Rattle.delivery.specs.Commands.{goes_down, unmissed}
 use Rattle.delivery.proofs.Steps.{last_may, front_keeps, pends, answers_proper, missed_after}
 use Rattle.delivery.proofs.Steps.{counts, answered_alike}
@@ -264,7 +265,7 @@ module _ (laws : LinkLaws) (p : Setup) (q : Primary) (e : Exchanges)
   -- A moment ends an exchange
 
   -- one that is over stays as it is
-  alike_down : (a n at : ℕ) (x : OpenExchange) → IsOver front a x →
+  alike_down : (a : ℕ) (n : Silence) (at : ℕ) (x : OpenExchange) → IsOver front a x →
       goes_down p.link n x.request x.closed (answer_to a (view front x).exchange)
       ≡ goes_down p.link n x.request (timed p.link.answer_ms at x).closed
       (answer_to a (view front x).exchange)
@@ -420,7 +421,8 @@ module _ (laws : LinkLaws) (p : Setup) (q : Primary) (e : Exchanges)
               (subst (λ (i : ℕ). answer_to (address i) (view front x).exchange ≡ None) here
               (none_yet o x w))
               (last_may p.link (address k) Down ended (view front x).exchange kept)
-              (counts p.link (address k) Down 0 ended (front_keeps p.link (address k) Down ended
+              (counts p.link (address k) Down unmissed ended
+              (front_keeps p.link (address k) Down ended
               (view front x).exchange kept) tt) logged before
 
       go : (o : Option Outstanding) (c : Option OpenExchange) → q.outstanding ≡ o → e.current ≡ c

@@ -19,7 +19,7 @@ use Rattle.link.specs.Bursts.{row_by, row_by_request, row_out, row_after}
 use Rattle.link.specs.Bursts.{is_answered, poll_by, IsSent, PollsGoOn, BurstsGoOn}
 use Rattle.link.specs.Exchanges.{Sending}
 use Rattle.link.specs.Primary.{Outstanding, Primary, start, sending, sending_from}
-use Rattle.link.specs.Procedure.{is_held, has_repeats}
+use Rattle.link.specs.Procedure.{is_held, has_repeats, is_service}
 use Rattle.link.specs.Runs.{Call, Next, Octets, Due, GivesUp, Doubts, called, called_all}
 use Rattle.link.specs.Turns.{CommandsWaiting, station_at}
 use Rattle.link.specs.Carried.{reseated}

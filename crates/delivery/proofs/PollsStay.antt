@@ -23,7 +23,9 @@ use Rattle.link.specs.Exchanges.{Exchange, Exchanges, answer_to, given_up_at}
 use Rattle.link.specs.Gaps.{exchanges_at}
 use Rattle.link.specs.Leave.{holds_poll}
 use Rattle.link.specs.Procedure.{holds_command, missed_so_far, after_silence, after_outcome, after}
-use Rattle.link.specs.Procedure.{Silence, Never, after_answer, is_kept, once_more, probed_so_far}
+use Rattle.link.specs.Procedure.{after_answer, is_kept, once_more, probed_so_far}
+use Rattle.link.specs.declared.procedure.Silence.{Silence}
+use Rattle.link.specs.declared.procedure.Probed.TheVariants.{Never}
 use Rattle.link.specs.Procedure.{short_silence, silence_so_far, spent_silence}
 use Rattle.link.specs.Procedure.{link_after}
 use Rattle.gateway.specs.Reports.{Setup, address_at}

@@ -16,7 +16,9 @@ use Rattle.link.specs.declared.procedure.Link.{Link}
 use Rattle.link.specs.declared.procedure.Link.TheVariants.{Down, Available, Next, Held}
 use Rattle.link.specs.Exchanges.{Exchange, answer_to}
 use Rattle.link.specs.declared.settings.LinkSettings.{LinkSettings}
-use Rattle.link.specs.Procedure.{MaySend, is_held, is_up, after_silence, Silence, Probed, held}
+use Rattle.link.specs.Procedure.{MaySend, is_held, is_up, after_silence, held}
+use Rattle.link.specs.declared.procedure.Silence.{Silence}
+use Rattle.link.specs.declared.procedure.Probed.{Probed}
 use Rattle.link.specs.Procedure.{is_kept, short_silence, spent_silence}
 use Rattle.link.specs.Runs.{silence_outcome}
 use Rattle.link.specs.Primary.{is_command}
@@ -58,7 +60,7 @@ module _ (s : LinkSettings) (a k : ℕ) (xs : List Exchange) (request : Asked)
   asked_steps first none is =
       let missed : Silence = missed_after a unmissed xs in
       let old : List LineStep = steps_in s a unmissed None xs in
-      steps_more s a 0 None xs new_one
+      steps_more s a unmissed None xs new_one
       ∙ ap (λ (o : Option Answer). old
       ++ (map (λ (asdu : List ℕ). Begun asdu) (first_sending (pending_after a None xs) request)
       ++ (said_of request o ++ lost_if (goes_down s missed request false o)))) none
@@ -263,7 +265,8 @@ closed_one s a k xs request front link h new none may counts same t =
         → said_of request None ++ lost_if (is_silent s (missed_after a unmissed xs) request true)
         ≡ lost_if b
     says b is =
-        ap (λ (l : List LineStep). l ++ lost_if (is_silent s (missed_after a unmissed xs) request true))
+        ap (λ (l : List LineStep). l
+        ++ lost_if (is_silent s (missed_after a unmissed xs) request true))
         (none_said request) ∙ ap lost_if is
 
     go : (b : Bool) → is_silent s (missed_after a unmissed xs) request true ≡ b

@@ -21,7 +21,9 @@ use Rattle.link.specs.Carried.{given_up_upto, commands_given_up}
 use Rattle.link.specs.Exchanges.{Exchange, Exchanges, answer_to, given_up_at}
 use Rattle.link.specs.Marks.{latest_given_up}
 use Rattle.link.specs.Procedure.{MaySend, KeepsFrameCountBit, holds_command, missed_so_far}
-use Rattle.link.specs.Procedure.{Silence, Probed, is_kept, probed_so_far, short_silence}
+use Rattle.link.specs.Procedure.{is_kept, probed_so_far, short_silence}
+use Rattle.link.specs.declared.procedure.Silence.{Silence}
+use Rattle.link.specs.declared.procedure.Probed.{Probed}
 use Rattle.link.specs.Procedure.{silence_so_far, spent_silence}
 use Rattle.link.specs.Procedure.{after_silence, after_outcome, after, link_after}
 use Rattle.link.specs.Delivery.{pending_by, pending_after, first_sending}
@@ -33,7 +35,7 @@ use Rattle.gateway.specs.Reports.{Setup, address_at}
 use Rattle.gateway.specs.Works.{Works, tasks_of, link_given_up_works, command_given_up_works}
 use Rattle.gateway.specs.Works.{commands_given_up_works_upto, restarted_works}
 use Rattle.delivery.specs.Commands.{LineStep, Begun, Lost, said_of, missed_by, is_silent, goes_down}
-use Rattle.delivery.specs.Commands.{steps_at, steps_in, first_sendings, steps_logged}
+use Rattle.delivery.specs.Commands.{steps_at, steps_in, first_sendings, steps_logged, unmissed}
 use Rattle.delivery.specs.Joined.{mirrored_in}
 use Rattle.gateway.proofs.Waiting.{AnswersStay}
 use Rattle.delivery.proofs.History.{LineLogged, line_logged, WaitsFit, one_fits}
@@ -64,7 +66,8 @@ silence_holds s fcb service true link n may c holds =
         → holds_command
         (if b
         then (if kept then Held fcb service (spent_silence s (probed_so_far link)) else Down)
-        else Held fcb service (short_silence (suc (missed_so_far link)) (probed_so_far link))) ≡ true
+        else Held fcb service (short_silence (suc (missed_so_far link)) (probed_so_far link)))
+        ≡ true
         → (not (is_kept s (probed_so_far link)) && nat_lt s.retries (suc n.missed)) ≡ false
     go b true less is holds =
         ap (λ (h : Bool). not h && nat_lt s.retries (suc n.missed)) is
@@ -155,7 +158,7 @@ given_logged s a k xs h new keeps holds same t = record {
       ∙ ap (λ (b : Bool). if b then steps_logged k h ++ Lost
       ∷ [] else steps_logged k h) (here_is k)
       ∙ ap (λ (l : List LineStep). l ++ Lost ∷ []) t.steps
-      ∙ sym (steps_given s a Down 0 None xs keeps tt
+      ∙ sym (steps_given s a Down unmissed None xs keeps tt
       (λ none. let no : holds_command Down ≡ true =
       ap (λ (l : List Exchange). holds_command (link_after s a Down l)) (sym none) ∙ holds in cc)
       holds);
@@ -249,6 +252,18 @@ module _ (laws : LinkLaws) (stay : AnswersStay) (p : Setup) where
   pub all_given : (w : Works) (e : Exchanges) → IsGiven p w w e
       → IsGiven p w (restarted_works w) (commands_given_up p.link front p.addresses e)
   all_given w e g =
+      let upto : IsGiven p w (commands_given_up_works_upto (length w.serial.line.stations) w)
+      (commands_given_up p.link front p.addresses e) =
       subst (λ (n : ℕ). IsGiven p w (commands_given_up_works_upto n w)
       (commands_given_up p.link front p.addresses e)) (sym g.matches.count)
-      (upto_given w e (length p.addresses) (omega arith) g)
+      (upto_given w e (length p.addresses) (omega arith) g) in
+      record {
+        matches = laws.doubted p.link p.addresses
+            (commands_given_up_works_upto (length w.serial.line.stations) w).serial.line
+            (commands_given_up p.link front p.addresses e) upto.matches;
+        logged = upto.logged;
+        silent = upto.silent;
+        fits = upto.fits;
+        mirrored = upto.mirrored;
+        skipped = upto.skipped;
+      }

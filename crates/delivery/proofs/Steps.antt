@@ -20,7 +20,10 @@ use Rattle.link.specs.Answers.{answer_of}
 use Rattle.link.specs.Exchanges.{Exchange, answer_to}
 use Rattle.link.specs.Procedure.{held, after, after_outcome, after_silence, link_after}
 use Rattle.link.specs.Procedure.{missed_so_far, probed_so_far, silence_so_far, MaySend}
-use Rattle.link.specs.Procedure.{KeepsFrameCountBit, Silence, Probed, Never, is_kept, is_twice}
+use Rattle.link.specs.Procedure.{KeepsFrameCountBit, is_kept, is_twice}
+use Rattle.link.specs.declared.procedure.Silence.{Silence}
+use Rattle.link.specs.declared.procedure.Probed.{Probed}
+use Rattle.link.specs.declared.procedure.Probed.TheVariants.{Never}
 use Rattle.link.specs.Procedure.{once_more, short_silence, spent_silence}
 use Rattle.link.specs.Delivery.{pending_by, pending_after, first_sending}
 use Rattle.delivery.specs.Commands.{LineStep, said_of, missed_by, goes_down, steps_at, steps_in}
@@ -316,8 +319,7 @@ Counts s (Held fcb service silence) n = CountsSilence s silence n
 none_missed : (s : LinkSettings) (n : Silence) → n ≡ unmissed → CountsSilence s unmissed n
 none_missed s n is = (
   ap (λ (m : Silence). m.probed) is,
-  (λ gone. ap (λ (m : Silence). m.missed) is),
-  λ spent. cc,
+  ((λ gone. ap (λ (m : Silence). m.missed) is), (λ spent. cc)),
 )
 
 -- before another sending of a counted request
@@ -345,11 +347,13 @@ held_counts s fcb service n missed probed alike same =
         else Held fcb service (short_silence missed probed)) n
     by_repeats true true is = (
       alike,
-      (λ no. let e : true ≡ false = sym is ∙ no in cc),
-      λ spent. kept_holds s.hold (not (is_twice probed)) is,
+      (
+        (λ no. let e : true ≡ false = sym is ∙ no in cc),
+        (λ spent. kept_holds s.hold (not (is_twice probed)) is),
+      ),
     )
     by_repeats true false is = tt
-    by_repeats false c is = (alike, same, λ spent. cc)
+    by_repeats false c is = (alike, (same, (λ spent. cc)))
 
 down_counts : (s : LinkSettings) (link : Link) (n : Silence) → IsDown link → Counts s link n
 down_counts s Down n h = tt
@@ -369,14 +373,16 @@ status_counts s None closed Available n may c = tt
 status_counts s None closed (Next fcb) n may c = absurd may
 status_counts s None closed (Held fcb service silence) n may c = (
   refl,
-  (λ no. let e : true ≡ false = sym (never_gone s (c.1.1 may)) ∙ no in cc),
-  λ spent. c.1.1 may,
+  (
+    (λ no. let e : true ≡ false = sym (never_gone s (c.1.1 may)) ∙ no in cc),
+    (λ spent. c.1.1 may),
+  ),
 )
 status_counts s (Some Ready) closed Down n may c = tt
 status_counts s (Some Ready) closed Available n may c = tt
 status_counts s (Some Ready) closed (Next fcb) n may c = absurd may
 status_counts s (Some Ready) closed (Held fcb service silence) n may c =
-    (ap once_more c.0, (λ gone. refl), λ spent. cc)
+    (ap once_more c.0, ((λ gone. refl), (λ spent. cc)))
 status_counts s (Some Confirmed) closed link n may c = c
 status_counts s (Some Busy) closed link n may c = c
 status_counts s (Some (Report asdu)) closed link n may c = c
@@ -393,7 +399,8 @@ one_counts s Reset None front closed link n may c = tt
 one_counts s Reset (Some Ready) front closed link n may c =
     down_counts s link unmissed (may_reset link may)
 one_counts s Reset (Some Confirmed) front closed link n may c = refl
-one_counts s Reset (Some Busy) front closed link n may c = down_counts s link unmissed (may_reset link may)
+one_counts s Reset (Some Busy) front closed link n may c =
+    down_counts s link unmissed (may_reset link may)
 one_counts s Reset (Some (Report asdu)) front closed link n may c =
     down_counts s link unmissed (may_reset link may)
 one_counts s Reset (Some NoData) front closed link n may c =

@@ -1,11 +1,10 @@
 -- The tag of each time of the calendar is good, and how old it is.
-use Rattle.std.proofs.Common.{◌≡◌, ℕ, suc, ◌+◌, ◌-◌, ◌<◌, ◌≤◌, List, [], ◌∷◌, ◌++◌, length, drop}
+use Rattle.std.proofs.Common.{◌≡◌, ℕ, ◌+◌, ◌-◌, ◌<◌, ◌≤◌, List, [], ◌∷◌, ◌++◌, length, drop}
 use Rattle.std.proofs.Common.{refl, ap, sym, ◌∙◌, arith, rules}
-use Rattle.std.specs.Prelude.{Option, Some, None}
+use Rattle.std.specs.Prelude.{Some, None}
 use Rattle.std.proofs.lemmas.List.{length-append}
 use Rattle.elements.specs.Moments.{Moment, Exists}
 use Rattle.elements.specs.TimeTag.{verdict_of}
-use Rattle.elements.specs.declared.tag.Verdict.{Verdict}
 use Rattle.elements.specs.declared.tag.Verdict.TheVariants.{Good}
 use Rattle.command.specs.Numbers.{Numbers, command_with}
 use Rattle.command.specs.Standard.{IsFresh, tag_of}

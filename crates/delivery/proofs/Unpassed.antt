@@ -99,7 +99,7 @@ restarted_elsewhere : (w : Works) → mirrors_of (restarted_works w) ≡ mirrors
 restarted_elsewhere w =
     kept_over (λ (z : Works). mirrors_of z ≡ mirrors_of w)
     (λ station v e. lost_mirrors station v.serial ∙ e)
-    w refl
+    (λ v e. e) w refl
 
 closed_elsewhere : (p : Setup) (cause : Close) (is_open : Bool) (at : ℕ) (c : Course)
     → mirrors_of (closed_course p cause is_open at c).works ≡ mirrors_of c.works

@@ -1,7 +1,7 @@
 -- A time tag and the moment that it names (IEC 60870-5-101, 7.2.6.18, in the proleptic Gregorian
 -- calendar). That a tag is UTC, and that its years are 2000 to 2099, is this gateway's own profile.
 -- Nothing here is borrowed from `elements`.
-use Rattle.std.specs.Prelude.{◌≡◌, ◌⊎◌, ◌<◌, ◌≤◌, ◌+◌, ◌*◌, ◌/◌, ◌%◌, ℕ, pos, List, [], ◌∷◌}
+use Rattle.std.specs.Prelude.{◌≡◌, ◌⊎◌, ◌≤◌, ◌+◌, ◌*◌, ◌/◌, ◌%◌, ℕ, pos, List, [], ◌∷◌}
 use Rattle.std.specs.Prelude.{unsigned_abs}
 use Rattle.jiff_core.specs.Calendar.{days_from_civil, days_in_month, weekday_number}
 

@@ -21,7 +21,9 @@ use Rattle.link.specs.declared.answer.Answer.TheVariants as answer
 use Rattle.link.specs.declared.settings.LinkSettings.{LinkSettings}
 use Rattle.link.specs.Exchanges.{Exchange, answer_to}
 use Rattle.link.specs.Delivery.{first_sending, pending_by}
-use Rattle.link.specs.Procedure.{Silence, Never, is_kept, once_more, short_silence}
+use Rattle.link.specs.Procedure.{is_kept, once_more, short_silence}
+use Rattle.link.specs.declared.procedure.Silence.{Silence}
+use Rattle.link.specs.declared.procedure.Probed.TheVariants.{Never}
 use Rattle.command.specs.Standard.{cause_of_fault, has_tag, is_activation, plain_type}
 use Rattle.command.specs.Standard.{object_address, element_part}
 use Rattle.command.specs.declared.station.StationInfo.{StationInfo}

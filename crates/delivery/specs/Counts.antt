@@ -29,7 +29,8 @@ lost_in stands (Lost ∷ steps) =
 -- how many commands to a station were lost, as its exchanges show
 abbrev pub lost_of : Setup → Log → ℕ → ℕ
 lost_of p log k =
-    lost_in false (steps_in p.link (address_at p.addresses k) unmissed None (exchanges_with p k log))
+    lost_in false (steps_in p.link (address_at p.addresses k) unmissed None
+    (exchanges_with p k log))
 
 -- the sum of these numbers for so many stations, from the first on
 abbrev pub sum_upto : (ℕ → ℕ) → (count : ℕ) → ℕ

@@ -16,7 +16,8 @@ use Rattle.gateway.specs.Reports.{Setup, AreFound, address_at}
 use Rattle.gateway.specs.Reports.{exchanges_of, exchanges_with, reports_in}
 use Rattle.gateway.specs.Works.{is_command_report, unless_silent_works}
 use Rattle.gateway.specs.Course.{Course, came_frames, here_of}
-use Rattle.delivery.specs.Commands.{steps_in, unmissed, steps_logged, confirmed_by, first_sendings, sent_to}
+use Rattle.delivery.specs.Commands.{steps_in, unmissed, steps_logged, confirmed_by, first_sendings}
+use Rattle.delivery.specs.Commands.{sent_to}
 use Rattle.delivery.specs.Commands.{judged_in, as_judged, judged_here, asdus_in}
 use Rattle.delivery.specs.Arrivals.{arrivals}
 

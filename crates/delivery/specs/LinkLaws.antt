@@ -19,6 +19,7 @@ use Rattle.link.specs.Procedure.{link_after, after_silence, is_held}
 use Rattle.link.specs.Runs.{AreUserData, FitsLine, silence_outcome}
 use Rattle.link.specs.Requests.{request_frame, request_in, FitsAddress, FitsAsked}
 use Rattle.link.specs.Carried.{awaits_command, awaits_command_in, given_up, commands_given_up}
+use Rattle.link.specs.Carried.{doubted}
 use Rattle.link.specs.Gaps.{gap_at, exchanges_at as line_exchanges}
 use Rattle.link.specs.Marks.{latest_given_up}
 use Rattle.link.specs.declared.outcome.Outcome.TheVariants as outcome
@@ -104,6 +105,8 @@ pub record LinkLaws : Type 0 where
   pub given_up : (settings : LinkSettings) (addresses : List ℕ) (q : Primary) (e : Exchanges)
       (k : ℕ) → k < length q.stations → Matches settings addresses q e
       → Matches settings addresses (given_up k q) (given_up_at k e)
+  pub doubted : (settings : LinkSettings) (addresses : List ℕ) (q : Primary) (e : Exchanges)
+      → Matches settings addresses q e → Matches settings addresses (doubted q) e
   pub given_reports : (settings : LinkSettings) (size : LinkSize) (addresses : List ℕ)
       (address : ℕ → ℕ) (e : Exchanges)
       → reports_of_exchanges (front_of size) address

@@ -14,7 +14,8 @@ ghost use Rattle.gateway.specs.Reports.{Setup, address_at, exchanges_of, exchang
 ghost use Rattle.gateway.specs.Config.{Settings, AreStations};
 ghost use Rattle.gateway.specs.Gaps.{gaps_reported};
 ghost use Rattle.gateway.specs.Setups.{setup_of};
-ghost use Rattle.link.specs.Procedure.{AskNoneThatIsUp, Down};
+ghost use Rattle.link.specs.Procedure.{AskNoneThatIsUp};
+ghost use Rattle.link.specs.declared.procedure.Link.TheVariants.{Down};
 ghost use Rattle.gateway.specs.Traffic.{IsFaithful, HasRested};
 ghost use Rattle.delivery.specs.Delivery.{IsHonest, IsSteady, reports_from, Delivers};
 ghost use Rattle.delivery.specs.Delivery.{before_sessions, sessions_of, IsIdle, IsOneLife};

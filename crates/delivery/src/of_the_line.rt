@@ -29,7 +29,8 @@ ghost use Rattle.link.specs.Outstation.{Given, Accepted, Outstation, OutstationS
 ghost use Rattle.link.specs.Answers.{answer_of};
 ghost use Rattle.link.specs.Primary.{Outstanding, Primary, received, sending, start};
 ghost use Rattle.link.specs.Procedure.{IsSteady, IsUp, KeepsFrameCountBit};
-ghost use Rattle.link.specs.Procedure.{Silence, has_repeats, is_held, is_service};
+ghost use Rattle.link.specs.Procedure.{has_repeats, is_held, is_service};
+ghost use Rattle.link.specs.declared.procedure.Silence.{Silence};
 ghost use Rattle.link.specs.Repeats.{IsMissed};
 ghost use Rattle.link.specs.Runs.{Call, Next, Octets, Due, GivesUp, Doubts, called, called_all};
 ghost use Rattle.link.specs.Sent.{Sent, sent};
@@ -396,7 +397,8 @@ pub fn turns_go_on_where_a_held_service_begins_them()
 pub fn turns_go_on_behind_new_settings()
     ensures command { (settings : LinkSettings) (seat : ResumedStation)
         (seats : List ResumedStation) (before : Primary) (place now : ℕ)
-        (missed : Silence) (fcb leave : Bool) (service : Service) (asdu : List ℕ) (waiting : CommandsWaiting) →
+        (missed : Silence) (fcb leave : Bool) (service : Service) (asdu : List ℕ)
+        (waiting : CommandsWaiting) →
         seat.before ≡ Some place →
         (station_at before.stations place).link ≡ Held fcb service missed →
         waiting 0 ≡ Some asdu →

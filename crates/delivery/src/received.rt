@@ -92,11 +92,12 @@ pub fn pieces_are_acknowledged_with_their_frames()
         ≡ length (flat_map (λ report. pieces_of_report sizes report.1) reports) }
 {}
 
-/// Which octets are a connection's. It begins with its opening, and ends where TCP is cut, where the
-/// gateway is started again, where it is closed with a cause from 1 to 6, or where the next one is
-/// opened. All octets that came by TCP in between are its own, and all that were handed to TCP, in their order, and no others. So none
-/// of one connection is taken for another's, however short it was, and none is taken twice. The
-/// octets before the latest event are those that the connection had when it came.
+/// Which octets are a connection's. It begins with its opening, and ends where TCP is cut, where
+/// the gateway is started again, where it is closed with a cause from 1 to 6, or where the next one
+/// is opened. All octets that came by TCP in between are its own, and all that were handed to TCP,
+/// in their order, and no others. So none of one connection is taken for another's, however short
+/// it was, and none is taken twice. The octets before the latest event are those that the
+/// connection had when it came.
 pub fn octets_are_those_of_their_connection()
     ensures begun { (now : ℕ) (since before : Log) → GoesOn since →
         present (since ++ Came now Opened ∷ before) ≡ record {

@@ -49,7 +49,8 @@ pub restarted_due : (w : Works) → (restarted_works w).is_due ≡ w.is_due
 restarted_due w = kept_over (λ v. v.is_due ≡ w.is_due) (λ station v h. h) (λ v h. h) w refl
 
 pub restarted_silent : (w : Works) → (restarted_works w).serial.silent ≡ w.serial.silent
-restarted_silent w = kept_over (λ v. v.serial.silent ≡ w.serial.silent) (λ station v h. h) (λ v h. h) w refl
+restarted_silent w = kept_over (λ v. v.serial.silent ≡ w.serial.silent) (λ station v h. h)
+    (λ v h. h) w refl
 
 pub restarted_gap : (w : Works) → (restarted_works w).serial.gap ≡ w.serial.gap
 restarted_gap w = kept_over (λ v. v.serial.gap ≡ w.serial.gap) (λ station v h. h) (λ v h. h) w refl

@@ -310,7 +310,8 @@ pub record IsLeft (p : Setup) (log : Log) (before after : Course) : Type 0 where
 abbrev pub with_works : Works → Course → Course
 with_works w c = record { talk = c.talk; sent = c.sent; earlier = c.earlier; works = w }
 
--- What an event brings. A restart stands between two steps, at the moment of the one before. It ends
+-- What an event brings. A restart stands between two steps, at the moment of the one before. It
+-- ends
 -- the connection as a cut does, and nothing is due behind it.
 abbrev pub Comes : Setup → Log → (at : ℕ) → Input → (before after : Course) → Type 0
 Comes p log at (LineIn octets) c d =

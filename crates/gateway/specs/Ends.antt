@@ -11,7 +11,8 @@ ends_in [] = 0
 ends_in (Ended ∷ h) = ends_in h + 1
 ends_in (_ ∷ h) = ends_in h
 
--- How often a connection was over: with each cut, each restart, each close by the causes 1 to 6, and
+-- How often a connection was over: with each cut, each restart, each close by the causes 1 to 6,
+-- and
 -- with each `Open`, which replaces the one before.
 abbrev pub ends_on : Log → ℕ
 ends_on [] = 0

@@ -21,7 +21,8 @@ pub record GivesUpCommands (is_open : Bool) (before after : Course) : Type 0 whe
       ≡ station_doubted (station_at before.works.serial.line.stations k)
   pub talk : after.talk ≡ []
   pub sent : after.sent ≡ []
-  pub earlier : after.earlier ≡ (if is_open then here_of before ∷ before.earlier else before.earlier)
+  pub earlier : after.earlier ≡ (if is_open then here_of before ∷ before.earlier
+      else before.earlier)
   pub waiting : after.works.serial.commands.waiting ≡ []
   pub selections : after.works.serial.commands.selections ≡ []
   pub answers : after.works.serial.commands.answers ≡ []

@@ -31,9 +31,9 @@
 //! [`octets_count_up_to_the_last_moment`]). An own answer without a place closes the connection
 //! ([`own_answers_without_a_place_close`]), and a poll needs three ([`polls_need_three_places`]).
 //!
-//! At a restart a gateway is read from the lines of its state ([`Gateway::read_state`]). It ends the
-//! connection and gives up the commands without an answer ([`Gateway::restart`]), and goes on with
-//! other settings where these were changed ([`Gateway::carried`],
+//! At a restart a gateway is read from the lines of its state ([`Gateway::read_state`]). It ends
+//! the connection and gives up the commands without an answer ([`Gateway::restart`]), and goes on
+//! with other settings where these were changed ([`Gateway::carried`],
 //! [`stations_go_on_by_their_addresses`]): no link is up then but of a station as it was
 //! ([`no_link_goes_on_but_of_a_station_as_it_was`], and each such goes on:
 //! [`a_station_as_it_was_goes_on`]), a stale state leaves gaps ([`a_stale_state_leaves_gaps`]), and

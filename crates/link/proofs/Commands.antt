@@ -20,7 +20,8 @@ use Rattle.link.proofs.KnownFrom.{reset_learns, idle_down, reset_from_down}
 use Rattle.link.proofs.Sendings.{commands-append, commands-nil, pending_command, SendingsLearnt}
 use Rattle.link.proofs.Sendings.{LinkPends, drop_if, exchange_sendings, exchange_pends}
 use Rattle.link.proofs.Sendings.{reset_sendings}
-use Rattle.link.specs.Procedure.{Silence, Probed, Never, Next, is_service, probed_so_far, is_kept, spent_silence, short_silence, AskNoneThatIsUp}
+use Rattle.link.specs.Procedure.{Silence, Probed, Never, Next, is_service, probed_so_far, is_kept}
+use Rattle.link.specs.Procedure.{spent_silence, short_silence, AskNoneThatIsUp}
 use Rattle.link.specs.Answers.{Status, Reset}
 use Rattle.std.proofs.Common.{◌&&◌}
 

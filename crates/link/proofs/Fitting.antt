@@ -15,7 +15,8 @@ use Rattle.link.specs.Requests.{FitsAddress, FitsAsked}
 use Rattle.link.specs.Turns.{StationState, station_at}
 use Rattle.link.specs.Primary.{station_down, station_asked, station_answered, station_unanswered}
 use Rattle.link.specs.Holding.{FitsLink, FitsStation}
-use Rattle.link.specs.Procedure.{Available, Next, probed_so_far, is_kept, spent_silence, short_silence}
+use Rattle.link.specs.Procedure.{Available, Next, probed_so_far, is_kept, spent_silence}
+use Rattle.link.specs.Procedure.{short_silence}
 use Rattle.link.specs.Carried.{station_doubted}
 
 abbrev pub FitStations : LinkSize → List StationState → Type 0

@@ -7,7 +7,8 @@ use Rattle.link.specs.Exchanges.{Exchange, answer_to}
 use Rattle.link.specs.Procedure.{LinkSettings, Link, Down, Available, Next, after, after_answer}
 use Rattle.link.specs.Procedure.{after_outcome, link_after, is_service}
 use Rattle.link.proofs.VisitAsked.{link_append}
-use Rattle.link.specs.Procedure.{Silence, Never, Held, after_silence, is_held, short_silence, spent_silence, once_more}
+use Rattle.link.specs.Procedure.{Silence, Never, Held, after_silence, is_held, short_silence}
+use Rattle.link.specs.Procedure.{spent_silence, once_more}
 
 -- the link behind an exchange whose link wasn't given up, by its request and its answer
 behind : (settings : LinkSettings) (station : ℕ) (x : Exchange) (link : Link)

@@ -95,7 +95,8 @@ repeated burst again s command (Held fcb service missed) Starting w is poll =
         (again && is_poll service) ≡ true
     go true b e asks = absurd (no_poll w (poll_is Status Over w asks) poll)
     go false true e none = cc
-    go false false e some = absurd (no_poll w (poll_is (Counted fcb service) Commanding w some ∙ e) poll)
+    go false false e some =
+        absurd (no_poll w (poll_is (Counted fcb service) Commanding w some ∙ e) poll)
 repeated burst true s command (Held fcb service missed) Commanding w is poll =
     sym (poll_is (Counted fcb service) Commanding w is) ∙ poll
 repeated burst true s command (Held fcb service missed) Polling w is poll =

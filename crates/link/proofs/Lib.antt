@@ -6,6 +6,7 @@ pub mod Lost
 pub mod Beginning
 pub mod Doubting
 pub mod DoubtedMatches
+pub mod ProbesAnswered
 pub mod Probing
 pub mod SparingStatuses
 pub mod Choice

@@ -1,6 +1,7 @@
 -- A station that is up is asked for its status only behind a restart.
 use Rattle.std.specs.Prelude.{◌==◌, is_none}
-use Rattle.std.proofs.Common.{◌≡◌, ℕ, ◌&&◌, ◌||◌, not, Bool, true, false, List, [], ◌∷◌, ◌++◌, Option}
+use Rattle.std.proofs.Common.{◌≡◌, ℕ, ◌&&◌, ◌||◌, not, Bool, true, false, List, [], ◌∷◌, ◌++◌}
+use Rattle.std.proofs.Common.{Option}
 use Rattle.std.proofs.Common.{Some, None, refl, sym, ap, subst, ◌∙◌, ◌⊎◌, inl, inr, slice_set}
 use Rattle.std.proofs.Common.{zero, suc, if◌then◌else◌}
 use Rattle.std.proofs.lemmas.Bool.{eqb-true}
@@ -10,9 +11,11 @@ use Rattle.link.specs.Answers.{Service, Frame, Asked, Status, Counted, Answer}
 use Rattle.link.specs.Exchanges.{Sending, whole_of}
 use Rattle.link.specs.Procedure.{LinkSettings, Link, Down, Available, Next, Held, MaySend, is_up}
 use Rattle.link.specs.Procedure.{is_spent, is_service}
-use Rattle.link.specs.Turns.{StationState, Phase, Starting, Commanding, Polling, Class1Polling, Over}
+use Rattle.link.specs.Turns.{StationState, Phase, Starting, Commanding, Polling, Class1Polling}
+use Rattle.link.specs.Turns.{Over}
 use Rattle.link.specs.Turns.{Wanted, wants, is_poll, wanted_by, Chosen, CommandsWaiting, station_at}
-use Rattle.link.specs.Primary.{Primary, Outstanding, start, choice, sending_by, sending_from, sending}
+use Rattle.link.specs.Primary.{Primary, Outstanding, start, choice, sending_by, sending_from}
+use Rattle.link.specs.Primary.{sending}
 use Rattle.link.specs.Primary.{station_asked, station_answered, station_unanswered}
 use Rattle.link.specs.Primary.{after_choice, asked_from, answered, answer_at, said_by, took}
 use Rattle.link.specs.Primary.{open_octets, with_octets, received, received_after, received_from}

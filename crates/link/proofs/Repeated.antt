@@ -10,7 +10,8 @@ use Rattle.link.specs.Exchanges.{Exchange, answer_to}
 use Rattle.link.specs.Procedure.{LinkSettings, Link, Down, Next, Held, after, after_outcome, held}
 use Rattle.link.specs.Procedure.{link_after, missed_so_far, has_repeats, is_up}
 use Rattle.link.specs.Repeats.{IsMissed}
-use Rattle.link.specs.Procedure.{Probed, Never, probed_so_far, is_kept, spent_silence, short_silence}
+use Rattle.link.specs.Procedure.{Probed, Never, probed_so_far, is_kept, spent_silence}
+use Rattle.link.specs.Procedure.{short_silence}
 use Rattle.std.proofs.Common.{◌&&◌}
 
 after_missed : (settings : LinkSettings) (station : ℕ) (fcb : Bool) (service : Service)
@@ -162,7 +163,8 @@ counted settings station fcb service link x [] hold all =
     ∙ ap (λ (n : ℕ). nat_le n settings.retries)
     (let e : suc (missed_so_far link) ≡ missed_so_far link + 1 = omega arith in e)
 counted settings station fcb service link x (y ∷ ys) hold all =
-    go (λ kept. counted settings station fcb service (after settings station x link) y ys kept all.1)
+    go (λ kept. counted settings station fcb service (after settings station x link) y ys kept
+    all.1)
     (cases_lt (missed_so_far link) settings.retries)
   where
     next : Link

@@ -32,13 +32,19 @@ answered_clears settings link Status answer x pending same other may clear stead
     absurd (other refl)
 answered_clears settings Available Reset Confirmed x pending same other may clear steady = refl
 answered_clears settings Available Reset answer x pending same other may clear steady = clear refl
-answered_clears settings link (Counted fcb service) Ready x pending same other may clear steady = refl
-answered_clears settings link (Counted fcb service) Confirmed x pending same other may clear steady = refl
-answered_clears settings link (Counted fcb service) Busy x pending same other may clear steady = refl
-answered_clears settings link (Counted fcb service) (Report asdu) x pending same other may clear steady =
+answered_clears settings link (Counted fcb service) Ready x pending same other may clear steady =
     refl
-answered_clears settings link (Counted fcb service) NoData x pending same other may clear steady = refl
-answered_clears settings (Next sent) (Counted fcb service) Unable x pending same other may clear steady =
+answered_clears settings link (Counted fcb service) Confirmed x pending same other may clear
+    steady = refl
+answered_clears settings link (Counted fcb service) Busy x pending same other may clear steady =
+    refl
+answered_clears settings link (Counted fcb service) (Report asdu) x pending same other may clear
+    steady =
+    refl
+answered_clears settings link (Counted fcb service) NoData x pending same other may clear steady =
+    refl
+answered_clears settings (Next sent) (Counted fcb service) Unable x pending same other may clear
+    steady =
     let e = steady refl in cc
 answered_clears settings (Held sent again missed) (Counted fcb service) Unable x pending same
     other may clear steady =

@@ -14,7 +14,8 @@ use Rattle.link.specs.Primary.{phase_after}
 use Rattle.link.specs.Visits.{Left}
 use Rattle.link.proofs.Visiting.{Awaits}
 use Rattle.link.proofs.Visiting.{HasPlan, IsReady, over, starting, serving}
-use Rattle.link.specs.Procedure.{Available, Next, Probed, probed_so_far, is_kept, spent_silence, short_silence}
+use Rattle.link.specs.Procedure.{Available, Next, Probed, probed_so_far, is_kept, spent_silence}
+use Rattle.link.specs.Procedure.{short_silence}
 
 -- what may be said to the requests that start a link
 abbrev pub SaysToStatus : Option Answer → Type 0

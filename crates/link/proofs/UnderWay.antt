@@ -21,7 +21,8 @@ use Rattle.link.proofs.Links.{nil, with_one, link_after-push}
 use Rattle.link.proofs.Marks.{by_mark}
 use Rattle.link.proofs.Matching.{unreceived}
 use Rattle.link.proofs.Called.{links_at}
-use Rattle.link.specs.Procedure.{Silence, Probed, probed_so_far, is_kept, spent_silence, short_silence}
+use Rattle.link.specs.Procedure.{Silence, Probed, probed_so_far, is_kept, spent_silence}
+use Rattle.link.specs.Procedure.{short_silence}
 
 -- ---- the link and what is pending
 

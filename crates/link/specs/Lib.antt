@@ -2,6 +2,7 @@ pub mod Control
 pub mod Answers
 pub mod Exchanges
 pub mod Flags
+pub mod Probes
 pub mod Procedure
 pub mod Requests
 pub mod Received

@@ -40,7 +40,8 @@ short_silence missed probed = record { missed = missed; spent = false; probed = 
 abbrev pub held : LinkSettings → (fcb : Bool) → Service → (missed : ℕ) → Probed → Link
 held settings fcb service missed probed =
     if nat_lt settings.retries missed
-    then (if is_kept settings probed then Held fcb service (spent_silence settings probed) else Down)
+    then (if is_kept settings probed then Held fcb service (spent_silence settings probed)
+    else Down)
     else Held fcb service (short_silence missed probed)
 
 abbrev pub silence_so_far : Link → Silence

@@ -113,7 +113,9 @@ pub use laws::refinement::{
     commands_are_accepted, each_service_acts_once, frame_count_bits_alternate, reports_are_learnt,
     sessions_are_known, silence_is_no_reset,
 };
-pub use laws::restarts::{restarts_change_no_link, statuses_follow_restarts};
+pub use laws::restarts::{
+    restarts_change_no_link, silence_ends_a_link_behind_two_statuses, statuses_follow_restarts,
+};
 pub use laws::runs::{
     frame_count_bits_are_kept, outcomes_are_answers, spoilt_exchanges_are_counted, turns_go_round,
 };

@@ -107,7 +107,8 @@ impl Link {
     {
         if let Link::Held(_, _, silence) = self {
             // The station is there, so its service is sent anew: the silence behind it tells
-            // whether it has lost its link (docs/DECISIONS.md, "A station that was restarted, too").
+            // whether it has lost its link (docs/DECISIONS.md, "A station that was restarted,
+            // too").
             *silence = Silence::short(0, silence.probed.once_more());
         } else {
             *self = Link::Available;

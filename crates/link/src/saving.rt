@@ -1,8 +1,8 @@
 //! A station's state as lines of numbers, and back.
 //!
-//! A station has three lines: its address, flags and session, and whether it may have been restarted;
-//! its link; and one that says that no command of it is kept here.
-//! The part of a line whose length varies ends the line, so that no reader hands on a rest.
+//! A station has three lines: its address, flags and session, and whether it may have been
+//! restarted; its link; and one that says that no command of it is kept here. The part of a line
+//! whose length varies ends the line, so that no reader hands on a rest.
 ghost use Rattle.std.specs.Prelude.{◌≡◌, ◌++◌, ◌∷◌, ◌<◌, [], List, ℕ, length, OnOk, IfOk};
 ghost use Rattle.std.specs.Prelude.{MatchResult};
 ghost use Rattle.std.specs.List.{AllByRecursion};

@@ -40,7 +40,8 @@ pub struct StationState {
     pub dfc: bool,
     /// Its latest session.
     pub session: SessionState,
-    /// It may have been restarted: a restart stands behind it, and it has answered no service since.
+    /// It may have been restarted: a restart stands behind it, and it has answered no service
+    /// since.
     pub unsure: bool,
 }
 

@@ -11,7 +11,8 @@ use Rattle.gateway.specs.State.{State}
 use Rattle.live.specs.declared.ends.Presence.{Presence}
 use Rattle.live.specs.declared.ends.Presence.TheVariants as presence
 use Rattle.live.specs.declared.ends.RefusedPeers.{RefusedPeers}
-use Rattle.runlog.specs.Ends.{changed, is_away, is_receiving, is_there, line_change, line_changed, line_logged}
+use Rattle.runlog.specs.Ends.{changed, is_away, is_receiving, is_there, line_change, line_changed}
+use Rattle.runlog.specs.Ends.{line_logged}
 use Rattle.runlog.specs.Ends.{line_seen, line_seen_so, listener_logged, listener_seen}
 use Rattle.runlog.specs.Ends.{listener_tried, presence_noted, seen_as}
 use Rattle.runlog.specs.Inbox.{Inbox, all_noted, judged}

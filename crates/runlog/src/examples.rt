@@ -3,7 +3,8 @@ ghost use Rattle.std.specs.Prelude.{◌≡◌, ◌∷◌, [], codes, true, false
 ghost use Rattle.ft12.specs.declared.frame.LinkSize.TheVariants.{One, Two};
 ghost use Rattle.gateway.specs.declared.counts.Counts.{Counts};
 ghost use Rattle.live.specs.declared.ends.CutCause.TheVariants as cut;
-ghost use Rattle.live.specs.declared.ends.Presence.TheVariants.{Untried, Away, Silent, There, Receiving};
+ghost use Rattle.live.specs.declared.ends.Presence.TheVariants.{Untried, Away, Silent, There};
+ghost use Rattle.live.specs.declared.ends.Presence.TheVariants.{Receiving};
 ghost use Rattle.session.specs.declared.kinds.Close.TheVariants as close;
 ghost use Rattle.runlog.specs.Ends.{new_line, new_listener, new_connection, listener_seen};
 ghost use Rattle.runlog.specs.Ends.{connection_sent};

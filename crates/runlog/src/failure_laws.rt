@@ -15,11 +15,11 @@ ghost use Rattle.runlog.specs.declared.note.Note.TheVariants as note;
 ghost use Rattle.runlog.specs.declared.note.Trouble.TheVariants.{StateUnusable};
 
 /// A line that goes, or is closed since it is silent, is logged at the first look at which it is
-/// away, and not again for a minute; then each minute. So is one that was never there. Where octets come from it, it is logged that
-/// it is there, or back; where it is back without octets, once a minute has passed since it was
-/// logged as away, and not before. A line that gave octets and is there without any was away in
-/// between. What was logged last is known from then on, and lines of either kind are a second
-/// apart.
+/// away, and not again for a minute; then each minute. So is one that was never there. Where octets
+/// come from it, it is logged that it is there, or back; where it is back without octets, once a
+/// minute has passed since it was logged as away, and not before. A line that gave octets and is
+/// there without any was away in between. What was logged last is known from then on, and lines of
+/// either kind are a second apart.
 pub fn a_line_is_logged_where_it_goes_and_where_it_is_back()
     ensures lost { (w : LineWatch) (now : ℕ) → w.logged ≡ logged.There →
         IsSecondAfter w.away.logged now →

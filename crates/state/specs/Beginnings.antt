@@ -91,7 +91,8 @@ pub record SayState (lines : List (List ℕ)) : Type 0 where
   pub rest : List (List ℕ)
   pub said : IsSaid first lines rest
 
--- It has received the events behind the state that these lines say. It has then ended the connection
+-- It has received the events behind the state that these lines say. It has then ended the
+-- connection
 -- and given up each command without an answer. The whole log has this restart at its end, and the
 -- gateway follows it.
 pub record WentOn (c : Settings) (log : Log) (lines : List (List ℕ)) (events : List ℕ)

@@ -8,7 +8,7 @@ ghost use Rattle.gateway.specs.declared.walls.Wall.{Wall};
 ghost use Rattle.link.specs.Carried.{awaits_command};
 ghost use Rattle.link.specs.Primary.{Outstanding, Primary};
 ghost use Rattle.link.specs.declared.procedure.Link.{Link};
-ghost use Rattle.link.specs.Procedure.{Silence};
+ghost use Rattle.link.specs.declared.procedure.Silence.{Silence};
 ghost use Rattle.link.specs.declared.procedure.Link.TheVariants.{Down, Available, Next, Held};
 ghost use Rattle.link.specs.declared.service.Asked.TheVariants.{Counted, Reset, Status};
 ghost use Rattle.link.specs.declared.service.Service.TheVariants.{Class1, Class2, Command};

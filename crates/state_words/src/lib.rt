@@ -3,8 +3,9 @@
 //!
 //! [`describe_state`] puts into lines what `state::look` has found: how a run would begin, in the
 //! words that it would log then; the segment that counts; and how the links stand behind its
-//! events, with what a start would give up. Proved: the text is this function of what was found ([`describe_state`]'s contract), and
-//! the link of a station is shown as a request without an answer so far leaves it.
+//! events, with what a start would give up. Proved: the text is this function of what was found
+//! ([`describe_state`]'s contract), and the link of a station is shown as a request without an
+//! answer so far leaves it.
 #![tactic(auto)]
 
 mod laws;

@@ -57,8 +57,8 @@ impl SerialSide {
     {
         restarts_change_no_link();
         self.give_up_each_command();
-        // Power of the whole substation may have been cut: whether a station has kept its link shows
-        // once it answers a service (docs/DECISIONS.md, "A station that was restarted, too").
+        // Power of the whole substation may have been cut: whether a station has kept its link
+        // shows once it answers a service (docs/DECISIONS.md, "A station that was restarted, too").
         self.line.doubt();
     }
 }
@@ -78,7 +78,8 @@ impl Gateway {
     /// The link of a station whose command is given up is down, and is reset before its next
     /// service; where an exchange with it was outstanding that is over, and the turn with it. The
     /// command is counted as lost, as where a station goes down. No other link changes, and of no
-    /// station is it known whether it was restarted, too, until it answers a service. The queue keeps each piece that no connection has acknowledged. A gateway that followed its log
+    /// station is it known whether it was restarted, too, until it answers a service. The queue
+    /// keeps each piece that no connection has acknowledged. A gateway that followed its log
     /// between two steps then follows the log with this restart, so each promise on a log holds of
     /// all its lives together.
     pub fn restart(&mut self)

@@ -167,7 +167,8 @@ pub fn giving_up_is_logged()
         Matches settings addresses (without_commands p)
         (commands_given_up settings (front_of settings.size) addresses e) }
     ensures doubted { (settings : LinkSettings) (addresses : List ℕ) (p : Primary)
-        (e : Exchanges) → Matches settings addresses p e → Matches settings addresses (doubted p) e }
+        (e : Exchanges) → Matches settings addresses p e →
+        Matches settings addresses (doubted p) e }
     ensures reports { (settings : LinkSettings) (size : LinkSize) (addresses : List ℕ)
         (address : ℕ → ℕ) (e : Exchanges) →
         reports_of_exchanges (front_of size) address

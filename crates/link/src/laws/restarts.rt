@@ -1,13 +1,17 @@
 //! What a restart makes of a station that may have been restarted, too.
-ghost use Rattle.std.specs.Prelude.{◌≡◌, ◌<◌, ℕ, true, false, List, length, All, slice_index};
+ghost use Rattle.std.specs.Prelude.{◌≡◌, ◌<◌, ◌≤◌, ◌++◌, ◌∷◌, [], ℕ, Bool, None, true};
+ghost use Rattle.std.specs.Prelude.{false, List, length, All, slice_index};
 ghost use Rattle.link.specs.Carried.{awaits_command, doubted, station_doubted};
 ghost use Rattle.link.specs.Leave.{is_polling};
 ghost use Rattle.link.specs.Turns.{station_at};
 ghost use Rattle.ft12.specs.Fronts.{front_of};
 ghost use Rattle.link.specs.Doubts.{HaveNoRestart, StatusesFollowRestarts};
+ghost use Rattle.link.specs.Answers.{Service, Counted};
+ghost use Rattle.link.specs.Exchanges.{Exchange, answer_to};
 ghost use Rattle.link.specs.Exchanges.{all_of, no_exchanges, views, with_station};
+ghost use Rattle.link.specs.Probes.{answered_probes};
 ghost use Rattle.link.specs.Primary.{Primary, start};
-ghost use Rattle.link.specs.Procedure.{LinkSettings, Down, AskNoneThatIsUp};
+ghost use Rattle.link.specs.Procedure.{LinkSettings, Down, AskNoneThatIsUp, is_up, link_after};
 ghost use Rattle.link.specs.Requests.{FitsAddress};
 ghost use Rattle.link.specs.Runs.{Call, MayCallAll, exchanged_all};
 
@@ -42,4 +46,18 @@ pub fn restarts_change_no_link()
     ensures awaited { (p : Primary) (k : ℕ) →
         awaits_command (doubted p) k ≡ awaits_command p k }
     ensures polls { (p : Primary) → is_polling (doubted p) ≡ is_polling p }
+{}
+
+/// Where unanswered services are held, silence takes a link down only where its station has
+/// answered two statuses since its latest service that was answered, and none was unanswered behind
+/// the first of them. Each of the two goes out behind sendings of which no repeat is left
+/// (`frame_count_bits_are_kept`), and behind a restart (`statuses_follow_restarts`). So a line that
+/// is away, for however long, takes no link down.
+pub fn silence_ends_a_link_behind_two_statuses()
+    ensures { (settings : LinkSettings) (station : ℕ) (before : List Exchange) (x : Exchange)
+        (fcb : Bool) (service : Service) → settings.hold ≡ true →
+        x.request ≡ Counted fcb service → answer_to station x ≡ None → x.given_up ≡ false →
+        is_up (link_after settings station Down before) ≡ true →
+        is_up (link_after settings station Down (before ++ x ∷ [])) ≡ false →
+        2 ≤ answered_probes station 0 before }
 {}

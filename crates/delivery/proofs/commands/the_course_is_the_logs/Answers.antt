@@ -1,6 +1,6 @@
 use Rattle.std.proofs.Common.{List, None, ap, ◌∙◌}
 use Rattle.gateway.specs.Reports.{address_at, exchanges_of, exchanges_with}
-use Rattle.delivery.specs.Commands.{LineStep, confirmed_by}
+use Rattle.delivery.specs.Commands.{LineStep, confirmed_by, unmissed}
 use Rattle.delivery.proofs.Confirmed.{confirmed_learnt, confirmed_alike, sent_alike}
 use Rattle.delivery.proofs.Here.{judged_on_it}
 use Rattle.delivery.proofs.Joining.{Joins, joins}
@@ -20,7 +20,8 @@ returns c = λ p log course f set runs.
       sent = λ k. sent_alike k course.works.serial.silent course.works ∙ (j.logged k).sent;
       confirmed = λ k. confirmed_alike k course.works.serial.silent course.works
           ∙ ap (λ (steps : List LineStep). confirmed_by steps) (j.logged k).steps
-          ∙ confirmed_learnt p.link (address_at p.addresses k) 0 None (exchanges_with p k log);
+          ∙ confirmed_learnt p.link (address_at p.addresses k) unmissed None
+          (exchanges_with p k log);
       mirrored = j.mirrors;
       skipped = j.skips;
       judged = judged_all c.one_front.ensures c.waiting_commands_stay.ensures.mirrored p log course

@@ -18,6 +18,7 @@ returns c = record {
   early = c.outcomes_are_answers.ensures.early;
   awaits = c.giving_up_is_logged.ensures.awaits;
   given_up = c.giving_up_is_logged.ensures.one;
+  doubted = c.giving_up_is_logged.ensures.doubted;
   given_reports = c.giving_up_is_logged.ensures.reports;
   itself = c.the_latest_exchange_is_marked.ensures.itself;
   others = c.the_latest_exchange_is_marked.ensures.others;

@@ -45,5 +45,5 @@ returns c = record {
       ap (λ (p : Option Service). is_command_pending p) (stays station None xs all);
   latest = λ station before x answer other said.
       latest_is station before x other (subst (λ (m : Option Answer). IsSome m) (sym said) refl);
-  no_exchange = λ station. tt;
+  no_exchange = λ station. refl;
 }

@@ -2,7 +2,7 @@ use Rattle.std.proofs.Common.{ℕ, true, List, [], ◌∷◌, ap}
 use Rattle.link.specs.declared.procedure.Link.{Link}
 use Rattle.link.specs.Bursts.{is_answered, HasMore, AlwaysHasMore}
 use Rattle.link.specs.Primary.{Primary}
-use Rattle.link.specs.Runs.{Call, Next, Octets, Due, GivesUp, called}
+use Rattle.link.specs.Runs.{Call, Next, Octets, Due, GivesUp, Doubts, called}
 use Rattle.delivery.specs.NextRequests.{HasData, AlwaysHasData}
 use Rattle.delivery.proofs.of_the_line.polls_of_class_1_go_on_while_data_wait.Goals as goal
 
@@ -13,6 +13,7 @@ has_more p station (Next now may_poll waiting) shows =
 has_more p station (Octets octets) shows = tt
 has_more p station (Due now) shows = tt
 has_more p station (GivesUp other) shows = tt
+has_more p station Doubts shows = tt
 
 always : (p : Primary) (station : ℕ) (calls : List Call) → AlwaysHasData p station calls
     → AlwaysHasMore p station calls

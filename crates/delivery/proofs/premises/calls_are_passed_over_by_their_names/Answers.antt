@@ -3,7 +3,8 @@ use Rattle.std.proofs.Common.{◌≡◌, ◌⊎◌, ℕ, Bool, true, false, List
 use Rattle.std.proofs.lemmas.Bool.{eqb-true}
 use Rattle.asdu.specs.declared.sizes.Sizes.{Sizes}
 use Rattle.command.specs.CallByCall.{goes_out, is_cut, is_judge, is_own, is_put}
-use Rattle.command.specs.Calls.{Call, Cut, Judge, Own, PutOnLine, SendOwn, Accept, Busy, Lose, Mirror}
+use Rattle.command.specs.Calls.{Call, Cut, Judge, Own, PutOnLine, SendOwn, Accept, Busy, Lose}
+use Rattle.command.specs.Calls.{Mirror}
 use Rattle.command.specs.Calls.{Due, run}
 use Rattle.command.specs.State.{octets_waiting}
 use Rattle.command.specs.declared.station.StationInfo.{StationInfo}

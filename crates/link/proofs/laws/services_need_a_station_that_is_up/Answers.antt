@@ -1,6 +1,7 @@
 use Rattle.std.proofs.Common.{◌≡◌, true, false, refl}
 use Rattle.link.specs.Answers.{Asked, Status, Reset, Counted}
-use Rattle.link.specs.Procedure.{Link, Down, Available, Next, Held, MaySend, is_up, is_service, is_spent}
+use Rattle.link.specs.Procedure.{Link, Down, Available, Next, Held, MaySend, is_up, is_service}
+use Rattle.link.specs.Procedure.{is_spent}
 use Rattle.link.specs.Procedure.{link_after}
 use Rattle.link.proofs.Links.{keeps_split}
 use Rattle.link.proofs.laws.services_need_a_station_that_is_up.Goals as goal

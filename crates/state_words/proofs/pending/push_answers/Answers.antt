@@ -1,4 +1,5 @@
-use Rattle.std.proofs.Common.{◌≡◌, ℕ, ◌+◌, suc, List, ◌++◌, drop, string_bytes, append_assoc, ap, sym, ◌∙◌}
+use Rattle.std.proofs.Common.{◌≡◌, ℕ, ◌+◌, suc, List, ◌++◌, drop, string_bytes, append_assoc, ap}
+use Rattle.std.proofs.Common.{sym, ◌∙◌}
 use Rattle.std.proofs.Common.{arith, codes}
 use Rattle.std.proofs.lemmas.List.{append-nil}
 use Rattle.std.specs.Prelude.{slice_get}
@@ -18,11 +19,14 @@ loop-asdu-preserved c =
     let more : place + 1 ≡ suc place = omega arith in
     record {
       text = ap (λ (n : ℕ). string_bytes c.push_asdu.new.text ++ answer_lines (drop n items)) more
-          ∙ ap (λ (t : List ℕ). t ++ answer_lines (drop (suc place) items)) c.in_ok-push_asdu.ensures
+          ∙ ap (λ (t : List ℕ). t ++ answer_lines (drop (suc place) items))
+          c.in_ok-push_asdu.ensures
           ∙ append_assoc old (line c.in-Some.asdu.now) (answer_lines (drop (suc place) items))
-          ∙ ap (λ (l : List ℕ). old ++ l) (sym (lines_next (λ (x : List ℕ). x) line items place c.in-Some.asdu.now seen))
+          ∙ ap (λ (l : List ℕ). old ++ l)
+          (sym (lines_next (λ (x : List ℕ). x) line items place c.in-Some.asdu.now seen))
           ∙ c.loop-asdu.invariant.text;
-      place = omega (arith, place_within (λ (x : List ℕ). x) line items place c.in-Some.asdu.now seen);
+      place =
+          omega (arith, place_within (λ (x : List ℕ). x) line items place c.in-Some.asdu.now seen);
     }
 
 pub returns : goal.returns
@@ -31,5 +35,6 @@ returns c =
     let old : List ℕ = string_bytes c.loop-asdu.text in
     sym (append-nil old)
     ∙ ap (λ (l : List ℕ). old ++ l)
-    (sym (lines_done (λ (x : List ℕ). x) line items c.loop-asdu.place (c.in_default.ensures.value ∙ as_it_is (slice_get items c.loop-asdu.place))))
+    (sym (lines_done (λ (x : List ℕ). x) line items c.loop-asdu.place (c.in_default.ensures.value
+    ∙ as_it_is (slice_get items c.loop-asdu.place))))
     ∙ c.loop-asdu.invariant.text

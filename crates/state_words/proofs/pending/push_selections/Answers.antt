@@ -1,4 +1,5 @@
-use Rattle.std.proofs.Common.{◌≡◌, ℕ, ◌+◌, suc, List, ◌++◌, drop, string_bytes, append_assoc, ap, sym, ◌∙◌}
+use Rattle.std.proofs.Common.{◌≡◌, ℕ, ◌+◌, suc, List, ◌++◌, drop, string_bytes, append_assoc, ap}
+use Rattle.std.proofs.Common.{sym, ◌∙◌}
 use Rattle.std.proofs.Common.{arith, codes}
 use Rattle.std.proofs.lemmas.List.{append-nil}
 use Rattle.command.specs.Pending.{selected_of}
@@ -18,10 +19,13 @@ loop-selected-preserved c =
     let seen = c.in-Some.ensures.value in
     let more : place + 1 ≡ suc place = omega arith in
     record {
-      text = ap (λ (n : ℕ). string_bytes c.push_object.new.text ++ selection_lines (drop n items)) more
-          ∙ ap (λ (t : List ℕ). t ++ selection_lines (drop (suc place) items)) c.in_ok-push_object.ensures
+      text = ap (λ (n : ℕ). string_bytes c.push_object.new.text ++ selection_lines (drop n items))
+          more
+          ∙ ap (λ (t : List ℕ). t ++ selection_lines (drop (suc place) items))
+          c.in_ok-push_object.ensures
           ∙ append_assoc old (line c.in-Some.selected) (selection_lines (drop (suc place) items))
-          ∙ ap (λ (l : List ℕ). old ++ l) (sym (lines_next selected_of line items place c.in-Some.selected seen))
+          ∙ ap (λ (l : List ℕ). old ++ l)
+          (sym (lines_next selected_of line items place c.in-Some.selected seen))
           ∙ c.loop-selected.invariant.text;
       place = omega (arith, place_within selected_of line items place c.in-Some.selected seen);
     }

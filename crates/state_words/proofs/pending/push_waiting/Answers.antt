@@ -1,4 +1,5 @@
-use Rattle.std.proofs.Common.{◌≡◌, ℕ, ◌+◌, suc, List, ◌++◌, drop, string_bytes, append_assoc, ap, sym, ◌∙◌}
+use Rattle.std.proofs.Common.{◌≡◌, ℕ, ◌+◌, suc, List, ◌++◌, drop, string_bytes, append_assoc, ap}
+use Rattle.std.proofs.Common.{sym, ◌∙◌}
 use Rattle.std.proofs.Common.{arith, codes}
 use Rattle.std.proofs.lemmas.List.{append-nil}
 use Rattle.command.specs.Pending.{waiting_of}
@@ -18,11 +19,20 @@ loop-station-preserved c =
     let more : place + 1 ≡ suc place = omega arith in
     record {
       text = ap (λ (n : ℕ). string_bytes c.push_asdu.new.text ++ waiting_lines (drop n items)) more
-          ∙ ap (λ (t : List ℕ). t ++ waiting_lines (drop (suc place) items)) c.in_ok-push_asdu.ensures
-          ∙ append_assoc old (line (c.in-Some._station, c.in-Some.asdu.now)) (waiting_lines (drop (suc place) items))
-          ∙ ap (λ (l : List ℕ). old ++ l) (sym (lines_next waiting_of line items place (c.in-Some._station, c.in-Some.asdu.now) seen))
+          ∙ ap (λ (t : List ℕ). t ++ waiting_lines (drop (suc place) items))
+          c.in_ok-push_asdu.ensures
+          ∙ append_assoc old (line (c.in-Some._station, c.in-Some.asdu.now))
+          (waiting_lines (drop (suc place) items))
+          ∙ ap (λ (l : List ℕ). old ++ l)
+          (sym (lines_next waiting_of line items place (c.in-Some._station, c.in-Some.asdu.now)
+          seen))
           ∙ c.loop-station.invariant.text;
-      place = omega (arith, place_within waiting_of line items place (c.in-Some._station, c.in-Some.asdu.now) seen);
+      place =
+          omega (
+            arith,
+            place_within waiting_of line items place
+                (c.in-Some._station, c.in-Some.asdu.now) seen,
+          );
     }
 
 pub returns : goal.returns

@@ -10,7 +10,8 @@ returns-clause-back g c = λ s rest savable has none e.
     let m = c.in_ok-master.ensures.back s.line _ savable.line has.line has.stations
     (k.1 ∙ append_assoc (primary_lines s.line) (commands_lines s.commands) rest) in
     let t = c.in_ok-commands.ensures.back s.commands rest savable.commands has.commands m.1 in (
-      serial_back c.in_ok-master.master c.in_ok-commands.commands c.in_ok-counts.counts s m.0 t.0 k.0
+      serial_back c.in_ok-master.master c.in_ok-commands.commands c.in_ok-counts.counts s m.0 t.0
+          k.0
           none,
       t.1,
     )
