@@ -33,8 +33,9 @@ is proved as it stands, and so are its libraries.
 `--all` tries the edits of all crates. `--gate` works behind `rt ci`, over the libraries that it
 left. It tries each wrong body that the specification names; a sample of the others, drawn by the
 date (`--date` draws that of another day); and of crates that changed since all of their edits were
-tried, those that were seen refused. Of what the specification doesn't name only an edit fails there
-that was seen refused before, and is proved now. The gate ends within a bound, and tells what it
+tried, those that were seen refused. Each name of the specification needs an edit that is refused.
+An edit that was never seen refused fails no gate. Of what the specification doesn't name only one
+fails that was seen refused before, and is proved now. The gate ends within a bound, and tells what it
 left out. `--texts` tries nothing. It tells each old text that doesn't stand once in its file, and
 each wrong body of the specification that has no edit.
 
@@ -204,10 +205,20 @@ def planned(date):
 
 def passes(verdict):
     """Whether an edit passes a gate, or None if it counts for neither."""
-    if verdict.edit.specification or verdict.is_good():
-        return verdict.is_good()
+    if verdict.is_good():
+        return True
+    if verdict.edit.specification:
+        return False if verdict.edit.seen else None
     # What was killed, or can't be read any more, is no wrong body that is let through.
     return False if verdict.edit.seen and verdict.word == judging.PROVED else None
+
+
+def unrefused(asked, good):
+    """Tells of each wrong body of the specification no edit of which was refused. Answers how many."""
+    names = {edit.specification for edit in asked} - {edit.specification for edit in good}
+    for name in sorted(names):
+        print(f"FAILED specification/{name}: no edit of it was refused", flush=True)
+    return len(names)
 
 
 def gate(given):
@@ -216,6 +227,7 @@ def gate(given):
     told = f"{len(asked)} of the specification, {len(drawn)} drawn by --date {given.date}"
     print(f"edits: {told}, {len(changed)} of changed crates", flush=True)
     counts, spent = {True: 0, False: 0, None: 0, judging.LEFT: 0}, {True: 0.0, False: 0.0}
+    good = []
 
     def may(edits):
         return any(edit.specification for edit in edits) or spent[False] < BOUND
@@ -226,6 +238,7 @@ def gate(given):
             return
         is_passed = passes(verdict)
         counts[is_passed] += 1
+        good.extend([verdict.edit] if is_passed else [])
         spent[bool(verdict.edit.specification)] += verdict.seconds
         if is_passed is None and verdict.word == judging.PROVED:
             verdict.word = "not refused (never seen refused)"
@@ -235,7 +248,7 @@ def gate(given):
     told = f"{spent[True]:.0f} s for the specification's, {spent[False]:.0f} s for the others"
     left = f"{counts[judging.LEFT]} left out, {counts[None]} that count for nothing"
     print(f"edits: {told}; {left}")
-    return counts[True], counts[False]
+    return counts[True], counts[False] + unrefused(asked, good)
 
 
 def main():
