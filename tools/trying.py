@@ -120,7 +120,7 @@ class Trier:
     def is_dear(self, edit):
         """Whether the gate leaves out a check of the whole crate: nothing hangs on an edit that was
         never seen refused."""
-        return not edit.seen and not edit.specification
+        return not edit.seen
 
     def with_twin(self, verdict):
         """The verdict, with whether the edit's twin is proved. The gate asks if that decides."""
