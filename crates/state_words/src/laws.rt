@@ -7,6 +7,7 @@ ghost use Rattle.gateway.specs.State.{State};
 ghost use Rattle.gateway.specs.declared.walls.Wall.{Wall};
 ghost use Rattle.link.specs.Carried.{awaits_command};
 ghost use Rattle.link.specs.Primary.{Outstanding, Primary};
+ghost use Rattle.link.specs.Procedure.{is_held};
 ghost use Rattle.link.specs.declared.procedure.Link.{Link};
 ghost use Rattle.link.specs.declared.procedure.Silence.{Silence};
 ghost use Rattle.link.specs.declared.procedure.Link.TheVariants.{Down, Available, Next, Held};
@@ -112,8 +113,9 @@ pub fn each_station_has_its_line()
 {}
 
 /// The link in a station's line is the one that it has, but for the station whose answer is
-/// awaited. That one is down if its status or a reset is awaited, and else its service has no
-/// answer so far. The words tell each link from the others.
+/// awaited. That one is down if its status or a reset is awaited, unless it holds a service: asked
+/// for its status, it stands as before. Else its service has no answer so far. The words tell each
+/// link from the others.
 pub fn links_are_told_as_they_stand()
     ensures idle { (p : Primary) (station : ℕ) (s : StationState) → p.outstanding ≡ None →
         link_left p station s ≡ s.link }
@@ -121,7 +123,10 @@ pub fn links_are_told_as_they_stand()
         link_left p station s ≡ s.link }
     ensures awaited { (p : Primary) (s : StationState) (o : Outstanding) →
         p.outstanding ≡ Some o →
-        (o.request ≡ Status → link_words (link_left p p.turn s) ≡ codes " down")
+        (o.request ≡ Status → is_held s.link ≡ false →
+        link_words (link_left p p.turn s) ≡ codes " down")
+        × (o.request ≡ Status → is_held s.link ≡ true →
+        link_words (link_left p p.turn s) ≡ link_words s.link)
         × (o.request ≡ Reset → link_words (link_left p p.turn s) ≡ codes " down")
         × ((fcb : Bool) → o.request ≡ Counted fcb Class1 →
         link_words (link_left p p.turn s) ≡ link_words (Next fcb)

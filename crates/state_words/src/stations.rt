@@ -1,7 +1,6 @@
 //! How the links to the stations stand, in words.
 ghost use Rattle.std.specs.Prelude.{◌≡◌, ◌++◌, ◌<◌, OnOk, false, length, option_map, string_bytes};
 ghost use Rattle.link.specs.Procedure.{after_silence};
-ghost use Rattle.link.specs.declared.procedure.Link.{Link as LinkState};
 ghost use Rattle.link.specs.declared.settings.LinkSettings.{LinkSettings as Chosen};
 ghost use Rattle.state_words.specs.Stations as spec;
 
@@ -50,15 +49,17 @@ fn push_link(text: &mut String, link: &Link) -> Result<(), AllocError>
     }
 }
 
-/// The link as this request leaves it, to which no answer came so far.
-fn push_asked(text: &mut String, asked: &Asked) -> Result<(), AllocError>
-    ensures { OnOk result ((settings : Chosen) (link : LinkState) →
-        string_bytes text.new ≡ string_bytes text.old
-        ++ spec.link_words (after_silence settings asked.now false link)) }
+/// The link as this request leaves it, to which no answer came so far. A station that holds a
+/// service may be asked for its status behind a restart, and is up then.
+fn push_asked(text: &mut String, asked: &Asked, link: &Link) -> Result<(), AllocError>
+    ensures { OnOk result ((settings : Chosen) → string_bytes text.new ≡ string_bytes text.old
+        ++ spec.link_words (after_silence settings asked.now false link.now)) }
 {
-    match asked {
-        Asked::Status | Asked::Reset => text.push_str(" down"),
-        Asked::Counted(fcb, service) => push_held(text, *fcb, service),
+    match (asked, link) {
+        (Asked::Status, Link::Held(fcb, service, _)) | (Asked::Counted(fcb, service), _) => {
+            push_held(text, *fcb, service)
+        }
+        (Asked::Status | Asked::Reset, _) => text.push_str(" down"),
     }
 }
 
@@ -84,7 +85,7 @@ fn push_left(
         (spec.left_by line.now.settings (spec.awaited_at line.now station) link.now)) }
 {
     match awaited_at(line, station) {
-        Some(asked) => push_asked(text, asked),
+        Some(asked) => push_asked(text, asked, link),
         None => push_link(text, link),
     }
 }
