@@ -35,7 +35,7 @@ left. It tries each wrong body that the specification names; a sample of the oth
 date (`--date` draws that of another day); and of crates that changed since all of their edits were
 tried, those that were seen refused. Each name of the specification needs an edit that is refused.
 An edit that was never seen refused fails no gate. Of what the specification doesn't name only one
-fails that was seen refused before, and is proved now. The gate ends within a bound, and tells what it
+fails of which the table has what refuses it, if that is proved now. The gate ends within a bound, and tells what it
 left out. `--texts` tries nothing. It tells each old text that doesn't stand once in its file, and
 each wrong body of the specification that has no edit.
 
@@ -209,8 +209,10 @@ def passes(verdict):
         return True
     if verdict.edit.specification:
         return False if verdict.edit.seen else None
-    # What was killed, or can't be read any more, is no wrong body that is let through.
-    return False if verdict.edit.seen and verdict.word == judging.PROVED else None
+    # What was killed, or can't be read any more, is no wrong body that is let through. Nor need one
+    # be of which it isn't known what refuses it: the gate checks no whole crate for it.
+    known = verdict.edit.seen and verdict.edit.refused_by
+    return False if known and verdict.word == judging.PROVED else None
 
 
 def unrefused(asked, good):
@@ -241,7 +243,7 @@ def gate(given):
         good.extend([verdict.edit] if is_passed else [])
         spent[bool(verdict.edit.specification)] += verdict.seconds
         if is_passed is None and verdict.word == judging.PROVED:
-            verdict.word = "not refused (never seen refused)"
+            verdict.word = "not refused by its own function"
         shown(verdict, "FAILED " if is_passed is False else "")
 
     tried([*asked, *drawn, *changed], given, tell, may)

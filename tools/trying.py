@@ -118,9 +118,9 @@ class Trier:
         return self.with_twin(Verdict(edit, *found, seconds=self.room.seconds - before))
 
     def is_dear(self, edit):
-        """Whether the gate leaves out a check of the whole crate: nothing hangs on an edit that was
-        never seen refused."""
-        return not edit.seen
+        """Whether the gate leaves out a check of the whole crate, which may take half an hour: only
+        an edit of the specification that was seen refused is worth it."""
+        return not (edit.specification and edit.seen)
 
     def with_twin(self, verdict):
         """The verdict, with whether the edit's twin is proved. The gate asks if that decides."""
