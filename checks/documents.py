@@ -107,7 +107,7 @@ def prose(text):
 
 def judge_sentences(judge, name, text):
     for paragraph in re.split(r"\n\s*\n|\n\s*[-*] |\n\s*\d+\. ", prose(text)):
-        for sentence in re.split(r"[.:;?!]\s", paragraph.replace("\n", " ") + " "):
+        for sentence in re.split(r"[.:;?!](?:\*\*)?\s", paragraph.replace("\n", " ") + " "):
             count = len([word for word in sentence.split() if re.search(r"\w", word)])
             judge.case(count < SENTENCE, f"{name}: {count} words in: {sentence.strip()}")
 
@@ -154,12 +154,14 @@ def judge_sources(judge):
 def judge_entries(judge):
     """Each heading of a document that a comment names is there: a heading of a part, or the bold
     words that a point begins with."""
-    patterns = ("crates/*/src/**/*.rt", "crates/*/specs/**/*.antt", "crates/*/proofs/**/*.antt", "tests/**/*.rs", "checks/*.py", "packaging/**/*.*")
+    patterns = ("crates/*/src/**/*.rt", "crates/*/specs/**/*.antt", "crates/*/proofs/**/*.antt", "tests/**/*.rs", "packaging/**/*")
+    headings = {name: re.findall(r"^(?:- \*\*(.*?)\.\*\*|#+ (.*))", text, re.M) for name, text in documents().items()}
     for name in sorted(found for pattern in patterns for found in glob.glob(pattern, root_dir=TOP, recursive=True)):
-        comments = re.sub(r"\n\s*(?://[/!]?|--|#) ", " ", read(name))
-        for document, heading in re.findall(r'(docs/[A-Z_]+\.md), "([^"]*)"', comments):
-            headings = re.findall(r"^(?:- \*\*(.*?)\.\*\*|#+ (.*))", read(document), re.M)
-            judge.case(any(heading in found for found in headings), f'{name} names {document}, "{heading}", which isn\'t there')
+        if os.path.isfile(os.path.join(TOP, name)):
+            comments = re.sub(r"\n\s*(?://[/!]?|--|#) ", " ", read(name))
+            for document, heading in re.findall(r'(docs/\w+\.md), "([^"]*)"', comments):
+                there = any(heading in found for found in headings.get(document, []))
+                judge.case(there, f'{name} names {document}, "{heading}", which isn\'t there')
 
 
 def judge_names(judge, name, text):
