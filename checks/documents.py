@@ -233,6 +233,8 @@ def printed(count, _program, _folder):
         count.judge(name, text == written, f"tools/laws.py --write has other lines, the first {wrong[:1]}")
     found = laws.items_of(read(laws.PROOFS))
     count.judge("docs/PROOFS.md has each item once", found and len(found) == len(set(found)), f"{len(found)} items")
+    for call, crate in re.findall(r"\[`([\w:]+)`\]\(crates/(\w+)/src/", read("README.md")):
+        count.judge(f"README.md: {call}", (crate, call) in found, f"{laws.PROOFS} hasn't it")
 
 
 def words(count, _program, _folder):

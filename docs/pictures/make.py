@@ -117,7 +117,7 @@ def report():
     p.box(430, 215, 160, 60, "disk", "with `--state DIR`: it is\nthere before the next poll", "disk")
     p.way([(500, 130), (500, 215)])
     p.text(420, 245, "Without `--state` what the\nqueue holds ends with the process.", "loss", "end")
-    p.text(605, 240, "Where fewer than three places are free nothing is polled, and\nreports wait in the outstations: `queue full`.\nWhat is on the disk outlives the process and a power cut.", "small", "start")
+    p.text(605, 240, "If fewer than three places are free nothing is polled, and\nreports wait in the outstations: `queue full`.\nWhat is on the disk outlives the process and a power cut.", "small", "start")
     return p
 
 
@@ -141,8 +141,8 @@ def station():
     p.way([(780, 305), (780, 220)], "back")
     p.text(790, 258, "it answers\n`station A answers again`", "small", "start")
     p.text(40, 250, "At the first request to it:\n`station A asked for its status`", "small", "start")
-    p.text(40, 298, "Where it doesn't come up, asked retries + 1 times:\n`station A doesn't answer`", "small", "start")
-    p.text(40, 346, "Where a reset ended a session amid a poll:\n`station A gap: reports of it may be lost`", "loss", "start")
+    p.text(40, 298, "If it doesn't come up, asked retries + 1 times:\n`station A doesn't answer`", "small", "start")
+    p.text(40, 346, "If a reset ended a session amid a poll:\n`station A gap: reports of it may be lost`", "loss", "start")
     return p
 
 
