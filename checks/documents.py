@@ -17,7 +17,7 @@
   a letter and a number.
 - The program, the man page, CHANGELOG.md and each document that names a version name the same one.
 - Lines of src/, specs/ and tests/ have at most 100 columns, except imports and attributes.
-- An entry of a document that a comment names, as `docs/NAME.md, "HEADING"`, is there.
+- An entry of a document that a comment or a document names, as `docs/NAME.md, "HEADING"`, is there.
 - The table of docs/TESTS.md has the scripts of checks/list.txt as those of the gate.
 - The pictures are those that docs/pictures/make.py makes.
 """
@@ -152,14 +152,14 @@ def judge_sources(judge):
 
 
 def judge_entries(judge):
-    """Each heading of a document that a comment names is there: a heading of a part, or the bold
-    words that a point begins with."""
-    patterns = ("crates/*/src/**/*.rt", "crates/*/specs/**/*.antt", "crates/*/proofs/**/*.antt", "tests/**/*.rs", "packaging/**/*")
+    """Each heading of a document that a comment or a document names is there: a heading of a part,
+    or the bold words that a point begins with."""
+    patterns = ("crates/*/src/**/*.rt", "crates/*/specs/**/*.antt", "crates/*/proofs/**/*.antt", "tests/**/*.rs", "edits/*.toml", "tools/*.py", "packaging/**/*", "*.md", "docs/*.md")
     headings = {name: re.findall(r"^(?:- \*\*(.*?)\.\*\*|#+ (.*))", text, re.M) for name, text in documents().items()}
     for name in sorted(found for pattern in patterns for found in glob.glob(pattern, root_dir=TOP, recursive=True)):
         if os.path.isfile(os.path.join(TOP, name)):
-            comments = re.sub(r"\n\s*(?://[/!]?|--|#) ", " ", read(name))
-            for document, heading in re.findall(r'(docs/\w+\.md), "([^"]*)"', comments):
+            comments = re.sub(r"\n\s*(?:(?://[/!]?|--|#) )?", " ", read(name))
+            for document, heading in re.findall(r'\b((?:docs/\w+|[A-Z]+)\.md), "([^"]*)"', comments):
                 there = any(heading in found for found in headings.get(document, []))
                 judge.case(there, f'{name} names {document}, "{heading}", which isn\'t there')
 
