@@ -10,7 +10,8 @@ of a function is the first sentence of its doc comment; of a law a short one has
 
 Which functions stand on a page, and in which order, is said by the page itself:
 
-- An item of docs/PROOFS.md begins with the crate and the function: - `crate` `Type::function`: the sentence.
+- An item of docs/PROOFS.md begins with the crate and the function: - `crate` `function`: the sentence. Of a function that is no law the page
+  has its own words, since the promise stands in clauses and not in the comment.
 - A block of docs/CALLS.md has calls with their signatures, each below its sentence. A new call needs only its name and a bracket.
 
 Behind a change of a page or of a doc comment call --write. checks/documents.py fails if a page says anything else.
@@ -175,10 +176,13 @@ def wrapped(text, first, next):
 
 
 def proofs(page):
-    """docs/PROOFS.md with the sentences of the sources."""
+    """docs/PROOFS.md with the sentences that the sources have of laws. Of other functions the page
+    has its own words."""
 
     def item(found):
         function = functions_of(found[1]).get(found[2])
+        if function and not function.is_law:
+            return found[0]
         said = beginning(function) if function else "The sources have no such function."
         return wrapped(f"`{found[1]}` `{found[2]}`: {said}", "- ", "  ") + "\n"
 
