@@ -1,7 +1,7 @@
 #!/usr/bin/env python3
 """Prints what the sources say of laws and calls, and writes it into docs/PROOFS.md and docs/CALLS.md.
 
-    tools/laws.py [CRATE ..]          prints the laws of these crates, or of all, file by file
+    tools/laws.py [CRATE ..]          prints the laws of these crates, or of all
     tools/laws.py --calls CRATE ..    prints their public calls, with what each needs and answers
     tools/laws.py --write             writes the sentences and signatures of both pages anew
 
@@ -138,15 +138,6 @@ def functions_of(crate):
     return found
 
 
-def laws_of(crate):
-    return [function for function in functions_of(crate).values() if function.is_law]
-
-
-def calls_of(crate):
-    """The public calls of a crate: by name the signature."""
-    return {name: function.signature for name, function in functions_of(crate).items() if function.is_public}
-
-
 def items_of(page):
     """What docs/PROOFS.md has: crates and functions."""
     return ITEM.findall(page)
@@ -234,7 +225,7 @@ def main():
         for function in functions_of(crate).values():
             if function.is_public if options.calls else function.is_law:
                 count += 1
-                print(f"{crate}: {function.signature if options.calls else function.name}")
+                print(f"{crate}, {function.file}: {function.signature if options.calls else function.name}")
                 print(wrapped(function.sentences[0] if options.calls else beginning(function), "    ", "    "))
     print(f"{count} {'calls' if options.calls else 'laws'}", file=sys.stderr)
 
