@@ -46,10 +46,11 @@ text { fill: #e6edf3; }
 .grey { fill: #8b949e; }
 }
 """
-HEADS = """<defs>
-<marker id="head" viewBox="0 0 10 10" refX="9" refY="5" markerWidth="7" markerHeight="7" orient="auto-start-reverse"><path d="M0,0L10,5L0,10z" class="head"/></marker>
-<marker id="grey" viewBox="0 0 10 10" refX="9" refY="5" markerWidth="7" markerHeight="7" orient="auto-start-reverse"><path d="M0,0L10,5L0,10z" class="grey"/></marker>
-</defs>"""
+MARKER = (
+    '<marker id="{0}" viewBox="0 0 10 10" refX="9" refY="5" markerWidth="7" markerHeight="7" orient="auto-start-reverse">'
+    '<path d="M0,0L10,5L0,10z" class="{0}"/></marker>'
+)
+HEADS = "\n".join(["<defs>", MARKER.format("head"), MARKER.format("grey"), "</defs>"])
 
 
 def spans(line):
@@ -89,38 +90,46 @@ class Picture:
 
 
 class Way:
-    """A way from above to below: its steps on the left, and beside each the ends that it may take there."""
+    """A way from above to below: its steps on the left, and beside each the ends that it may take there.
 
-    LEFT, STEP, RIGHT, END = 12, 240, 286, 402
+    A step is its title, its kind, its lines, and its ends. An end is its title, its lines, and its kind if it is no loss.
+    """
+
+    LEFT, STEP, RIGHT, END, GAP = 12, 240, 286, 402, 24
 
     def __init__(self, title, intro, steps):
-        heights = [max(self.height(words), sum(self.height(end[1]) + 10 for end in ends) - 10) for _, words, _, ends in steps]
-        top = 26 + 15 * len(intro.split("\n"))
-        self.picture = Picture(WIDTH, top + sum(heights) + 24 * (len(steps) - 1) + 14, title)
-        self.picture.text(self.LEFT, 24, intro, "small", "start")
+        heights = [self.height_of(*step) for step in steps]
+        top = 26 + 15 * len(intro)
+        self.picture = Picture(WIDTH, top + sum(heights) + self.GAP * (len(steps) - 1) + 14, title)
+        self.picture.text(self.LEFT, 24, "\n".join(intro), "small", "start")
+        middle = self.LEFT + self.STEP / 2
         for place, (step, height) in enumerate(zip(steps, heights)):
+            if place > 0:
+                self.picture.way([(middle, top - self.GAP), (middle, top)])
             self.step(top, height, *step)
-            if place + 1 < len(steps):
-                self.picture.way([(self.LEFT + self.STEP / 2, top + height), (self.LEFT + self.STEP / 2, top + height + 24)])
-            top += height + 24
+            top += height + self.GAP
 
     @staticmethod
-    def height(words):
+    def height(lines):
         """How high a box with a title and these lines is."""
-        return 31 + 15 * (words.count("\n") + 1)
+        return 31 + 15 * len(lines)
 
-    def written(self, x, y, width, height, title, words, kind):
+    def height_of(self, _title, _kind, lines, ends):
+        """How high a step is, which has its ends beside it."""
+        return max(self.height(lines), sum(self.height(end[1]) + 10 for end in ends) - 10)
+
+    def written(self, x, y, width, height, title, lines, kind):
         """A box with its words at the left."""
         self.picture.parts.append(f'<rect x="{x}" y="{y}" width="{width}" height="{height}" rx="6" class="{kind}"/>')
         self.picture.text(x + 10, y + 19, title, "title", "start")
-        self.picture.text(x + 10, y + 36, words, "small", "start")
+        self.picture.text(x + 10, y + 36, "\n".join(lines), "small", "start")
 
-    def step(self, y, height, title, words, kind, ends):
-        self.written(self.LEFT, y, self.STEP, height, title, words, kind)
-        for name, text, *looks in ends:
-            size = self.height(text)
+    def step(self, y, height, title, kind, lines, ends):
+        self.written(self.LEFT, y, self.STEP, height, title, lines, kind)
+        for name, words, *looks in ends:
+            size = self.height(words)
             self.picture.way([(self.LEFT + self.STEP, y + size / 2), (self.RIGHT, y + size / 2)], "back")
-            self.written(self.RIGHT, y, self.END, size, name, text, looks[0] if looks else "end")
+            self.written(self.RIGHT, y, self.END, size, name, words, looks[0] if looks else "end")
             y += size + 10
 
     def svg(self):
@@ -151,82 +160,176 @@ def deployment():
         p.way([(x + 55, 426), (x + 55, 444)], "wire")
         p.box(x, 444, 110, 40, f"outstation {number}", "", "far")
     p.text(250, 468, "..", "small")
-    p.text(15, 510, "An arrow goes from the one that opens a\nconnection to the one that accepts it.\nThick lines: the serial line, and what telegate writes.", "small", "start")
+    arrows = "An arrow goes from the one that opens a\nconnection to the one that accepts it."
+    p.text(15, 510, f"{arrows}\nThick lines: the serial line, and what telegate writes.", "small", "start")
     return p
 
 
+# What a restart of telegate says of the commands that it gives up.
+RESTART = ["No answer, and no line.", "With `--state`: `telegate state` shows it before the start."]
+COMMAND = [
+    ("It comes", "far", ["an I frame of the control centre"], [
+        ("The connection is closed in the same step", [
+            "Data transfer is stopped, another frame is wrong,",
+            "or an own answer has no place. No answer.",
+            "`connection closed: CAUSE`",
+            "`.. by ADDRESS refused: its connection was closed`",
+        ]),
+    ]),
+    ("It is judged", "box", [
+        "By the rules on the right, in their",
+        "order. The first that applies",
+        "refuses it.",
+        " ",
+        "A guarded station (`select = true`)",
+        "needs its own select before an",
+        "execute. The selection holds for",
+        "`select_ms` behind the station's",
+        "confirmation. An execute that comes",
+        "to the rule `not selected` uses it up.",
+        "It also ends with a deactivation, a",
+        "cut, a restart, and if its select is",
+        "refused by the station, not taken",
+        "or given up.",
+    ], [
+        ("Refused", [
+            "The centre gets it back with P/N set, and with",
+            "cause 44: `type not known`",
+            "cause 45: `cause not known`",
+            "cause 46: `common address not known`",
+            "cause 47: `object not known`",
+            "cause 7, or 9 to a deactivation:",
+            "`not one object`, `qualifier not permitted`,",
+            "`time tag ..`, `time of day not known yet`, `not selected`,",
+            "`no place`: 64 commands wait, or 16 selections stand.",
+            "`.. by ADDRESS refused: WHY`",
+        ]),
+    ]),
+    ("It waits, 64 at most", "box", [
+        "`.. by ADDRESS`",
+        "Without a limit of time. It goes in a",
+        "turn of its station, one in each,",
+        "if the station is up and not busy",
+        "(DFC), behind those before it.",
+    ], [
+        ("Taken back: it never goes out", [
+            "Its connection ends. No answer, and no line of its own.",
+            "`connection cut: CAUSE`, `connection closed: CAUSE`",
+        ]),
+        ("Given up by a restart: it never goes out", RESTART),
+    ]),
+    ("It goes to the line", "box", [
+        "`.. sent to station A`",
+        "Once. Without an answer the link",
+        "repeats it, octet for octet and with",
+        "the same frame count bit: a station",
+        "that keeps to the standard takes",
+        "it once. With `silence = \"hold\"`",
+        "this has no end.",
+        " ",
+        "From here on a cut doesn't call it",
+        "back: its answers go to the next",
+        "connection, if that is started.",
+    ], [
+        ("Not taken", [
+            "The station's link is busy (NACK). The centre gets",
+            "cause 7 or 9 with P/N, if its connection is still open.",
+            "`.. not taken: station A is busy`",
+        ]),
+        ("Given up: the station may have taken it", [
+            "No answer to `retries` + 1 sendings, `silence = \"reset\"`.",
+            "Or the station answers that its link doesn't work. With",
+            "`\"hold\"` also behind a restart, if it answers its status",
+            "twice and this not at all. The centre gets no answer.",
+            "`.. given up: station A doesn't answer`",
+        ]),
+        ("Given up by a restart: it may have taken it", ["It isn't repeated.", *RESTART]),
+    ]),
+    ("The station accepts it", "far", ["ACK or E5 on the line: no line of", "the log, no answer to the centre"], [
+        ("The station says no more", [
+            "No answer, and no line: telegate waits for none.",
+            "A selection ends `select_ms` after its select came.",
+        ]),
+    ]),
+    ("It confirms it", "far", ["`.. confirmed by station A`", "cause 7, or 9 to a deactivation"], [
+        ("Refused by the station", [
+            "P/N is set, or the cause is 44 to 47. It is passed on.",
+            "`.. refused by station A`",
+        ]),
+    ]),
+    ("It reports that it is done", "far", ["`.. terminated by station A`", "cause 10, if the station sends it"], []),
+    ("Each answer is passed on", "box", [
+        "once, as it comes, before reports:",
+        "an I frame, with the command's",
+        "time tag, if it came with one on",
+        "this connection",
+    ], [
+        ("Dropped", [
+            "Data transfer isn't running.",
+            "`station A answer to a command dropped:`",
+            "`data transfer isn't running`",
+        ]),
+        ("The connection is closed", [
+            "16 wait already: the centre acknowledges too little.",
+            "`connection closed: an own answer found no place`",
+        ]),
+        ("Lost with the connection", ["It ends before the answer has come. It isn't sent again."]),
+    ]),
+]
+REPORT = [
+    ("The outstation has it", "far", ["and keeps it until it is asked"], [
+        ("Lost", ["The outstation's own buffer is full: no line."]),
+        ("One may be lost", ["The link is reset amid a poll.", "`station A gap: reports of it may be lost`"]),
+    ]),
+    ("It answers a poll with it", "far", [
+        "Without an answer the same request",
+        "goes out, with the same bit: the",
+        "station gives the report again.",
+    ], [
+        ("Lost", [
+            "It can't be read, has a type that isn't carried, or says",
+            "itself that a type is unknown.",
+            "`station A report skipped, ..`",
+        ]),
+    ]),
+    ("It is on the disk", "disk", [
+        "with `--state DIR`, before the next",
+        "request goes out: it outlives the",
+        "process and a power cut.",
+    ], [
+        ("Lost when the process ends", ["Without `--state`: no line. If the disk fails:", "`state isn't kept: ..`"]),
+    ]),
+    ("It is in the queue", "box", ["as 1 to 3 pieces, until these", "are acknowledged"], [
+        ("Not lost: reports wait in the outstations", [
+            "Fewer than three places are free, so nothing is polled.",
+            "`queue full`",
+        ], "far"),
+    ]),
+    ("It goes to the control centre", "box", ["as I frames"], [
+        ("Not lost: it goes out again", [
+            "The connection ends before the acknowledgement. All that",
+            "isn't acknowledged goes out on the next one, in order.",
+            "`connection cut: ..`, `connection closed: ..`",
+        ], "far"),
+    ]),
+    ("The centre acknowledges it", "far", ["N(R): the piece leaves the queue"], []),
+]
+
+
 def command():
-    """The way of a command with all its ends."""
-    judged = (
-        "By the rules on the right, in their\norder. The first that applies\nrefuses it.\n \n"
-        "A guarded station (`select = true`)\nneeds its own select before an\nexecute. The selection holds for\n"
-        "`select_ms` behind the station's\nconfirmation. An execute that comes\nto the rule `not selected` uses it up.\nIt also ends with a deactivation, a\n"
-        "cut, a restart, and if its select is\nrefused by the station, not taken\nor given up."
-    )
-    rules = (
-        "The centre gets it back with P/N set, and with\n"
-        "cause 44: `type not known`\ncause 45: `cause not known`\ncause 46: `common address not known`\ncause 47: `object not known`\n"
-        "cause 7, or 9 to a deactivation:\n`not one object`, `qualifier not permitted`,\n`time tag ..`, `time of day not known yet`,\n`not selected`,\n"
-        "`no place`: 64 commands wait, or 16 selections stand.\n`.. by ADDRESS refused: WHY`"
-    )
-    waits = "`.. by ADDRESS`\nWithout a limit of time. It goes in a\nturn of its station, one in each,\nif the station is up and not busy\n(DFC), behind those before it."
-    line = (
-        "`.. sent to station A`\nOnce. Without an answer the link\nrepeats it, octet for octet and with\nthe same frame count bit: a station\n"
-        "that keeps to the standard takes\nit once. With `silence = \"hold\"`\nthis has no end.\n \nFrom here on a cut doesn't call\nit back."
-    )
-    steps = [
-        ("It comes", "an I frame of the control centre", "far", [
-            ("The connection is closed in the same step", "Data transfer is stopped, another frame is wrong,\nor an own answer has no place. No answer.\n`connection closed: CAUSE`\n`.. by ADDRESS refused: its connection was closed`"),
-        ]),
-        ("It is judged", judged, "box", [("Refused", rules)]),
-        ("It waits, 64 at most", waits, "box", [
-            ("Taken back: it never goes out", "Its connection ends. No answer, and no line of its own.\n`connection cut: CAUSE`, `connection closed: CAUSE`"),
-            ("Given up by a restart: it never goes out", "No answer, and no line.\nWith `--state`: `telegate state` shows it before the start."),
-        ]),
-        ("It goes to the line", line, "box", [
-            ("Not taken", "The station's link is busy (NACK). The centre gets\ncause 7 or 9 with P/N, if its connection still stands.\n`.. not taken: station A is busy`"),
-            ("Given up: the station may have taken it", "No answer to `retries` + 1 sendings, `silence = \"reset\"`.\nOr the station answers that its link doesn't work. With\n`\"hold\"` also behind a restart, if it answers its status\ntwice and this not at all. The centre gets no answer.\n`.. given up: station A doesn't answer`"),
-            ("Given up by a restart: it may have taken it", "It isn't repeated. No answer, and no line.\nWith `--state`: `telegate state` shows it before the start."),
-        ]),
-        ("The station accepts it", "ACK or E5 on the line: no line of\nthe log, no answer to the centre", "far", [
-            ("The station says no more", "No answer, and no line: telegate waits for none.\nA selection ends `select_ms` after its select came."),
-        ]),
-        ("It confirms it", "`.. confirmed by station A`\ncause 7, or 9 to a deactivation", "far", [
-            ("Refused by the station", "P/N is set, or the cause is 44 to 47. It is passed on.\n`.. refused by station A`"),
-        ]),
-        ("It reports that it is done", "`.. terminated by station A`\ncause 10, if the station sends it", "far", []),
-        ("Each answer is passed on", "once, as it comes, before reports:\nan I frame, with the command's\ntime tag if that had one", "box", [
-            ("Dropped", "Data transfer isn't running.\n`station A answer to a command dropped:`\n`data transfer isn't running`"),
-            ("The connection is closed", "16 wait already: the centre acknowledges too little.\n`connection closed: an own answer found no place`"),
-            ("Lost with the connection", "It ends before the answer has come. It isn't sent again."),
-        ]),
-    ]
-    intro = "`..` stands for how each line of a command begins, such as `command C_SC_NA_1 execute 1/200 on`.\nA solid arrow is the way on, a dashed one leads to an end. No answer: the control centre hears nothing."
-    return Way("The way of a command, and all its ends", intro, steps)
+    """The way of a command with all its ends, and the log's line for each."""
+    return Way("The way of a command, and all its ends", [
+        "`..` stands for how each line of a command begins, such as `command C_SC_NA_1 execute 1/200 on`.",
+        "A solid arrow is the way on, a dashed one leads to an end. No answer: the control centre hears nothing.",
+        "Of several lines of one kind within a second the log has the last, with the number of those before.",
+    ], COMMAND)
 
 
 def report():
     """The life of a report, where it can be lost, and what reports it."""
-    steps = [
-        ("The outstation has it", "and keeps it until it is asked", "far", [
-            ("Lost", "The outstation's own buffer is full: no line."),
-            ("One may be lost", "The link is reset amid a poll.\n`station A gap: reports of it may be lost`"),
-        ]),
-        ("It answers a poll with it", "Without an answer the same request\ngoes out, with the same bit: the\nstation gives the report again.", "far", [
-            ("Lost", "It can't be read, has a type that isn't carried, or says\nitself that a type is unknown.\n`station A report skipped, ..`"),
-        ]),
-        ("It is on the disk", "with `--state DIR`, before the next\nrequest goes out: it outlives the\nprocess and a power cut.", "disk", [
-            ("Lost when the process ends", "Without `--state`: no line. If the disk fails:\n`state isn't kept: ..`"),
-        ]),
-        ("It is in the queue", "as 1 to 3 pieces, until these\nare acknowledged", "box", [
-            ("Not lost: reports wait in the outstations", "Fewer than three places are free, so nothing is polled.\n`queue full`", "far"),
-        ]),
-        ("It goes to the control centre", "as I frames", "box", [
-            ("Not lost: it goes out again", "The connection ends before the acknowledgement. All that\nisn't acknowledged goes out on the next one, in order.\n`connection cut: ..`, `connection closed: ..`", "far"),
-        ]),
-        ("The centre acknowledges it", "N(R): the piece leaves the queue", "far", []),
-    ]
-    return Way("The life of a report, and where it can be lost", "A solid arrow is the way on, a dashed one says what else may become of a report there.", steps)
+    return Way("The life of a report, and where it can be lost", [
+        "A solid arrow is the way on, a dashed one says what else may become of a report there.",
+    ], REPORT)
 
 
 def station():
@@ -243,15 +346,20 @@ def station():
     p.way([(255, 186), (170, 186)])
     p.text(212, 203, "no answer", "small")
     p.way([(590, 130), (590, 70), (95, 70), (95, 130)])
-    p.text(342, 24, "It answers that its link doesn't work (14, 15). Or, with `silence = \"reset\"`,\nit gives no answer to `retries` + 1 sendings.\n`station A down`", "small")
+    unable = "It answers that its link doesn't work (14, 15). Or, with `silence = \"reset\"`,"
+    p.text(342, 24, f"{unable}\nit gives no answer to `retries` + 1 sendings.\n`station A down`", "small")
     p.way([(520, 206), (520, 316)])
-    p.text(512, 244, "with `silence = \"hold\"`, no answer\nto `retries` + 1 sendings\n`station A doesn't answer`", "small", "end")
+    silent = "with `silence = \"hold\"`, no answer\nto `retries` + 1 sendings\n`station A doesn't answer`"
+    p.text(512, 244, silent, "small", "end")
     p.way([(580, 316), (580, 206)])
     p.text(587, 252, "it answers\n`station A`\n`answers again`", "small", "start")
     p.way([(430, 366), (95, 366), (95, 206)])
-    p.text(103, 316, "It answers 14 or 15. Or, behind a restart of\ntelegate, it answers its status twice, and the\nrequest not at all.", "small", "start")
+    doubted = "It answers 14 or 15. Or, behind a restart of\ntelegate, it answers its status twice, and the\nrequest not at all."
+    p.text(103, 316, doubted, "small", "start")
     p.text(103, 384, "`station A down`, once its status is asked", "small", "start")
-    p.text(20, 420, "At the first request: `station A asked for its status`. Asked `retries` + 1 times, and not up:\n`station A doesn't answer`. Held for more than a minute: `station A still doesn't answer: ..`", "small", "start")
+    first = "At the first request: `station A asked for its status`. Asked `retries` + 1 times, and not up:"
+    held = "`station A doesn't answer`. Held for more than a minute: `station A still doesn't answer: ..`"
+    p.text(20, 420, f"{first}\n{held}", "small", "start")
     p.text(20, 460, "A reset ended a session amid a poll: `station A gap: reports of it may be lost`", "loss", "start")
     return p
 
@@ -285,10 +393,14 @@ USES = {
 }
 # Those around the gateway, in rows of their names, and contracts of theirs.
 AROUND = [
-    (25, 100, "A live run", ["live runlog lookout status"], ["the_log_has_what_passed", "what_is_gathered_is_logged_or_counted"]),
-    (360, 100, "Its state on the disk", ["state state_files state_words", "segments statetext"], ["nothing_goes_out_before_it_is_on_disk", "Segment::survives"]),
-    (25, 196, "Settings", ["settings sitefile toml_places hints"], ["settings_are_named", "sites_are_named"]),
-    (360, 196, "Texts and tries", ["traces pages record capture sim", "stations show words ladder"], ["texts_are_read_line_by_line"]),
+    (25, 100, "A live run", ["live runlog lookout status"],
+     ["the_log_has_what_passed", "what_is_gathered_is_logged_or_counted"]),
+    (360, 100, "Its state on the disk", ["state state_files state_words", "segments statetext"],
+     ["nothing_goes_out_before_it_is_on_disk", "Segment::survives"]),
+    (25, 196, "Settings", ["settings sitefile toml_places hints"],
+     ["settings_are_named", "sites_are_named"]),
+    (360, 196, "Texts and tries", ["traces pages record capture sim", "stations show words ladder"],
+     ["texts_are_read_line_by_line"]),
 ]
 BESIDE = ["checkpoint", "noted_ends", "library_example"]
 
@@ -332,8 +444,11 @@ def crates():
         p.way(points)
     users = ", ".join(f"`{name}`" for name in used if "checkpoint" in used[name])
     p.text(15, 634, f"`checkpoint`: a state as lines of numbers. It is used by\n{users}.", "small", "start")
-    p.text(15, 669, "`noted_ends`: ends in memory, which note what passes. `library_example`: a program over some of them.", "small", "start")
-    p.text(15, 692, "An arrow goes from a crate to one that it uses; that of the frame is one of those in it.\nArrows past a neighbour aren't drawn: crates.txt has all. Below crates stand contracts of theirs.", "small", "start")
+    beside = "`noted_ends`: ends in memory, which note what passes. `library_example`: a program over some of them."
+    p.text(15, 669, beside, "small", "start")
+    meaning = "An arrow goes from a crate to one that it uses; that of the frame is one of those in it."
+    beyond = "Arrows past a neighbour aren't drawn: crates.txt has all. Below crates stand contracts of theirs."
+    p.text(15, 692, f"{meaning}\n{beyond}", "small", "start")
     return p
 
 
