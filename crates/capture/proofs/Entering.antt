@@ -1,5 +1,5 @@
 -- What each entry of a record adds by itself.
-use Rattle.std.proofs.Common.{◌≡◌, ℕ, Bool, true, false, List, [], ◌∷◌, ◌++◌, codes, refl, ap, sym}
+use Rattle.std.proofs.Common.{◌≡◌, ℕ, Bool, true, false, List, [], ◌∷◌, ◌++◌, codes, refl, ap}
 use Rattle.std.proofs.Common.{◌∙◌, subst}
 use Rattle.std.proofs.lemmas.Grind.{flat_map-append}
 use Rattle.std.specs.List.{flat_map}
@@ -13,8 +13,7 @@ use Rattle.session.specs.declared.kinds.Close.TheVariants.{Grammar, SendNumber, 
 use Rattle.session.specs.declared.kinds.Close.TheVariants.{Stopped, Timeout, OwnAnswers, Replaced}
 use Rattle.capture.specs.Captures.{Captured, after, after_all, begun, deeds_of, packets_of}
 use Rattle.capture.specs.Captures.{serial_of}
-use Rattle.capture.specs.Connections.{Opens, Carries, Closes, Cuts, sent_at, sent_in}
-use Rattle.capture.specs.Connections.{after as after_deed}
+use Rattle.capture.specs.Connections.{Closes, sent_in}
 use Rattle.capture.specs.Entered.{EndsInRequest, IsOfTheLine, data_due, data_told}
 use Rattle.capture.specs.Entered.{request_due, request_told}
 use Rattle.capture.specs.Wires.{Line, Serial, answers, cut_of, no_frame, request_of, spoilt_part}

@@ -5,8 +5,6 @@ use Rattle.std.proofs.lemmas.Grind.{flat_map-append}
 use Rattle.std.proofs.lemmas.List.{append-nil}
 use Rattle.std.specs.List.{AllByRecursion, flat_map}
 use Rattle.ft12.specs.Fronts.{front_of}
-use Rattle.ft12.specs.declared.frame.Front.{Front}
-use Rattle.ft12.specs.declared.frame.Front.TheVariants.{Whole, More, Never}
 use Rattle.ft12.specs.declared.frame.LinkSize.{LinkSize}
 use Rattle.gateway.specs.Log.{LogEntry, Came, Went, LineIn, Opened, TcpIn, CutOff, Ticked, WallIs}
 use Rattle.gateway.specs.Log.{Restarted, LineOut, TcpOut, Closed, GapOut}

@@ -13,14 +13,13 @@ use Rattle.gateway.specs.Entries.{cause_of}
 use Rattle.gateway.specs.Log.{LogEntry, Output, Went, LineOut, TcpOut, Closed, GapOut}
 use Rattle.record.specs.Examples.{line}
 use Rattle.record.specs.Law.{HasNone}
-use Rattle.record.specs.Lines.{is_cut, whole_lines}
 use Rattle.record.proofs.Telling.{lines_are, cut_is, whole_is}
-use Rattle.traces.specs.Event.{Event, bare_at, event_from, octets_at, valued_at}
+use Rattle.traces.specs.Event.{Event, bare_at, event_from, octets_at}
 use Rattle.traces.specs.Fields.{decimal_of, octets_of}
 use Rattle.traces.specs.Printed.{cause_numbered, gap_at, went_at}
 use Rattle.traces.specs.Progress.{came}
 use Rattle.traces.specs.Trace.{is_skipped, logged}
-use Rattle.capture.specs.Recorded.{action_by, action_from, entry_from, entry_logged, gap_by}
+use Rattle.capture.specs.Recorded.{action_from, entry_from, entry_logged}
 use Rattle.capture.specs.Recorded.{is_line}
 use Rattle.capture.specs.Texts.{kept_line, kept_lines}
 

@@ -1,5 +1,5 @@
 -- Where the capture of a record stops, in the words of who reads its lines.
-use Rattle.std.proofs.Common.{◌≡◌, ◌+◌, ℕ, Bool, true, false, List, ◌∷◌, ◌++◌, length, refl, sym}
+use Rattle.std.proofs.Common.{◌≡◌, ◌+◌, ℕ, Bool, true, false, List, length, refl, sym}
 use Rattle.std.proofs.Common.{Option, Some, None, subst, ◌∙◌, arith}
 use Rattle.std.specs.Prelude.{Ok, Err, ◌||◌}
 use Rattle.std.specs.Io.KnownBytes.{Appends}
@@ -9,10 +9,9 @@ use Rattle.gateway.specs.Log.{LogEntry}
 use Rattle.pages.specs.Pouring.{IsBegun}
 use Rattle.traces.specs.Blocks.{Gives}
 use Rattle.traces.specs.Trace.{is_skipped}
-use Rattle.capture.specs.Captures.{capture_of}
-use Rattle.capture.specs.Recorded.{entry_logged, is_line}
+use Rattle.capture.specs.Recorded.{entry_logged}
 use Rattle.capture.specs.Stops.{AreAllCaptured, IsBroken, StopsAt}
-use Rattle.capture.specs.Texts.{IsCaptured, IsPartly, IsWrongRecord, kept_lines}
+use Rattle.capture.specs.Texts.{IsCaptured, IsPartly, kept_lines}
 use Rattle.capture.specs.declared.whole.CaptureFault.{CaptureFault}
 use Rattle.capture.specs.declared.whole.CaptureFault.TheVariants.{Line, Unread, Unwritten}
 use Rattle.capture.specs.declared.whole.CaptureFault.TheVariants.{NoMemory}

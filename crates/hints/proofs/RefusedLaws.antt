@@ -1,6 +1,6 @@
 -- Which station is meant where one is refused.
 use Rattle.std.proofs.Common.{◌≡◌, ℕ, ◌⊎◌, inl, inr, true, List, [], ◌∷◌, ◌++◌, codes, Option}
-use Rattle.std.proofs.Common.{Some, None, refl, ◌∙◌}
+use Rattle.std.proofs.Common.{Some, refl, ◌∙◌}
 use Rattle.settings.specs.FirstWrong as of_settings
 use Rattle.sitefile.specs.FirstWrong as of_site
 use Rattle.toml.specs.Data.{Items, Members, as_table, item, no_items}

@@ -7,7 +7,7 @@ ghost use Rattle.session.specs.declared.kinds.Close.{Close};
 ghost use Rattle.session.specs.declared.kinds.Close.TheVariants.{Grammar, SendNumber};
 ghost use Rattle.session.specs.declared.kinds.Close.TheVariants.{ReceiveNumber, Stopped, Timeout};
 ghost use Rattle.session.specs.declared.kinds.Close.TheVariants.{OwnAnswers, Replaced};
-ghost use Rattle.ladder.specs.Described.{centre_line, wall_line, AreFramesReceived, IsEntryLogged};
+ghost use Rattle.ladder.specs.Described.{wall_line, AreFramesReceived, IsEntryLogged};
 ghost use Rattle.ladder.specs.Described.{IsRemembered, Remembered};
 ghost use Rattle.ladder.specs.Remarks.{IsFirstLine, IsOfTheLine, IsSameLine};
 ghost use Rattle.ladder.specs.Rungs.{close_text, gap_text, head, way_of};

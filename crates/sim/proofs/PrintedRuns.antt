@@ -3,7 +3,7 @@ use Rattle.std.proofs.Common.{◌≡◌, ℕ, List, [], ◌++◌, Option, Some, 
 use Rattle.std.proofs.Common.{◌∙◌}
 use Rattle.std.proofs.lemmas.List.{append-nil}
 use Rattle.std.specs.Io.KnownBytes.{Appends, Keeps}
-use Rattle.std.specs.Prelude.{◌⊎◌, Ok, Err}
+use Rattle.std.specs.Prelude.{Ok, Err}
 use Rattle.gateway.specs.Config.{Settings}
 use Rattle.gateway.specs.Course.{here_of}
 use Rattle.gateway.specs.Log.{Log}
@@ -14,7 +14,7 @@ use Rattle.sim.specs.Calls.{calls_in}
 use Rattle.sim.specs.Closing.{connections_in, lines_of_connections}
 use Rattle.sim.specs.Losses.{turns_of}
 use Rattle.sim.specs.Outstations.{HaveServed}
-use Rattle.sim.specs.Runs.{IsRun, IsStopped}
+use Rattle.sim.specs.Runs.{IsRun}
 use Rattle.sim.specs.Simulations.{IsSimulation}
 use Rattle.sim.specs.Texts.{session_lines, station_lines}
 

@@ -2,7 +2,7 @@
 use Rattle.std.proofs.Common.{◌≡◌, ℕ, ◌+◌, ◌<◌, ◌≤◌, nat_lt, true, List, [], ◌∷◌, ◌++◌, length}
 use Rattle.std.proofs.Common.{Some, refl, sym, subst, arith}
 use Rattle.std.proofs.lemmas.Bool.{ltb-true}
-use Rattle.std.specs.List.{AllByRecursion, list_all, slice_split}
+use Rattle.std.specs.List.{AllByRecursion, list_all}
 use Rattle.std.specs.Prelude.{codes}
 use Rattle.ft12.specs.Spelling.{address_len}
 use Rattle.ft12.specs.declared.frame.LinkSize.{LinkSize}
@@ -16,7 +16,7 @@ use Rattle.sim.specs.declared.directive.Directive.TheVariants.{Turns, Ack, Wall,
 use Rattle.sim.specs.declared.directive.Directive.TheVariants.{LoseRequest, LoseAnswer, SpoilAnswer}
 use Rattle.sim.specs.declared.directive.Directive.TheVariants.{Cut, Send}
 use Rattle.sim.specs.Directives.{directive_in}
-use Rattle.sim.specs.Written.{IsNumber, IsReportLine, IsWritten, number_of_class}
+use Rattle.sim.specs.Written.{IsNumber, IsWritten, number_of_class}
 use Rattle.sim.proofs.WrittenLines.{written_line}
 
 -- a word has letters alone

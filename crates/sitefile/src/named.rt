@@ -1,5 +1,5 @@
 //! Each value of a site has one key.
-ghost use Rattle.std.specs.Prelude.{◌≡◌, ℕ, List, Ok, Err, Result, Some};
+ghost use Rattle.std.specs.Prelude.{◌≡◌, ℕ, List, Err, Result, Some};
 ghost use Rattle.toml.specs.Data.{no_members};
 ghost use Rattle.toml.specs.Parse.{parse_document};
 ghost use Rattle.sitefile.specs.FirstWrong.{AreWordsRight, IsFaultNamed};

@@ -1,6 +1,6 @@
 -- Connections, time and turns of outstations that are played.
-use Rattle.std.proofs.Common.{◌≡◌, ◌≢◌, ℕ, zero, suc, ◌+◌, ◌-◌, ◌<◌, ◌≤◌, Bool, true, false, ◌&&◌}
-use Rattle.std.proofs.Common.{List, [], ◌∷◌, ◌++◌, length, map, min, Option, Some, None, ap, refl}
+use Rattle.std.proofs.Common.{◌≡◌, ◌≢◌, ℕ, zero, suc, ◌-◌, ◌<◌, ◌≤◌, Bool, true, false, ◌&&◌}
+use Rattle.std.proofs.Common.{List, [], ◌∷◌, length, map, min, Option, Some, None, ap, refl}
 use Rattle.std.proofs.Common.{sym}
 use Rattle.std.proofs.Common.{◌∙◌, subst, arith, inl, inr}
 use Rattle.std.proofs.Math.Nat.{eq-or-lt_of_le}
@@ -20,7 +20,7 @@ use Rattle.stations.specs.Places.{AllLinesReport, IsAnsweredAt, IsNewStream, IsR
 use Rattle.stations.specs.Places.{LooksOnce}
 use Rattle.stations.specs.Places.{OutstationServer, after_accept}
 use Rattle.stations.specs.Replying.{GivesReply, Replies, RepliesBy, RepliesEach, RepliesFrom}
-use Rattle.stations.specs.Replying.{RepliesTo, advanced, command_at, manner_of}
+use Rattle.stations.specs.Replying.{RepliesTo, command_at, manner_of}
 use Rattle.stations.specs.Reporting.{IsReported, LinesReport, changed_at, has_room, with_report}
 use Rattle.stations.specs.TimedServers.{IsRound, ReportsSince, RoundsAt, TimedServer, begun}
 use Rattle.stations.specs.TimedServers.{passed_since}

@@ -1,5 +1,5 @@
 //! What holds of a play's beginning, and of what each of its rounds changes.
-ghost use Rattle.std.specs.Prelude.{◌≡◌, ◌++◌, [], ℕ, List, length, Option, Some, None, is_some};
+ghost use Rattle.std.specs.Prelude.{◌≡◌, ◌++◌, [], ℕ, List, length, Some, None, is_some};
 ghost use Rattle.gateway.specs.Config.{Settings};
 ghost use Rattle.live.specs.OctetStreams.{Attempts, IsNew, StreamHistory, attempted};
 ghost use Rattle.live.specs.Timing.{Moments};

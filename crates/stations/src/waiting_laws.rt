@@ -1,22 +1,18 @@
 //! What holds of what waits at outstations: reports that are due, replies, and late answers; and of
 //! the requests that they count.
 ghost use Rattle.std.specs.Prelude.{◌≡◌, ◌≢◌, ◌-◌, ◌+◌, ◌*◌, ◌/◌, ◌^◌, ◌<◌, ◌≤◌, ◌++◌, ◌∷◌, ℕ, List};
-ghost use Rattle.std.specs.Prelude.{[], Bool, true, false, suc, length, slice_get, Option, Some};
+ghost use Rattle.std.specs.Prelude.{[], Bool, false, suc, length, slice_get, Option, Some};
 ghost use Rattle.std.specs.Prelude.{None};
 ghost use Rattle.std.specs.List.{flat_map};
 ghost use Rattle.ft12.specs.Reading.{IsFront};
-ghost use Rattle.ft12.specs.Spelling.{spelling};
 ghost use Rattle.ft12.specs.declared.frame.Frame.{Frame};
 ghost use Rattle.ft12.specs.declared.frame.Front.TheVariants.{More, Never, Whole};
 ghost use Rattle.ft12.specs.declared.frame.Why.{Why};
 ghost use Rattle.ft12.specs.declared.frame.LinkSize.{LinkSize};
 ghost use Rattle.gateway.specs.Config.{Settings};
 ghost use Rattle.link.specs.Secondary.{Secondary};
-ghost use Rattle.live.specs.OctetStreams.{Happening, StreamHistory, Wrote, noted};
-ghost use Rattle.sim.specs.Lives.{IsPutOut, arriving};
-ghost use Rattle.sim.specs.Losses.{fate_of};
+ghost use Rattle.live.specs.OctetStreams.{Happening, StreamHistory};
 ghost use Rattle.sim.specs.declared.directive.Class.{Class};
-ghost use Rattle.sim.specs.declared.directive.Class.TheVariants.{One};
 ghost use Rattle.stations.specs.Cues.{given_at};
 ghost use Rattle.stations.specs.Exchanges.{ComesBack, Exchanged, IsKeptRest, IsRequestAnswered};
 ghost use Rattle.stations.specs.Exchanges.{OutstationsState, RequestExchange, first_standing};

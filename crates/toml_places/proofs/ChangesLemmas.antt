@@ -1,5 +1,5 @@
 -- Place by place, nothing is the one that is looked for.
-use Rattle.std.proofs.Common.{◌≡◌, ℕ, ◌+◌, ◌<◌, List, Option, Some, None, subst, sym, ◌∙◌}
+use Rattle.std.proofs.Common.{◌≡◌, ℕ, ◌+◌, List, Some, None, subst, sym, ◌∙◌}
 use borrow.Author.Count.{below_more}
 use Rattle.toml_places.specs.Changes.{IsMarked, StandsAt, StandsNowhere, edited, span_at, written}
 use Rattle.toml_places.specs.declared.changes.Sought.{Sought}

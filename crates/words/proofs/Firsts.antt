@@ -1,8 +1,7 @@
 -- What comes first in octets that are described frame by frame.
-use Rattle.std.proofs.Common.{◌≡◌, ◌<◌, ℕ, Bool, true, false, List, [], ◌∷◌, ◌++◌, length, refl, ap}
-use Rattle.std.proofs.Common.{sym, ◌∙◌, subst, arith, take, drop}
+use Rattle.std.proofs.Common.{◌≡◌, ◌<◌, ℕ, Bool, true, false, List, [], ◌∷◌, length, refl, ap}
+use Rattle.std.proofs.Common.{◌∙◌, subst, arith, take}
 use Rattle.ft12.specs.Reading.{IsFront as IsLineFront}
-use Rattle.ft12.specs.declared.frame.Frame.{Frame}
 use Rattle.ft12.specs.declared.frame.Front.{Front as LineFront}
 use Rattle.ft12.specs.declared.frame.Front.TheVariants as line
 use Rattle.ft12.specs.declared.frame.LinkSize.{LinkSize}

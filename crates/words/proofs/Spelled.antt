@@ -1,11 +1,11 @@
 -- What a line of octets spells.
 use Rattle.std.proofs.Common.{◌≡◌, ◌≤◌, ◌<◌, ◌+◌, ◌*◌, ◌%◌, ℕ, zero, suc, Bool, true, false}
 use Rattle.std.proofs.Common.{List, [], ◌∷◌, ◌++◌, length}
-use Rattle.std.proofs.Common.{Option, Some, None, Result, Ok, Err, is_some, slice_index, refl, ap}
+use Rattle.std.proofs.Common.{Option, Some, None, Result, Ok, Err, is_some, refl, ap}
 use Rattle.std.proofs.Common.{sym, ◌∙◌, arith}
 use Rattle.std.proofs.lemmas.List.Elements.{All-head, All-tail, filter-append}
 use Rattle.std.specs.List.{AllByRecursion, AllPass}
-use Rattle.std.specs.Prelude.{filter, if◌then◌else◌, nat_lt, option_map, ◌==◌}
+use Rattle.std.specs.Prelude.{filter, if◌then◌else◌, option_map, ◌==◌}
 use Rattle.ft12.specs.Spelling.{IsOctet}
 use Rattle.hex.specs.Hex.{IsBytes, decode_of, encode_lower, encode_upper, hex_digit_value}
 use Rattle.hex.specs.Hex.{decode_pairs, digit_or_error, is_hex_digit, ◌>>=◌}
