@@ -27,6 +27,7 @@ ghost use Rattle.traces.specs.Fields.{octets_of};
 /// has them in words); which lines clash; and the first wrong line of a text.
 pub fn scripts_by_example()
     ensures numbers { (says (codes "turns 000000008") ≡ Some (Turns 8))
+        × (says (codes "turns 999999999") ≡ Some (Turns 999999999))
         × (says (codes "turns 0000000001") ≡ None) × (says (codes "turns x") ≡ None)
         × (says (codes "turns  1") ≡ None) × (says (codes "Turns 1") ≡ None)
         × (says (codes "ack 1") ≡ Some (Ack 1)) × (says (codes "ack 32767") ≡ Some (Ack 32767))
@@ -102,7 +103,8 @@ pub fn losses_by_example()
         × (later (Some Single) None ≡ Some Single)
         × (later None (Some Single) ≡ Some Single) }
     ensures numbers { (turns_of (Ack 5 ∷ Turns 9 ∷ []) ≡ 9) × (turns_of [] ≡ 0)
-        × (ack_of (Turns 9 ∷ Ack 5 ∷ []) ≡ 5) × (ack_of (Turns 9 ∷ []) ≡ 1)
+        × (ack_of (Turns 9 ∷ Ack 5 ∷ []) ≡ 5) × (ack_of (Ack 32767 ∷ []) ≡ 32767)
+        × (ack_of (Turns 9 ∷ []) ≡ 1)
         × (wall_at (Wall 17 ∷ []) 1 ≡ Some 17) × (wall_at (Wall 17 ∷ []) 2 ≡ None)
         × (wall_at [] 1 ≡ None) }
     ensures calls { (is_cut_at (Cut 2 ∷ Cut 4 ∷ []) 4 ≡ true)
@@ -111,12 +113,15 @@ pub fn losses_by_example()
         × (sent_at (Send 2 command ∷ []) 3 ≡ None) }
     ensures reports { (report_said 0 class.One (Report 0 class.One command) ≡ command ∷ [])
         × (report_said 0 class.One (Report 1 class.One command) ≡ [])
-        × (report_said 0 class.One (Report 0 class.Two command) ≡ []) }
+        × (report_said 0 class.One (Report 0 class.Two command) ≡ [])
+        × (report_said 2 class.Two (Report 2 class.Two command) ≡ command ∷ []) }
     // An answer waits until it is given, or the next request goes out.
     ensures waiting { (plan : Plan) →
         (waiting_in (with_script plan []) (Went 1 (LineOut []) ∷ []) (Some Single ∷ [])
         ≡ Some (0xE5 ∷ []))
         × (waiting_in (with_script plan []) (Came 2 Ticked ∷ Went 1 (LineOut []) ∷ [])
+        (Some Single ∷ []) ≡ Some (0xE5 ∷ []))
+        × (waiting_in (with_script plan []) (Came 2 CutOff ∷ Went 1 (LineOut []) ∷ [])
         (Some Single ∷ []) ≡ Some (0xE5 ∷ []))
         × (waiting_in (with_script plan []) (Came 2 (LineIn []) ∷ Went 1 (LineOut []) ∷ [])
         (Some Single ∷ []) ≡ None)
@@ -133,6 +138,7 @@ pub fn calls_by_example()
         × (event_at (Wall 17 ∷ []) 2 shut None ≡ Opened)
         × (event_at (Cut 2 ∷ []) 2 shut None ≡ Opened)
         × (event_at (Cut 2 ∷ []) 2 opened None ≡ CutOff)
+        × (event_at (Send 2 command ∷ Cut 2 ∷ []) 2 (started 1 2 0) None ≡ CutOff)
         × (event_at (Send 3 command ∷ []) 3 opened (Some (0xE5 ∷ []))
         ≡ TcpIn (0x68 ∷ 0x04 ∷ 0x07 ∷ 0x00 ∷ 0x00 ∷ 0x00 ∷ []))
         × (event_at (Send 3 command ∷ []) 3 (started 1 2 0) (Some (0xE5 ∷ []))
@@ -142,6 +148,7 @@ pub fn calls_by_example()
         × (event_at (Ack 2 ∷ []) 3 (started 1 2 1) (Some (0xE5 ∷ [])) ≡ LineIn (0xE5 ∷ []))
         × (event_at (Ack 2 ∷ []) 3 (started 1 2 1) None ≡ Ticked) }
     ensures lasts { (lasting 200 Ticked ≡ 200) × (lasting 200 Opened ≡ 1)
+        × (lasting 200 CutOff ≡ 1) × (lasting 200 (WallIs 17) ≡ 1)
         × (lasting 200 (LineIn (0xE5 ∷ [])) ≡ 1) }
     ensures counts { (calls_in (Went 5 (LineOut []) ∷ Came 5 Ticked ∷ Came 4 Opened ∷ []) ≡ 2)
         × (moment_of (Went 5 (LineOut []) ∷ Came 5 Ticked ∷ Came 4 Opened ∷ []) ≡ 5)

@@ -35,19 +35,6 @@ pub record IsReceiving (old : OutstationsState) (octets left : List ℕ) (before
   pub stops : StopsAtUntaken exchanges
   pub new_is : new ≡ record mid { so_far = new.so_far }
 
-pub none_received : (old : OutstationsState) (octets : List ℕ) (before : StreamHistory) →
-    IsReceiving old octets octets before before old true
-none_received old octets before = record {
-  exchanges = [];
-  mid = old;
-  brought = (refl, refl);
-  answered = refl;
-  wrote = refl;
-  taken = refl;
-  stops = tt;
-  new_is = refl;
-}
-
 -- where it took all before the last
 stops_with : (xs : List RequestExchange) (x : RequestExchange) → list_all took xs ≡ true
     → StopsAtUntaken (xs ++ x ∷ [])

@@ -184,7 +184,8 @@ pub fn frames_are_told_field_by_field()
         × (front_words s n More ≡ codes "octets of a frame (" ++ (decimal n ++ codes ")"))
         × (front_words s n (Never place why)
         ≡ codes "no frame: " ++ (fault_of why ++ (codes " at " ++ decimal place))) }
-    ensures rest { (n : ℕ) → rest_words (n + 1) ≡ codes "  rest " ++ decimal (n + 1) }
+    ensures rest { (n : ℕ) → (rest_words (n + 1) ≡ codes "  rest " ++ decimal (n + 1))
+        × (rest_words 0 ≡ []) }
 {}
 
 /// An APDU is told by its numbers, N(S) first (IEC 60870-5-104, 5.1), or by its function. What it
