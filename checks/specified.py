@@ -18,9 +18,12 @@ of parameters and lifetimes.
 import glob
 import os
 import re
+import sys
 
 import frame
-from calls import calls_of, exported, without_comments
+
+sys.path.append(os.path.join(frame.TOP, "tools"))
+from laws import exported, functions_of, without_comments  # noqa: E402
 
 PAGE = os.path.join(frame.TOP, "docs", "CALLS.md")
 LIST = os.path.join(frame.HERE, "specified_calls.txt")
@@ -38,6 +41,11 @@ def wanted():
     for line in read(LIST).splitlines():
         if line and not line.startswith("#"):
             yield tuple(cell.strip() for cell in line.split("|"))
+
+
+def calls_of(crate):
+    """The public calls of a crate, by name, with their signatures."""
+    return {name: call.signature for name, call in functions_of(crate).items() if call.is_public}
 
 
 def crates():
