@@ -165,8 +165,6 @@ def deployment():
     return p
 
 
-# What a restart of telegate says of the commands that it gives up.
-RESTART = ["No answer, and no line.", "With `--state`: `telegate state` shows it before the start."]
 COMMAND = [
     ("It comes", "far", ["an I frame of the control centre"], [
         ("The connection is closed in the same step", [
@@ -216,7 +214,10 @@ COMMAND = [
             "Its connection ends. No answer, and no line of its own.",
             "`connection cut: CAUSE`, `connection closed: CAUSE`",
         ]),
-        ("Given up by a restart: it never goes out", RESTART),
+        ("Given up by a restart: it never goes out", [
+            "No answer. With `--state` the log of the start has",
+            "`waiting command of type T to C/O, given up at a start`",
+        ]),
     ]),
     ("It goes to the line", "box", [
         "`.. sent to station A`",
@@ -243,7 +244,11 @@ COMMAND = [
             "twice and this not at all. The centre gets no answer.",
             "`.. given up: station A doesn't answer`",
         ]),
-        ("Given up by a restart: it may have taken it", ["It isn't repeated.", *RESTART]),
+        ("Given up by a restart: it may have taken it", [
+            "It isn't repeated. No answer. With `--state` the log has",
+            "`command without an answer of type T to C/O,`",
+            "`given up at a start`",
+        ]),
     ]),
     ("The station accepts it", "far", ["ACK or E5 on the line: no line of", "the log, no answer to the centre"], [
         ("The station says no more", [
