@@ -14,9 +14,9 @@ use circular_buffer::HeapCircularBuffer;
 use std::alloc::{AllocError, Global};
 use std::marker::Model;
 
-/// How many cells from the first on are looked at before they are written over. They stay in the
-/// processor's cache. Of a cell further on it would have to wait for memory.
-const NEAR: usize = 1024;
+/// From this cell on one is made anew before it is written over: to look at what it held would wait
+/// for memory. The cells before it stay in the processor's cache.
+const FAR: usize = 1024;
 
 /// The pieces, oldest first, in a ring of cells.
 #[derive(Drop)]
@@ -108,7 +108,7 @@ impl PieceRing {
         let Some(cell) = self.cells.get_mut(place) else {
             unreachable!();
         };
-        if place >= NEAR {
+        if place >= FAR {
             *cell = Piece::new();
         }
         left.write_next(cell);
