@@ -274,8 +274,8 @@ asked_stations octets now w =
     let v : Watching = record w { exchange = exchange.asked place what now w.exchange } in
     let x = sent_at_same place what octets v in
     let away = is_away w.line.presence in
-    ap (λ size. unless_away away (stations.asked size octets now (sent_at place what octets v).stations)
-    (sent_at place what octets v).stations) x.link
+    let ws = (sent_at place what octets v).stations in
+    ap (λ size. unless_away away (stations.asked size octets now ws) ws) x.link
     ∙ ap (λ ws. unless_away away (stations.asked w.link octets now ws) ws) x.stations
 
 away_by : (b : Bool) (x : List StationWatch × Option LogLine) (ws : List StationWatch)

@@ -154,7 +154,8 @@ module _ (s : State) (is_closed : Bool) (peer : Option IpAddr) where
       let front : take (apdu_len xs) xs ≡ apdu =
       ap (λ m. take m xs) long ∙ take-append_seam apdu behind in
       ap (λ b. turn_by b (suc (length (rest ++ behind))) xs c)
-      (is_whole_by start n (rest ++ behind) true true (begins start n (rest ++ behind) is least most)
+      (is_whole_by start n (rest ++ behind) true true
+      (begins start n (rest ++ behind) is least most)
       (fits_in (n + 2) (length xs) (omega (arith, whole, joined))))
       ∙ ap (λ ys. all_noted (suc (length (rest ++ behind))) s is_closed peer ys
       (apdu_noted s is_closed peer (take (apdu_len xs) xs) c)) left

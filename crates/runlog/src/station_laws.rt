@@ -95,10 +95,10 @@ pub fn a_station_stands_as_its_requests_say()
         (after w requests).address ≡ w.address }
 {}
 
-/// A station is logged as up at the first service that follows an answered one, and never before. It
-/// is logged as down where its status is asked while it is up, and where its link is reset behind a
-/// service before it has answered any: never where its status alone is asked between the repeats of
-/// a service, as behind a start. Where a request has gone out more often than a station that is
+/// A station is logged as up at the first service that follows an answered one, and never before.
+/// It is logged as down where its status is asked while it is up, and where its link is reset
+/// behind a service before it has answered any: never where its status alone is asked between the
+/// repeats of a service, as behind a start. Where a request has gone out more often than a station that is
 /// there lets it, it is logged that the station doesn't answer, and each minute again while that
 /// lasts: for a service, whose link is held, with a hint. That it answers again is logged at the
 /// next service that follows an answered one. Each line names the station by its link address. A
@@ -138,8 +138,8 @@ pub fn a_station_is_logged_where_it_goes_and_where_it_is_back()
         w.served ≡ Some bit → IsSecondAfter w.down.logged now →
         IsLogged now (note.Down w.address) logged.Down
         w.down (station_asked Reset now w).0.down (station_asked Reset now w) }
-    ensures other_reset { (w : StationWatch) (now : ℕ) → (w.link ≢ known.Nothing) ⊎ (w.served ≡ None)
-        → IsQuiet w (station_asked Reset now w) }
+    ensures other_reset { (w : StationWatch) (now : ℕ) →
+        (w.link ≢ known.Nothing) ⊎ (w.served ≡ None) → IsQuiet w (station_asked Reset now w) }
     ensures unserved { (w : StationWatch) (bit : Bool) (now : ℕ) → IsLoggedAsked w.logged →
         IsAgainTooOften w bit → w.served ≡ Some bit → w.link ≢ known.Up →
         IsSecondAfter w.silent.logged now → IsLogged now (note.Silent w.address) logged.Unanswered
