@@ -17,6 +17,7 @@ ghost use Rattle.settings.specs.Settings.{IsReadOfText};
 ghost use Rattle.state.specs.Beginnings.{AreLinesRead, BearsNumber, GoesOnFrom, HasRead, gap_now};
 ghost use Rattle.state.specs.Beginnings.{IsHeadOf, IsRead, MovedOn, SayState, WentOn};
 ghost use Rattle.state.specs.Beginnings.{has_past, is_trusted};
+ghost use Rattle.state.specs.GivenUps.{given_up_by};
 ghost use Rattle.state.specs.Origins.{IsBegun, IsNew, IsNumbered};
 ghost use Rattle.state.specs.Replays.{whole_lines};
 ghost use Rattle.state.specs.Starts.{beginning_of};
@@ -25,6 +26,7 @@ ghost use Rattle.state.specs.Unread.{AreStateOf, HasState, IsUnread, WasAside};
 use crate::disk_store::DiskStore;
 use crate::event_text::EventText;
 use crate::folder::{Folder, FolderFault};
+use crate::given_up::{GivenUp, given_up_by};
 use crate::replaying::{EventLines, Lineage, Replayed, ReportedGap, are_read, replay};
 use crate::same_settings::are_same;
 use crate::start::{Beginning, Found, beginning_of};
@@ -49,6 +51,8 @@ pub struct Origin {
     /// The gap that the last step before the end reported, if it reported one: of the station by
     /// the place that it has now. Nobody may have seen it.
     pub gap: Option<ReportedGap>,
+    /// What of the connection before was given up, if one was.
+    pub given_up: Vec<GivenUp>,
     /// What passed in the lives before, as far as the directory shows it.
     pub before: History,
     /// The state was kept under other settings.
@@ -62,12 +66,23 @@ pub struct Begun<F: Folder + Drop> {
     pub store: DiskStore<F>,
 }
 
-/// A gateway that goes on.
+/// A gateway that has received again what it had received.
 #[derive(Drop)]
-pub(crate) struct Resumed {
+pub(crate) struct Arrived {
     pub(crate) gateway: Gateway,
     /// The gap that its last step reported, if it reported one.
     gap: Option<ReportedGap>,
+    /// What passed before.
+    before: History,
+}
+
+/// A gateway that goes on.
+#[derive(Drop)]
+struct Resumed {
+    gateway: Gateway,
+    gap: Option<ReportedGap>,
+    /// What of the connection before was given up.
+    given_up: Vec<GivenUp>,
     /// What passed before.
     before: History,
     /// It was kept under other settings.
@@ -171,14 +186,13 @@ pub(crate) fn replayed<K: Lineage, D: Disk + Drop>(
     config: &Config,
     lines: TextLines,
     start: &mut Start<D>,
-) -> Result<Resumed, StateFault>
+) -> Result<Arrived, StateFault>
     ensures wrong { IfErr result (λ fault. fault ≡ StateFault.Wrong →
         AreStateOf config.now (⟦<TextLines as Lines>⟧.coming lines) → ⊥) }
     ensures read { IfOk result (λ r. IsTrue (D.Disk.is_clean (newest_of start.new)) →
         IsRead config.now K.log (⟦<TextLines as Lines>⟧.coming lines) (events_in start.new)
         r.gap r.before.entries r.gateway) }
     ensures said { IfOk result (λ _. SayState (⟦<TextLines as Lines>⟧.coming lines)) }
-    ensures moved { IfOk result (λ r. r.is_moved ≡ false) }
     ensures seen { D.Disk.seen (newest_of start.new) ≡ D.Disk.seen (newest_of start.old) }
     ensures clean { IsTrue (D.Disk.is_clean (newest_of start.new)) →
         IsTrue (D.Disk.is_clean (newest_of start.old)) }
@@ -190,11 +204,10 @@ pub(crate) fn replayed<K: Lineage, D: Disk + Drop>(
     let mut gateway = read::<K>(alloc, config, lines)?;
     let events = lines_of(alloc, start)?;
     let Replayed { gap, log } = replay::<K, EventText>(alloc, &mut gateway, events)?;
-    Ok(Resumed {
+    Ok(Arrived {
         gateway,
         gap,
         before: log,
-        is_moved: false,
     })
 }
 
@@ -238,32 +251,33 @@ pub(crate) fn read_opening<D: Disk + Drop>(
     })
 }
 
-/// It has ended the connection and given up each command without an answer, which is the restart in
-/// its log.
-fn restarted(resumed: Resumed) -> Resumed
-    ensures gateway { result.gateway ≡ restarted resumed.gateway }
+/// It has ended the connection and given up this, and each command without an answer, which is the
+/// restart in its log.
+fn restarted(arrived: Arrived, given_up: Vec<GivenUp>) -> Resumed
+    ensures gateway { result.gateway ≡ restarted arrived.gateway }
     ensures before { result.before.entries
-        ≡ Came resumed.gateway.moment Restarted ∷ resumed.before.entries }
-    ensures follows { (p : Setup) → Follows p resumed.gateway (Some resumed.before.entries) →
-        Rests p (Some resumed.before.entries) →
+        ≡ Came arrived.gateway.moment Restarted ∷ arrived.before.entries }
+    ensures follows { (p : Setup) → Follows p arrived.gateway (Some arrived.before.entries) →
+        Rests p (Some arrived.before.entries) →
         Follows p result.gateway (Some result.before.entries) }
-    ensures gap { result.gap ≡ resumed.gap }
-    ensures moved { result.is_moved ≡ resumed.is_moved }
+    ensures gap { result.gap ≡ arrived.gap }
+    ensures given_up { result.given_up ≡ given_up }
+    ensures moved { result.is_moved ≡ false }
 {
-    let Resumed {
+    let Arrived {
         mut gateway,
         gap,
         before,
-        is_moved,
-    } = resumed;
+    } = arrived;
     let moment = gateway.moment();
     let before = before.restarted(&moment);
     gateway.restart();
     Resumed {
         gateway,
         gap,
+        given_up,
         before,
-        is_moved,
+        is_moved: false,
     }
 }
 
@@ -279,7 +293,7 @@ fn go_on<K: Lineage, D: Disk + Drop>(
         AreStateOf config.now (⟦<TextLines as Lines>⟧.coming lines) → ⊥) }
     ensures went { IfOk result (λ r. IsTrue (D.Disk.is_clean (newest_of start.new)) →
         WentOn config.now K.log (⟦<TextLines as Lines>⟧.coming lines) (events_in start.new)
-        r.gap r.before.entries r.gateway) }
+        r.gap r.given_up.items r.before.entries r.gateway) }
     ensures moved { IfOk result (λ r. r.is_moved ≡ false) }
     ensures seen { D.Disk.seen (newest_of start.new) ≡ D.Disk.seen (newest_of start.old) }
     ensures clean { IsTrue (D.Disk.is_clean (newest_of start.new)) →
@@ -288,8 +302,12 @@ fn go_on<K: Lineage, D: Disk + Drop>(
     ensures other { other_of start.new ≡ other_of start.old }
     ensures next { next_of start.new ≡ next_of start.old }
 {
-    let resumed = replayed::<K, D>(alloc, config, lines, start)?;
-    Ok(restarted(resumed))
+    let arrived = replayed::<K, D>(alloc, config, lines, start)?;
+    // A restart leaves nothing of the connection, so this is taken before it.
+    let Ok(given_up) = given_up_by(alloc, config.line().sizes, &arrived.gateway) else {
+        return Err(StateFault::NoMemory);
+    };
+    Ok(restarted(arrived, given_up))
 }
 
 /// The place of the station with this link address.
@@ -338,7 +356,7 @@ fn move_on<K: Lineage, D: Disk + Drop>(
     ensures went { IfOk result (λ r. IsTrue (D.Disk.is_clean (newest_of start.new)) →
         (left : State) × (last : Option (ℕ × ℕ))
         × WentOn wrote.now K.log (⟦<TextLines as Lines>⟧.coming lines)
-        (events_in start.new) last r.before.entries left
+        (events_in start.new) last r.given_up.items r.before.entries left
         × (r.gap ≡ gap_now wrote.now.stations config.now.stations last)
         × (r.gateway ≡ carried goes_on wrote.now config.now left)) }
     ensures moved { IfOk result (λ r. r.is_moved ≡ is_moved) }
@@ -353,6 +371,7 @@ fn move_on<K: Lineage, D: Disk + Drop>(
     let Resumed {
         gateway,
         gap,
+        given_up,
         before,
         is_moved: _,
     } = resumed;
@@ -361,6 +380,7 @@ fn move_on<K: Lineage, D: Disk + Drop>(
         Ok(gateway) => Ok(Resumed {
             gateway,
             gap,
+            given_up,
             before,
             is_moved,
         }),
@@ -394,7 +414,7 @@ fn resume<K: Lineage, D: Disk + Drop, F: Folder>(
         HasState (D.Disk.seen (newest_of start.new)) → ⊥) }
     ensures goes_on { IfOk result (λ r. IsTrue (D.Disk.is_clean (newest_of start.new)) →
         GoesOnFrom goes_on config.now K.log (D.Disk.seen (newest_of start.new))
-        r.is_moved r.gap r.before.entries r.gateway) }
+        r.is_moved r.gap r.given_up.items r.before.entries r.gateway) }
     ensures seen { D.Disk.seen (newest_of start.new) ≡ D.Disk.seen (newest_of start.old) }
     ensures clean { IsTrue (D.Disk.is_clean (newest_of start.new)) →
         IsTrue (D.Disk.is_clean (newest_of start.old)) }
@@ -507,6 +527,7 @@ fn origin_of(resumed: Resumed, beginning: Beginning) -> Origin
       moment = Some resumed.gateway.moment;
       beginning = beginning;
       gap = resumed.gap;
+      given_up = resumed.given_up;
       before = resumed.before;
       is_moved = resumed.is_moved;
     } }
@@ -514,6 +535,7 @@ fn origin_of(resumed: Resumed, beginning: Beginning) -> Origin
     let Resumed {
         gateway,
         gap,
+        given_up,
         before,
         is_moved,
     } = resumed;
@@ -522,6 +544,7 @@ fn origin_of(resumed: Resumed, beginning: Beginning) -> Origin
         gateway,
         beginning,
         gap,
+        given_up,
         before,
         is_moved,
     }
@@ -597,6 +620,7 @@ fn anew<F: Folder + Drop>(
                 moment: None,
                 beginning,
                 gap: None,
+                given_up: Vec::new(alloc),
                 before: History::new(),
                 is_moved: false,
             },

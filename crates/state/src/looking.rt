@@ -17,6 +17,7 @@ use crate::beginning::{
 };
 use crate::counting::{count_all, count_logged};
 use crate::folder::FolderFault;
+use crate::given_up::{GivenUp, given_up_by};
 use crate::replaying::Lineage;
 use crate::same_settings::are_same;
 use crate::start::{Beginning, beginning_of};
@@ -43,6 +44,8 @@ pub struct Seen {
     pub events: u64,
     /// The gateway that has received these events. It has given up nothing yet.
     pub gateway: Gateway,
+    /// What of its connection a start would give up.
+    pub given_up: Vec<GivenUp>,
 }
 
 /// What a start would find in a directory.
@@ -236,7 +239,10 @@ fn see_behind<K: Lineage, D: Disk + Drop>(
         lines,
     } = opening;
     let wrote = settings_in(alloc, &settings)?;
-    let resumed = replayed::<K, D>(alloc, &wrote, lines, start)?;
+    let arrived = replayed::<K, D>(alloc, &wrote, lines, start)?;
+    let Ok(given_up) = given_up_by(alloc, wrote.line().sizes, &arrived.gateway) else {
+        return Err(StateFault::NoMemory);
+    };
     let count = count(alloc, start)?;
     Ok(Seen {
         number,
@@ -244,7 +250,8 @@ fn see_behind<K: Lineage, D: Disk + Drop>(
         settings,
         lines: count.all,
         events: count.logged,
-        gateway: resumed.gateway,
+        gateway: arrived.gateway,
+        given_up,
     })
 }
 

@@ -38,7 +38,8 @@ returns-in-Ok-clause-begun g c =
     ])
     (λ clean. subst (λ (o : Origin). GoesOnFrom c.in_ok-goes_on.goes_on c.args.config.now
     (g.F.Folder.lineage c.args.folder)
-    (g.F.File.Disk.seen c.resume.new.start.newest) o.is_moved o.gap o.before.entries o.gateway)
+    (g.F.File.Disk.seen c.resume.new.start.newest) o.is_moved o.gap
+    o.given_up.items o.before.entries o.gateway)
     (sym is) (c.in-Ok.ensures.goes_on clean))
 
 pub returns-in-Ok-clause-numbered : goal.returns-in-Ok-clause-numbered
