@@ -15,11 +15,11 @@ ghost use Rattle.segments.specs.Head.{Fits};
 ghost use Rattle.segments.specs.Starts.{HasNoNewer, IsAbove, IsBacked, IsNewest, IsNext};
 ghost use Rattle.settings.specs.Settings.{IsReadOfText};
 ghost use Rattle.state.specs.Beginnings.{AreLinesRead, BearsNumber, GoesOnFrom, HasRead, gap_now};
-ghost use Rattle.state.specs.Beginnings.{IsHeadOf, IsRead, MovedOn, SayState, WentOn};
+ghost use Rattle.state.specs.Beginnings.{IsHeadOf, IsRead, SayState, WentOn};
 ghost use Rattle.state.specs.Beginnings.{has_past, is_trusted};
 ghost use Rattle.state.specs.GivenUps.{given_up_by};
 ghost use Rattle.state.specs.Origins.{IsBegun, IsNew, IsNumbered};
-ghost use Rattle.state.specs.Replays.{whole_lines};
+ghost use Rattle.state.specs.Replays.{AreRead, whole_lines};
 ghost use Rattle.state.specs.Starts.{beginning_of};
 ghost use Rattle.state.specs.Unread.{AreStateOf, HasState, IsUnread, WasAside};
 
@@ -27,7 +27,7 @@ use crate::disk_store::DiskStore;
 use crate::event_text::EventText;
 use crate::folder::{Folder, FolderFault};
 use crate::given_up::{GivenUp, given_up_by};
-use crate::replaying::{EventLines, Lineage, Replayed, ReportedGap, are_read, replay};
+use crate::replaying::{EventLines, Lineage, Replayed, ReportedGap, replay};
 use crate::same_settings::are_same;
 use crate::start::{Beginning, Found, beginning_of};
 use checkpoint::{Lines, StateFault};
@@ -74,6 +74,8 @@ pub(crate) struct Arrived {
     gap: Option<ReportedGap>,
     /// What passed before.
     before: History,
+    /// Each whole line of its log logs an event.
+    is_whole: bool,
 }
 
 /// A gateway that goes on.
@@ -87,6 +89,8 @@ struct Resumed {
     before: History,
     /// It was kept under other settings.
     is_moved: bool,
+    /// Its links go on, too.
+    goes_on: bool,
 }
 
 impl From<StateFault> for FolderFault {
@@ -193,6 +197,12 @@ pub(crate) fn replayed<K: Lineage, D: Disk + Drop>(
         IsRead config.now K.log (⟦<TextLines as Lines>⟧.coming lines) (events_in start.new)
         r.gap r.before.entries r.gateway) }
     ensures said { IfOk result (λ _. SayState (⟦<TextLines as Lines>⟧.coming lines)) }
+    ensures whole { IfOk result (λ r. r.is_whole ≡ true →
+        IsTrue (D.Disk.is_clean (newest_of start.new)) →
+        AreRead (whole_lines (events_in start.new))) }
+    ensures broken { IfOk result (λ r. r.is_whole ≡ false →
+        IsTrue (D.Disk.is_clean (newest_of start.new)) →
+        AreRead (whole_lines (events_in start.new)) → ⊥) }
     ensures seen { D.Disk.seen (newest_of start.new) ≡ D.Disk.seen (newest_of start.old) }
     ensures clean { IsTrue (D.Disk.is_clean (newest_of start.new)) →
         IsTrue (D.Disk.is_clean (newest_of start.old)) }
@@ -203,11 +213,12 @@ pub(crate) fn replayed<K: Lineage, D: Disk + Drop>(
     // The checkpoint may be as long as the queue: its text goes before the events are read.
     let mut gateway = read::<K>(alloc, config, lines)?;
     let events = lines_of(alloc, start)?;
-    let Replayed { gap, log } = replay::<K, EventText>(alloc, &mut gateway, events)?;
+    let Replayed { gap, log, is_whole } = replay::<K, EventText>(alloc, &mut gateway, events)?;
     Ok(Arrived {
         gateway,
         gap,
         before: log,
+        is_whole,
     })
 }
 
@@ -253,7 +264,7 @@ pub(crate) fn read_opening<D: Disk + Drop>(
 
 /// It has ended the connection and given up this, and each command without an answer, which is the
 /// restart in its log.
-fn restarted(arrived: Arrived, given_up: Vec<GivenUp>) -> Resumed
+fn restarted(arrived: Arrived, given_up: Vec<GivenUp>, goes_on: bool) -> Resumed
     ensures gateway { result.gateway ≡ restarted arrived.gateway }
     ensures before { result.before.entries
         ≡ Came arrived.gateway.moment Restarted ∷ arrived.before.entries }
@@ -263,11 +274,13 @@ fn restarted(arrived: Arrived, given_up: Vec<GivenUp>) -> Resumed
     ensures gap { result.gap ≡ arrived.gap }
     ensures given_up { result.given_up ≡ given_up }
     ensures moved { result.is_moved ≡ false }
+    ensures goes_on { result.goes_on ≡ goes_on }
 {
     let Arrived {
         mut gateway,
         gap,
         before,
+        ..
     } = arrived;
     let moment = gateway.moment();
     let before = before.restarted(&moment);
@@ -278,16 +291,19 @@ fn restarted(arrived: Arrived, given_up: Vec<GivenUp>) -> Resumed
         given_up,
         before,
         is_moved: false,
+        goes_on,
     }
 }
 
 /// The gateway goes on with the state that was found, under the settings that wrote it, which are
-/// these.
+/// these. Its links go on where the state is trusted, and each whole line of its log can be read.
+/// Where one can't, events behind it are lost, and what went out on them isn't known.
 fn go_on<K: Lineage, D: Disk + Drop>(
     alloc: Global,
     config: &Config,
     lines: TextLines,
     start: &mut Start<D>,
+    is_trusted: bool,
 ) -> Result<Resumed, StateFault>
     ensures wrong { IfErr result (λ fault. fault ≡ StateFault.Wrong →
         AreStateOf config.now (⟦<TextLines as Lines>⟧.coming lines) → ⊥) }
@@ -295,6 +311,13 @@ fn go_on<K: Lineage, D: Disk + Drop>(
         WentOn config.now K.log (⟦<TextLines as Lines>⟧.coming lines) (events_in start.new)
         r.gap r.given_up.items r.before.entries r.gateway) }
     ensures moved { IfOk result (λ r. r.is_moved ≡ false) }
+    ensures trusted { IfOk result (λ r. r.goes_on ≡ true → is_trusted ≡ true) }
+    ensures whole { IfOk result (λ r. r.goes_on ≡ true →
+        IsTrue (D.Disk.is_clean (newest_of start.new)) →
+        AreRead (whole_lines (events_in start.new))) }
+    ensures reset { IfOk result (λ r. r.goes_on ≡ false → (is_trusted ≡ false)
+        ⊎ (IsTrue (D.Disk.is_clean (newest_of start.new)) →
+        AreRead (whole_lines (events_in start.new)) → ⊥)) }
     ensures seen { D.Disk.seen (newest_of start.new) ≡ D.Disk.seen (newest_of start.old) }
     ensures clean { IsTrue (D.Disk.is_clean (newest_of start.new)) →
         IsTrue (D.Disk.is_clean (newest_of start.old)) }
@@ -307,7 +330,8 @@ fn go_on<K: Lineage, D: Disk + Drop>(
     let Ok(given_up) = given_up_by(alloc, config.line().sizes, &arrived.gateway) else {
         return Err(StateFault::NoMemory);
     };
-    Ok(restarted(arrived, given_up))
+    let goes_on = is_trusted && arrived.is_whole;
+    Ok(restarted(arrived, given_up, goes_on))
 }
 
 /// The place of the station with this link address.
@@ -340,40 +364,32 @@ fn gap_now(
     }
 }
 
-/// The gateway receives again what was kept, under the settings that wrote it. It is then moved to
-/// these. `is_moved` says that they are others.
-fn move_on<K: Lineage, D: Disk + Drop>(
+/// A gateway that went on under the settings that wrote its log is moved to these. `is_moved` says
+/// that they are others.
+fn move_on(
     alloc: Global,
     config: &Config,
     wrote: &Config,
-    lines: TextLines,
-    start: &mut Start<D>,
-    goes_on: bool,
+    resumed: Resumed,
     is_moved: bool,
 ) -> Result<Resumed, StateFault>
-    ensures wrong { IfErr result (λ fault. fault ≡ StateFault.Wrong →
-        AreStateOf wrote.now (⟦<TextLines as Lines>⟧.coming lines) → ⊥) }
-    ensures went { IfOk result (λ r. IsTrue (D.Disk.is_clean (newest_of start.new)) →
-        (left : State) × (last : Option (ℕ × ℕ))
-        × WentOn wrote.now K.log (⟦<TextLines as Lines>⟧.coming lines)
-        (events_in start.new) last r.given_up.items r.before.entries left
-        × (r.gap ≡ gap_now wrote.now.stations config.now.stations last)
-        × (r.gateway ≡ carried goes_on wrote.now config.now left)) }
+    ensures gateway { IfOk result (λ r. r.gateway
+        ≡ carried resumed.goes_on wrote.now config.now resumed.gateway) }
+    ensures gap { IfOk result (λ r.
+        r.gap ≡ gap_now wrote.now.stations config.now.stations resumed.gap) }
+    ensures given_up { IfOk result (λ r. r.given_up ≡ resumed.given_up) }
+    ensures before { IfOk result (λ r. r.before ≡ resumed.before) }
     ensures moved { IfOk result (λ r. r.is_moved ≡ is_moved) }
-    ensures seen { D.Disk.seen (newest_of start.new) ≡ D.Disk.seen (newest_of start.old) }
-    ensures clean { IsTrue (D.Disk.is_clean (newest_of start.new)) →
-        IsTrue (D.Disk.is_clean (newest_of start.old)) }
-    ensures same { begins_at start.new ≡ begins_at start.old }
-    ensures other { other_of start.new ≡ other_of start.old }
-    ensures next { next_of start.new ≡ next_of start.old }
+    ensures goes_on { IfOk result (λ r. r.goes_on ≡ resumed.goes_on) }
+    ensures fault { IfErr result (λ fault. fault ≡ StateFault.Wrong → ⊥) }
 {
-    let resumed = go_on::<K, D>(alloc, wrote, lines, start)?;
     let Resumed {
         gateway,
         gap,
         given_up,
         before,
-        is_moved: _,
+        goes_on,
+        ..
     } = resumed;
     let gap = gap_now(wrote.stations(), config.stations(), gap);
     match gateway.carried(alloc, wrote, config, goes_on) {
@@ -383,6 +399,7 @@ fn move_on<K: Lineage, D: Disk + Drop>(
             given_up,
             before,
             is_moved,
+            goes_on,
         }),
         Err(NoMemory) => Err(StateFault::NoMemory),
     }
@@ -405,7 +422,7 @@ fn resume<K: Lineage, D: Disk + Drop, F: Folder>(
     alloc: Global,
     config: &Config,
     start: &mut Start<D>,
-    goes_on: bool,
+    is_trusted: bool,
     _folder: &F,
 ) -> Result<Resumed, StateFault>
     requires { F.lineage _folder.now ≡ K.log }
@@ -413,8 +430,15 @@ fn resume<K: Lineage, D: Disk + Drop, F: Folder>(
         is_some start.old.checkpoint ≡ true → IsTrue (D.Disk.is_clean (newest_of start.new)) →
         HasState (D.Disk.seen (newest_of start.new)) → ⊥) }
     ensures goes_on { IfOk result (λ r. IsTrue (D.Disk.is_clean (newest_of start.new)) →
-        GoesOnFrom goes_on config.now K.log (D.Disk.seen (newest_of start.new))
+        GoesOnFrom r.goes_on config.now K.log (D.Disk.seen (newest_of start.new))
         r.is_moved r.gap r.given_up.items r.before.entries r.gateway) }
+    ensures trusted { IfOk result (λ r. r.goes_on ≡ true → is_trusted ≡ true) }
+    ensures read { IfOk result (λ r. r.goes_on ≡ true →
+        IsTrue (D.Disk.is_clean (newest_of start.new)) →
+        AreLinesRead (D.Disk.seen (newest_of start.new))) }
+    ensures reset { IfOk result (λ r. r.goes_on ≡ false → (is_trusted ≡ false)
+        ⊎ (IsTrue (D.Disk.is_clean (newest_of start.new)) →
+        AreLinesRead (D.Disk.seen (newest_of start.new)) → ⊥)) }
     ensures seen { D.Disk.seen (newest_of start.new) ≡ D.Disk.seen (newest_of start.old) }
     ensures clean { IsTrue (D.Disk.is_clean (newest_of start.new)) →
         IsTrue (D.Disk.is_clean (newest_of start.old)) }
@@ -423,12 +447,16 @@ fn resume<K: Lineage, D: Disk + Drop, F: Folder>(
 {
     let opening = read_opening(alloc, start)?;
     let wrote = settings_in(alloc, &opening.settings)?;
-    let is_same = are_same(&wrote, config);
     let lines = opening.lines;
-    if goes_on && is_same {
-        return go_on::<K, D>(alloc, config, lines, start);
+    if !are_same(&wrote, config) {
+        let resumed = go_on::<K, D>(alloc, &wrote, lines, start, is_trusted)?;
+        return move_on(alloc, config, &wrote, resumed, true);
     }
-    move_on::<K, D>(alloc, config, &wrote, lines, start, goes_on, !is_same)
+    let resumed = go_on::<K, D>(alloc, config, lines, start, is_trusted)?;
+    if resumed.goes_on {
+        return Ok(resumed);
+    }
+    move_on(alloc, config, config, resumed, false)
 }
 
 /// Begins a run: with the state that the directory has, or anew. `text` is the file of settings
@@ -477,37 +505,6 @@ pub fn begin<F: Folder + Drop>(
     }
 }
 
-/// Whether the links go on: where the state is trusted, and each whole line of its log can be read.
-/// Where one can't, events behind it are lost, and what went out on them isn't known.
-pub(crate) fn may_go_on<D: Disk + Drop>(
-    alloc: Global,
-    start: &mut Start<D>,
-    is_trusted: bool,
-) -> Result<bool, FolderFault>
-    requires found { is_some start.old.checkpoint ≡ true }
-    requires fits { IfSome start.old.checkpoint (λ c. Fits c.head) }
-    ensures trusted { IfOk result (λ may. may ≡ true → is_trusted ≡ true) }
-    ensures read { IfOk result (λ may. may ≡ true → IsTrue (D.Disk.is_clean (newest_of start.new)) →
-        AreLinesRead (D.Disk.seen (newest_of start.new))) }
-    ensures reset { IfOk result (λ may. may ≡ false → (is_trusted ≡ false)
-        ⊎ (IsTrue (D.Disk.is_clean (newest_of start.new)) →
-        AreLinesRead (D.Disk.seen (newest_of start.new)) → ⊥)) }
-    ensures seen { D.Disk.seen (newest_of start.new) ≡ D.Disk.seen (newest_of start.old) }
-    ensures clean { IsTrue (D.Disk.is_clean (newest_of start.new)) →
-        IsTrue (D.Disk.is_clean (newest_of start.old)) }
-    ensures same { begins_at start.new ≡ begins_at start.old }
-    ensures taken { start.new.checkpoint ≡ start.old.checkpoint }
-    ensures other { other_of start.new ≡ other_of start.old }
-    ensures next { next_of start.new ≡ next_of start.old }
-{
-    if !is_trusted {
-        return Ok(false);
-    }
-    let lines = lines_of(alloc, start)?;
-    let may = are_read(alloc, lines)?;
-    Ok(may)
-}
-
 /// How a run begins that has a past.
 pub(crate) fn with_past(goes_on: bool) -> Beginning
     ensures past { has_past result ≡ true }
@@ -538,6 +535,7 @@ fn origin_of(resumed: Resumed, beginning: Beginning) -> Origin
         given_up,
         before,
         is_moved,
+        ..
     } = resumed;
     Origin {
         moment: Some(gateway.moment()),
@@ -581,9 +579,9 @@ fn carry_on<F: Folder + Drop>(
     ensures numbered { IfOk result (λ b. IsNumbered b.store.number b.store.opened) }
 {
     let mut start = start;
-    let goes_on = may_go_on(alloc, &mut start, is_trusted)?;
-    match resume::<Brand, F::File, F>(alloc, config, &mut start, goes_on, &folder) {
+    match resume::<Brand, F::File, F>(alloc, config, &mut start, is_trusted, &folder) {
         Ok(resumed) => {
+            let goes_on = resumed.goes_on;
             let store = DiskStore::new(alloc, folder, settings, start.next_number());
             let (newest, spare) = start.into_files();
             Ok(Begun {
