@@ -38,8 +38,6 @@ returns-in-Err-Wrong-clause-sight g c is_stale first second placed trusted untru
           (g.D.Disk.seen c.args.start.newest) (g.D.Disk.seen c.args.start.other)
           c.args.start.checkpoint c.args.start.at c.requires.found c.args.start.stands
           (c.requires.honest _) c.requires.backed
-          (λ state. c.in-Err-Wrong.ensures.wrong c.in-Err-Wrong.field-0-is
-          (ap is_some c.may_go_on.ensures.taken ∙ c.requires.found)
-          (subst HasState (sym c.may_go_on.ensures.seen) state));
+          (c.in-Err-Wrong.ensures.wrong c.in-Err-Wrong.field-0-is c.requires.found);
       shown = refl;
     })
