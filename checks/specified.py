@@ -23,7 +23,7 @@ import sys
 import frame
 
 sys.path.append(os.path.join(frame.TOP, "tools"))
-from laws import exported, functions_of, without_comments  # noqa: E402
+from laws import exported, functions_of, without_comments
 
 PAGE = os.path.join(frame.TOP, "docs", "CALLS.md")
 LIST = os.path.join(frame.HERE, "specified_calls.txt")
@@ -44,8 +44,8 @@ def wanted():
 
 
 def calls_of(crate):
-    """The public calls of a crate, by name, with their signatures."""
-    return {name: call.signature for name, call in functions_of(crate).items() if call.is_public}
+    """The public calls of a crate: by name the signature."""
+    return {name: function.signature for name, function in functions_of(crate).items() if function.is_public}
 
 
 def crates():

@@ -16,6 +16,7 @@ has_row (note.Gap a) = row.Gap a
 has_row note.QueueFull = row.QueueFull
 has_row (note.State notices.NotKept) = row.NotKept
 has_row note.StatePutAside = row.PutAside
+has_row (note.GivenUp a b c d) = row.Remnants a b c d
 has_row (note.Trouble why) = row.CannotRun why
 has_row (note.Cut cause) = row.Cut cause
 has_row (note.Closed cause) = row.Closed cause

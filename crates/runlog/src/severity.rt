@@ -62,6 +62,7 @@ impl Note {
             Note::Cut(_) | Note::Closed(_) | Note::RefusedPeers(_, _) => Severity::Warning,
             Note::Silent(_) | Note::Down(_) | Note::StateStale => Severity::Warning,
             Note::StillSilent(_) | Note::LeftOut(_) => Severity::Warning,
+            Note::GivenUp(_, _, _, _) => Severity::Warning,
             Note::Refused(_, _, _) | Note::Skipped(_, _, _) => Severity::Warning,
             Note::MirrorDropped(_) | Note::Spoilt(_) | Note::Late(_) => Severity::Warning,
             Note::LineReached | Note::LineReachedAgain | Note::QueueFree => Severity::Notice,

@@ -17,6 +17,7 @@ ghost use Rattle.runlog.specs.declared.fate.Reason.TheVariants as reason;
 ghost use Rattle.runlog.specs.declared.note.Note.TheVariants as note;
 ghost use Rattle.runlog.specs.declared.note.RunCounts.{RunCounts};
 ghost use Rattle.runlog.specs.declared.note.Trouble.{Trouble};
+ghost use Rattle.runlog.specs.declared.note.Remnant.TheVariants as remnant;
 ghost use Rattle.runlog.specs.declared.note.Trouble.TheVariants as trouble;
 ghost use Rattle.runlog.specs.declared.order.Order.{Order};
 ghost use Rattle.runlog.specs.declared.order.OrderKind.TheVariants as act;
@@ -52,6 +53,8 @@ pub fn each_word_by_example()
         × (words note.SettingsChanged ≡ codes "state: settings have changed")
         × (words note.StateStale ≡ codes "state is stale: each link is reset")
         × (words note.StatePutAside ≡ codes "state can't be read: put aside")
+        × (words (note.GivenUp remnant.Waiting 45 1 100)
+        ≡ codes "waiting command of type 45 to 1/100, given up at a start")
         × (words (note.State notices.NotKept)
         ≡ codes "state isn't kept: what is polled now is lost if the gateway stops")
         × (words (note.State notices.KeptAgain) ≡ codes "state is kept again") }
