@@ -35,6 +35,7 @@ use Rattle.runlog.specs.declared.fate.Mishap.{Mishap}
 use Rattle.runlog.specs.declared.fate.Mishap.TheVariants as mishap
 use Rattle.runlog.specs.declared.note.LogLine.{LogLine}
 use Rattle.runlog.specs.declared.queue.QueueWatch.{QueueWatch}
+use Rattle.runlog.specs.declared.stations.StationWatch.{StationWatch}
 use Rattle.runlog.specs.declared.traffic.Traffic.{Traffic}
 use Rattle.runlog.proofs.Counted.{answered_address, command_so, line_address, mishap_so}
 

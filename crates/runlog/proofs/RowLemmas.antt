@@ -63,6 +63,7 @@ row_so what number (row.Gap a) = refl
 row_so what number row.QueueFull = refl
 row_so what number row.NotKept = refl
 row_so what number row.PutAside = refl
+row_so _ _ (row.Remnants what kind ca object) = refl
 row_so what number (row.CannotRun why) = refl
 row_so what number (row.Cut cause) = refl
 row_so what number (row.Closed cause) = refl

@@ -578,3 +578,107 @@ unlogged_so w asking now never before =
     unlogged_by asking w.link now (counted asking now w)
     (λ up. never (ap (λ s. s.link) (asked_kept asking now w) ∙ up))
     (subst (λ l. IsLoggedUp l → ⊥) (sym (counted_logged asking now w)) before)
+
+-- ---- Where nothing is logged, what was logged last stays
+
+abbrev Stays : StationLogged → StationWatch × Option LogLine → Type 0
+Stays so told = told.1 ≡ None → told.0.logged ≡ so
+
+line_stays : (next : StationLogged) (line : Option LogLine) (w : StationWatch)
+    → Stays w.logged (station_logged next line w)
+line_stays next None w none = refl
+line_stays next (Some line) w none = absurd (cc)
+
+silent_stays : (is_so : Bool) (so : StationLogged) (now : ℕ) (w : StationWatch)
+    → Stays w.logged (silent_by is_so so now w)
+silent_stays false so now w none = refl
+silent_stays true so now w none = let x = changed (note.Silent w.address) w.silent now in
+    line_stays so x.1 (record w { silent = x.0 }) none
+
+still_stays : (is_so : Bool) (so : StationLogged) (now : ℕ) (w : StationWatch)
+    → Stays w.logged (still_by is_so so now w)
+still_stays false so now w none = refl
+still_stays true so now w none = let x = changed (note.StillSilent w.address) w.silent now in
+    line_stays so x.1 (record w { silent = x.0 }) none
+
+unanswered_stays : (is_so : Bool) (now : ℕ) (w : StationWatch)
+    → Stays w.logged (unanswered_by is_so now w)
+unanswered_stays true now w none =
+    silent_stays (is_minute_after w.silent.logged now) logged.Unanswered now w none
+unanswered_stays false now w none = refl
+
+up_stays : (now : ℕ) (w : StationWatch) → Stays w.logged (logged_up now w)
+up_stays now w none = let x = changed (note.Up w.address) w.up now in
+    line_stays logged.Up x.1 (record w { up = x.0 }) none
+
+down_stays : (now : ℕ) (w : StationWatch) → Stays w.logged (logged_down now w)
+down_stays now w none = let x = changed (note.Down w.address) w.down now in
+    line_stays logged.Down x.1 (record w { down = x.0 }) none
+
+again_stays : (is_so : Bool) (link : LinkKnown) (now : ℕ) (w : StationWatch)
+    → Stays w.logged (again_by is_so link now w)
+again_stays true link now w none =
+    still_stays (is_minute_after w.silent.logged now) logged.Silent now w none
+again_stays false known.Nothing now w none = refl
+again_stays false known.Up now w none = let x = changed (note.Again w.address) w.again now in
+    line_stays logged.Up x.1 (record w { again = x.0 }) none
+again_stays false known.Down now w none = refl
+
+unserved_stays : (so : StationLogged) (now : ℕ) (w : StationWatch)
+    → Stays w.logged (unserved_by so now w)
+unserved_stays logged.Unanswered now w none =
+    still_stays (is_minute_after w.silent.logged now) logged.Unanswered now w none
+unserved_stays logged.Nothing now w none = silent_stays true logged.Unanswered now w none
+unserved_stays logged.Asked now w none = silent_stays true logged.Unanswered now w none
+unserved_stays logged.Up now w none = silent_stays true logged.Unanswered now w none
+unserved_stays logged.Silent now w none = silent_stays true logged.Unanswered now w none
+unserved_stays logged.Down now w none = silent_stays true logged.Unanswered now w none
+
+unserved_if_stays : (is_so : Bool) (now : ℕ) (w : StationWatch)
+    → Stays w.logged (unserved_if is_so now w)
+unserved_if_stays true now w none = unserved_stays w.logged now w none
+unserved_if_stays false now w none = refl
+
+first_stays : (link : LinkKnown) (is_so : Bool) (now : ℕ) (w : StationWatch)
+    → Stays w.logged (first_by link is_so now w)
+first_stays known.Up is_so now w none = up_stays now w none
+first_stays known.Nothing is_so now w none = unserved_if_stays is_so now w none
+first_stays known.Down is_so now w none = unserved_if_stays is_so now w none
+
+status_stays : (so : StationLogged) (now : ℕ) (w : StationWatch)
+    → Stays w.logged (status_by so now w)
+status_stays logged.Nothing now w none = let x = changed (note.Asked w.address) w.asked now in
+    line_stays logged.Asked x.1 (record w { asked = x.0 }) none
+status_stays logged.Asked now w none =
+    silent_stays (is_unanswered w) logged.Unanswered now w none
+status_stays logged.Down now w none = silent_stays (is_unanswered w) logged.Unanswered now w none
+status_stays logged.Unanswered now w none = unanswered_stays (is_unanswered w) now w none
+status_stays logged.Up now w none = down_stays now w none
+status_stays logged.Silent now w none = down_stays now w none
+
+service_stays : (so : StationLogged) (now : ℕ) (w : StationWatch)
+    → Stays w.logged (service_by so now w)
+service_stays logged.Up now w none = silent_stays (is_unanswered w) logged.Silent now w none
+service_stays logged.Silent now w none = again_stays (is_unanswered w) w.link now w none
+service_stays logged.Nothing now w none = first_stays w.link (is_unanswered w) now w none
+service_stays logged.Asked now w none = first_stays w.link (is_unanswered w) now w none
+service_stays logged.Down now w none = first_stays w.link (is_unanswered w) now w none
+service_stays logged.Unanswered now w none = first_stays w.link (is_unanswered w) now w none
+
+reset_stays : (was is : LinkKnown) (now : ℕ) (w : StationWatch)
+    → Stays w.logged (reset_by was is now w)
+reset_stays known.Nothing known.Nothing now w none = refl
+reset_stays known.Nothing known.Up now w none = refl
+reset_stays known.Nothing known.Down now w none = down_stays now w none
+reset_stays known.Up is now w none = refl
+reset_stays known.Down is now w none = refl
+
+pub nothing_stays : (w : StationWatch) (asking : Asking) (now : ℕ)
+    → Stays w.logged (station_asked asking now w)
+nothing_stays w Status now none = status_stays w.logged now (counted Status now w) none
+nothing_stays w Reset now none =
+    reset_stays w.link (counting Reset w).link now (counted Reset now w) none
+nothing_stays w (Counted bit) now none =
+    service_stays w.logged now (counted (Counted bit) now w) none
+nothing_stays w Missed now none = refl
+nothing_stays w Other now none = refl

@@ -256,7 +256,7 @@ pub fn standings_by_example()
         ∷ (3000, 0x10 ∷ 0x5B ∷ 0x07 ∷ []) ∷ (4000, 0x10 ∷ 0x5B ∷ 0x07 ∷ [])
         ∷ (5000, 0x10 ∷ 0x7B ∷ 0x07 ∷ []) ∷ (6000, 0x10 ∷ 0x49 ∷ 0x07 ∷ []) ∷ [])
         (new_station 2 7)
-        ≡ (standing.Asked, 0) ∷ (standing.Up, 1000) ∷ (standing.Up, 1000) ∷ (standing.Up, 1000)
+        ≡ (standing.Asked, 0) ∷ (standing.Asked, 0) ∷ (standing.Up, 2000) ∷ (standing.Up, 2000)
         ∷ (standing.Silent, 4000) ∷ (standing.Up, 5000) ∷ (standing.Down, 6000) ∷ [] }
     ensures unasked { standing_of (new_station 2 7) ≡ standing.NotAsked }
 {}

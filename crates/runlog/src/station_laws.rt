@@ -98,11 +98,11 @@ pub fn a_station_stands_as_its_requests_say()
 /// A station is logged as up at the first service that follows an answered one, and never before.
 /// It is logged as down where its status is asked while it is up, and where its link is reset
 /// behind a service before it has answered any: never where its status alone is asked between the
-/// repeats of a service, as behind a start. Where a request has gone out more often than a station that is
-/// there lets it, it is logged that the station doesn't answer, and each minute again while that
-/// lasts: for a service, whose link is held, with a hint. That it answers again is logged at the
-/// next service that follows an answered one. Each line names the station by its link address. A
-/// line that comes too early is left to a later request: then what was logged last stays.
+/// repeats of a service, as behind a start. Where a request has gone out more often than a station
+/// that is there lets it, it is logged that the station doesn't answer, and each minute again while
+/// that lasts: for a service, whose link is held, with a hint. That it answers again is logged at
+/// the next service that follows an answered one. Each line names the station by its link address.
+/// A line that comes too early is left to a later request: then what was logged last stays.
 pub fn a_station_is_logged_where_it_goes_and_where_it_is_back()
     ensures asked { (w : StationWatch) (now : ℕ) → w.logged ≡ logged.Nothing →
         IsSecondAfter w.asked.logged now → IsLogged now (note.Asked w.address) logged.Asked
