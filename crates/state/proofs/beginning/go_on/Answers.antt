@@ -1,4 +1,6 @@
 use Rattle.std.proofs.Common.{◌∙◌, ap}
+use Rattle.gateway.specs.declared.settings.LineSettings.{LineSettings}
+use Rattle.state.specs.GivenUps.{given_up_by}
 use Rattle.state.proofs.GoingOn.{went_on}
 use Rattle.state.proofs.beginning.go_on.Goals as goal
 
@@ -8,5 +10,7 @@ returns-clause-went g c clean =
     c.in_ok-arrived.arrived.before.entries _ c.in_ok-arrived.arrived.gateway _
     c.in_ok-arrived.ensures.said (c.in_ok-arrived.ensures.read clean)
     c.restarted.ensures.gap
-    (ap (λ list. list.items) c.restarted.ensures.given_up ∙ c.in-Ok.ensures)
+    (ap (λ list. list.items) c.restarted.ensures.given_up ∙ c.in-Ok.ensures
+    ∙ ap (λ (l : LineSettings). given_up_by l.sizes c.in_ok-arrived.arrived.gateway)
+    c.line.ensures)
     c.restarted.ensures.gateway c.restarted.ensures.before c.restarted.ensures.follows

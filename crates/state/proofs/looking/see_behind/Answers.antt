@@ -1,8 +1,10 @@
-use Rattle.std.proofs.Common.{◌≡◌, List, ℕ, Ok, ap₂, drop, subst, sym}
+use Rattle.std.proofs.Common.{◌≡◌, ◌∙◌, List, ℕ, Ok, ap, ap₂, drop, subst, sym}
 use Rattle.segments.specs.Starts.{before_zero}
+use Rattle.gateway.specs.declared.settings.LineSettings.{LineSettings}
 use Rattle.settings.specs.Settings.{IsReadOfText}
 use Rattle.statetext.specs.Text.{lines_in}
 use Rattle.state.specs.Beginnings.{IsRead}
+use Rattle.state.specs.GivenUps.{given_up_by}
 use Rattle.state.specs.Replays.{whole_lines}
 use Rattle.state.specs.Sights.{AreCounted}
 use Rattle.state.proofs.UnreadLemmas.{err_of}
@@ -34,7 +36,9 @@ returns-clause-log g c =
           c.in_ok-arrived.arrived.gap c.in_ok-arrived.arrived.before.entries
           c.in_ok-arrived.arrived.gateway) same
           (c.in_ok-arrived.ensures.read (c.requires.honest _));
-      named = c.in-Ok.ensures;
+      named = c.in-Ok.ensures
+          ∙ ap (λ (l : LineSettings). given_up_by l.sizes c.in_ok-arrived.arrived.gateway)
+          c.line.ensures;
     }
 
 pub returns-in_err-wrote-clause-wrong : goal.returns-in_err-wrote-clause-wrong
