@@ -1,4 +1,5 @@
 pub mod Notes
 pub mod Stations
+pub mod Pending
 pub mod Text
 pub mod Law
