@@ -1,4 +1,4 @@
--- Notes that are logged one behind another.
+-- Words of the laws on how a live run begins.
 use Rattle.std.specs.Prelude.{◌≡◌, List, [], ◌∷◌}
 use Rattle.runlog.specs.Logging.{Book, LogsNote}
 use Rattle.runlog.specs.declared.note.Note.{Note}

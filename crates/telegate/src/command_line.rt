@@ -1,10 +1,10 @@
 //! The command line.
-ghost use Rattle.std.specs.Prelude.{◌≡◌, IfOk, codes, map, option_map, string_bytes};
+ghost use Rattle.std.specs.Prelude.{◌≡◌, [], IfOk, codes, map, option_map, string_bytes};
 ghost use Rattle.clap.specs.Words.{App, FailsBy, fault_of, found_of, first_of, rows_of};
 ghost use Rattle.clap.specs.Words.{subcommand_of, subcommand_rows_of, with_subcommand};
 ghost use Rattle.telegate.specs.CommandLine as line;
 ghost use Rattle.telegate.specs.CommandLine.{AreGiven, AreRunWords, texts_of, IsArgument, IsAsked};
-ghost use Rattle.telegate.specs.CommandLine.{IsCommand, IsFlag, IsRequestOf, rule_in, with_all};
+ghost use Rattle.telegate.specs.CommandLine.{IsCommand, IsFlag, IsRequestOf};
 
 use crate::help;
 use crate::run_words::RunWords;
@@ -12,7 +12,7 @@ use clap::{Arg, ArgAction, ArgMatches, Command, Error};
 use std::alloc::{AllocError, Global};
 
 /// What the words ask for.
-#[derive(Clone, Copy)]
+#[derive(Clone, Copy, PartialEq, Eq)]
 pub(crate) enum CommandRequest<'m, 'a> {
     /// The sizes of addresses, octets or `-`, and whether a frame is shown in one line of words.
     Show101 {
@@ -95,281 +95,271 @@ const IN_COLORS: &str = "Prints the words in colours, one for each side, also wh
 /// What octets are.
 const OCTETS: &str = "1 to 1,024 octets in hexadecimal; or - for lines of octets on standard input";
 
-/// A word that a command takes: its name, and what help says of it.
-#[derive(Clone, Copy)]
-pub(crate) enum CommandWord<'a> {
-    /// It has to be given, at its place.
-    Needed(&'a str, &'a str),
-    /// It may be given, at its place.
-    Further(&'a str, &'a str),
-    /// `--name`, at most once.
-    Flag(&'a str, &'a str),
-    /// `--name WORD`, at most once.
-    Single(&'a str, &'a str),
-    /// `--name WORD`, any number of times.
-    Repeated(&'a str, &'a str),
+fn word<'a>(alloc: Global, name: &'a str, help: &'a str) -> Arg<'a>
+    ensures { IsArgument (line.word name.entry.now) result }
+{
+    Arg::new(alloc, name)
+        .required(true)
+        .action(ArgAction::Set)
+        .help(help)
 }
 
-fn argument<'a>(alloc: Global, word: CommandWord<'a>) -> Arg<'a>
-    ensures { IsArgument (rule_in word.entry) result }
+/// A word that need not be given.
+fn further_word<'a>(alloc: Global, name: &'a str, help: &'a str) -> Arg<'a>
+    ensures { IsArgument (line.further_word name.entry.now) result }
 {
-    match word {
-        CommandWord::Needed(name, help) => Arg::new(alloc, name)
-            .required(true)
-            .action(ArgAction::Set)
-            .help(help),
-        CommandWord::Further(name, help) => {
-            Arg::new(alloc, name).action(ArgAction::Set).help(help)
-        }
-        CommandWord::Flag(name, help) => Arg::new(alloc, name)
-            .long(name)
-            .action(ArgAction::SetTrue)
-            .help(help),
-        CommandWord::Single(name, help) => Arg::new(alloc, name)
-            .long(name)
-            .action(ArgAction::Set)
-            .help(help),
-        CommandWord::Repeated(name, help) => Arg::new(alloc, name)
-            .long(name)
-            .action(ArgAction::Append)
-            .help(help),
-    }
+    Arg::new(alloc, name).action(ArgAction::Set).help(help)
 }
 
-/// A command that takes these words too, in this order.
-fn with_words<'a>(
-    alloc: Global,
-    command: Command<'a>,
-    words: &[CommandWord<'a>],
-) -> Result<Command<'a>, AllocError>
-    ensures { IfOk result (λ r. (app : App) → IsCommand app command.entry →
-        IsCommand (with_all (map rule_in words.entry.now) app) r) }
+fn flag<'a>(alloc: Global, name: &'a str, help: &'a str) -> Arg<'a>
+    ensures { IsArgument (line.flag name.entry.now) result }
 {
-    let mut command = command;
-    for word in words {
-        command = command.arg(argument(alloc, *word))?;
-    }
-    Ok(command)
+    Arg::new(alloc, name)
+        .long(name)
+        .action(ArgAction::SetTrue)
+        .help(help)
+}
+
+fn single<'a>(alloc: Global, name: &'a str, help: &'a str) -> Arg<'a>
+    ensures { IsArgument (line.single name.entry.now) result }
+{
+    Arg::new(alloc, name)
+        .long(name)
+        .action(ArgAction::Set)
+        .help(help)
+}
+
+fn option<'a>(alloc: Global, name: &'a str, help: &'a str) -> Arg<'a>
+    ensures { IsArgument (line.option name.entry.now) result }
+{
+    Arg::new(alloc, name)
+        .long(name)
+        .action(ArgAction::Append)
+        .help(help)
 }
 
 fn show101<'a>(alloc: Global) -> Result<Command<'a>, AllocError>
     ensures { IfOk result (IsCommand line.show101) }
 {
-    let command = Command::new(alloc, "show101").about(
-        "Shows the line frame at the front of octets",
-    );
-    let words = [
-        CommandWord::Needed(
+    Command::new(alloc, "show101")
+        .about("Shows the line frame at the front of octets")
+        .arg(word(
+            alloc,
             "SIZES",
-            "Four digits: how many octets the link address, the cause, the common address and \
-            the object address have, as 1112",
-        ),
-        CommandWord::Needed("HEX", OCTETS),
-        CommandWord::Flag("words", IN_WORDS),
-    ];
-    with_words(alloc, command, &words)
+            "Four digits: how many octets the link address, the cause, the common address and the \
+            object address have, as 1112",
+        ))?
+        .arg(word(alloc, "HEX", OCTETS))?
+        .arg(flag(alloc, "words", IN_WORDS))
 }
 
 fn show104<'a>(alloc: Global) -> Result<Command<'a>, AllocError>
     ensures { IfOk result (IsCommand line.show104) }
 {
-    let command = Command::new(alloc, "show104").about("Shows the APDU at the front of octets");
-    let words = [
-        CommandWord::Needed("HEX", OCTETS),
-        CommandWord::Flag("words", IN_WORDS),
-    ];
-    with_words(alloc, command, &words)
+    Command::new(alloc, "show104")
+        .about("Shows the APDU at the front of octets")
+        .arg(word(alloc, "HEX", OCTETS))?
+        .arg(flag(alloc, "words", IN_WORDS))
 }
 
 fn check<'a>(alloc: Global) -> Result<Command<'a>, AllocError>
     ensures { IfOk result (IsCommand line.check) }
 {
-    let command = Command::new(alloc, "check")
+    Command::new(alloc, "check")
         .about("Checks a file of settings, and that of a site")
-        .after_help(help::CHECK);
-    let words = [
-        CommandWord::Needed("CONFIG", "A file of settings"),
-        CommandWord::Flag(
+        .after_help(help::CHECK)
+        .arg(word(alloc, "CONFIG", "A file of settings"))?
+        .arg(flag(
+            alloc,
             "live",
             "Judges the keys of `live` as `run` does, and tells where the line is elsewhere",
-        ),
-        CommandWord::Flag(
+        ))?
+        .arg(flag(
+            alloc,
             "explain",
             "Prints behind a fault where it is, and what is wanted there",
-        ),
-        CommandWord::Single(
+        ))?
+        .arg(single(
+            alloc,
             "site",
             "A file of what belongs to this site, which is judged first",
-        ),
-    ];
-    with_words(alloc, command, &words)
+        ))
+}
+
+/// The command of a replay, without its words.
+fn bare_replay<'a>(alloc: Global) -> Command<'a>
+    ensures { IsCommand (line.command (codes "replay") []) result }
+{
+    Command::new(alloc, "replay")
+        .about("Runs the gateway over the events of a trace, and prints what it puts out")
+        .after_help(help::REPLAY)
 }
 
 fn replay<'a>(alloc: Global) -> Result<Command<'a>, AllocError>
     ensures { IfOk result (IsCommand line.replay) }
 {
-    let command = Command::new(alloc, "replay")
-        .about("Runs the gateway over the events of a trace, and prints what it puts out")
-        .after_help(help::REPLAY);
-    let words = [
-        CommandWord::Needed("CONFIG", "A file of settings"),
-        CommandWord::Needed("TRACE", "A file of events, one a line"),
-        CommandWord::Flag(
+    bare_replay(alloc)
+        .arg(word(alloc, "CONFIG", "A file of settings"))?
+        .arg(word(alloc, "TRACE", "A file of events, one a line"))?
+        .arg(flag(
+            alloc,
             "left",
             "Prints a line for each piece that was not acknowledged",
-        ),
-        CommandWord::Flag(
+        ))?
+        .arg(flag(
+            alloc,
             "counts",
             "Prints a line with what was dropped, given up or spoilt",
-        ),
-        CommandWord::Flag("words", RUN_IN_WORDS),
-        CommandWord::Flag("color", IN_COLORS),
-    ];
-    with_words(alloc, command, &words)
+        ))?
+        .arg(flag(alloc, "words", RUN_IN_WORDS))?
+        .arg(flag(alloc, "color", IN_COLORS))
 }
 
 fn sim<'a>(alloc: Global) -> Result<Command<'a>, AllocError>
     ensures { IfOk result (IsCommand line.sim) }
 {
-    let command = Command::new(alloc, "sim")
+    Command::new(alloc, "sim")
         .about(
             "Runs the gateway over simulated stations and a simulated control centre, and prints \
             what it puts out",
         )
-        .after_help(help::SIM);
-    let words = [
-        CommandWord::Needed("CONFIG", "A file of settings"),
-        CommandWord::Needed(
+        .after_help(help::SIM)
+        .arg(word(alloc, "CONFIG", "A file of settings"))?
+        .arg(word(
+            alloc,
             "SCRIPT",
             "A file of reports, losses, cuts and commands, one a line",
-        ),
-        CommandWord::Flag("words", RUN_IN_WORDS),
-        CommandWord::Flag("color", IN_COLORS),
-    ];
-    with_words(alloc, command, &words)
+        ))?
+        .arg(flag(alloc, "words", RUN_IN_WORDS))?
+        .arg(flag(alloc, "color", IN_COLORS))
 }
 
 fn audit<'a>(alloc: Global) -> Result<Command<'a>, AllocError>
     ensures { IfOk result (IsCommand line.audit) }
 {
-    let command = Command::new(alloc, "audit")
+    Command::new(alloc, "audit")
         .about("Runs the gateway over the events of a recorded run, and compares the actions")
-        .after_help(help::AUDIT);
-    let words = [
-        CommandWord::Needed("CONFIG", "A file of settings"),
-        CommandWord::Needed("RECORD", "A file of events and actions, one a line"),
-    ];
-    with_words(alloc, command, &words)
+        .after_help(help::AUDIT)
+        .arg(word(alloc, "CONFIG", "A file of settings"))?
+        .arg(word(alloc, "RECORD", "A file of events and actions, one a line"))
+}
+
+/// The command of a live run, without its words.
+fn bare_run<'a>(alloc: Global) -> Command<'a>
+    ensures { IsCommand (line.command (codes "run") []) result }
+{
+    Command::new(alloc, "run")
+        .about("Runs the gateway between a line and a control centre, until the line ends")
+        .after_help(help::RUN)
 }
 
 fn run<'a>(alloc: Global) -> Result<Command<'a>, AllocError>
     ensures { IfOk result (IsCommand line.run) }
 {
-    let command = Command::new(alloc, "run")
-        .about("Runs the gateway between a line and a control centre, until the line ends")
-        .after_help(help::RUN);
-    let words = [
-        CommandWord::Needed(
+    bare_run(alloc)
+        .arg(word(
+            alloc,
             "CONFIG",
             "A file of settings, whose table `live` says where the line is and where to listen",
-        ),
-        CommandWord::Flag(
+        ))?
+        .arg(flag(
+            alloc,
             "redial",
             "Reaches the line again where it ends, once a second, and goes on",
-        ),
-        CommandWord::Flag("log", "Tells on standard error what happens, one line each"),
-        CommandWord::Flag("record", "Prints each event and each action"),
-        CommandWord::Single(
+        ))?
+        .arg(flag(
+            alloc,
+            "log",
+            "Tells on standard error what happens, one line each",
+        ))?
+        .arg(flag(alloc, "record", "Prints each event and each action"))?
+        .arg(single(
+            alloc,
             "state",
             "A directory in which the state is kept, from which the run goes on; it is made where \
             it isn't there",
-        ),
-        CommandWord::Flag(
+        ))?
+        .arg(flag(
+            alloc,
             "state-or-stop",
             "Ends the run where the state can't be kept any more, in place of going on without it",
-        ),
-        CommandWord::Repeated(
+        ))?
+        .arg(option(
+            alloc,
             "allow",
             "The address of a control centre that may connect; without it any may",
-        ),
-        CommandWord::Single(
+        ))?
+        .arg(single(
+            alloc,
             "status",
             "Where the run can be looked at by HTTP, as 127.0.0.1:8104",
-        ),
-        CommandWord::Single(
+        ))?
+        .arg(single(
+            alloc,
             "site",
             "A file of what belongs to this site: names, and what these words say too",
-        ),
-        CommandWord::Flag(
+        ))?
+        .arg(flag(
+            alloc,
             "log-severity",
             "Begins each line of the log with how severe it is, as systemd's journal takes it",
-        ),
-    ];
-    with_words(alloc, command, &words)
+        ))
 }
 
 fn status<'a>(alloc: Global) -> Result<Command<'a>, AllocError>
     ensures { IfOk result (IsCommand line.status) }
 {
-    let command = Command::new(alloc, "status")
+    Command::new(alloc, "status")
         .about("Asks a live run how it stands, and ends as a monitor wants it")
-        .after_help(help::STATUS);
-    let words = [
-        CommandWord::Needed(
+        .after_help(help::STATUS)
+        .arg(word(
+            alloc,
             "PLACE",
             "Where the run can be looked at (`run --status`), as 127.0.0.1:8104",
-        ),
-        CommandWord::Flag("json", "Prints JSON in place of the table"),
-    ];
-    with_words(alloc, command, &words)
+        ))?
+        .arg(flag(alloc, "json", "Prints JSON in place of the table"))
 }
 
 fn state<'a>(alloc: Global) -> Result<Command<'a>, AllocError>
     ensures { IfOk result (IsCommand line.state) }
 {
-    let command = Command::new(alloc, "state")
+    Command::new(alloc, "state")
         .about("Shows what a run would go on with, and changes nothing")
-        .after_help(help::STATE);
-    let words = [
-        CommandWord::Needed(
+        .after_help(help::STATE)
+        .arg(word(
+            alloc,
             "DIR",
             "A directory in which a run keeps its state (`run --state`)",
-        ),
-        CommandWord::Further(
+        ))?
+        .arg(further_word(
+            alloc,
             "CONFIG",
             "A file of settings, to tell whether the state was kept under others",
-        ),
-    ];
-    with_words(alloc, command, &words)
+        ))
 }
 
 fn capture<'a>(alloc: Global) -> Result<Command<'a>, AllocError>
     ensures { IfOk result (IsCommand line.capture) }
 {
-    let command = Command::new(alloc, "capture")
+    Command::new(alloc, "capture")
         .about("Writes a recorded run as a capture (pcapng) that Wireshark reads")
-        .after_help(help::CAPTURE);
-    let words = [
-        CommandWord::Needed("CONFIG", "A file of settings"),
-        CommandWord::Needed("RECORD", "A file of events and actions, one a line"),
-    ];
-    with_words(alloc, command, &words)
+        .after_help(help::CAPTURE)
+        .arg(word(alloc, "CONFIG", "A file of settings"))?
+        .arg(word(alloc, "RECORD", "A file of events and actions, one a line"))
 }
 
 fn stations<'a>(alloc: Global) -> Result<Command<'a>, AllocError>
     ensures { IfOk result (IsCommand line.stations) }
 {
-    let command = Command::new(alloc, "stations")
+    Command::new(alloc, "stations")
         .about("Plays outstations in real time, as behind a serial device server")
-        .after_help(help::STATIONS);
-    let words = [
-        CommandWord::Needed(
+        .after_help(help::STATIONS)
+        .arg(word(
+            alloc,
             "CONFIG",
             "A file of settings, whose key `live.line` says where to listen",
-        ),
-        CommandWord::Needed("SCRIPT", "A file of reports and losses, one a line"),
-    ];
-    with_words(alloc, command, &words)
+        ))?
+        .arg(word(alloc, "SCRIPT", "A file of reports and losses, one a line"))
 }
 
 /// The program, of whose commands one has to be named.
