@@ -215,8 +215,8 @@ COMMAND = [
             "`connection cut: CAUSE`, `connection closed: CAUSE`",
         ]),
         ("Given up by a restart: it never goes out", [
-            "No answer. With `--state` the log of the start has",
-            "`waiting command of type T to C/O, given up at a start`",
+            "No answer, and no line. With `--state`:",
+            "`telegate state` shows it before the start.",
         ]),
     ]),
     ("It goes to the line", "box", [
@@ -245,9 +245,8 @@ COMMAND = [
             "`.. given up: station A doesn't answer`",
         ]),
         ("Given up by a restart: it may have taken it", [
-            "It isn't repeated. No answer. With `--state` the log has",
-            "`command without an answer of type T to C/O,`",
-            "`given up at a start`",
+            "It isn't repeated. No answer, and no line. With",
+            "`--state`: `telegate state` shows it before the start.",
         ]),
     ]),
     ("The station accepts it", "far", ["ACK or E5 on the line: no line of", "the log, no answer to the centre"], [
