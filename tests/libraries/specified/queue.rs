@@ -14,7 +14,10 @@ fn a_queue_of_three_places(rt: HostRuntime) -> Result<(), NoMemory> {
     // Of the ring only what is kept is left.
     let ring = events.into_ring();
     assert_eq!(rt; ring.len(), 1);
-    assert!(rt; ring.front().is_some_and(|piece| piece.as_slice() == POINT.as_slice()));
+    assert!(rt;
+        ring.front()
+            .is_some_and(|piece| piece.as_slice() == POINT.as_slice())
+    );
     Ok(())
 }
 

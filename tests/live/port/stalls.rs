@@ -99,9 +99,9 @@ fn a_stalled_request_has_its_whole_time(rt: HostRuntime) {
     ask(&rt, &mut port, 0);
     assert!(rt; matches!(next(&rt, &mut port), Next::Tick(999)));
     time.pass(200);
-    assert!(rt; matches!(next(&rt, &mut port), Next::Line(1400, 5)));
-    ask(&rt, &mut port, 1400);
-    assert!(rt; matches!(next(&rt, &mut port), Next::Tick(1500)));
+    assert!(rt; matches!(next(&rt, &mut port), Next::Line(1500, 5)));
+    ask(&rt, &mut port, 1500);
+    assert!(rt; matches!(next(&rt, &mut port), Next::Tick(1600)));
 }
 
 /// Ticks are 100 ms apart, but for the one that ends an exchange.
@@ -142,9 +142,9 @@ fn a_stall_is_no_late_answer(rt: HostRuntime) {
     // As in a write to the control centre: the answer that waits is read before anything else.
     let both = after_stalls(&rt, 170, 1200, 0);
     assert!(rt; matches!(both, (Next::Line(1200, 5), Next::Open(1200))));
-    // In the look at the line: its answer ends an exchange that still goes on, at the clock's moment.
+    // In the look at the line: its answer ends an exchange that still goes on.
     let both = after_stalls(&rt, 170, 0, 1200);
-    assert!(rt; matches!(both, (Next::Line(1200, 5), Next::Open(1200))));
+    assert!(rt; matches!(both, (Next::Line(1200, 5), Next::Tick(1201))));
     // No answer comes: the exchange ends once the line has been looked at that late.
     let both = after_stalls(&rt, 60000, 1200, 0);
     assert!(rt; matches!(both, (Next::Tick(1201), Next::Open(_))));
