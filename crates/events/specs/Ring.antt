@@ -1,5 +1,5 @@
 -- The ring that the pieces stand in, and how its cells hold them (profile).
-use Rattle.std.specs.Prelude.{ℕ, List, [], ◌∷◌, ◌++◌, take, drop}
+use Rattle.std.specs.Prelude.{ℕ, List, [], ◌∷◌, ◌++◌, drop}
 use Rattle.arrayvec.specs.ArrayVec.{ArrayVec}
 
 -- What contracts see of it: the pieces, oldest first, and how many there may be.
@@ -17,7 +17,3 @@ appended octets r = ring_of (r.items ++ record { items = octets } ∷ []) r.capa
 -- without the n oldest
 abbrev pub without_oldest : ℕ → Ring → Ring
 without_oldest n r = ring_of (drop n r.items) r.capacity
-
--- the pieces: so many cells, from the first one on
-abbrev pub pieces_in : List (ArrayVec ℕ) → (first count : ℕ) → List (ArrayVec ℕ)
-pieces_in cells first count = take count (drop first cells)

@@ -1,43 +1,40 @@
-//! The ring that the pieces stand in: the toolchain's, whose cells are made once and then written
-//! over.
+//! The ring that the pieces stand in: the toolchain's, whose cells are used again.
 //!
 //! A piece is written over one that has left, so only its own octets are written. Once all pieces
-//! have left, the next one goes to the first cell. So a queue that is nearly empty stays in the
-//! processor's cache (docs/DECISIONS.md, "Cells that are used again").
-ghost use Rattle.std.specs.Prelude.{◌≡◌, ◌+◌, ◌<◌, ◌≤◌, ℕ, List, [], ◌∷◌, length};
-ghost use Rattle.std.specs.Prelude.{slice_get, option_copied, IfOk, OnOk, OnErr};
+//! have left, the next one goes to the first of their cells. So a queue that is nearly empty stays
+//! in the processor's cache (docs/DECISIONS.md, "Cells that are used again").
+ghost use Rattle.std.specs.Prelude.{◌≡◌, ◌<◌, ◌≤◌, ℕ, List, [], ◌∷◌, ◌++◌, length};
+ghost use Rattle.std.specs.Prelude.{slice_get, option_copied, take, IfOk, OnOk, OnErr};
 ghost use Rattle.circular_buffer.specs.Buffer.{buffer};
-ghost use Rattle.events.specs.Ring.{ring_of, appended, without_oldest, pieces_in};
+ghost use Rattle.events.specs.Ring.{ring_of, appended, without_oldest};
 
 use asdu::{Piece, Translation};
 use circular_buffer::HeapCircularBuffer;
 use std::alloc::{AllocError, Global};
 use std::marker::Model;
 
-/// From this cell on one is made anew before it is written over: to look at what it held would wait
-/// for memory. The cells before it stay in the processor's cache.
-const FAR: usize = 1024;
+/// How many cells stay once all pieces have left. So many are in the processor's cache. To look at
+/// what one more held would wait for memory, and a cell that is made anew isn't looked at.
+const USED_AGAIN: usize = 1024;
 
 /// The pieces, oldest first, in a ring of cells.
 #[derive(Drop)]
 pub(crate) struct PieceRing {
-    /// Cells whose pieces have left, then those of the pieces, then cells to be written over.
+    /// The cells of the pieces, then cells to be written over.
     cells: HeapCircularBuffer<Piece>,
-    /// In which cell the oldest piece stands.
-    first: usize,
     /// How many pieces there are.
     count: usize,
 }
 
 impl Model for PieceRing {
-    ghost use Rattle.std.specs.Prelude.{◌+◌, ◌≤◌, length};
-    ghost use Rattle.events.specs.Ring.{Ring, ring_of, pieces_in};
+    ghost use Rattle.std.specs.Prelude.{◌≤◌, length, take};
+    ghost use Rattle.events.specs.Ring.{Ring, ring_of};
 
     ghost Value = { Ring };
 
-    ghost view = { λ r. ring_of (pieces_in r.cells.items r.first r.count) r.cells.capacity };
+    ghost view = { λ r. ring_of (take r.count r.cells.items) r.cells.capacity };
 
-    ghost invariant = { λ r. r.first + r.count ≤ length r.cells.items };
+    ghost invariant = { λ r. r.count ≤ length r.cells.items };
 }
 
 impl PieceRing {
@@ -46,11 +43,7 @@ impl PieceRing {
         ensures { IfOk result (λ r. r ≡ ring_of [] capacity) }
     {
         let cells = HeapCircularBuffer::with_capacity(alloc, capacity)?;
-        Ok(PieceRing {
-            cells,
-            first: 0,
-            count: 0,
-        })
+        Ok(PieceRing { cells, count: 0 })
     }
 
     /// How many pieces there are.
@@ -76,8 +69,7 @@ impl PieceRing {
         if index >= self.count {
             return None;
         }
-        prove!(index < self.cells.len() - self.first);
-        self.cells.get(self.first + index)
+        self.cells.get(index)
     }
 
     /// Appends a piece. There must be a place for it.
@@ -85,9 +77,9 @@ impl PieceRing {
         requires { length self.old.items < self.old.capacity }
         ensures { self.new ≡ appended piece.items self.old }
     {
-        self.first = reach(&mut self.cells, self.first, self.count);
-        prove!(self.count < self.cells.len() - self.first);
-        let Some(cell) = self.cells.get_mut(self.first + self.count) else {
+        reach(&mut self.cells, self.count);
+        prove!(self.count < self.cells.len());
+        let Some(cell) = self.cells.get_mut(self.count) else {
             unreachable!();
         };
         *cell = piece;
@@ -102,31 +94,27 @@ impl PieceRing {
         ensures { (octets : List ℕ) × (self.new ≡ appended octets self.old)
             × (left.old ≡ octets ∷ left.new) }
     {
-        self.first = reach(&mut self.cells, self.first, self.count);
-        prove!(self.count < self.cells.len() - self.first);
-        let place = self.first + self.count;
-        let Some(cell) = self.cells.get_mut(place) else {
+        reach(&mut self.cells, self.count);
+        prove!(self.count < self.cells.len());
+        let Some(cell) = self.cells.get_mut(self.count) else {
             unreachable!();
         };
-        if place >= FAR {
-            *cell = Piece::new();
-        }
         left.write_next(cell);
         self.count += 1;
     }
 
-    /// Removes so many of the oldest pieces. Their cells stay.
+    /// Removes so many of the oldest pieces. If all leave, their cells stay.
     pub(crate) fn remove_oldest(&mut self, count: usize)
         requires { count ≤ length self.old.items }
         ensures { self.new ≡ without_oldest count self.old }
     {
-        prove!(self.count <= self.cells.len() - self.first);
-        self.count -= count;
-        self.first = if self.count == 0 {
-            0
+        if count < self.count {
+            let others = self.cells.len() - count;
+            self.cells.truncate_front(others);
         } else {
-            self.first + count
-        };
+            self.cells.truncate_back(USED_AGAIN);
+        }
+        self.count -= count;
     }
 
     /// Has so many places from now on, no fewer than before. Memory is taken for them; where there
@@ -144,53 +132,31 @@ impl PieceRing {
     pub(crate) fn into_buffer(self) -> HeapCircularBuffer<Piece>
         ensures { result ≡ buffer self.items self.capacity }
     {
-        let PieceRing {
-            mut cells,
-            first,
-            count,
-        } = self;
-        prove!(count <= cells.len() - first);
-        cells.truncate_back(first + count);
-        cells.truncate_front(count);
+        let PieceRing { mut cells, count } = self;
+        cells.truncate_back(count);
         cells
     }
 }
 
-/// Has a cell behind the pieces, for which there must be a place. Answers in which cell the oldest
-/// piece stands then.
+/// Has a cell behind the so many pieces, for which there must be a place.
 #[inline(always)]
-fn reach(cells: &mut HeapCircularBuffer<Piece>, first: usize, count: usize) -> usize
-    requires pieces { first + count ≤ length cells.old.items }
+fn reach(cells: &mut HeapCircularBuffer<Piece>, count: usize)
+    requires pieces { count ≤ length cells.old.items }
     requires room { count < cells.old.capacity }
-    ensures pieces { pieces_in cells.new.items result count
-        ≡ pieces_in cells.old.items first count }
-    ensures cell { result + count < length cells.new.items }
+    ensures pieces { take count cells.new.items ≡ take count cells.old.items }
+    ensures cell { count < length cells.new.items }
     ensures capacity { cells.new.capacity ≡ cells.old.capacity }
 {
-    if count < cells.len() - first {
-        first
-    } else {
-        add_cell(cells, first, count)
+    if count == cells.len() {
+        add_cell(cells);
     }
 }
 
-/// Adds an empty cell behind the pieces, which stand in the last cells. Where there is no room for
-/// one, the cells before the pieces go.
+/// Adds an empty cell, for which there must be a place.
 #[inline(never)]
-fn add_cell(cells: &mut HeapCircularBuffer<Piece>, first: usize, count: usize) -> usize
-    requires pieces { first + count ≡ length cells.old.items }
-    requires room { count < cells.old.capacity }
-    ensures pieces { pieces_in cells.new.items result count
-        ≡ pieces_in cells.old.items first count }
-    ensures cell { result + count < length cells.new.items }
-    ensures capacity { cells.new.capacity ≡ cells.old.capacity }
+fn add_cell(cells: &mut HeapCircularBuffer<Piece>)
+    requires { length cells.old.items < cells.old.capacity }
+    ensures { cells.new ≡ buffer (cells.old.items ++ record { items = [] } ∷ []) cells.old.capacity }
 {
-    let first = if cells.len() < cells.capacity() {
-        first
-    } else {
-        cells.truncate_front(count);
-        0
-    };
     let _ = cells.try_push_back(Piece::new());
-    first
 }

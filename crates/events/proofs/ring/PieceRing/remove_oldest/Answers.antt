@@ -1,24 +1,37 @@
-use Rattle.std.proofs.Common.{◌≡◌, ◌≤◌, ◌-◌, length, drop, ap, ◌∙◌, arith, length-take}
-use Rattle.events.specs.Ring.{Ring, ring_of, without_oldest, pieces_in}
-use Rattle.events.proofs.Cells.{left_there, none_left}
+use Rattle.std.proofs.Common.{◌≡◌, ◌≤◌, ◌-◌, length, take, ap, ◌∙◌, arith, length-take}
+use Rattle.circular_buffer.specs.Buffer.{Buffer}
+use Rattle.events.specs.Ring.{Ring, ring_of, without_oldest}
+use Rattle.events.proofs.Cells.{left_there, none_left, others_kept}
 use Rattle.events.proofs.ring.PieceRing.remove_oldest.Goals as goal
-use Rattle.events.proofs.ring.PieceRing.remove_oldest.Goals.{then-self-eq0, else-self-eq0}
+use Rattle.events.proofs.ring.PieceRing.remove_oldest.Goals.{then-count-self, else-count-self}
 
 pub returns : goal.returns
 returns c =
     let e = c.self.inside in
     let n = c.args.count in
     let cells = e.cells.items in
+    let after = c.if-count-self.self-inside in
+    let within = c.self.invariant in
     let all = ap (λ (r : Ring). length r.items) c.self.view_is in
-    let le : n ≤ e.count =
-    omega (arith, c.requires, length-take e.count (drop e.first cells)) in
-    let left : pieces_in cells c.if-self-eq0.self (e.count - n)
-    ≡ drop n (pieces_in cells e.first e.count) =
-    elim c.if-self-eq0.branch [
-      | then-self-eq0 w ↦ ap (λ k. pieces_in cells k (e.count - n)) w.self-is
-          ∙ none_left cells e.first e.count n le (omega arith)
-      | else-self-eq0 w ↦ ap (λ k. pieces_in cells k (e.count - n)) w.self-is
-          ∙ left_there cells e.first e.count n le
+    let le : n ≤ e.count = omega (arith, c.requires, length-take e.count cells) in
+    let left : ring_of (take (after.count - n) after.cells.items) after.cells.capacity
+    ≡ without_oldest n (ring_of (take e.count cells) e.cells.capacity) =
+    elim c.if-count-self.branch [
+      | then-count-self w ↦
+          ap (λ (i : _). ring_of (take (i.count - n) i.cells.items) i.cells.capacity)
+          w.self-inside-is
+          ∙ ap (λ (b : Buffer _). ring_of (take (e.count - n) b.items) b.capacity)
+          w.truncate_front.ensures
+          ∙ ap (λ xs. ring_of (take (e.count - n) xs) e.cells.capacity)
+          (others_kept cells n (w.len.result - n) (omega (arith, le, within))
+          (ap (λ k. k - n) w.len.ensures.len))
+          ∙ ap (λ xs. ring_of xs e.cells.capacity) (left_there cells e.count n le)
+      | else-count-self w ↦
+          ap (λ (i : _). ring_of (take (i.count - n) i.cells.items) i.cells.capacity)
+          w.self-inside-is
+          ∙ ap (λ (b : Buffer _). ring_of (take (e.count - n) b.items) b.capacity)
+          w.truncate_back.ensures
+          ∙ ap (λ xs. ring_of xs e.cells.capacity)
+          (none_left _ cells e.count n le (omega (arith, w.if-count-self.false)))
     ] in
-    ap (λ xs. ring_of xs e.cells.capacity) left
-    ∙ ap (λ (r : Ring). without_oldest n r) c.self.view_is
+    left ∙ ap (λ (r : Ring). without_oldest n r) c.self.view_is
