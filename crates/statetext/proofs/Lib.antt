@@ -1,3 +1,5 @@
 pub mod TextLemmas
 pub mod Rotten
 pub mod OneText
+pub mod Seals
+pub mod Sealing
