@@ -4,6 +4,7 @@ pub mod Zeroed
 pub mod Segment
 pub mod Head
 pub mod Writer
+pub mod Room
 pub mod Starts
 pub mod Found
 pub mod Crashes

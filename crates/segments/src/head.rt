@@ -20,6 +20,8 @@ pub struct SegmentHead {
     pub octets: u64,
     /// The sum CRC-32 of these.
     pub sum: u32,
+    /// Each write behind the checkpoint has its seal. Those of older versions have none.
+    pub is_sealed: bool,
 }
 
 /// The text of the line, and how long it is.
@@ -36,7 +38,9 @@ pub(crate) fn print(alloc: Global, head: &SegmentHead) -> Result<Vec<u8>, AllocE
 fn spell(alloc: Global, head: &SegmentHead) -> Result<Vec<u8>, AllocError>
     ensures { IfOk result (λ row. row.items ≡ head_of head.now) }
 {
-    let mut row = Vec::from_slice(alloc, b"telegate state 1 rules 1 segment ")?;
+    let mut row = Vec::from_slice(alloc, b"telegate state 1 rules ")?;
+    row.push(if head.is_sealed { b'2' } else { b'1' })?;
+    row.extend_from_slice(b" segment ")?;
     put_hexadecimal(&mut row, &head.number.to_be_bytes())?;
     row.extend_from_slice(b" octets ")?;
     put_hexadecimal(&mut row, &head.octets.to_be_bytes())?;
@@ -99,6 +103,7 @@ pub(crate) fn parse(alloc: Global, text: &[u8]) -> Result<Option<SegmentHead>, A
         number,
         octets,
         sum,
+        is_sealed: text[23] == b'2',
     };
     // Printed anew, since the digits are read in either case and a head has one text.
     let row = print(alloc, &head)?;

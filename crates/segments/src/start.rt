@@ -7,19 +7,20 @@ ghost use Rattle.std.specs.Prelude.{drop, length, take, position, IsTrue, IfOk, 
 ghost use Rattle.std.specs.Prelude.{IfSome};
 ghost use Rattle.std.specs.Prelude.{if◌then◌else◌};
 ghost use Rattle.sqlite_disk.specs.Disk.{Holds};
-ghost use Rattle.segments.specs.Head.{Fits};
+ghost use Rattle.segments.specs.Head.{Fits, head_of};
+ghost use Rattle.segments.specs.Room.{before_zero, damage_in, log_in};
 ghost use Rattle.segments.specs.Starts.{ArePlaced, BeginsNewer, FitsIn, HasNoNewer, HasNone};
 ghost use Rattle.segments.specs.Starts.{IsAbove};
 ghost use Rattle.segments.specs.Starts.{IsBacked, IsBackedBy, IsBelow, IsFoundIn, IsWholeIn};
-ghost use Rattle.segments.specs.Starts.{IsHeadIn, IsNewest, IsNext, IsShut, IsSound, before_zero};
+ghost use Rattle.segments.specs.Starts.{IsHeadIn, IsNewest, IsNext, IsShut, IsSound};
 ghost use Rattle.segments.specs.Starts.{is_shut, may_have_newer, number_in, other_side};
 ghost use Rattle.statetext.specs.Sum.{sum_of};
 
 use crate::SegmentFault;
-use crate::gate::HEAD;
-use crate::head::{SegmentHead, parse};
+use crate::gate::{BLOCK, HEAD};
+use crate::head::{SegmentHead, parse, print};
 use sqlite_disk::{Disk, Files};
-use statetext::Sum;
+use statetext::{Sum, read_sealed};
 use std::alloc::Global;
 
 /// How many octets are read at once.
@@ -81,20 +82,16 @@ pub(crate) fn front_at<D: Disk>(alloc: Global, file: &mut D) -> Result<FileFront
     if octets < 2 {
         return Ok(FileFront::Shut);
     }
-    let mut first = [0];
-    if file.read_at(0, &mut first).is_err() {
+    let mut row = [0; HEAD];
+    if file.read_at(0, &mut row[..octets.min(HEAD)]).is_err() {
         return Err(SegmentFault::Device);
     }
     // This octet is written last: with 0 there the segment was never finished, or the file is shut.
-    if first[0] == 0 {
+    if row[0] == 0 {
         return Ok(FileFront::Shut);
     }
     if octets < HEAD {
         return Ok(FileFront::Other);
-    }
-    let mut row = [0; HEAD];
-    if file.read_at(0, &mut row).is_err() {
-        return Err(SegmentFault::Device);
     }
     match parse(alloc, &row) {
         Ok(Some(head)) => Ok(FileFront::Head(head)),
@@ -250,6 +247,53 @@ fn place_of_zero(text: &[u8]) -> Option<usize>
     text.iter().position(|octet| *octet == 0)
 }
 
+/// The lines behind a checkpoint.
+#[derive(Drop)]
+pub struct FoundLog {
+    /// The lines of the writes that are whole, one behind another, without the seals.
+    pub lines: Vec<u8>,
+    /// The octet of the file from which on nothing is read, if that is for damage: no crash leaves
+    /// what stands there, or the file was cut.
+    pub damage: Option<usize>,
+}
+
+/// Reads the text behind a checkpoint that ends at this place of a file.
+fn log_behind(
+    alloc: Global,
+    head: &SegmentHead,
+    at: usize,
+    text: Vec<u8>,
+) -> Result<FoundLog, SegmentFault>
+    requires { at + length text.items < 2 ^ 64 }
+    ensures lines { (file : List ℕ) → Holds file 0 (head_of head.now) → text.items ≡ drop at file →
+        IfOk result (λ log. log.lines.items ≡ log_in at file) }
+    ensures damage { (file : List ℕ) → Holds file 0 (head_of head.now) →
+        text.items ≡ drop at file → IfOk result (λ log. log.damage ≡ damage_in at file) }
+{
+    let mut text = text;
+    if !head.is_sealed {
+        cut_at_zero(&mut text);
+        return Ok(FoundLog {
+            lines: text,
+            damage: None,
+        });
+    }
+    let Ok(row) = print(alloc, head) else {
+        return Err(SegmentFault::NoMemory);
+    };
+    let mut sum = Sum::new();
+    sum.add(&row);
+    let Ok(read) = read_sealed(alloc, sum, &text) else {
+        return Err(SegmentFault::NoMemory);
+    };
+    let is_cut = text.is_empty() || text.len() % BLOCK != 0;
+    let is_damaged = read.is_damaged || is_cut;
+    Ok(FoundLog {
+        lines: read.lines,
+        damage: is_damaged.then_some(at + read.end),
+    })
+}
+
 /// A checkpoint, and the first line before it.
 #[derive(Drop)]
 pub struct FoundHead {
@@ -265,6 +309,8 @@ pub struct Start<D: Disk> {
     other: D,
     /// Where the newest segment stands.
     side: Side,
+    /// How its file begins.
+    front: FileFront,
     /// Its checkpoint, until it is taken.
     checkpoint: Option<FoundHead>,
     /// Where the lines behind it begin.
@@ -275,6 +321,7 @@ pub struct Start<D: Disk> {
     is_doubtful: bool,
     ghost usable: { IsTrue (D.Disk.is_usable newest) },
     ghost other_usable: { IsTrue (D.Disk.is_usable other) },
+    ghost begins: { IsTrue (D.Disk.is_clean newest) → IsHeadIn (D.Disk.seen newest) front },
     ghost stands: { ForSome checkpoint (λ c. (at ≡ 87 + length c.text.items)
         × (IsTrue (D.Disk.is_clean newest) →
         IsFoundIn (D.Disk.seen newest) c.head c.text.items)) },
@@ -513,19 +560,20 @@ impl<D: Disk + Drop> Start<D> {
         let (mut newer, mut older) = (newer, older);
         if let Some(found) = found_in(alloc, &mut newer, front)? {
             let is_doubtful = may_have_newer(found.head.number, other_front);
-            return Start::made(newer, older, side, Some(found), number, is_doubtful);
+            return Start::made(newer, front, older, side, Some(found), number, is_doubtful);
         }
         let side = side.other();
         if let Some(found) = found_in(alloc, &mut older, other_front)? {
             let is_doubtful = may_have_newer(found.head.number, front);
-            return Start::made(older, newer, side, Some(found), number, is_doubtful);
+            return Start::made(older, other_front, newer, side, Some(found), number, is_doubtful);
         }
         let is_doubtful = !are_shut(front, other_front);
-        Start::made(older, newer, side, None, number, is_doubtful)
+        Start::made(older, other_front, newer, side, None, number, is_doubtful)
     }
 
     fn made(
         newest: D,
+        front: FileFront,
         other: D,
         side: Side,
         checkpoint: Option<FoundHead>,
@@ -534,6 +582,7 @@ impl<D: Disk + Drop> Start<D> {
     ) -> Result<Start<D>, SegmentFault>
         requires newest { IsTrue (D.Disk.is_usable newest) }
         requires other { IsTrue (D.Disk.is_usable other) }
+        requires head { IsTrue (D.Disk.is_clean newest) → IsHeadIn (D.Disk.seen newest) front }
         requires stands { IfSome checkpoint (λ c. IsTrue (D.Disk.is_clean newest) →
             IsFoundIn (D.Disk.seen newest) c.head c.text.items) }
         ensures newest { IfOk result (λ s. newest_of s ≡ newest) }
@@ -554,6 +603,7 @@ impl<D: Disk + Drop> Start<D> {
             newest,
             other,
             side,
+            front,
             checkpoint,
             at,
             number,
@@ -563,7 +613,8 @@ impl<D: Disk + Drop> Start<D> {
 }
 
 impl<D: Disk> Start<D> {
-    ghost use Rattle.segments.specs.Found.{begins_at, events_in, newest_of, next_of, other_of};
+    ghost use Rattle.segments.specs.Found.{begins_at, damage_of, events_in, newest_of, next_of};
+    ghost use Rattle.segments.specs.Found.{other_of};
 
     /// Whether a segment was found, and its checkpoint wasn't taken yet.
     pub fn is_found(&self) -> bool
@@ -609,12 +660,20 @@ impl<D: Disk> Start<D> {
         self.checkpoint.take()
     }
 
-    /// The octets behind the checkpoint, up to the first octet 0 or the file's end: the lines that
-    /// were appended, and what a crash left of one.
-    #[tactic(auto, using(crate::proofs::HeldLemmas::read_rest))]
-    pub fn events(&mut self, alloc: Global) -> Result<Vec<u8>, SegmentFault>
-        ensures text { IfOk result (λ text. IsTrue (D.Disk.is_clean (newest_of self.new)) →
-            text.items ≡ events_in self.new) }
+    /// The lines behind the checkpoint, up to the first write that isn't whole, and where they end
+    /// for damage. A log of an older version, whose writes have no seals, is read up to its first
+    /// octet 0.
+    ///
+    /// What a crash leaves of the last write is no damage, and its lines aren't read. So damage
+    /// that can't be told from that isn't seen: the last write is spoilt so that a part of it reads
+    /// as zeros, or its seal's first octet is another; or all from some write on reads as zeros.
+    ///
+    /// The octets are read once at each call. An `Err` is `Device` if no segment was found, too.
+    pub fn log(&mut self, alloc: Global) -> Result<FoundLog, SegmentFault>
+        ensures text { IfOk result (λ log. IsTrue (D.Disk.is_clean (newest_of self.new)) →
+            log.lines.items ≡ events_in self.new) }
+        ensures damage { IfOk result (λ log. IsTrue (D.Disk.is_clean (newest_of self.new)) →
+            log.damage ≡ damage_of self.new) }
         ensures seen { D.Disk.seen (newest_of self.new) ≡ D.Disk.seen (newest_of self.old) }
         ensures clean { IsTrue (D.Disk.is_clean (newest_of self.new)) →
             IsTrue (D.Disk.is_clean (newest_of self.old)) }
@@ -623,9 +682,14 @@ impl<D: Disk> Start<D> {
         ensures other { other_of self.new ≡ other_of self.old }
         ensures next { next_of self.new ≡ next_of self.old }
     {
-        let mut text = rest_at(alloc, &mut self.newest, self.at)?;
-        cut_at_zero(&mut text);
-        Ok(text)
+        let FileFront::Head(head) = self.front else {
+            return Err(SegmentFault::Device);
+        };
+        let text = rest_at(alloc, &mut self.newest, self.at)?;
+        if self.at.checked_add(text.len()).is_none() {
+            return Err(SegmentFault::Device);
+        }
+        log_behind(alloc, &head, self.at, text)
     }
 
     /// The two files: that of the segment that was found, and the one for the next segment.

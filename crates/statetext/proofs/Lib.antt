@@ -3,3 +3,4 @@ pub mod Rotten
 pub mod OneText
 pub mod Seals
 pub mod Sealing
+pub mod Reading

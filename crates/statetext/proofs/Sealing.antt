@@ -280,3 +280,157 @@ rows head (lines ∷ writes) place (suc fuel) tail are enough =
           ∙ ap (λ (n : ℕ). lines ∷ (writes ++ writes_by more head n tail (front_in head n tail)))
           end,
     )
+
+pub sealed_more : (head : List ℕ) (writes : List (List ℕ)) (place : ℕ) (lines : List ℕ)
+    → sealed_from head place (writes ++ lines ∷ [])
+    ≡ sealed_from head place writes ++ (lines ++ seal_of head
+    (place + length (sealed_from head place writes)) lines)
+sealed_more head [] place lines =
+    let same : place ≡ place + 0 = omega arith in
+    append-nil (lines ++ seal_of head place lines)
+    ∙ ap (λ (n : ℕ). lines ++ seal_of head n lines) same
+sealed_more head (first ∷ writes) place lines =
+    let next : ℕ = place + (length first + 27) in
+    let others : List ℕ = sealed_from head next writes in
+    let front : List ℕ = first ++ seal_of head place first in
+    let end : next + length others ≡ place + length (front ++ others) =
+    omega (
+      arith,
+      length-append front others,
+      length-append first (seal_of head place first),
+      seal_length head place first,
+    ) in
+    ap (λ (l : List ℕ). front ++ l) (sealed_more head writes next lines)
+    ∙ ap (λ (n : ℕ). front ++ (others ++ (lines ++ seal_of head n lines))) end
+    ∙ sym (append_assoc front others
+    (lines ++ seal_of head (place + length (front ++ others)) lines))
+
+-- What the front of a text is
+
+pub record IsWhole (head : List ℕ) (place : ℕ) (text : List ℕ) (n : ℕ) : Type 0 where
+  pub first : position (λ c. c == 33) text ≡ Some n
+  pub some : list_any (λ c. c == 0) (take n text) ≡ false
+  pub starts : starts_with ◌==◌ (drop n text) (seal_of head place (take n text)) ≡ true
+
+never_torn : (b : Bool) (n : ℕ) → torn_if b ≡ fronts.Whole n → ⊥
+never_torn true n is = absurd (cc)
+never_torn false n is = absurd (cc)
+
+same_whole : (m n : ℕ) → fronts.Whole m ≡ fronts.Whole n → m ≡ n
+same_whole m n is = cc
+
+module _ (head : List ℕ) (place : ℕ) (text : List ℕ) (n : ℕ) where
+  opened : (o : Option ℕ) → position (λ c. c == 33) text ≡ o
+      → front_by head place text o ≡ fronts.Whole n → IsWhole head place text n
+  opened None first is = absurd (cc)
+  opened (Some m) first is = by_zero (list_any (λ c. c == 0) (take m text)) refl is
+    where
+      by_starts : (b : Bool) → starts_with ◌==◌ (drop m text) (seal_of head place (take m text)) ≡ b
+          → list_any (λ c. c == 0) (take m text) ≡ false
+          → (if b then fronts.Whole m
+          else torn_if (may_be (seal_of head place (take m text)) (drop m text))) ≡ fronts.Whole n
+          → IsWhole head place text n
+      by_starts true starts some is =
+          let same : m ≡ n = same_whole m n is in
+          subst (IsWhole head place text) same
+          (record { first = first; some = some; starts = starts })
+      by_starts false starts some is =
+          absurd (never_torn (may_be (seal_of head place (take m text)) (drop m text)) n is)
+
+      by_zero : (b : Bool) → list_any (λ c. c == 0) (take m text) ≡ b
+          → (if b then torn_if (may_be (mark_of place) (drop m text))
+          else if starts_with ◌==◌ (drop m text) (seal_of head place (take m text))
+          then fronts.Whole m
+          else torn_if (may_be (seal_of head place (take m text)) (drop m text))) ≡ fronts.Whole n
+          → IsWhole head place text n
+      by_zero true lost is = absurd (never_torn (may_be (mark_of place) (drop m text)) n is)
+      by_zero false some is =
+          by_starts (starts_with ◌==◌ (drop m text) (seal_of head place (take m text))) refl some is
+
+  pub is_whole : front_in head place text ≡ fronts.Whole n → IsWhole head place text n
+  unfolding front_in
+  is_whole is = opened (position (λ c. c == 33) text) refl is
+
+  module _ (whole : front_in head place text ≡ fronts.Whole n) where
+    starts_so : drop n text ≡ seal_of head place (take n text) ++ drop 27 (drop n text)
+    starts_so =
+        (starts_is Decides-eqb (drop n text) (seal_of head place (take n text)) _ refl).0
+        (is_whole whole).starts
+        ∙ ap (λ (k : ℕ). seal_of head place (take n text) ++ drop k (drop n text))
+        (seal_length head place (take n text))
+
+    n_within : n < length text
+    n_within = (position-Some (λ c. c == 33) text n 0 (is_whole whole).first).0
+
+    pub n_length : length (take n text) ≡ n
+    n_length = length-take-le n text (omega (arith, n_within))
+
+    pub fits_in : n + 27 ≤ length text
+    fits_in = omega (
+      arith,
+      n_within,
+      length-drop n text,
+      ap length starts_so,
+      length-append (seal_of head place (take n text)) (drop 27 (drop n text)),
+      seal_length head place (take n text),
+    )
+
+    pub split_so : text ≡ take n text ++ seal_of head place (take n text) ++ drop (n + 27) text
+    split_so =
+        sym (take-append-drop n text)
+        ∙ ap (λ (l : List ℕ). take n text ++ l) (starts_so
+        ∙ ap (λ (l : List ℕ). seal_of head place (take n text) ++ l) (drop-drop 27 n text))
+        ∙ sym (append_assoc (take n text) (seal_of head place (take n text)) (drop (n + 27) text))
+
+    pub lines_are : AreLines (take n text)
+    lines_are i lt = (
+      λ zero. not_both (list_any_at (λ c. c == 0) (take n text) i 0 lt
+          (is_it (get_or (take n text) i 0) 0 zero)) (is_whole whole).some,
+      λ mark.
+          let below : i < n = omega (arith, lt, n_length) in
+          not_both (is_it (get_or text i 0) 33 (sym (get_or-take n text i 0 below) ∙ mark))
+          ((position-Some (λ c. c == 33) text n 0 (is_whole whole).first).2 i below),
+    )
+      where
+        not_both : {b : Bool} → b ≡ true → b ≡ false → ⊥
+        not_both is isnt = let never : true ≡ false = sym is ∙ isnt in absurd (cc)
+
+-- the whole beginning is what stands there
+pub rows_stand : (fuel : ℕ) (head : List ℕ) (place : ℕ) (text : List ℕ) (front : Front)
+    → front_in head place text ≡ front
+    → AreWrites (writes_by fuel head place text front)
+    × (text ≡ sealed_from head place (writes_by fuel head place text front)
+    ++ drop (length (sealed_from head place (writes_by fuel head place text front))) text)
+rows_stand fuel head place text fronts.Torn is = (tt, refl)
+rows_stand fuel head place text fronts.Damaged is = (tt, refl)
+rows_stand zero head place text (fronts.Whole n) is = (tt, refl)
+rows_stand (suc fuel) head place text (fronts.Whole n) is =
+    let next : ℕ = place + (n + 27) in
+    let rest : List ℕ = drop (n + 27) text in
+    let lines : List ℕ = take n text in
+    let front : List ℕ = lines ++ seal_of head place lines in
+    let more : List (List ℕ) = writes_by fuel head next rest (front_in head next rest) in
+    let (are, stands) = rows_stand fuel head next rest (front_in head next rest) refl in
+    let at_next : next ≡ place + (length lines + 27) =
+    ap (λ (k : ℕ). place + (k + 27)) (sym (n_length head place text n is)) in
+    let others : List ℕ = sealed_from head (place + (length lines + 27)) more in
+    let sized : length front ≡ n + 27 = omega (
+      arith,
+      length-append lines (seal_of head place lines),
+      seal_length head place lines,
+      n_length head place text n is,
+    ) in
+    let whole : text ≡ front ++ (others ++ drop (length others) rest) =
+    split_so head place text n is
+    ∙ ap (λ (l : List ℕ). front ++ l) (subst (λ (k : ℕ). rest ≡ sealed_from head k more
+    ++ drop (length (sealed_from head k more)) rest) at_next stands) in
+    let left : drop (length others) rest ≡ drop (length (front ++ others)) text =
+    drop-drop (length others) (n + 27) text
+    ∙ ap (λ (k : ℕ). drop k text)
+    (let e : n + 27 + length others ≡ length (front ++ others) =
+    omega (arith, sized, length-append front others) in e) in
+    (
+      (lines_are head place text n is, are),
+      whole ∙ sym (append_assoc front others (drop (length others) rest))
+          ∙ ap (λ (l : List ℕ). front ++ others ++ l) left,
+    )

@@ -1,5 +1,5 @@
 //! Writes that bear their seals, so that a text shows where it has rotted or was cut.
-ghost use Rattle.std.specs.Prelude.{◌≡◌, ◌==◌, ◌*◌, ℕ, List, length, take, drop, position, IfOk};
+ghost use Rattle.std.specs.Prelude.{◌≡◌, ◌==◌, ◌+◌, ◌*◌, ◌≤◌, ℕ, List, length, take, drop, position, IfOk};
 ghost use Rattle.std.specs.List.{concat, list_any, starts_with};
 ghost use Rattle.hex.specs.Hex.{encode_lower};
 ghost use Rattle.statetext.specs.Sealed.{end_in, front_in, is_damaged, is_damaged_in, is_left};
@@ -109,8 +109,9 @@ fn place_of_mark(text: &[u8]) -> Option<usize>
 
 /// How a text begins. The sum is that of the first line before it.
 fn front_in(sum: Sum, place: u64, text: &[u8]) -> Front
-    ensures { (head : List ℕ) → sum.remainder ≡ remainder_after 0xffffffff head →
+    ensures front { (head : List ℕ) → sum.remainder ≡ remainder_after 0xffffffff head →
         result ≡ front_in head place text.now }
+    ensures fits { (n : ℕ) → result ≡ Front.Whole n → n + 27 ≤ length text.now }
 {
     let Some(n) = place_of_mark(text) else {
         return Front::Torn;
