@@ -1,8 +1,8 @@
 -- What a start finds where there was a crash (profile).
-use Rattle.std.specs.Prelude.{◌≡◌, ◌⊎◌, ℕ, ◌+◌, ◌*◌, ◌<◌, ◌≤◌, List, ◌++◌, length, Option}
+use Rattle.std.specs.Prelude.{◌≡◌, ◌⊎◌, true, ℕ, ◌+◌, ◌-◌, ◌<◌, ◌≤◌, List, ◌++◌, length, Option}
 use Rattle.segments.specs.Crash.{BeginsWith, HasLength, HasText}
 use Rattle.segments.specs.Head.{Fits, head_for, head_of, whole_text}
-use Rattle.segments.specs.Room.{damage_in, log_in}
+use Rattle.segments.specs.Room.{are_blocks, damage_in, log_in}
 use Rattle.segments.specs.Starts.{IsBacked, IsFoundIn, IsShut}
 use Rattle.statetext.specs.Sealed.{AreWrites, sealed_text}
 use Rattle.segments.specs.declared.head.SegmentHead.{SegmentHead}
@@ -13,15 +13,15 @@ log_text number body writes =
     whole_text number body ++ sealed_text (head_of (head_for number body)) writes
 
 -- Whatever a crash leaves of a segment's file: the segment has this number and this checkpoint, and
--- behind that these writes, which are synced. The file is so many blocks longer than the checkpoint.
+-- behind that these writes, which are synced. The file goes on for whole blocks behind it.
 pub record Survives (outcomes : List ℕ → Type 0) (number : ℕ) (body : List ℕ)
     (writes : List (List ℕ)) : Type 0 where
   pub fits : Fits (head_for number body)
   pub are : AreWrites writes
-  pub blocks : ℕ
-  pub some : 0 < blocks
-  pub long : HasLength outcomes (87 + length body + blocks * 4096)
-  pub room : length (log_text number body writes) ≤ 87 + length body + blocks * 4096
+  pub size : ℕ
+  pub long : HasLength outcomes size
+  pub blocks : are_blocks (size - (87 + length body)) ≡ true
+  pub room : length (log_text number body writes) ≤ size
   pub kept : BeginsWith outcomes (length (log_text number body writes))
       (log_text number body writes)
 

@@ -1,3 +1,4 @@
+pub mod Contents
 pub mod Crash
 pub mod Written
 pub mod Zeroed

@@ -20,15 +20,15 @@ module _ {D : Type 0} {g : Ghosts D} where
 
   -- its checkpoint
   abbrev pub body_of : Segment D g → List ℕ
-  body_of s = s.written.body
+  body_of s = s.written.has.body
 
   -- the writes behind that, which are synced
   abbrev pub writes_of : Segment D g → List (List ℕ)
-  writes_of s = s.written.writes
+  writes_of s = s.written.has.writes
 
   -- the lines that were appended behind the last seal
   abbrev pub open_of : Segment D g → List ℕ
-  open_of s = s.written.lines
+  open_of s = s.written.has.lines
 
   -- how many octets its text has: all of these, and the seals
   abbrev pub octets_of : Segment D g → ℕ
@@ -44,7 +44,7 @@ module _ {D : Type 0} {g : Ghosts D} where
 
   -- what stays the same as lines come
   abbrev pub fixed_of : Segment D g → ℕ × List ℕ × ℕ
-  fixed_of s = (s.number, s.written.body, s.size)
+  fixed_of s = (s.number, s.written.has.body, s.size)
 
   abbrev pub is_open : Segment D g → Bool
   is_open s = s.is_open

@@ -37,19 +37,19 @@ pub fn a_start_finds_what_was_synced<D: Disk>()
         D.Disk.may_leave mine c →
         (more : List ℕ) × (lines_behind body c ≡ concat writes ++ more) }
     ensures no_other { (mine : D) (number : ℕ) (body : List ℕ) (writes : List (List ℕ))
-        (open c : List ℕ) → Survives (D.Disk.may_leave mine) number body writes →
-        AreLines open →
-        HasNoOther (D.Disk.may_leave mine) (log_text number body (writes ++ open ∷ [])) →
+        (late c : List ℕ) → Survives (D.Disk.may_leave mine) number body writes →
+        AreLines late →
+        HasNoOther (D.Disk.may_leave mine) (log_text number body (writes ++ late ∷ [])) →
         D.Disk.may_leave mine c → (lines_behind body c ≡ concat writes)
-        ⊎ (lines_behind body c ≡ concat writes ++ open) }
+        ⊎ (lines_behind body c ≡ concat writes ++ late) }
 {}
 
 /// What a crash leaves of a write that wasn't synced is no damage: where it leaves each octet old,
 /// which is 0, or new, also of the seal.
 pub fn a_torn_write_is_no_damage<D: Disk>()
-    ensures { (mine : D) (number : ℕ) (body : List ℕ) (writes : List (List ℕ)) (open c : List ℕ) →
-        Survives (D.Disk.may_leave mine) number body writes → AreLines open →
-        HasNoOther (D.Disk.may_leave mine) (log_text number body (writes ++ open ∷ [])) →
+    ensures { (mine : D) (number : ℕ) (body : List ℕ) (writes : List (List ℕ)) (late c : List ℕ) →
+        Survives (D.Disk.may_leave mine) number body writes → AreLines late →
+        HasNoOther (D.Disk.may_leave mine) (log_text number body (writes ++ late ∷ [])) →
         D.Disk.may_leave mine c → damage_behind body c ≡ None }
 {}
 

@@ -1,5 +1,5 @@
 //! The segment whose lines are appended.
-ghost use Rattle.std.specs.Prelude.{◌≡◌, ◌≢◌, ◌+◌, ◌*◌, ◌<◌, ◌≤◌, ◌^◌, ◌∷◌, ◌++◌, ℕ, List, []};
+ghost use Rattle.std.specs.Prelude.{◌≡◌, ◌+◌, ◌-◌, ◌<◌, ◌≤◌, ◌^◌, ◌∷◌, ◌++◌, ℕ, List, []};
 ghost use Rattle.std.specs.Prelude.{length, drop, slice_index, take, IsTrue, OnOk, OnErr, IfOk, IfErr};
 ghost use Rattle.std.specs.Prelude.{Err, true, false};
 ghost use Rattle.std.specs.List.{concat};
@@ -7,6 +7,7 @@ ghost use Rattle.segments.specs.declared.fault.SegmentFault.TheVariants.{Device,
 ghost use Rattle.segments.specs.Crash.{AreMixing, HasLength, BeginsWith, HasAt, HasNoOther, IsBlankFrom};
 ghost use Rattle.segments.specs.Crashes.{StandsIn, StaysBacked, Survives, log_text};
 ghost use Rattle.segments.specs.Head.{Fits, head_for, head_of, whole_text};
+ghost use Rattle.segments.specs.Room.{are_blocks};
 ghost use Rattle.segments.specs.Starts.{BeginsNewer};
 ghost use Rattle.segments.specs.Written.{text_in};
 ghost use Rattle.sqlite_disk.specs.Disk.{Only};
@@ -46,28 +47,30 @@ pub struct Segment<D: Disk> {
     /// No write or sync has failed.
     is_open: bool,
     written: Written,
-    ghost begun: { begins ≡ 87 + length written.body },
-    ghost fits: { Fits (head_for number written.body) },
-    ghost safe: { durable ≡ length (log_text number written.body written.writes) },
+    ghost begun: { begins ≡ 87 + length written.has.body },
+    ghost fits: { Fits (head_for number written.has.body) },
+    ghost safe: { durable ≡ length (log_text number written.has.body written.has.writes) },
     ghost ordered: { durable ≤ stored },
     ghost within: { stored + length page.items ≤ size },
     ghost sealable: { durable < stored + length page.items →
         stored + length page.items + 27 ≤ size },
-    ghost blocks: { (n : ℕ) × (0 < n) × (size ≡ begins + n * 4096) },
+    ghost blocks: { are_blocks (size - begins) ≡ true },
     ghost sized: { length (D.Disk.seen file) ≡ size },
     ghost usable: { IsTrue is_open → IsTrue (D.Disk.is_usable file) },
     ghost blank: { IsTrue is_open → IsBlankFrom stored (D.Disk.seen file) },
     ghost text: { IsTrue is_open → text_in stored (D.Disk.seen file) page.items
-        ≡ log_text number written.body written.writes ++ written.lines },
+        ≡ log_text number written.has.body written.has.writes ++ written.has.lines },
     ghost long: { HasLength (D.Disk.may_leave file) size },
     ghost kept: { BeginsWith (D.Disk.may_leave file) durable
-        (log_text number written.body written.writes) },
+        (log_text number written.has.body written.has.writes) },
+    ghost left: { AreMixing D.Disk → IsTrue is_open → HasNoOther (D.Disk.may_leave file)
+        (log_text number written.has.body written.has.writes ++ written.has.lines) },
     ghost mixed: { AreMixing D.Disk → HasNoOther (D.Disk.may_leave file)
-        (log_text number written.body (written.writes ++ written.lines ∷ [])) },
+        (log_text number written.has.body (written.has.writes ++ written.has.lines ∷ [])) },
     ghost seeded: { seed.remainder
-        ≡ remainder_after 0xffffffff (head_of (head_for number written.body)) },
+        ≡ remainder_after 0xffffffff (head_of (head_for number written.has.body)) },
     ghost summed: { IsTrue is_open →
-        sum.remainder ≡ remainder_after seed.remainder written.lines },
+        sum.remainder ≡ remainder_after seed.remainder written.has.lines },
 }
 
 /// Writes octets where zeros stand.
@@ -157,7 +160,8 @@ impl<D: Disk> Segment<D> {
         requires summed { sum_of (drop 87 (take end (D.Disk.seen file))) < 2 ^ 32 }
         requires whole { take end (D.Disk.seen file)
             ≡ whole_text number (drop 87 (take end (D.Disk.seen file))) }
-        requires blocks { (n : ℕ) × (0 < n) × (size ≡ end + n * 4096) }
+        requires blocks { are_blocks (size - end) ≡ true }
+        requires within { end ≤ size }
         requires sized { length (D.Disk.seen file) ≡ size }
         requires synced { Only (D.Disk.seen file) (D.Disk.may_leave file) }
         requires blank { IsBlankFrom end (D.Disk.seen file) }
@@ -183,7 +187,7 @@ impl<D: Disk> Segment<D> {
             seed,
             sum: seed,
             is_open: true,
-            written: Written::begun(),
+            written: Written::known(),
         }
     }
 
@@ -282,6 +286,7 @@ impl<D: Disk> Segment<D> {
 
     /// Holds lines behind those that are held.
     fn hold(&mut self, octets: &[u8]) -> Result<(), SegmentFault>
+        requires open { IsTrue (is_open self.old) }
         requires room { octets_of self.old + length octets.now + 27 ≤ size_of self.old }
         ensures open { OnOk result (open_of self.new ≡ open_of self.old ++ octets.now) }
         ensures none { OnErr result (open_of self.new ≡ open_of self.old) }
@@ -294,7 +299,7 @@ impl<D: Disk> Segment<D> {
         match self.page.extend_from_slice(octets) {
             Ok(()) => {
                 self.sum.add(octets);
-                self.written = self.written.with(octets);
+                self.written = Written::known();
                 Ok(())
             }
             Err(_) => Err(SegmentFault::NoMemory),
@@ -406,7 +411,7 @@ impl<D: Disk> Segment<D> {
                 self.stored = end;
                 self.durable = end;
                 self.sum = self.seed;
-                self.written = self.written.sealed();
+                self.written = Written::known();
                 self.is_open = true;
                 Ok(())
             }

@@ -4,3 +4,4 @@ pub mod OneText
 pub mod Seals
 pub mod Sealing
 pub mod Reading
+pub mod Torn

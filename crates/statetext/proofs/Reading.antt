@@ -1,11 +1,11 @@
 -- A text of writes is read from its beginning.
-use Rattle.std.proofs.Common.{◌≡◌, ◌∙◌, ℕ, zero, suc, ◌+◌, ◌<◌, ◌≤◌, true, false, List, []}
-use Rattle.std.proofs.Common.{◌∷◌, ◌++◌, length, take, drop, refl, sym, ap, subst, arith, append_assoc}
+use Rattle.std.proofs.Common.{◌≡◌, ◌∙◌, ℕ, zero, suc, ◌+◌, ◌≤◌, true, false, List, []}
+use Rattle.std.proofs.Common.{◌∷◌, ◌++◌, length, take, drop, refl, sym, ap, arith, append_assoc}
 use Rattle.std.proofs.Common.{length-append}
 use Rattle.std.proofs.lemmas.List.{append-nil, drop-drop, length-drop}
 use Rattle.std.proofs.lemmas.List.Folds.{concat-append}
 use Rattle.std.specs.List.{concat}
-use Rattle.statetext.specs.Sealed.{end_in, front_in, is_damaged, is_damaged_in, seal_of, sealed_from}
+use Rattle.statetext.specs.Sealed.{end_in, front_in, is_damaged, is_damaged_in, seal_of}
 use Rattle.statetext.specs.Sealed.{sealed_text, writes_by, writes_in}
 use Rattle.statetext.specs.declared.seal.Front.{Front}
 use Rattle.statetext.specs.declared.seal.Front.TheVariants as fronts

@@ -1,32 +1,30 @@
 -- What is read of a text of writes.
-use Rattle.std.proofs.Common.{◌≡◌, ◌≢◌, ◌∙◌, inl, inr, ℕ, zero, suc, ◌+◌, ◌-◌, ◌*◌, ◌^◌, ◌<◌, ◌≤◌, ◌/◌, ◌%◌}
-use Rattle.std.proofs.Common.{Bool, true, false, cond, not, ◌&&◌, ◌||◌, List, [], ◌∷◌, ◌++◌, length}
-use Rattle.std.proofs.Common.{take, drop, get_or, slice_index, Option, Some, None, Ok, refl, sym, ap}
+use Rattle.std.proofs.Common.{◌≡◌, ◌≢◌, ◌∙◌, inl, inr, ℕ, zero, suc, ◌+◌, ◌^◌, ◌<◌, ◌≤◌, ◌/◌, ◌%◌}
+use Rattle.std.proofs.Common.{Bool, true, false, cond, List, [], ◌∷◌, ◌++◌, length}
+use Rattle.std.proofs.Common.{take, drop, get_or, Option, Some, None, refl, sym, ap}
 use Rattle.std.proofs.Common.{subst, arith, append_assoc, length-append, lit<, nat_lt}
-use Rattle.std.proofs.lemmas.Bool.{cases_lt, ltb-true, ltb-false}
 use Rattle.std.proofs.lemmas.Bool.Decides.{Decides-eqb, eqb_tells}
-use Rattle.std.proofs.lemmas.List.{append-nil, ext_get_or, get_or-drop, get_or-take}
-use Rattle.std.proofs.lemmas.List.{get_or_append_left, get_or-append_right, get_or_past}
-use Rattle.std.proofs.lemmas.List.{drop-drop, length-drop, length-take, length-take-le}
+use Rattle.std.proofs.lemmas.List.{append-nil, get_or-drop, get_or-take}
+use Rattle.std.proofs.lemmas.List.{get_or_append_left}
+use Rattle.std.proofs.lemmas.List.{drop-drop, length-drop, length-take-le}
 use Rattle.std.proofs.lemmas.List.{take-append-drop}
 use Rattle.std.proofs.lemmas.List.Elements.{All-append, All-cons, All-nil}
-use Rattle.std.proofs.lemmas.List.Folds.{concat-append, list_any-append, list_any_at, list_any_none}
+use Rattle.std.proofs.lemmas.List.Folds.{list_any_at, list_any_none}
 use Rattle.std.proofs.lemmas.List.Quantifiers.{position-Some}
 use Rattle.std.proofs.lemmas.List.Sums.{position_or_len_is}
-use Rattle.std.proofs.lemmas.Nat.{from_be_bytes-to_be_bytes_8}
 use Rattle.std.proofs.lemmas.Slice.Eq.{starts_is}
-use Rattle.std.proofs.Math.Seq.{drop-append_seam, take-append_seam, drop-append-add}
-use Rattle.std.specs.Int.{w32, w64, from_be_bytes, to_be_bytes}
-use Rattle.std.specs.List.{All, concat, list_any, position_or_len, starts_with}
-use Rattle.std.specs.Prelude.{◌==◌, ◌⊎◌, nat_le, position, if◌then◌else◌}
-use Rattle.hex.specs.Hex.{IsBytes, decode_of, encode_lower, encode_with, is_hex_digit, lower_digits}
-use Rattle.hex.proofs.HexLemmas.{decode_of-encode_lower, decode_of-ok, length-encode_with}
+use Rattle.std.proofs.Math.Seq.{drop-append_seam, take-append_seam}
+use Rattle.std.specs.Int.{w32, w64, to_be_bytes}
+use Rattle.std.specs.List.{All, list_any, position_or_len, starts_with}
+use Rattle.std.specs.Prelude.{◌==◌, position, if◌then◌else◌}
+use Rattle.hex.specs.Hex.{IsBytes, encode_lower, encode_with, is_hex_digit}
+use Rattle.hex.proofs.HexLemmas.{decode_of-encode_lower, decode_of-ok}
 use Rattle.statetext.specs.Sum.{sum_of}
-use Rattle.statetext.specs.Sealed.{AreLines, AreWrites, front_by, front_in, is_left, mark_of, may_be}
-use Rattle.statetext.specs.Sealed.{seal_of, sealed_from, sealed_text, torn_if, writes_by, writes_in}
+use Rattle.statetext.specs.Sealed.{AreLines, AreWrites, front_by, front_in, mark_of, may_be}
+use Rattle.statetext.specs.Sealed.{seal_of, sealed_from, torn_if, writes_by}
 use Rattle.statetext.specs.declared.seal.Front.{Front}
 use Rattle.statetext.specs.declared.seal.Front.TheVariants as fronts
-use Rattle.statetext.proofs.Seals.{front_lost, front_none, front_torn, front_whole}
+use Rattle.statetext.proofs.Seals.{front_whole}
 
 -- Digits
 
@@ -53,7 +51,7 @@ eight_bytes n =
     more_bytes (n / 256 ^ 7) (n / 256 ^ 6) (n / 256 ^ 5) (n / 256 ^ 4) (to_be_bytes w32 n) low
 
 -- neither 0 nor `!`
-abbrev IsPlain : ℕ → Type 0
+abbrev pub IsPlain : ℕ → Type 0
 IsPlain c = (c ≢ 0) × (c ≢ 33)
 
 digit_plain : (c : ℕ) → is_hex_digit c ≡ true → IsPlain c
@@ -71,10 +69,10 @@ digits_plain octets bytes i x lt =
     ((decode_of-ok (encode_lower octets) octets (decode_of-encode_lower octets bytes)).1 i x lt)
 
 -- a seal behind its first octet
-abbrev mark_rest : (place : ℕ) → List ℕ
+abbrev pub mark_rest : (place : ℕ) → List ℕ
 mark_rest place = encode_lower (to_be_bytes w64 place) ++ 32 ∷ []
 
-abbrev seal_rest : (head : List ℕ) → (place : ℕ) → (lines : List ℕ) → List ℕ
+abbrev pub seal_rest : (head : List ℕ) → (place : ℕ) → (lines : List ℕ) → List ℕ
 seal_rest head place lines =
     mark_rest place ++ encode_lower (to_be_bytes w32 (sum_of (head ++ lines ++ mark_of place)))
     ++ 10 ∷ []
@@ -85,13 +83,13 @@ plain_octet c a b = (other c 0 a, other c 33 b)
     other : (c d : ℕ) → (c == d) ≡ false → c ≢ d
     other c d e = grind arith
 
-mark_plain : (place : ℕ) → All IsPlain (mark_rest place)
+pub mark_plain : (place : ℕ) → All IsPlain (mark_rest place)
 mark_plain place =
     All-append IsPlain (encode_lower (to_be_bytes w64 place)) (32 ∷ [])
     (digits_plain (to_be_bytes w64 place) (eight_bytes place))
     (All-cons IsPlain 32 [] (plain_octet 32 refl refl) (All-nil IsPlain))
 
-seal_plain : (head : List ℕ) (place : ℕ) (lines : List ℕ) → All IsPlain (seal_rest head place lines)
+pub seal_plain : (head : List ℕ) (place : ℕ) (lines : List ℕ) → All IsPlain (seal_rest head place lines)
 seal_plain head place lines =
     let sum : ℕ = sum_of (head ++ lines ++ mark_of place) in
     All-append IsPlain (mark_rest place ++ encode_lower (to_be_bytes w32 sum)) (10 ∷ [])
@@ -99,12 +97,12 @@ seal_plain head place lines =
     (digits_plain (to_be_bytes w32 sum) (four_bytes sum)))
     (All-cons IsPlain 10 [] (plain_octet 10 refl refl) (All-nil IsPlain))
 
-seal_is : (head : List ℕ) (place : ℕ) (lines : List ℕ)
+pub seal_is : (head : List ℕ) (place : ℕ) (lines : List ℕ)
     → seal_of head place lines ≡ 33 ∷ seal_rest head place lines
 unfolding seal_of mark_of
 seal_is head place lines = refl
 
-mark_is : (place : ℕ) → mark_of place ≡ 33 ∷ mark_rest place
+pub mark_is : (place : ℕ) → mark_of place ≡ 33 ∷ mark_rest place
 unfolding mark_of
 mark_is place = refl
 
@@ -113,7 +111,7 @@ pub seal_length : (head : List ℕ) (place : ℕ) (lines : List ℕ)
 unfolding seal_of mark_of encode_with
 seal_length head place lines = refl
 
-mark_length : (place : ℕ) → length (mark_of place) ≡ 18
+pub mark_length : (place : ℕ) → length (mark_of place) ≡ 18
 unfolding mark_of encode_with
 mark_length place = refl
 
@@ -129,7 +127,7 @@ position_is p xs i lt fails passes =
     ap (λ (n : ℕ). cond (nat_lt n (length xs)) (Some n) None) same
     ∙ ap (λ (b : Bool). cond b (Some i) None) within
 
-position_none : (p : ℕ → Bool) (xs : List ℕ)
+pub position_none : (p : ℕ → Bool) (xs : List ℕ)
     → ((k : ℕ) → k < length xs → p (get_or xs k 0) ≡ false) → position p xs ≡ None
 position_none p xs fails =
     let same : position_or_len p xs ≡ length xs =
@@ -138,19 +136,19 @@ position_none p xs fails =
     ap (λ (n : ℕ). cond (nat_lt n (length xs)) (Some n) None) same
     ∙ ap (λ (b : Bool). cond b (Some (length xs)) None) out
 
-is_not : (c d : ℕ) → c ≢ d → (c == d) ≡ false
+pub is_not : (c d : ℕ) → c ≢ d → (c == d) ≡ false
 is_not c d other = elim (eqb_tells c d) [
   | inl same ↦ absurd (other same.1)
   | inr apart ↦ apart.0
 ]
 
-is_it : (c d : ℕ) → c ≡ d → (c == d) ≡ true
+pub is_it : (c d : ℕ) → c ≡ d → (c == d) ≡ true
 is_it c d same = elim (eqb_tells c d) [
   | inl is ↦ is.0
   | inr apart ↦ absurd (apart.1 same)
 ]
 
-same_of : (c d : ℕ) → (c == d) ≡ true → c ≡ d
+pub same_of : (c d : ℕ) → (c == d) ≡ true → c ≡ d
 same_of c d is = (Decides-eqb c d).0 is
 
 -- A whole write at the front

@@ -1,14 +1,12 @@
 -- What a seal is, and how a text of writes begins.
-use Rattle.std.proofs.Common.{◌≡◌, ◌∙◌, ℕ, ◌+◌, ◌-◌, ◌<◌, ◌≤◌, Bool, true, false, cond, List, []}
-use Rattle.std.proofs.Common.{◌∷◌, ◌++◌, length, take, drop, Option, Some, None, refl, sym, ap, subst}
-use Rattle.std.proofs.Common.{arith}
-use Rattle.std.proofs.lemmas.List.{take_rest}
+use Rattle.std.proofs.Common.{◌≡◌, ◌∙◌, ℕ, Bool, true, false, List, []}
+use Rattle.std.proofs.Common.{◌∷◌, ◌++◌, take, drop, Some, None, refl, sym, ap}
 use Rattle.std.specs.Int.{w32, to_be_bytes}
 use Rattle.std.specs.List.{list_any, starts_with}
 use Rattle.std.specs.Prelude.{◌==◌, bit_xor, position, if◌then◌else◌}
 use Rattle.hex.specs.Hex.{encode_lower, encode_with}
 use Rattle.statetext.specs.Sum.{remainder_after, sum_of}
-use Rattle.statetext.specs.Sealed.{front_by, front_in, is_left, mark_of, may_be, seal_of, torn_if}
+use Rattle.statetext.specs.Sealed.{front_by, front_in, mark_of, may_be, seal_of, torn_if}
 use Rattle.statetext.specs.declared.seal.Front.{Front}
 use Rattle.statetext.specs.declared.seal.Front.TheVariants as fronts
 use Rattle.statetext.proofs.Rotten.{after_front}

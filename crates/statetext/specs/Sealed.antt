@@ -1,9 +1,9 @@
 -- A text of writes, each of which has its seal behind it (profile).
-use Rattle.std.specs.Prelude.{◌≡◌, ◌≢◌, ℕ, zero, suc, ◌+◌, ◌<◌, ◌==◌, ◌&&◌, ◌||◌, not, Bool, true}
+use Rattle.std.specs.Prelude.{◌≢◌, ℕ, zero, suc, ◌+◌, ◌<◌, ◌==◌, ◌&&◌, ◌||◌, not, Bool, true}
 use Rattle.std.specs.Prelude.{false, if◌then◌else◌, List, [], ◌∷◌, ◌++◌, length, take, drop}
 use Rattle.std.specs.Prelude.{slice_index, position, Option, Some, None}
 use Rattle.std.specs.Int.{w32, w64, to_be_bytes}
-use Rattle.std.specs.List.{concat, list_any, starts_with}
+use Rattle.std.specs.List.{list_any, starts_with}
 use Rattle.hex.specs.Hex.{encode_lower}
 use Rattle.statetext.specs.Sum.{sum_of}
 use Rattle.statetext.specs.declared.seal.Front.{Front}

@@ -1,4 +1,4 @@
-use Rattle.std.proofs.Common.{◌∙◌, sym, ap, ℕ, List, take}
+use Rattle.std.proofs.Common.{◌∙◌, sym, ap, ℕ, take}
 use Rattle.std.proofs.lemmas.List.{take_rest}
 use Rattle.statetext.specs.Sum.{remainder_after}
 use Rattle.statetext.proofs.Seals.{front_lost, front_none, front_torn, front_whole}

@@ -1,4 +1,4 @@
-use Rattle.std.proofs.Common.{◌≡◌, ◌∙◌, ap, List, ℕ, ◌∷◌, ◌++◌, []}
+use Rattle.std.proofs.Common.{◌∙◌, ap, List, ℕ, ◌∷◌, ◌++◌, []}
 use Rattle.hex.specs.Hex.{encode_lower}
 use Rattle.statetext.specs.Sealed.{mark_of}
 use Rattle.statetext.proofs.seal.mark_of.Goals as goal

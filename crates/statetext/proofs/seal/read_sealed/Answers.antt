@@ -1,4 +1,4 @@
-use Rattle.std.proofs.Common.{◌∙◌, ap, sym, refl, List, ℕ, ◌++◌, length, arith, take}
+use Rattle.std.proofs.Common.{◌∙◌, ap, refl, List, ℕ, ◌++◌, length, arith, take}
 use Rattle.std.proofs.lemmas.List.{take_rest, length-drop}
 use Rattle.statetext.specs.Sealed.{front_in}
 use Rattle.statetext.proofs.Reading.{ends_damaged, ends_torn, none_read, one_more}
