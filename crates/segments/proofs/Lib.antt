@@ -4,4 +4,5 @@ pub mod HeldLemmas
 pub mod HeadLemmas
 pub mod Fronts
 pub mod Zeros
+pub mod Sealed
 pub mod Crashes

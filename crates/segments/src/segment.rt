@@ -176,6 +176,7 @@ impl<D: Disk> Segment<D> {
         ensures size { size_of result ≡ size }
         ensures open { is_open result ≡ true }
     {
+        let written = Written::of(&file, end);
         Segment {
             file,
             number,
@@ -187,7 +188,7 @@ impl<D: Disk> Segment<D> {
             seed,
             sum: seed,
             is_open: true,
-            written: Written::known(),
+            written,
         }
     }
 
@@ -299,7 +300,7 @@ impl<D: Disk> Segment<D> {
         match self.page.extend_from_slice(octets) {
             Ok(()) => {
                 self.sum.add(octets);
-                self.written = Written::known();
+                self.written = self.written.next(octets);
                 Ok(())
             }
             Err(_) => Err(SegmentFault::NoMemory),
@@ -411,7 +412,7 @@ impl<D: Disk> Segment<D> {
                 self.stored = end;
                 self.durable = end;
                 self.sum = self.seed;
-                self.written = Written::known();
+                self.written = self.written.next(&seal);
                 self.is_open = true;
                 Ok(())
             }

@@ -4,11 +4,11 @@ ghost use Rattle.std.specs.Io.Iter.{u64_saturate};
 ghost use Rattle.std.specs.Prelude.{◌≡◌, ◌==◌, ℕ, ◌+◌, ◌-◌, ◌<◌, ◌≤◌, ◌^◌, false, true, List, None};
 ghost use Rattle.std.specs.Prelude.{◌&&◌};
 ghost use Rattle.std.specs.Prelude.{drop, length, take, position, IsTrue, IfOk, IfNone};
-ghost use Rattle.std.specs.Prelude.{IfSome};
+ghost use Rattle.std.specs.Prelude.{IfSome, Some};
 ghost use Rattle.std.specs.Prelude.{if◌then◌else◌};
 ghost use Rattle.sqlite_disk.specs.Disk.{Holds};
 ghost use Rattle.segments.specs.Head.{Fits, head_of};
-ghost use Rattle.segments.specs.Room.{before_zero, damage_in, log_in};
+ghost use Rattle.segments.specs.Room.{are_blocks, before_zero, damage_in, log_in};
 ghost use Rattle.segments.specs.Starts.{ArePlaced, BeginsNewer, FitsIn, HasNoNewer, HasNone};
 ghost use Rattle.segments.specs.Starts.{IsAbove};
 ghost use Rattle.segments.specs.Starts.{IsBacked, IsBackedBy, IsBelow, IsFoundIn, IsWholeIn};
@@ -83,16 +83,23 @@ pub(crate) fn front_at<D: Disk>(alloc: Global, file: &mut D) -> Result<FileFront
     if octets < 2 {
         return Ok(FileFront::Shut);
     }
+    if octets < HEAD {
+        let mut first = [0];
+        if file.read_at(0, &mut first).is_err() {
+            return Err(SegmentFault::Device);
+        }
+        if first[0] == 0 {
+            return Ok(FileFront::Shut);
+        }
+        return Ok(FileFront::Other);
+    }
     let mut row = [0; HEAD];
-    if file.read_at(0, &mut row[..octets.min(HEAD)]).is_err() {
+    if file.read_at(0, &mut row).is_err() {
         return Err(SegmentFault::Device);
     }
     // This octet is written last: with 0 there the segment was never finished, or the file is shut.
     if row[0] == 0 {
         return Ok(FileFront::Shut);
-    }
-    if octets < HEAD {
-        return Ok(FileFront::Other);
     }
     match parse(alloc, &row) {
         Ok(Some(head)) => Ok(FileFront::Head(head)),
@@ -220,6 +227,7 @@ fn rest_at<D: Disk>(alloc: Global, file: &mut D, at: usize) -> Result<Vec<u8>, S
         0 < length text.items → Holds (D.Disk.seen file.new) at text.items) }
     ensures octets { IfOk result (λ text. IsTrue (D.Disk.is_clean file.new) →
         length text.items ≡ length (D.Disk.seen file.new) - at) }
+    ensures small { IfOk result (λ text. at + length text.items < 2 ^ 64) }
     ensures usable { IsTrue (D.Disk.is_usable file.new) }
     ensures clean { IsTrue (D.Disk.is_clean file.new) → IsTrue (D.Disk.is_clean file.old) }
     ensures seen { D.Disk.seen file.new ≡ D.Disk.seen file.old }
@@ -258,6 +266,20 @@ pub struct FoundLog {
     pub damage: Option<usize>,
 }
 
+/// Whether so many octets are whole blocks, at least one.
+fn are_blocks(octets: usize) -> bool
+    ensures { result ≡ are_blocks octets }
+{
+    octets % BLOCK == 0 && octets > 0
+}
+
+/// The place, if there is damage.
+fn damage_at(is_damaged: bool, place: usize) -> Option<usize>
+    ensures { result ≡ (if is_damaged then Some place else None) }
+{
+    if is_damaged { Some(place) } else { None }
+}
+
 /// Reads the text behind a checkpoint that ends at this place of a file.
 fn log_behind(
     alloc: Global,
@@ -287,11 +309,10 @@ fn log_behind(
     let Ok(read) = read_sealed(alloc, sum, &text) else {
         return Err(SegmentFault::NoMemory);
     };
-    let is_cut = text.is_empty() || text.len() % BLOCK != 0;
-    let is_damaged = read.is_damaged || is_cut;
+    let is_damaged = read.is_damaged || !are_blocks(text.len());
     Ok(FoundLog {
         lines: read.lines,
-        damage: is_damaged.then_some(at + read.end),
+        damage: damage_at(is_damaged, at + read.end),
     })
 }
 
@@ -688,9 +709,6 @@ impl<D: Disk> Start<D> {
             return Err(SegmentFault::Device);
         };
         let text = rest_at(alloc, &mut self.newest, self.at)?;
-        if self.at.checked_add(text.len()).is_none() {
-            return Err(SegmentFault::Device);
-        }
         log_behind(alloc, &head, self.at, text)
     }
 

@@ -135,6 +135,7 @@ pub fn read_sealed(alloc: Global, sum: Sum, text: &[u8]) -> Result<SealedLines, 
         IfOk result (λ r. r.lines.items ≡ concat (writes_in head text.now)) }
     ensures end { (head : List ℕ) → sum.remainder ≡ remainder_after 0xffffffff head →
         IfOk result (λ r. r.end ≡ end_in head text.now) }
+    ensures within { IfOk result (λ r. r.end ≤ length text.now) }
     ensures damaged { (head : List ℕ) → sum.remainder ≡ remainder_after 0xffffffff head →
         IfOk result (λ r. r.is_damaged ≡ is_damaged_in head text.now) }
 {
