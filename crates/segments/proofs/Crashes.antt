@@ -127,7 +127,7 @@ whole_is : (number : ℕ) (body lines : List ℕ) → whole_text number body ++ 
 unfolding whole_text
 whole_is number body lines = append_assoc (head_of (head_for number body)) body lines
 
-whole_length : (number : ℕ) (body : List ℕ) → length (whole_text number body) ≡ 87 + length body
+pub whole_length : (number : ℕ) (body : List ℕ) → length (whole_text number body) ≡ 87 + length body
 unfolding whole_text
 whole_length number body = length-append (head_of (head_for number body)) body
     ∙ ap (λ (n : ℕ). n + length body) (head_length (head_for number body))
@@ -328,9 +328,9 @@ module _ (outcomes : List ℕ → Type 0) (number : ℕ) (body : List ℕ) (writ
     lines_so : (ws : List (List ℕ))
         → IsReadAs (head_of own) (sealed ++ drop (length sealed) room) ws
         → lines_behind body c ≡ concat ws
-    lines_so ws as =
+    lines_so ws said =
         lines_sealed (87 + length body) c own whole_left.first refl
-        ∙ ap (λ (l : List ℕ). concat (writes_in (head_of own) l)) room_is ∙ ap concat as.read
+        ∙ ap (λ (l : List ℕ). concat (writes_in (head_of own) l)) room_is ∙ ap concat said.read
 
     pub nothing_else_left : (lines_behind body c ≡ concat writes)
         ⊎ (lines_behind body c ≡ concat writes ++ late)
@@ -435,7 +435,7 @@ front_is : (number end : ℕ) (seen body : List ℕ) → text_in end seen [] ≡
     → take end seen ≡ whole_text number body
 front_is number end seen body text = sym (append-nil (take end seen)) ∙ text
 
-body_is : (number end : ℕ) (seen body : List ℕ) → text_in end seen [] ≡ whole_text number body
+pub body_is : (number end : ℕ) (seen body : List ℕ) → text_in end seen [] ≡ whole_text number body
     → drop 87 (take end seen) ≡ body
 body_is number end seen body text =
     ap (drop 87) (front_is number end seen body text) ∙ whole_behind number body

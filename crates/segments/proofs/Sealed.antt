@@ -1,7 +1,10 @@
 -- What a segment holds as lines come, and as they are sealed.
 use Rattle.std.proofs.Common.{◌≡◌, ◌∙◌, inl, inr, ℕ, ◌+◌, ◌-◌, ◌<◌, ◌≤◌, ◌^◌, List, [], ◌∷◌, ◌++◌}
 use Rattle.std.proofs.Common.{length, take, drop, get_or, slice_index, refl, sym, ap, subst, arith}
-use Rattle.std.proofs.Common.{append_assoc, length-append}
+use Rattle.std.proofs.Common.{append_assoc, length-append, ◌*◌, ◌%◌, ◌==◌, ◌&&◌, nat_lt, Bool, true}
+use Rattle.std.proofs.Common.{Result, Ok, Err}
+use Rattle.std.specs.Prelude.{IfOk}
+use Rattle.segments.specs.Room.{are_blocks}
 use Rattle.std.proofs.lemmas.Bool.{cases_lt}
 use Rattle.std.proofs.lemmas.List.{append-nil, get_or_append_left, get_or-append-add, get_or_past}
 use Rattle.std.proofs.lemmas.List.{length-drop, length-take-le}
@@ -193,3 +196,20 @@ no_seal (c ∷ lines) none = absurd (omega (arith, none))
 pub no_lines : (lines : List ℕ) → length lines ≡ 0 → lines ≡ []
 no_lines [] none = refl
 no_lines (c ∷ lines) none = absurd (omega (arith, none))
+
+-- What is promised where a premise holds
+
+pub if_ok_later : {T E C : Type 0} (r : Result T E) (P : T → Type 0) → (C → IfOk r P)
+    → IfOk r (λ x. C → P x)
+if_ok_later (Ok x) P h = h
+if_ok_later (Err e) P h = tt
+
+-- The room behind a checkpoint
+
+pub blocks_so : (blocks end size : ℕ) → 0 < blocks → size ≡ end + blocks * 4096
+    → are_blocks (size - end) ≡ true
+blocks_so blocks end size some is =
+    ap are_blocks (let e : size - end ≡ blocks * 4096 = omega (arith, is) in e)
+    ∙ ap (λ (b : Bool). b && nat_lt 0 (blocks * 4096))
+    (let e : (blocks * 4096 % 4096 == 0) ≡ true = grind arith in e)
+    ∙ (let e : nat_lt 0 (blocks * 4096) ≡ true = grind (arith, some) in e)

@@ -1,6 +1,6 @@
 //! What holds of both files over a crash.
 ghost use Rattle.std.specs.Prelude.{◌≡◌, ◌⊎◌, ◌+◌, ◌-◌, ◌^◌, ◌<◌, ◌≤◌, ℕ, List, [], ◌∷◌, ◌++◌};
-ghost use Rattle.std.specs.Prelude.{None, codes, drop, length, take, true};
+ghost use Rattle.std.specs.Prelude.{None, codes, drop, false, length, take, true};
 ghost use Rattle.std.specs.List.{concat};
 ghost use Rattle.segments.specs.Crash.{HasNoOther, IsShut, IsTextIfOpen};
 ghost use Rattle.segments.specs.Crashes.{AreBoth, AreOlder, AreShutOr, IsThatOf, StaysBacked};

@@ -15,6 +15,7 @@ ghost use Rattle.segments.specs.Starts.{IsBacked, IsBackedBy, IsBelow, IsFoundIn
 ghost use Rattle.segments.specs.Starts.{IsHeadIn, IsNewest, IsNext, IsShut, IsSound};
 ghost use Rattle.segments.specs.Starts.{is_shut, may_have_newer, number_in, other_side};
 ghost use Rattle.segments.specs.declared.head.SegmentHead.{SegmentHead};
+ghost use Rattle.segments.specs.declared.start.FileFront.TheVariants.{Head};
 ghost use Rattle.statetext.specs.Sum.{sum_of};
 
 use crate::SegmentFault;
@@ -344,7 +345,7 @@ pub struct Start<D: Disk> {
     ghost usable: { IsTrue (D.Disk.is_usable newest) },
     ghost other_usable: { IsTrue (D.Disk.is_usable other) },
     ghost begins: { IsTrue (D.Disk.is_clean newest) → (head : SegmentHead) →
-        front ≡ FileFront.Head head → Holds (D.Disk.seen newest) 0 (head_of head) },
+        front ≡ Head head → Holds (D.Disk.seen newest) 0 (head_of head) },
     ghost stands: { ForSome checkpoint (λ c. (at ≡ 87 + length c.text.items)
         × (IsTrue (D.Disk.is_clean newest) →
         IsFoundIn (D.Disk.seen newest) c.head c.text.items)) },

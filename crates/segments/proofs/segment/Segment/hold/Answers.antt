@@ -14,7 +14,7 @@ use Rattle.segments.proofs.segment.Segment.hold.Goals as goal
 pub invariant_of-self : goal.invariant_of-self
 invariant_of-self g c =
     let s = c.args.self.now in
-    let open = c.requires.open in
+    let on = c.requires.open in
     let w = s.written.has in
     let seen : List ℕ = g.D.Disk.seen s.file in
     let out = g.D.Disk.may_leave s.file in
@@ -26,7 +26,7 @@ invariant_of-self g c =
     let left = λ mixing. subst (HasNoOther out)
     (append_assoc (log_text s.number w.body w.writes) w.lines octets)
     (no_other_more out (log_text s.number w.body w.writes ++ w.lines) octets
-    (s.left mixing open)) in
+    (s.left mixing on)) in
     record {
       begun = subst (λ (h : Contents). s.begins ≡ 87 + length h.body) same s.begun;
       fits = subst (λ (h : Contents). Fits (head_for s.number h.body)) same s.fits;
@@ -42,7 +42,7 @@ invariant_of-self g c =
       text = λ on. subst (λ (h : Contents). text_in s.stored seen page
           ≡ log_text s.number h.body h.writes ++ h.lines) same
           (held_text s.stored seen s.page.items page octets c.in-Ok.ensures.items
-          ∙ ap (λ (l : List ℕ). l ++ octets) (s.text open)
+          ∙ ap (λ (l : List ℕ). l ++ octets) (s.text on)
           ∙ append_assoc (log_text s.number w.body w.writes) w.lines octets);
       long = s.long;
       kept = subst (λ (h : Contents). BeginsWith out s.durable
@@ -56,6 +56,6 @@ invariant_of-self g c =
           ≡ remainder_after 0xffffffff (head_of (head_for s.number h.body))) same s.seeded;
       summed = λ on. subst (λ (h : Contents). c.add.new.self.remainder
           ≡ remainder_after s.seed.remainder h.lines) same
-          (c.add.ensures ∙ ap (λ (r : ℕ). remainder_after r octets) (s.summed open)
+          (c.add.ensures ∙ ap (λ (r : ℕ). remainder_after r octets) (s.summed on)
           ∙ sym (after_front s.seed.remainder w.lines octets));
     }

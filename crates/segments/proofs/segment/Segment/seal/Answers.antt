@@ -24,7 +24,7 @@ overflow_sub-place g c =
 pub invariant_of-self : goal.invariant_of-self
 invariant_of-self g c =
     let s = c.args.self.now in
-    let open = c.requires.open in
+    let on = c.requires.open in
     let w = s.written.has in
     let head : List ℕ = head_of (head_for s.number w.body) in
     let seal : List ℕ = c.seal_of-seal.result in
@@ -34,16 +34,16 @@ invariant_of-self g c =
     let end : ℕ = c.in-Ok.end in
     let is_seal : seal ≡ next_seal s.number w.body w.writes w.lines =
     c.seal_of-seal.ensures head w.lines
-    (s.summed open ∙ ap (λ (r : ℕ). remainder_after r w.lines) s.seeded)
+    (s.summed on ∙ ap (λ (r : ℕ). remainder_after r w.lines) s.seeded)
     ∙ ap (λ (n : ℕ). seal_of head n w.lines)
     (sealed_place s.begins s.durable s.number w.body w.writes s.begun s.safe) in
     let text : List ℕ = log_text s.number w.body (w.writes ++ w.lines ∷ []) in
     let stored = open_stored s.stored s.number (g.D.Disk.seen s.file) s.page.items w.body
-    w.writes w.lines (omega (arith, s.sized, s.within)) c.requires.held (s.text open) in
+    w.writes w.lines (omega (arith, s.sized, s.within)) c.requires.held (s.text on) in
     let new_text : text_in end seen [] ≡ text =
     ap (λ (n : ℕ). text_in n seen []) c.in-Ok.ensures.end ∙ c.in-Ok.ensures.text
     ∙ sealed_text_is s.stored s.number (g.D.Disk.seen s.file) s.page.items seal w.body w.writes
-    w.lines c.requires.held (s.text open) is_seal in
+    w.lines c.requires.held (s.text on) is_seal in
     let paged : text_in end seen s.page.items ≡ text =
     ap (text_in end seen) c.requires.held ∙ new_text in
     let count : end ≡ length text =
@@ -97,19 +97,19 @@ invariant_of-self g c =
 pub invariant_of-self-in-Err-1 : goal.invariant_of-self-in-Err-1
 invariant_of-self-in-Err-1 g c =
     let s = c.args.self.now in
-    let open = c.requires.open in
+    let on = c.requires.open in
     let w = s.written.has in
     let head : List ℕ = head_of (head_for s.number w.body) in
     let old = g.D.Disk.may_leave s.file in
     let is_seal : c.seal_of-seal.result ≡ next_seal s.number w.body w.writes w.lines =
     c.seal_of-seal.ensures head w.lines
-    (s.summed open ∙ ap (λ (r : ℕ). remainder_after r w.lines) s.seeded)
+    (s.summed on ∙ ap (λ (r : ℕ). remainder_after r w.lines) s.seeded)
     ∙ ap (λ (n : ℕ). seal_of head n w.lines)
     (sealed_place s.begins s.durable s.number w.body w.writes s.begun s.safe) in
     let long : HasLength old (length (g.D.Disk.seen s.file)) =
     subst (HasLength old) (sym s.sized) s.long in
     let stored = open_stored s.stored s.number (g.D.Disk.seen s.file) s.page.items w.body
-    w.writes w.lines (omega (arith, s.sized, s.within)) c.requires.held (s.text open) in
+    w.writes w.lines (omega (arith, s.sized, s.within)) c.requires.held (s.text on) in
     record {
       begun = s.begun;
       fits = s.fits;

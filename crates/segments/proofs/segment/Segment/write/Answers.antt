@@ -10,7 +10,7 @@ use Rattle.segments.proofs.segment.Segment.write.Goals as goal
 pub invariant_of-self-in-Ok : goal.invariant_of-self-in-Ok
 invariant_of-self-in-Ok g c =
     let s = c.args.self.now in
-    let open = c.requires.open in
+    let on = c.requires.open in
     let w = s.written.has in
     let text : List ℕ = log_text s.number w.body w.writes ++ w.lines in
     let old = g.D.Disk.may_leave s.file in
@@ -18,10 +18,10 @@ invariant_of-self-in-Ok g c =
     let long : HasLength old (length (g.D.Disk.seen s.file)) =
     subst (HasLength old) (sym s.sized) s.long in
     let within = omega (arith, s.within, s.sized) in
-    let held = ap (text_in s.stored (g.D.Disk.seen s.file)) c.deref.ensures.value ∙ s.text open in
+    let held = ap (text_in s.stored (g.D.Disk.seen s.file)) c.deref.ensures.value ∙ s.text on in
     let left = λ mixing. c.store.ensures.mixed text (mixing s.file) long
     (has_page s.stored (g.D.Disk.seen s.file) c.deref.result.now text within held)
-    (s.left mixing open) in
+    (s.left mixing on) in
     record {
       begun = s.begun;
       fits = s.fits;
@@ -53,20 +53,20 @@ invariant_of-self-in-Ok g c =
       blank = λ _. subst (λ (n : ℕ). IsBlankFrom n (g.D.Disk.seen c.store.new.file))
           (sym c.in-Ok.ensures.end) c.in-Ok.ensures.blank;
       text = λ _. written_again s.stored _ _ _ _ _ _ c.deref.ensures.value c.in-Ok.ensures.end
-          c.clear.ensures.items c.in-Ok.ensures.text ∙ s.text open;
+          c.clear.ensures.items c.in-Ok.ensures.text ∙ s.text on;
       long = long_again _ _ _ _ s.sized s.long c.store.ensures.long;
       kept = c.store.ensures.kept s.durable (log_text s.number w.body w.writes) s.ordered long
           s.kept;
       left = λ mixing _. left mixing;
       mixed = λ mixing. no_other_next new s.number w.body w.writes w.lines (left mixing);
       seeded = s.seeded;
-      summed = λ _. s.summed open;
+      summed = λ _. s.summed on;
     }
 
 pub invariant_of-self-in-Err-1 : goal.invariant_of-self-in-Err-1
 invariant_of-self-in-Err-1 g c =
     let s = c.args.self.now in
-    let open = c.requires.open in
+    let on = c.requires.open in
     let w = s.written.has in
     let text : List ℕ = log_text s.number w.body w.writes ++ w.lines in
     let old = g.D.Disk.may_leave s.file in
@@ -74,7 +74,7 @@ invariant_of-self-in-Err-1 g c =
     let long : HasLength old (length (g.D.Disk.seen s.file)) =
     subst (HasLength old) (sym s.sized) s.long in
     let within = omega (arith, s.within, s.sized) in
-    let held = ap (text_in s.stored (g.D.Disk.seen s.file)) c.deref.ensures.value ∙ s.text open in
+    let held = ap (text_in s.stored (g.D.Disk.seen s.file)) c.deref.ensures.value ∙ s.text on in
     record {
       begun = s.begun;
       fits = s.fits;
@@ -94,7 +94,7 @@ invariant_of-self-in-Err-1 g c =
       mixed = λ mixing. no_other_next new s.number w.body w.writes w.lines
           (c.store.ensures.mixed text (mixing s.file) long
           (has_page s.stored (g.D.Disk.seen s.file) c.deref.result.now text within held)
-          (s.left mixing open));
+          (s.left mixing on));
       seeded = s.seeded;
       summed = λ on. absurd (false≢true on);
     }
