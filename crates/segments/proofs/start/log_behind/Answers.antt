@@ -30,6 +30,12 @@ returns-clause-lines c = λ file holds is.
     ∙ ap (λ (l : List ℕ). concat (writes_in head l)) (c.deref-2.ensures.value ∙ is)
     ∙ sym (lines_sealed c.args.at file c.args.head.now holds c.if-not-head.false)
 
+first_so : (b d x : Bool) → b ≡ true → b ≡ d → b ≡ (d || x)
+first_so b d x is same = is ∙ ap (λ (y : Bool). y || x) (sym is ∙ same)
+
+second_so : (b d x : Bool) → b ≡ false → b ≡ d → x ≡ (d || x)
+second_so b d x is same = ap (λ (y : Bool). y || x) (sym is ∙ same)
+
 pub returns-clause-damage : goal.returns-clause-damage
 returns-clause-damage c = λ file holds is.
     let head : List ℕ = head_of c.args.head.now in
@@ -47,13 +53,13 @@ returns-clause-damage c = λ file holds is.
     ≡ (is_damaged_in head (drop at file) || not (are_blocks (length file - at))) =
     elim c.if-read.branch [
       | then-read w ↦ w.is_damaged-is
-          ∙ ap (λ (b : Bool). b || not (are_blocks (length file - at)))
-          (sym w.if-read.true ∙ damaged)
+          ∙ first_so read.is_damaged (is_damaged_in head (drop at file))
+          (not (are_blocks (length file - at))) w.if-read.true damaged
       | else-read w ↦ w.is_damaged-is
-          ∙ ap (λ (b : Bool). not b) (w.are_blocks.ensures ∙ ap are_blocks (w.len.ensures.value
+          ∙ ap (λ (b : Bool). not b) (w.are_blocks.ensures ∙ ap are_blocks (w.len.ensures
           ∙ ap length is ∙ length-drop at file))
-          ∙ ap (λ (b : Bool). b || not (are_blocks (length file - at)))
-          (sym w.if-read.false ∙ damaged)
+          ∙ second_so read.is_damaged (is_damaged_in head (drop at file))
+          (not (are_blocks (length file - at))) w.if-read.false damaged
     ] in
     c.damage_at.ensures ∙ ap (λ (b : Bool). if b then Some (at + read.end) else None) either
     ∙ ap (λ (n : ℕ). if is_damaged_in head (drop at file) || not (are_blocks (length file - at))

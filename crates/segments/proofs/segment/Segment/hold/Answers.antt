@@ -1,4 +1,5 @@
-use Rattle.std.proofs.Common.{◌≡◌, ◌∙◌, ◌∷◌, ◌++◌, [], ℕ, List, IsTrue, ap, append_assoc, arith, length}
+use Rattle.std.proofs.Common.{◌≡◌, ◌∙◌, ◌+◌, ◌∷◌, ◌++◌, [], ℕ, List, ap, append_assoc, arith}
+use Rattle.std.proofs.Common.{length}
 use Rattle.std.proofs.Common.{subst, sym, length-append}
 use Rattle.statetext.specs.Sum.{remainder_after}
 use Rattle.statetext.proofs.Rotten.{after_front}

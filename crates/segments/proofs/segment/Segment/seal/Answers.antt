@@ -64,7 +64,7 @@ invariant_of-self g c =
     ) in
     let left = settled_left out seen s.page.items text end c.in-Ok.ensures.durable
     (omega (arith, sized, room)) blank c.requires.held paged in
-    let same = sym c.next.ensures in
+    let same = sym c.next-self.ensures in
     record {
       begun = subst (λ (h : Contents). s.begins ≡ 87 + length h.body) same s.begun;
       fits = subst (λ (h : Contents). Fits (head_for s.number h.body)) same s.fits;
@@ -135,12 +135,12 @@ invariant_of-self-in-Err-1 g c =
     }
 
 pub returns-in-Ok-clause-writes : goal.returns-in-Ok-clause-writes
-returns-in-Ok-clause-writes g c = ap (λ (h : Contents). h.writes) c.next.ensures
+returns-in-Ok-clause-writes g c = ap (λ (h : Contents). h.writes) c.next-self.ensures
 
 pub returns-in-Ok-clause-lines : goal.returns-in-Ok-clause-lines
-returns-in-Ok-clause-lines g c = ap (λ (h : Contents). h.lines) c.next.ensures
+returns-in-Ok-clause-lines g c = ap (λ (h : Contents). h.lines) c.next-self.ensures
 
 pub returns-in-Ok-clause-same : goal.returns-in-Ok-clause-same
 returns-in-Ok-clause-same g c =
     let s = c.args.self.now in
-    ap (λ (h : Contents). (s.number, h.body, s.size)) c.next.ensures
+    ap (λ (h : Contents). (s.number, h.body, s.size)) c.next-self.ensures

@@ -1,4 +1,4 @@
-use Rattle.std.proofs.Common.{◌∙◌, ◌++◌, ℕ, List, IsTrue, ap, arith, length, subst, sym}
+use Rattle.std.proofs.Common.{◌≤◌, ◌∙◌, ◌++◌, ℕ, List, IsTrue, ap, arith, length, subst, sym}
 use Rattle.std.proofs.lemmas.Bool.{false≢true}
 use Rattle.segments.specs.Crash.{HasAt, HasLength, HasNoOther, IsBlankFrom}
 use Rattle.segments.specs.Crashes.{log_text}
@@ -17,7 +17,7 @@ invariant_of-self-in-Ok g c =
     let new = g.D.Disk.may_leave c.store.new.file in
     let long : HasLength old (length (g.D.Disk.seen s.file)) =
     subst (HasLength old) (sym s.sized) s.long in
-    let within = omega (arith, s.within, s.sized) in
+    let within : s.stored ≤ length (g.D.Disk.seen s.file) = omega (arith, s.within, s.sized) in
     let held = ap (text_in s.stored (g.D.Disk.seen s.file)) c.deref.ensures.value ∙ s.text on in
     let left = λ mixing. c.store.ensures.mixed text (mixing s.file) long
     (has_page s.stored (g.D.Disk.seen s.file) c.deref.result.now text within held)
@@ -73,7 +73,7 @@ invariant_of-self-in-Err-1 g c =
     let new = g.D.Disk.may_leave c.store.new.file in
     let long : HasLength old (length (g.D.Disk.seen s.file)) =
     subst (HasLength old) (sym s.sized) s.long in
-    let within = omega (arith, s.within, s.sized) in
+    let within : s.stored ≤ length (g.D.Disk.seen s.file) = omega (arith, s.within, s.sized) in
     let held = ap (text_in s.stored (g.D.Disk.seen s.file)) c.deref.ensures.value ∙ s.text on in
     record {
       begun = s.begun;

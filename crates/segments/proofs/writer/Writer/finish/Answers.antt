@@ -66,8 +66,13 @@ begun-requires-clause-summed g c =
 
 pub begun-requires-clause-behind : goal.begun-requires-clause-behind
 begun-requires-clause-behind g c =
-    omega (arith, sym c.in-Ok.ensures.end ∙ ap length c.in-Ok.ensures.text,
-    whole_length c.args.number _)
+    let s = c.args.self in
+    let body : List ℕ = drop 87 (text_in s.stored (g.D.Disk.seen s.file) c.deref.result.now) in
+    omega (
+      arith,
+      sym c.in-Ok.ensures.end ∙ ap length c.in-Ok.ensures.text,
+      whole_length c.args.number body,
+    )
 
 pub begun-requires-clause-blocks : goal.begun-requires-clause-blocks
 begun-requires-clause-blocks g c =
