@@ -307,10 +307,11 @@ fn log_behind(
     };
     let mut sum = Sum::new();
     sum.add(&row);
-    let Ok(read) = read_sealed(alloc, sum, &text) else {
+    let room = text.as_slice();
+    let Ok(read) = read_sealed(alloc, sum, room) else {
         return Err(SegmentFault::NoMemory);
     };
-    let is_damaged = read.is_damaged || !are_blocks(text.len());
+    let is_damaged = read.is_damaged || !are_blocks(room.len());
     Ok(FoundLog {
         lines: read.lines,
         damage: damage_at(is_damaged, at + read.end),

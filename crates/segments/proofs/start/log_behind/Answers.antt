@@ -27,7 +27,7 @@ returns-clause-lines c = λ file holds is.
     c.add.ensures ∙ ap (λ (r : ℕ). remainder_after r c.deref.result.now) c.new-sum.ensures
     ∙ ap (remainder_after 0xffffffff) (c.deref.ensures.value ∙ c.in-Ok.ensures.text) in
     c.in-Ok-read_sealed.ensures.lines head sum
-    ∙ ap (λ (l : List ℕ). concat (writes_in head l)) (c.deref-2.ensures.value ∙ is)
+    ∙ ap (λ (l : List ℕ). concat (writes_in head l)) (c.as_slice-room.ensures.value ∙ is)
     ∙ sym (lines_sealed c.args.at file c.args.head.now holds c.if-not-head.false)
 
 first_so : (b d x : Bool) → b ≡ true → b ≡ d → b ≡ (d || x)
@@ -44,7 +44,7 @@ returns-clause-damage c = λ file holds is.
     let sum : c.add.new.self.remainder ≡ remainder_after 0xffffffff head =
     c.add.ensures ∙ ap (λ (r : ℕ). remainder_after r c.deref.result.now) c.new-sum.ensures
     ∙ ap (remainder_after 0xffffffff) (c.deref.ensures.value ∙ c.in-Ok.ensures.text) in
-    let same = c.deref-2.ensures.value ∙ is in
+    let same = c.as_slice-room.ensures.value ∙ is in
     let damaged : read.is_damaged ≡ is_damaged_in head (drop at file) =
     c.in-Ok-read_sealed.ensures.damaged head sum ∙ ap (is_damaged_in head) same in
     let end : read.end ≡ end_in head (drop at file) =
@@ -56,8 +56,8 @@ returns-clause-damage c = λ file holds is.
           ∙ first_so read.is_damaged (is_damaged_in head (drop at file))
           (not (are_blocks (length file - at))) w.if-read.true damaged
       | else-read w ↦ w.is_damaged-is
-          ∙ ap (λ (b : Bool). not b) (w.are_blocks.ensures ∙ ap are_blocks (w.len.ensures
-          ∙ ap length is ∙ length-drop at file))
+          ∙ ap (λ (b : Bool). not b) (w.are_blocks.ensures
+          ∙ ap are_blocks (ap length same ∙ length-drop at file))
           ∙ second_so read.is_damaged (is_damaged_in head (drop at file))
           (not (are_blocks (length file - at))) w.if-read.false damaged
     ] in

@@ -4,7 +4,7 @@ use Rattle.std.proofs.Common.{subst, sym, length-append}
 use Rattle.statetext.specs.Sum.{remainder_after}
 use Rattle.statetext.proofs.Rotten.{after_front}
 use Rattle.segments.specs.Contents.{Contents}
-use Rattle.segments.specs.Crash.{BeginsWith, HasNoOther}
+use Rattle.segments.specs.Crash.{AreMixing, BeginsWith, HasNoOther}
 use Rattle.segments.specs.Crashes.{log_text}
 use Rattle.segments.specs.Head.{Fits, head_for, head_of}
 use Rattle.segments.specs.Written.{text_in}
@@ -21,10 +21,11 @@ invariant_of-self g c =
     let out = g.D.Disk.may_leave s.file in
     let octets : List ℕ = c.args.octets.now in
     let page : List ℕ = c.extend_from_slice.new.self.items in
-    let same = sym c.next.ensures in
+    let same = sym c.next-self.ensures in
     let longer : length page ≡ length s.page.items + length octets =
     ap length c.in-Ok.ensures.items ∙ length-append s.page.items octets in
-    let left = λ mixing. subst (HasNoOther out)
+    let left : AreMixing g.D.Disk
+    → HasNoOther out (log_text s.number w.body w.writes ++ (w.lines ++ octets)) = λ mixing. subst (HasNoOther out)
     (append_assoc (log_text s.number w.body w.writes) w.lines octets)
     (no_other_more out (log_text s.number w.body w.writes ++ w.lines) octets
     (s.left mixing on)) in

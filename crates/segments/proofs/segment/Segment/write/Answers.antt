@@ -1,6 +1,6 @@
 use Rattle.std.proofs.Common.{◌≤◌, ◌∙◌, ◌++◌, ℕ, List, IsTrue, ap, arith, length, subst, sym}
 use Rattle.std.proofs.lemmas.Bool.{false≢true}
-use Rattle.segments.specs.Crash.{HasAt, HasLength, HasNoOther, IsBlankFrom}
+use Rattle.segments.specs.Crash.{AreMixing, HasAt, HasLength, HasNoOther, IsBlankFrom}
 use Rattle.segments.specs.Crashes.{log_text}
 use Rattle.segments.specs.Written.{text_in}
 use Rattle.segments.proofs.Sealed.{has_page, no_other_next}
@@ -19,7 +19,7 @@ invariant_of-self-in-Ok g c =
     subst (HasLength old) (sym s.sized) s.long in
     let within : s.stored ≤ length (g.D.Disk.seen s.file) = omega (arith, s.within, s.sized) in
     let held = ap (text_in s.stored (g.D.Disk.seen s.file)) c.deref.ensures.value ∙ s.text on in
-    let left = λ mixing. c.store.ensures.mixed text (mixing s.file) long
+    let left : AreMixing g.D.Disk → HasNoOther new text = λ mixing. c.store.ensures.mixed text (mixing s.file) long
     (has_page s.stored (g.D.Disk.seen s.file) c.deref.result.now text within held)
     (s.left mixing on) in
     record {
