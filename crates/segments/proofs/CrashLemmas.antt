@@ -36,20 +36,6 @@ pub written_length : (at n : ℕ) (old new : List ℕ) → Torn at n old new →
     → length new ≡ length old
 written_length at n old new torn le = omega (arith, torn.no_shorter, torn.no_longer, le)
 
-pub written_before : (at n : ℕ) (old new page : List ℕ) → Torn at n old new → at + n ≤ length old
-    → text_in at new page ≡ text_in at old page
-written_before at n old new page torn le =
-    let same : length new ≡ length old = written_length at n old new torn le in
-    ap (λ (l : List ℕ). l ++ page) (ext_get_or 0 (take at new) (take at old)
-    (length-take-le at new (omega (arith, same, le))
-    ∙ sym (length-take-le at old (omega (arith, le))))
-    (λ i lt. by i (omega (arith, lt, length-take-le at new (omega (arith, same, le))))))
-  where
-    by : (i : ℕ) → i < at → get_or (take at new) i 0 ≡ get_or (take at old) i 0
-    by i lt =
-        get_or-take at new i 0 lt ∙ torn.below i (omega (arith, lt, le)) lt
-        ∙ sym (get_or-take at old i 0 lt)
-
 pub written_text : (at : ℕ) (old new page : List ℕ) → Torn at (length page) old new
     → at + length page ≤ length old
     → Holds new at page → text_in (at + length page) new [] ≡ text_in at old page

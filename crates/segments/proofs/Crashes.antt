@@ -7,7 +7,7 @@ use Rattle.std.proofs.lemmas.Bool.{cases_lt}
 use Rattle.std.proofs.lemmas.List.{append-nil, ext_get_or, get_or_append_left, get_or-append-add}
 use Rattle.std.proofs.lemmas.List.{get_or-append_right, get_or-drop}
 use Rattle.std.proofs.lemmas.List.{get_or-take, length-drop, length-take, length-take-le}
-use Rattle.std.proofs.lemmas.List.{take-append-drop, take-append-le}
+use Rattle.std.proofs.lemmas.List.{take-append-drop}
 use Rattle.std.proofs.lemmas.Nat.{from_be_bytes-to_be_bytes_4, from_be_bytes-to_be_bytes_8}
 use Rattle.std.specs.Int.{w32, w64, from_be_bytes, to_be_bytes}
 use Rattle.std.specs.Prelude.{◌⊎◌, ◌==◌, bit_xor, if◌then◌else◌}
@@ -292,8 +292,7 @@ module _ (outcomes : List ℕ → Type 0) (number : ℕ) (body : List ℕ) (writ
 
   pub synced_left : (more : List ℕ) × (lines_behind body c ≡ concat writes ++ more)
   synced_left =
-      let (more, says) = begins_with_row (head_of own) writes (drop (length sealed) room) s.are in
-      (
+      let (more, says) = begins_with_row (head_of own) writes (drop (length sealed) room) s.are in (
         more,
         lines_sealed (87 + length body) c own whole_left.first refl
             ∙ ap (λ (l : List ℕ). concat (writes_in (head_of own) l)) room_is ∙ says,
@@ -506,8 +505,7 @@ stands outcomes number durable size body writes fits safe room long kept c is =
     let sealed : List ℕ = sealed_text (head_of (head_for number body)) writes in
     let count : length (log_text number body writes) ≡ 87 + length body + length sealed =
     length-append (whole_text number body) sealed
-    ∙ ap (λ (n : ℕ). n + length sealed) (whole_length number body) in
-    (
+    ∙ ap (λ (n : ℕ). n + length sealed) (whole_length number body) in (
       body,
       fits,
       found_so c number body sealed (length sealed)

@@ -102,11 +102,6 @@ head_line file row h line count is all = record {
       let same : h ≡ head = cc in ap fronts.Head same;
 }
 
--- a file that begins with a first line has it
-pub begins_so : (file : List ℕ) (front : FileFront) (head : SegmentHead) → IsHeadIn file front
-    → front ≡ fronts.Head head → Holds file 0 (head_of head)
-begins_so file front head begins is = subst (BeginsSo file) is begins.begins
-
 -- what a call promises that has gone well
 pub gone_well : {T E P : Type 0} (r : Result T E) → false ≡ is_err r → OnOk r P → P
 gone_well (Ok x) well p = p

@@ -1,19 +1,19 @@
 -- What a segment holds as lines come, and as they are sealed.
-use Rattle.std.proofs.Common.{◌≡◌, ◌∙◌, inl, inr, ℕ, ◌+◌, ◌-◌, ◌<◌, ◌≤◌, ◌^◌, List, [], ◌∷◌, ◌++◌}
-use Rattle.std.proofs.Common.{length, take, drop, get_or, slice_index, refl, sym, ap, subst, arith}
+use Rattle.std.proofs.Common.{◌≡◌, ◌∙◌, inl, inr, ℕ, ◌+◌, ◌-◌, ◌<◌, ◌≤◌, List, [], ◌∷◌, ◌++◌}
+use Rattle.std.proofs.Common.{length, take, slice_index, refl, sym, ap, subst, arith}
 use Rattle.std.proofs.Common.{append_assoc, length-append, ◌*◌, ◌%◌, ◌==◌, ◌&&◌, nat_lt, Bool, true}
 use Rattle.std.proofs.Common.{Result, Ok, Err}
 use Rattle.std.specs.Prelude.{IfOk}
 use Rattle.segments.specs.Room.{are_blocks}
 use Rattle.std.proofs.lemmas.Bool.{cases_lt}
 use Rattle.std.proofs.lemmas.List.{append-nil, get_or_append_left, get_or-append-add, get_or_past}
-use Rattle.std.proofs.lemmas.List.{length-drop, length-take-le}
+use Rattle.std.proofs.lemmas.List.{length-take-le}
 use Rattle.std.proofs.lemmas.List.Folds.{concat-append}
 use Rattle.std.specs.List.{concat}
 use Rattle.sqlite_disk.specs.Disk.{Only}
 use Rattle.statetext.specs.Sealed.{seal_of, sealed_text}
 use Rattle.statetext.proofs.Sealing.{seal_length, sealed_more}
-use Rattle.segments.specs.Crash.{BeginsWith, HasAt, HasLength, HasNoOther, IsBlankFrom}
+use Rattle.segments.specs.Crash.{BeginsWith, HasAt, HasNoOther, IsBlankFrom}
 use Rattle.segments.specs.Crashes.{log_text}
 use Rattle.segments.specs.Head.{head_for, head_of, whole_text}
 use Rattle.segments.specs.Segment.{seal_octets, with_write}

@@ -139,11 +139,11 @@ pub fn first_lines_by_example()
         "telegate state 1 rules 1 segment 0000000000000001 octets 0000000000000000 sum 00000000"
         ++ 10 ∷ [] }
     ensures sealed { head_of (record {
-          number = 258;
-          octets = 4660;
-          sum = 3735928559;
-          is_sealed = true;
-        }) ≡ codes
+      number = 258;
+      octets = 4660;
+      sum = 3735928559;
+      is_sealed = true;
+    }) ≡ codes
         "telegate state 1 rules 2 segment 0000000000000102 octets 0000000000001234 sum deadbeef"
         ++ 10 ∷ [] }
 {}

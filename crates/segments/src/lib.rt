@@ -36,9 +36,10 @@ pub use fault::SegmentFault;
 pub use gate::shut;
 pub use head::SegmentHead;
 pub use laws::{
-    a_start_finds_what_was_synced, a_torn_write_is_no_damage, first_lines_by_example, no_crash_takes_both_files,
-    no_file_is_written_over_but_beside_one_as_new, only_a_newer_segment_is_in_the_way,
-    the_next_number_is_new, the_other_file_has_older_segments, what_is_read_of_a_log_bears_its_seals,
+    a_start_finds_what_was_synced, a_torn_write_is_no_damage, first_lines_by_example,
+    no_crash_takes_both_files, no_file_is_written_over_but_beside_one_as_new,
+    only_a_newer_segment_is_in_the_way, the_next_number_is_new, the_other_file_has_older_segments,
+    what_is_read_of_a_log_bears_its_seals,
 };
 pub use segment::Segment;
 pub use start::{FoundHead, FoundLog, Side, Start, is_below, is_sound, newest_side};

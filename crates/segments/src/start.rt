@@ -590,7 +590,15 @@ impl<D: Disk + Drop> Start<D> {
         let side = side.other();
         if let Some(found) = found_in(alloc, &mut older, other_front)? {
             let is_doubtful = may_have_newer(found.head.number, front);
-            return Start::made(older, other_front, newer, side, Some(found), number, is_doubtful);
+            return Start::made(
+                older,
+                other_front,
+                newer,
+                side,
+                Some(found),
+                number,
+                is_doubtful,
+            );
         }
         let is_doubtful = !are_shut(front, other_front);
         Start::made(older, other_front, newer, side, None, number, is_doubtful)

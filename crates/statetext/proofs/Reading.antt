@@ -46,8 +46,7 @@ module _ (head text lines : List ℕ) (end : ℕ) (read : IsReadTo head text lin
       × (is_damaged f ≡ is_damaged_in head text)
   at_end all f is =
       let ended : end ≡ end_in head text =
-      read.ends ∙ ap (λ (w : List (List ℕ)). length (sealed_text head w)) (sym all) in
-      (
+      read.ends ∙ ap (λ (w : List (List ℕ)). length (sealed_text head w)) (sym all) in (
         read.says ∙ ap concat (sym all),
         ended,
         ap is_damaged (sym is) ∙ ap (λ (n : ℕ). is_damaged (front_in head n (drop n text))) ended,

@@ -262,8 +262,7 @@ rows head (lines ∷ writes) place (suc fuel) tail are enough =
     let end : next + length others ≡ place + length (front ++ others) =
     omega (arith, sized, length-append front others) in
     let behind : drop (length lines + 27) (front ++ (others ++ tail)) ≡ others ++ tail =
-    whole_behind head place lines (others ++ tail) are.0 in
-    (
+    whole_behind head place lines (others ++ tail) are.0 in (
       more,
       least,
       ap (λ (l : List ℕ). writes_by (suc fuel) head place l (front_in head place l)) grouped
@@ -426,8 +425,7 @@ rows_stand (suc fuel) head place text (fronts.Whole n) is =
     drop-drop (length others) (n + 27) text
     ∙ ap (λ (k : ℕ). drop k text)
     (let e : n + 27 + length others ≡ length (front ++ others) =
-    omega (arith, sized, length-append front others) in e) in
-    (
+    omega (arith, sized, length-append front others) in e) in (
       (lines_are head place text n is, are),
       whole ∙ sym (append_assoc front others (drop (length others) rest))
           ∙ ap (λ (l : List ℕ). front ++ others ++ l) left,

@@ -195,9 +195,11 @@ module _ (head : List ℕ) (place : ℕ) (lines : List ℕ) (are : AreLines line
           ⊎ ((front_in head place text ≡ fronts.Whole (length lines))
           × (take (length lines) text ≡ lines))
       by_starts true starts kept =
-          inr (sym (front_whole head place text (length lines) at behind (seal_of head place lines)
-          true kept refl (ap (seal_of head place) (sym (same_lines kept))) (sym starts) refl),
-          same_lines kept)
+          inr (
+            sym (front_whole head place text (length lines) at behind (seal_of head place lines)
+                true kept refl (ap (seal_of head place) (sym (same_lines kept))) (sym starts) refl),
+            same_lines kept,
+          )
       by_starts false starts kept =
           inl (sym (front_torn head place text (length lines) at behind (seal_of head place lines)
           false true fronts.Torn kept refl (ap (seal_of head place) (sym (same_lines kept)))
@@ -262,8 +264,7 @@ row_at head writes tail are =
     let (more, least, is) = rows head writes 0 (length (sealed_text head writes ++ tail)) tail are
     (omega arith) in
     let same : 0 + length (sealed_text head writes) ≡ length (sealed_text head writes) =
-    omega arith in
-    (
+    omega arith in (
       more,
       least,
       is ∙ ap (λ (n : ℕ). writes ++ writes_by more head n tail (front_in head n tail)) same,
@@ -604,9 +605,15 @@ none_passed_over head text before after place few few' stands sound =
     by (front_in head (end_in head text) (drop (end_in head text) text)) refl sound
   where
     small : end_in head text < 2 ^ 64
-    small = omega (arith, few, length-drop (end_in head text) text, ap length stands,
-        length-append before (mark_of place ++ after), length-append (mark_of place) after,
-        mark_length place)
+    small = omega (
+      arith,
+      few,
+      length-drop (end_in head text) text,
+      ap length stands,
+      length-append before (mark_of place ++ after),
+      length-append (mark_of place) after,
+      mark_length place,
+    )
 
     by : (f : Front) → front_in head (end_in head text) (drop (end_in head text) text) ≡ f
         → is_damaged f ≡ false → place ≡ end_in head text

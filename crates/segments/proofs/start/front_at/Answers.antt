@@ -1,4 +1,4 @@
-use Rattle.std.proofs.Common.{◌≡◌, ◌<◌, ◌≤◌, length, List, ℕ, IsTrue, sym, subst, ◌∙◌, lit<, arith}
+use Rattle.std.proofs.Common.{◌≡◌, ◌<◌, ◌≤◌, length, List, ℕ, sym, subst, ◌∙◌, lit<, arith}
 use Rattle.sqlite_disk.specs.Disk.{Holds}
 use Rattle.segments.specs.Starts.{IsHeadIn}
 use Rattle.segments.specs.declared.start.FileFront.TheVariants as fronts

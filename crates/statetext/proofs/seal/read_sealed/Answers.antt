@@ -14,8 +14,7 @@ loop-n-init c = (
 pub loop-n-preserved : goal.loop-n-preserved
 loop-n-preserved c =
     let text : List ℕ = c.args.text.now in
-    let rest = take_rest text c.loop-n.end in
-    (
+    let rest = take_rest text c.loop-n.end in (
       omega (
         arith,
         c.in-Whole.ensures.fits c.in-Whole.n refl,

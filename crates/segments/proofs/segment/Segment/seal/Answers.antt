@@ -1,4 +1,4 @@
-use Rattle.std.proofs.Common.{◌≡◌, ◌≤◌, ◌∙◌, ◌∷◌, ◌++◌, ◌+◌, [], ℕ, List, IsTrue, ap, arith, length}
+use Rattle.std.proofs.Common.{◌≡◌, ◌≤◌, ◌∙◌, ◌∷◌, ◌++◌, ◌+◌, [], ℕ, List, ap, arith, length}
 use Rattle.std.proofs.Common.{refl, subst, sym}
 use Rattle.std.proofs.lemmas.Bool.{false≢true}
 use Rattle.std.proofs.lemmas.List.{append-nil}
@@ -48,8 +48,12 @@ invariant_of-self g c =
     ap (text_in end seen) c.requires.held ∙ new_text in
     let count : end ≡ length text =
     c.in-Ok.ensures.end ∙ ap (λ (l : List ℕ). s.stored + length l) is_seal
-    ∙ (omega (arith, stored, next_length s.number w.body w.writes w.lines,
-    seal_length head (length (sealed_text head w.writes)) w.lines)) in
+    ∙ (omega (
+      arith,
+      stored,
+      next_length s.number w.body w.writes w.lines,
+      seal_length head (length (sealed_text head w.writes)) w.lines,
+    )) in
     let blank : IsBlankFrom end seen =
     subst (λ (n : ℕ). IsBlankFrom n seen) (sym c.in-Ok.ensures.end) c.in-Ok.ensures.blank in
     let empty : length s.page.items ≡ 0 = ap length c.requires.held in

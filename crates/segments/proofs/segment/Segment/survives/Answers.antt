@@ -1,8 +1,7 @@
-use Rattle.std.proofs.Common.{◌∙◌, ◌≡◌, ◌-◌, ◌+◌, ◌++◌, ℕ, ap, arith, length, length-append, subst, sym, true}
+use Rattle.std.proofs.Common.{◌∙◌, ◌≡◌, ◌-◌, ℕ, ap, arith, length, length-append, subst, sym, true}
 use Rattle.segments.specs.Crash.{BeginsWith}
 use Rattle.segments.specs.Crashes.{log_text}
 use Rattle.segments.specs.Room.{are_blocks}
-use Rattle.segments.specs.Written.{text_in}
 use Rattle.segments.proofs.CrashLemmas.{length_text}
 use Rattle.segments.proofs.Crashes.{stands}
 use Rattle.segments.proofs.segment.Segment.survives.Goals as goal

@@ -1,6 +1,6 @@
-use Rattle.std.proofs.Common.{◌≤◌, ◌∙◌, ◌++◌, ℕ, List, IsTrue, ap, arith, length, subst, sym}
+use Rattle.std.proofs.Common.{◌≤◌, ◌∙◌, ◌++◌, ℕ, List, ap, arith, length, subst, sym}
 use Rattle.std.proofs.lemmas.Bool.{false≢true}
-use Rattle.segments.specs.Crash.{AreMixing, HasAt, HasLength, HasNoOther, IsBlankFrom}
+use Rattle.segments.specs.Crash.{AreMixing, HasLength, HasNoOther, IsBlankFrom}
 use Rattle.segments.specs.Crashes.{log_text}
 use Rattle.segments.specs.Written.{text_in}
 use Rattle.segments.proofs.Sealed.{has_page, no_other_next}
