@@ -6,7 +6,8 @@ use Rattle.std.proofs.lemmas.Bool.{cases_lt}
 use Rattle.std.proofs.lemmas.List.{append-nil, ext_get_or, get_or-take, get_or_append_left}
 use Rattle.std.proofs.lemmas.List.{get_or-append_right, length-take-le, length-append, get_or_past}
 use Rattle.sqlite_disk.specs.Disk.{Holds, Torn, Mixed, Cut, Follows, Only}
-use Rattle.segments.specs.Crash.{HasLength, BeginsWith, HasNoOther, IsBlankFrom, IsShut, IsLong}
+use Rattle.segments.specs.Crash.{HasAt, HasLength, BeginsWith, HasNoOther, IsBlankFrom, IsShut}
+use Rattle.segments.specs.Crash.{IsLong}
 use Rattle.segments.specs.Crash.{IsWholeIfOpen}
 use Rattle.segments.specs.Crashes.{AreShutOr}
 use Rattle.segments.specs.Written.{text_in}
@@ -34,20 +35,6 @@ text_held at file page i le lt = get_or-append_right (take at file) page at i 0
 pub written_length : (at n : ℕ) (old new : List ℕ) → Torn at n old new → at + n ≤ length old
     → length new ≡ length old
 written_length at n old new torn le = omega (arith, torn.no_shorter, torn.no_longer, le)
-
-pub written_before : (at n : ℕ) (old new page : List ℕ) → Torn at n old new → at + n ≤ length old
-    → text_in at new page ≡ text_in at old page
-written_before at n old new page torn le =
-    let same : length new ≡ length old = written_length at n old new torn le in
-    ap (λ (l : List ℕ). l ++ page) (ext_get_or 0 (take at new) (take at old)
-    (length-take-le at new (omega (arith, same, le))
-    ∙ sym (length-take-le at old (omega (arith, le))))
-    (λ i lt. by i (omega (arith, lt, length-take-le at new (omega (arith, same, le))))))
-  where
-    by : (i : ℕ) → i < at → get_or (take at new) i 0 ≡ get_or (take at old) i 0
-    by i lt =
-        get_or-take at new i 0 lt ∙ torn.below i (omega (arith, lt, le)) lt
-        ∙ sym (get_or-take at old i 0 lt)
 
 pub written_text : (at : ℕ) (old new page : List ℕ) → Torn at (length page) old new
     → at + length page ≤ length old
@@ -101,11 +88,11 @@ beginning_kept at n old new size follows le long m text most begins c is i lt =
     let e : length w.0 ≡ size = long w.0 w.1 in
     w.2.below i (omega (arith, e, le, most, lt)) (omega (arith, most, lt)) ∙ begins w.0 w.1 i lt
 
-pub no_other_kept : (at : ℕ) (file page : List ℕ) (old new : List ℕ → Type 0)
+pub no_other_kept : (at : ℕ) (file page text : List ℕ) (old new : List ℕ → Type 0)
     → Follows (Mixed at page) old new
-    → at + length page ≤ length file → HasLength old (length file)
-    → HasNoOther old (text_in at file page) → HasNoOther new (text_in at file page)
-no_other_kept at file page old new follows le long others c is i some =
+    → at + length page ≤ length file → HasLength old (length file) → HasAt at page text
+    → HasNoOther old text → HasNoOther new text
+no_other_kept at file page text old new follows le long has others c is i some =
     elim (cases_lt i (length file)) [
       | inl within ↦ elim (cases_lt i at) [
         | inl before ↦ from_old (w.2.torn.below i (omega (arith, e, within)) before)
@@ -119,7 +106,8 @@ no_other_kept at file page old new follows le long others c is i some =
                 | inr put ↦
                     subst (λ (j : ℕ). slice_index c j ≡ slice_index page (i - at)) (place behind)
                     put
-                    ∙ sym (text_held at file page i (omega (arith, le)) behind)
+                    ∙ sym (has (i - at) (omega (arith, here, behind)))
+                    ∙ ap (λ (j : ℕ). slice_index text j) (place behind)
               ]
           | inr over ↦ from_old (w.2.torn.above i (omega (arith, e, within)) over)
         ]
@@ -142,8 +130,7 @@ no_other_kept at file page old new follows le long others c is i some =
     place : at ≤ i → at + (i - at) ≡ i
     place le = omega (arith, le)
 
-    from_old : slice_index c i ≡ slice_index w.0 i → slice_index c i
-        ≡ slice_index (text_in at file page) i
+    from_old : slice_index c i ≡ slice_index w.0 i → slice_index c i ≡ slice_index text i
     from_old same = same ∙ others w.0 w.1 i (λ zero. some (same ∙ zero))
 
 -- A sync

@@ -1,24 +1,30 @@
 -- A start finds what a crash left of a segment, and nothing else.
-use Rattle.std.proofs.Common.{◌≡◌, inl, inr, ℕ, ◌+◌, ◌-◌, ◌<◌, ◌≤◌, ◌^◌, List, []}
+use Rattle.std.proofs.Common.{◌≡◌, ◌≢◌, inl, inr, ℕ, ◌+◌, ◌-◌, ◌<◌, ◌≤◌, ◌^◌, List, [], Bool}
+use Rattle.std.proofs.Common.{true, false, not, ◌||◌, ◌&&◌, None, get_or}
 use Rattle.std.proofs.Common.{◌∷◌, ◌++◌, length, take, drop, slice_index, Ok, Some, refl}
 use Rattle.std.proofs.Common.{sym, ap, subst, ◌∙◌, append_assoc, length-append, zero-add, arith}
 use Rattle.std.proofs.lemmas.Bool.{cases_lt}
-use Rattle.std.proofs.lemmas.List.{append-nil, get_or_append_left, get_or-append_right, get_or-drop}
+use Rattle.std.proofs.lemmas.List.{append-nil, ext_get_or, get_or_append_left, get_or-append-add}
+use Rattle.std.proofs.lemmas.List.{get_or-append_right, get_or-drop}
 use Rattle.std.proofs.lemmas.List.{get_or-take, length-drop, length-take, length-take-le}
-use Rattle.std.proofs.lemmas.List.{take-append-drop, take-append-le}
+use Rattle.std.proofs.lemmas.List.{take-append-drop}
 use Rattle.std.proofs.lemmas.Nat.{from_be_bytes-to_be_bytes_4, from_be_bytes-to_be_bytes_8}
 use Rattle.std.specs.Int.{w32, w64, from_be_bytes, to_be_bytes}
-use Rattle.std.specs.Prelude.{◌⊎◌, bit_xor}
+use Rattle.std.specs.Prelude.{◌⊎◌, ◌==◌, bit_xor, if◌then◌else◌}
 use Rattle.hex.specs.Hex.{decode_sized, encode_lower}
 use Rattle.hex.proofs.HexLemmas.{decode_sized-encode_lower}
 use Rattle.sqlite_disk.specs.Disk.{Holds}
 use Rattle.statetext.specs.Sum.{remainder_after, sum_of}
 use Rattle.segments.specs.Crash.{BeginsWith, HasLength, HasNoOther, IsShut}
 use Rattle.segments.specs.Crash.{HasText, IsTextIfOpen}
-use Rattle.segments.specs.Crashes.{AreBoth, AreOlder, AreShutOr, HasNoZero, HasWhole, IsThatOf}
+use Rattle.segments.specs.Crashes.{AreBoth, AreOlder, AreShutOr, HasWhole, IsThatOf}
 use Rattle.segments.specs.Crashes.{StandsIn}
 use Rattle.segments.specs.Crashes.{StaysBacked}
-use Rattle.segments.specs.Crashes.{Survives, lines_behind}
+use Rattle.segments.specs.Crashes.{Survives, damage_behind, lines_behind, log_text}
+use Rattle.segments.specs.Room.{are_blocks, before_zero, damage_in, is_sealed, log_in}
+use Rattle.statetext.specs.Sealed.{AreLines, end_in, is_damaged_in, mark_of, sealed_text}
+use Rattle.statetext.specs.Sealed.{writes_in}
+use Rattle.std.specs.List.{concat}
 use Rattle.segments.specs.Head.{Fits, IsWholeText, head_for, head_of, whole_text}
 use Rattle.segments.specs.Starts.{BeginsNewer, FitsIn, IsBelow, IsFoundIn, IsHeadIn, IsNewest}
 use Rattle.segments.specs.Starts.{number_in}
@@ -27,9 +33,11 @@ use Rattle.segments.specs.declared.head.SegmentHead.{SegmentHead}
 use Rattle.segments.specs.declared.start.FileFront.{FileFront}
 use Rattle.segments.specs.declared.start.FileFront.TheVariants as fronts
 use Rattle.segments.proofs.Fronts.{head_letter, not_shut, same_octets}
-use Rattle.segments.proofs.HeadLemmas.{eight_bytes, four_bytes, head_length, number_at, octets_at}
+use Rattle.segments.proofs.HeadLemmas.{head_length, number_at, octets_at, rules_read}
 use Rattle.segments.proofs.HeadLemmas.{same_head, sum_at, whole_behind}
-use Rattle.segments.proofs.Zeros.{kept_before_zero, others_before_zero}
+use Rattle.segments.proofs.Sealed.{concat_more, next_seal, next_text}
+use Rattle.statetext.proofs.Sealing.{eight_bytes, four_bytes}
+use Rattle.statetext.proofs.Torn.{IsReadAs, begins_with_row, none_passed_over, read_as}
 
 -- A first line gives its numbers
 
@@ -63,8 +71,9 @@ same_line a b fits fits' e =
     (sym (octets_at a) ∙ ap (λ (l : List ℕ). take 16 (drop 57 l)) e ∙ octets_at b) in
     let sum : a.sum ≡ b.sum = sum_logged a.sum b.sum fits.sum fits'.sum
     (sym (sum_at a) ∙ ap (λ (l : List ℕ). take 8 (drop 78 l)) e ∙ sum_at b) in
-    same_head a.number a.octets a.sum b (ap (λ (n : ℕ). Some n) number)
+    same_head a.number a.octets a.sum a.is_sealed b (ap (λ (n : ℕ). Some n) number)
     (ap (λ (n : ℕ). Some n) octets) (ap (λ (n : ℕ). Some n) sum)
+    (sym (rules_read a) ∙ ap (λ (l : List ℕ). slice_index l 23 == 50) e ∙ rules_read b)
 
 -- A file has one segment
 
@@ -118,7 +127,7 @@ whole_is : (number : ℕ) (body lines : List ℕ) → whole_text number body ++ 
 unfolding whole_text
 whole_is number body lines = append_assoc (head_of (head_for number body)) body lines
 
-whole_length : (number : ℕ) (body : List ℕ) → length (whole_text number body) ≡ 87 + length body
+pub whole_length : (number : ℕ) (body : List ℕ) → length (whole_text number body) ≡ 87 + length body
 unfolding whole_text
 whole_length number body = length-append (head_of (head_for number body)) body
     ∙ ap (λ (n : ℕ). n + length body) (head_length (head_for number body))
@@ -174,61 +183,191 @@ module _ (c : List ℕ) (number : ℕ) (body lines : List ℕ) (n : ℕ)
     };
   }
 
+-- What a start reads behind the checkpoint
+
+begins_list : (text front : List ℕ) → length front ≤ length text
+    → ((j : ℕ) → j < length front → slice_index text j ≡ slice_index front j)
+    → text ≡ front ++ drop (length front) text
+begins_list text front long same =
+    sym (take-append-drop (length front) text)
+    ∙ ap (λ (l : List ℕ). l ++ drop (length front) text)
+    (ext_get_or 0 (take (length front) text) front (length-take-le (length front) text long)
+    (λ j lt. each j (omega (arith, lt, length-take-le (length front) text long))))
+  where
+    each : (j : ℕ) → j < length front → get_or (take (length front) text) j 0 ≡ get_or front j 0
+    each j lt = get_or-take (length front) text j 0 lt ∙ same j lt
+
+pub head_front : (file : List ℕ) (head : SegmentHead) → Holds file 0 (head_of head)
+    → take 87 file ≡ head_of head
+head_front file head holds =
+    ext_get_or 0 (take 87 file) (head_of head) (long ∙ sym (head_length head))
+    (λ i lt. each i (omega (arith, lt, long)))
+  where
+    long : length (take 87 file) ≡ 87
+    long = length-take-le 87 file (omega (arith, holds.within, head_length head))
+
+    each : (i : ℕ) → i < 87 → get_or (take 87 file) i 0 ≡ get_or (head_of head) i 0
+    each i lt = get_or-take 87 file i 0 lt ∙ ap (λ (k : ℕ). get_or file k 0) (sym (zero-add i))
+        ∙ holds.each i (omega (arith, lt, head_length head))
+
+pub sealed_so : (file : List ℕ) (head : SegmentHead) → Holds file 0 (head_of head)
+    → is_sealed file ≡ head.is_sealed
+sealed_so file head holds =
+    ap (λ (n : ℕ). n == 50) (holds.each 23 (omega (arith, head_length head))) ∙ rules_read head
+
+module _ (at : ℕ) (file : List ℕ) (head : SegmentHead) (holds : Holds file 0 (head_of head)) where
+  line : take 87 file ≡ head_of head
+  line = head_front file head holds
+
+  pub lines_sealed : head.is_sealed ≡ true
+      → log_in at file ≡ concat (writes_in (head_of head) (drop at file))
+  unfolding log_in
+  lines_sealed sealed =
+      ap (λ (b : Bool). if b then concat (writes_in (take 87 file) (drop at file))
+      else before_zero (drop at file)) (sealed_so file head holds ∙ sealed)
+      ∙ ap (λ (l : List ℕ). concat (writes_in l (drop at file))) line
+
+  pub lines_older : head.is_sealed ≡ false → log_in at file ≡ before_zero (drop at file)
+  unfolding log_in
+  lines_older older =
+      ap (λ (b : Bool). if b then concat (writes_in (take 87 file) (drop at file))
+      else before_zero (drop at file)) (sealed_so file head holds ∙ older)
+
+  pub damage_sealed : head.is_sealed ≡ true
+      → damage_in at file ≡ (if is_damaged_in (head_of head) (drop at file)
+      || not (are_blocks (length file - at))
+      then Some (at + end_in (head_of head) (drop at file)) else None)
+  unfolding damage_in
+  damage_sealed sealed =
+      ap (λ (b : Bool). if b && (is_damaged_in (take 87 file) (drop at file)
+      || not (are_blocks (length file - at)))
+      then Some (at + end_in (take 87 file) (drop at file)) else None)
+      (sealed_so file head holds ∙ sealed)
+      ∙ ap (λ (l : List ℕ). if is_damaged_in l (drop at file)
+      || not (are_blocks (length file - at)) then Some (at + end_in l (drop at file)) else None)
+      line
+
+  pub damage_older : head.is_sealed ≡ false → damage_in at file ≡ None
+  unfolding damage_in
+  damage_older older =
+      ap (λ (b : Bool). if b && (is_damaged_in (take 87 file) (drop at file)
+      || not (are_blocks (length file - at)))
+      then Some (at + end_in (take 87 file) (drop at file)) else None)
+      (sealed_so file head holds ∙ older)
+
 -- What a crash leaves of a segment
 
-module _ (outcomes : List ℕ → Type 0) (number : ℕ) (body lines : List ℕ) (synced : ℕ)
-    (c : List ℕ) (s : Survives outcomes number body lines synced) (is : outcomes c) where
-  left_begins : (i : ℕ) → i < 87 + length body + synced →
-      slice_index c i ≡ slice_index (whole_text number body ++ lines) i
-  left_begins i lt = s.kept c is i (omega (arith, lt, whole_length number body))
+module _ (outcomes : List ℕ → Type 0) (number : ℕ) (body : List ℕ) (writes : List (List ℕ))
+    (c : List ℕ) (s : Survives outcomes number body writes) (is : outcomes c) where
+  abbrev own : SegmentHead
+  own = head_for number body
+
+  abbrev sealed : List ℕ
+  sealed = sealed_text (head_of own) writes
+
+  abbrev room : List ℕ
+  room = drop (87 + length body) c
+
+  log_length : length (log_text number body writes) ≡ 87 + length body + length sealed
+  log_length = length-append (whole_text number body) sealed
+      ∙ ap (λ (n : ℕ). n + length sealed) (whole_length number body)
+
+  left_begins : (i : ℕ) → i < 87 + length body + length sealed →
+      slice_index c i ≡ slice_index (log_text number body writes) i
+  left_begins i lt = s.kept c is i (omega (arith, lt, log_length))
 
   left_long : 87 + length body ≤ length c
-  left_long = omega (
-    arith,
-    s.long c is,
-    s.room,
-    whole_length number body,
-    length-append (whole_text number body) lines,
-  )
+  left_long = omega (arith, s.long c is, s.room, log_length)
 
-  pub whole_left : IsFoundIn c (head_for number body) body
-  whole_left = found_so c number body lines synced left_begins left_long
+  pub whole_left : IsFoundIn c own body
+  whole_left = found_so c number body sealed (length sealed) left_begins left_long
 
-  pub synced_left : take synced (lines_behind body c) ≡ take synced lines
-  synced_left = kept_before_zero synced (drop (87 + length body) c) lines
-      (line_octet c number body lines synced left_begins left_long)
-      (λ j lt. s.some j (omega (arith, lt, s.within)))
+  tail : List ℕ
+  tail = drop (length sealed) room
 
-  pub nothing_else_left : HasNoOther outcomes (whole_text number body ++ lines)
-      → lines_behind body c ≡ take (length (lines_behind body c)) lines
-  nothing_else_left none = others_before_zero (drop (87 + length body) c) lines by
-    where
-      by : (i : ℕ) → (slice_index (drop (87 + length body) c) i ≡ 0 → ⊥)
-          → slice_index (drop (87 + length body) c) i ≡ slice_index lines i
-      by i some =
-          let place = get_or-drop (87 + length body) c i 0 in
-          let back : 87 + length body + i - (87 + length body) ≡ i = omega arith in
-          let above : 87 + length body ≤ 87 + length body + i = omega arith in
-          place ∙ none c is (87 + length body + i) (λ zero. some (place ∙ zero))
-          ∙ get_or-append_right (whole_text number body) lines (87 + length body)
-          (87 + length body + i) 0 (whole_length number body) above
-          ∙ ap (λ (k : ℕ). slice_index lines k) back
+  room_is : room ≡ sealed ++ drop (length sealed) room
+  room_is = begins_list room sealed
+      (omega (arith, length-drop (87 + length body) c, s.long c is, s.room, log_length))
+      (line_octet c number body sealed (length sealed) left_begins left_long)
+
+  pub synced_left : (more : List ℕ) × (lines_behind body c ≡ concat writes ++ more)
+  synced_left =
+      let (more, says) = begins_with_row (head_of own) writes (drop (length sealed) room) s.are in (
+        more,
+        lines_sealed (87 + length body) c own whole_left.first refl
+            ∙ ap (λ (l : List ℕ). concat (writes_in (head_of own) l)) room_is ∙ says,
+      )
+
+  module _ (late : List ℕ) (plain : AreLines late)
+      (none : HasNoOther outcomes (log_text number body (writes ++ late ∷ []))) where
+    left_of : (i : ℕ) → slice_index (drop (length sealed) room) i ≢ 0
+        → slice_index (drop (length sealed) room) i
+        ≡ slice_index (late ++ next_seal number body writes late) i
+    left_of i some =
+        let place : length sealed + i + (87 + length body)
+        ≡ length (log_text number body writes) + i = omega (arith, log_length) in
+        let there : slice_index (drop (length sealed) room) i
+        ≡ slice_index c (length (log_text number body writes) + i) =
+        get_or-drop (length sealed) room i 0
+        ∙ get_or-drop (87 + length body) c (length sealed + i) 0
+        ∙ ap (λ (k : ℕ). slice_index c k) (let e : 87 + length body + (length sealed + i)
+        ≡ length (log_text number body writes) + i = omega (arith, log_length) in e) in
+        there
+        ∙ none c is (length (log_text number body writes) + i) (λ zero. some (there ∙ zero))
+        ∙ ap (λ (l : List ℕ). slice_index l (length (log_text number body writes) + i))
+        (next_text number body writes late
+        ∙ append_assoc (log_text number body writes) late (next_seal number body writes late))
+        ∙ get_or-append-add (log_text number body writes)
+        (late ++ next_seal number body writes late) i 0
+
+    read : IsReadAs (head_of own) (sealed ++ drop (length sealed) room) writes
+        ⊎ IsReadAs (head_of own) (sealed ++ drop (length sealed) room) (writes ++ late ∷ [])
+    read = read_as (head_of own) writes (drop (length sealed) room) late s.are plain left_of
+
+    lines_so : (ws : List (List ℕ))
+        → IsReadAs (head_of own) (sealed ++ drop (length sealed) room) ws
+        → lines_behind body c ≡ concat ws
+    lines_so ws said =
+        lines_sealed (87 + length body) c own whole_left.first refl
+        ∙ ap (λ (l : List ℕ). concat (writes_in (head_of own) l)) room_is ∙ ap concat said.read
+
+    pub nothing_else_left : (lines_behind body c ≡ concat writes)
+        ⊎ (lines_behind body c ≡ concat writes ++ late)
+    nothing_else_left = elim read [
+      | inl torn ↦ inl (lines_so writes torn)
+      | inr whole ↦ inr (lines_so (writes ++ late ∷ []) whole ∙ concat_more writes late)
+    ]
+
+    sound : is_damaged_in (head_of own) room ≡ false
+    sound = ap (is_damaged_in (head_of own)) room_is ∙ (elim read [
+      | inl torn ↦ torn.sound
+      | inr whole ↦ whole.sound
+    ])
+
+    pub undamaged_left : damage_behind body c ≡ None
+    undamaged_left =
+        damage_sealed (87 + length body) c own whole_left.first refl
+        ∙ ap (λ (b : Bool). if b || not (are_blocks (length c - (87 + length body)))
+        then Some (87 + length body + end_in (head_of own) room) else None) sound
+        ∙ ap (λ (b : Bool). if not b
+        then Some (87 + length body + end_in (head_of own) room) else None)
+        (ap (λ (n : ℕ). are_blocks (n - (87 + length body))) (s.long c is) ∙ s.blocks)
 
 -- Two files
 
-pub newest_left : (mine others : List ℕ → Type 0) (number : ℕ) (body lines : List ℕ) (synced : ℕ)
-    (c d newest other : List ℕ) (head : SegmentHead) (text : List ℕ)
-    → Survives mine number body lines synced → AreOlder others number → mine c → others d
+pub newest_left : (mine others : List ℕ → Type 0) (number : ℕ) (body : List ℕ)
+    (writes : List (List ℕ)) (c d newest other : List ℕ) (head : SegmentHead) (text : List ℕ)
+    → Survives mine number body writes → AreOlder others number → mine c → others d
     → AreBoth c d newest other → IsNewest newest other → Fits head
     → IsFoundIn newest head text → IsThatOf c number body newest head text
-newest_left mine others number body lines synced c d newest other head text s older is is'
+newest_left mine others number body writes c d newest other head text s older is is'
     (inl both)
     wins fits found = that c number body newest head text s.fits fits both.0
-    (whole_left mine number body lines synced c s is) found
-newest_left mine others number body lines synced c d newest other head text s older is is'
+    (whole_left mine number body writes c s is) found
+newest_left mine others number body writes c d newest other head text s older is is'
     (inr both)
     wins fits found =
-    let whole = whole_left mine number body lines synced c s is in
+    let whole = whole_left mine number body writes c s is in
     let least : number ≤ head.number = wins head (head_for number body) text body fits s.fits found
     (subst (λ (l : List ℕ). IsFoundIn l (head_for number body) body) (sym both.1) whole) in
     let below : head.number < number = older d is' head text fits
@@ -237,11 +376,11 @@ newest_left mine others number body lines synced c d newest other head text s ol
 
 -- The other file
 
-pub survived_older : (outcomes : List ℕ → Type 0) (number next : ℕ) (body lines : List ℕ)
-    (synced : ℕ) → Survives outcomes number body lines synced → number < next
+pub survived_older : (outcomes : List ℕ → Type 0) (number next : ℕ) (body : List ℕ)
+    (writes : List (List ℕ)) → Survives outcomes number body writes → number < next
     → AreOlder outcomes next
-survived_older outcomes number next body lines synced s less c is head text fits found =
-    let whole = whole_left outcomes number body lines synced c s is in
+survived_older outcomes number next body writes s less c is head text fits found =
+    let whole = whole_left outcomes number body writes c s is in
     let same = same_first c head (head_for number body) fits s.fits found.first whole.first in
     let number_is : head.number ≡ number = ap (λ (h : SegmentHead). h.number) same in
     omega (arith, number_is, less)
@@ -295,7 +434,7 @@ front_is : (number end : ℕ) (seen body : List ℕ) → text_in end seen [] ≡
     → take end seen ≡ whole_text number body
 front_is number end seen body text = sym (append-nil (take end seen)) ∙ text
 
-body_is : (number end : ℕ) (seen body : List ℕ) → text_in end seen [] ≡ whole_text number body
+pub body_is : (number end : ℕ) (seen body : List ℕ) → text_in end seen [] ≡ whole_text number body
     → drop 87 (take end seen) ≡ body
 body_is number end seen body text =
     ap (drop 87) (front_is number end seen body text) ∙ whole_behind number body
@@ -357,66 +496,22 @@ whole_begun number end seen few few' within summed is = record {
   is = is;
 }
 
--- a segment's text begins with what stands in its file
-pub whole_in_text : (number begins stored : ℕ) (seen held : List ℕ)
-    → IsWholeText number (take begins seen) → begins ≤ stored → stored ≤ length seen
-    → IsWholeText number (take begins (text_in stored seen held))
-whole_in_text number begins stored seen held whole le within =
-    subst (IsWholeText number) (sym (take-append-le begins (take stored seen) held
-    (omega (arith, length-take-le stored seen within, le))
-    ∙ sym (take-append-le begins (take stored seen) (drop stored seen)
-    (omega (arith, length-take-le stored seen within, le)))
-    ∙ ap (take begins) (take-append-drop stored seen))) whole
-
--- a write behind it leaves it as it is
-pub whole_written : (number begins stored : ℕ) (seen seen' held : List ℕ)
-    → IsWholeText number (take begins seen) → begins ≤ stored → stored ≤ length seen
-    → length seen' ≡ length seen
-    → text_in stored seen' held ≡ text_in stored seen held → IsWholeText number (take begins seen')
-whole_written number begins stored seen seen' held whole le within long same =
-    subst (IsWholeText number) (sym (sym (front seen' (omega (arith, within, long)))
-    ∙ ap (take begins) same ∙ front seen within)) whole
-  where
-    front : (file : List ℕ) → stored ≤ length file
-        → take begins (text_in stored file held) ≡ take begins file
-    front file fits =
-        take-append-le begins (take stored file) held
-        (omega (arith, length-take-le stored file fits, le))
-        ∙ sym (take-append-le begins (take stored file) (drop stored file)
-        (omega (arith, length-take-le stored file fits, le)))
-        ∙ ap (take begins) (take-append-drop stored file)
-
 -- whatever a crash leaves of a segment's file has that segment
-module _ (outcomes : List ℕ → Type 0) (number begins durable size : ℕ) (text : List ℕ)
-    (whole : IsWholeText number (take begins text)) (head : begins ≤ durable)
-    (synced : durable ≤ length text) (room : length text ≤ size) (long : HasLength outcomes size)
-    (kept : BeginsWith outcomes durable text) where
-  abbrev own_body : List ℕ
-  own_body = drop 87 (take begins text)
-
-  own_length : length (whole_text number own_body) ≡ begins
-  own_length = ap (λ (l : List ℕ). length l) (sym whole.is)
-      ∙ length-take-le begins text (omega (arith, head, synced))
-
-  own_octet : (c : List ℕ) → outcomes c → (i : ℕ) → i < 87 + length own_body + 0 →
-      slice_index c i ≡ slice_index (whole_text number own_body ++ []) i
-  own_octet c is i lt =
-      let low : i < begins = omega (arith, lt, own_length, whole_length number own_body) in
-      kept c is i (omega (arith, low, head))
-      ∙ sym (get_or-take begins text i 0 low)
-      ∙ ap (λ (l : List ℕ). slice_index l i)
-      (whole.is ∙ sym (append-nil (whole_text number own_body)))
-
-  own_long : (c : List ℕ) → outcomes c → 87 + length own_body ≤ length c
-  own_long c is =
-      omega (arith, long c is, room, synced, head, own_length, whole_length number own_body)
-
-  pub stands : StandsIn outcomes number
-  stands c is = (
-    own_body,
-    whole.fits,
-    found_so c number own_body [] 0 (own_octet c is) (own_long c is),
-  )
+pub stands : (outcomes : List ℕ → Type 0) (number durable size : ℕ) (body : List ℕ)
+    (writes : List (List ℕ)) → Fits (head_for number body)
+    → durable ≡ length (log_text number body writes) → durable ≤ size → HasLength outcomes size
+    → BeginsWith outcomes durable (log_text number body writes) → StandsIn outcomes number
+stands outcomes number durable size body writes fits safe room long kept c is =
+    let sealed : List ℕ = sealed_text (head_of (head_for number body)) writes in
+    let count : length (log_text number body writes) ≡ 87 + length body + length sealed =
+    length-append (whole_text number body) sealed
+    ∙ ap (λ (n : ℕ). n + length sealed) (whole_length number body) in (
+      body,
+      fits,
+      found_so c number body sealed (length sealed)
+          (λ i lt. kept c is i (omega (arith, lt, count, safe)))
+          (omega (arith, long c is, room, safe, count)),
+    )
 
 pub backs_other : (outcomes : List ℕ → Type 0) (other : List ℕ) (number : ℕ) (front : FileFront)
     → StandsIn outcomes number → IsHeadIn other front → number_in front ≤ number
@@ -444,25 +539,32 @@ newer_front file fronts.Shut number begins fits lt = absurd (omega (arith, lt))
 newer_front file (fronts.Head head) number begins fits lt = (head, fits, begins.begins, lt)
 newer_front file fronts.Other number begins fits lt = absurd (omega (arith, lt))
 
--- A segment whose head is synced
+-- What is read of a log bears its seals
 
-pub survives : (outcomes : List ℕ → Type 0) (number : ℕ) (body lines : List ℕ) (durable size : ℕ)
-    (text : List ℕ)
-    → Fits (head_for number body) → text ≡ whole_text number body ++ lines → HasNoZero lines
-    → length (whole_text number body) ≤ durable → durable ≤ length text → length text ≤ size
-    → HasLength outcomes size → BeginsWith outcomes durable text
-    → Survives outcomes number body lines (durable - length (whole_text number body))
-survives outcomes number body lines durable size text fits is some head synced room long kept =
-    record {
-      fits = fits;
-      within = omega (arith, head, synced, count, length-append (whole_text number body) lines);
-      some = some;
-      size = size;
-      long = long;
-      room = omega (arith, room, count);
-      kept = λ c left i lt. kept c left i (omega (arith, lt, head))
-          ∙ ap (λ (l : List ℕ). slice_index l i) is;
-    }
+pub none_passed : (begins place : ℕ) (file before behind : List ℕ) → begins ≤ length file
+    → length file < 2 ^ 64 → is_sealed file ≡ true → damage_in begins file ≡ None → place < 2 ^ 64
+    → drop (end_in (take 87 file) (drop begins file)) (drop begins file)
+    ≡ before ++ mark_of place ++ behind
+    → place ≡ end_in (take 87 file) (drop begins file)
+unfolding damage_in
+none_passed begins place file before behind within few sealed undamaged few' stands =
+    none_passed_over (take 87 file) (drop begins file) before behind place
+    (omega (arith, few, length-drop begins file)) few'
+    (stands ∙ append_assoc before (mark_of place) behind)
+    (by (is_sealed file) (is_damaged_in (take 87 file) (drop begins file))
+    (not (are_blocks (length file - begins))) sealed undamaged)
   where
-    count : length text ≡ length (whole_text number body ++ lines)
-    count = ap (λ (l : List ℕ). length l) is
+    by : (a b e : Bool) → a ≡ true
+        → (if a && (b || e) then Some (begins + end_in (take 87 file) (drop begins file)) else None)
+        ≡ None
+        → b ≡ false
+    by true true e is none = absurd (cc)
+    by true false e is none = refl
+    by false b e is none = absurd (cc)
+
+pub lines_stand : (begins : ℕ) (file : List ℕ) → is_sealed file ≡ true
+    → log_in begins file ≡ concat (writes_in (take 87 file) (drop begins file))
+unfolding log_in
+lines_stand begins file sealed =
+    ap (λ (b : Bool). if b then concat (writes_in (take 87 file) (drop begins file))
+    else before_zero (drop begins file)) sealed

@@ -50,7 +50,7 @@ shut_short file short = record {
   heads = λ head fits holds. absurd (not_shut file head holds (inl short));
 }
 
-pub shut_zero : (file first : List ℕ) → Holds file 0 first → length first ≡ 1 → slice_index first 0
+pub shut_zero : (file first : List ℕ) → Holds file 0 first → 0 < length first → slice_index first 0
     ≡ 0
     → IsHeadIn file fronts.Shut
 shut_zero file first held one zero =
@@ -60,14 +60,14 @@ shut_zero file first held one zero =
     }
 
 -- a file that isn't shut
-open_file : (file first : List ℕ) → Holds file 0 first → length first ≡ 1
+open_file : (file first : List ℕ) → Holds file 0 first → 0 < length first
     → (slice_index first 0 ≡ 0 → ⊥)
     → 2 ≤ length file → IsShut file → ⊥
 open_file file first held one some long (inl short) = omega (arith, short, long)
 open_file file first held one some long (inr zero) = some (sym (held.each 0 (omega (arith, one)))
     ∙ zero)
 
-pub other_short : (file first : List ℕ) → Holds file 0 first → length first ≡ 1
+pub other_short : (file first : List ℕ) → Holds file 0 first → 0 < length first
     → (slice_index first 0 ≡ 0 → ⊥)
     → 2 ≤ length file → length file < 87 → IsHeadIn file fronts.Other
 other_short file first held one some long short = record {
@@ -81,7 +81,7 @@ line_of : (file row : List ℕ) (head : SegmentHead) → Holds file 0 row → le
 line_of file row head held long holds = same_octets file 0 row (head_of head) held holds (long
     ∙ sym (head_length head))
 
-pub other_line : (file first row : List ℕ) → Holds file 0 first → length first ≡ 1
+pub other_line : (file first row : List ℕ) → Holds file 0 first → 0 < length first
     → (slice_index first 0 ≡ 0 → ⊥)
     → 2 ≤ length file → Holds file 0 row → length row ≡ 87
     → ((head : SegmentHead) → Fits head → row ≡ head_of head → None ≡ Some head)

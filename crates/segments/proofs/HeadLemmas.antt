@@ -1,14 +1,15 @@
 -- The first line of a segment.
-use Rattle.std.proofs.Common.{◌≡◌, ℕ, zero, suc, ◌+◌, ◌*◌, ◌%◌, ◌/◌, ◌^◌, ◌<◌, List, [], ◌∷◌, ◌++◌}
-use Rattle.std.proofs.Common.{length, slice_index, take, drop, codes, refl, ap, ◌∙◌, lit<, arith}
-use Rattle.std.proofs.Common.{Some, Result, Ok, Err, MatchResult, sym}
+use Rattle.std.proofs.Common.{◌≡◌, ℕ, ◌+◌, ◌*◌, List, [], ◌∷◌, ◌++◌}
+use Rattle.std.proofs.Common.{length, slice_index, take, drop, codes, refl, ap, ◌∙◌, arith}
+use Rattle.std.proofs.Common.{Bool, true, false, Some, Result, Ok, Err, MatchResult, sym, ◌==◌}
 use Rattle.std.proofs.lemmas.List.{length-append}
 use Rattle.std.proofs.Math.Seq.{drop-append_seam}
 use Rattle.std.specs.Int.{w32, w64, to_be_bytes}
-use Rattle.hex.specs.Hex.{IsBytes, decode_sized, encode_lower, encode_with, lower_digits}
+use Rattle.hex.specs.Hex.{decode_sized, encode_lower, encode_with, lower_digits}
 use Rattle.hex.specs.declared.error.FromHexError.{FromHexError}
 use Rattle.hex.proofs.HexLemmas.{decode_sized-encode_lower, length-encode_with}
-use Rattle.segments.specs.Head.{head_for, head_of, whole_text}
+use Rattle.statetext.proofs.Sealing.{eight_bytes, four_bytes}
+use Rattle.segments.specs.Head.{head_for, head_of, rules_of, whole_text}
 use Rattle.segments.specs.declared.head.SegmentHead.{SegmentHead}
 
 parts : (a b c d e f g : List ℕ) → length (a ++ b ++ c ++ d ++ e ++ f ++ g)
@@ -23,7 +24,8 @@ sums a b c is-a is-b is-c = omega arith
 
 pub head_length : (h : SegmentHead) → length (head_of h) ≡ 87
 head_length h =
-    parts (codes "telegate state 1 rules 1 segment ") (encode_lower (to_be_bytes w64 h.number))
+    parts (codes "telegate state 1 rules " ++ rules_of h.is_sealed ∷ codes " segment ")
+    (encode_lower (to_be_bytes w64 h.number))
     (codes " octets ")
     (encode_lower (to_be_bytes w64 h.octets)) (codes " sum ") (encode_lower (to_be_bytes w32 h.sum))
     (10 ∷ [])
@@ -43,28 +45,6 @@ pub head_first : (h : SegmentHead) → slice_index (head_of h) 0 ≡ 116
 head_first h = refl
 
 -- Digits are read back
-
-no_bytes : IsBytes []
-no_bytes i = lit< tt
-
-byte_of : (n : ℕ) → n % 256 < 256
-byte_of n = omega arith
-
-more_bytes : (a b c d : ℕ) (rest : List ℕ) → IsBytes rest
-    → IsBytes (a % 256 ∷ b % 256 ∷ c % 256 ∷ d % 256 ∷ rest)
-more_bytes a b c d rest others zero = byte_of a
-more_bytes a b c d rest others (suc zero) = byte_of b
-more_bytes a b c d rest others (suc (suc zero)) = byte_of c
-more_bytes a b c d rest others (suc (suc (suc zero))) = byte_of d
-more_bytes a b c d rest others (suc (suc (suc (suc i)))) = others i
-
-pub four_bytes : (n : ℕ) → IsBytes (to_be_bytes w32 n)
-four_bytes n = more_bytes (n / 256 ^ 3) (n / 256 ^ 2) (n / 256 ^ 1) n [] no_bytes
-
-pub eight_bytes : (n : ℕ) → IsBytes (to_be_bytes w64 n)
-eight_bytes n =
-    let low = more_bytes (n / 256 ^ 3) (n / 256 ^ 2) (n / 256 ^ 1) n [] no_bytes in
-    more_bytes (n / 256 ^ 7) (n / 256 ^ 6) (n / 256 ^ 5) (n / 256 ^ 4) (to_be_bytes w32 n) low
 
 decoded : (found : Result (List ℕ) FromHexError) (octets new : List ℕ)
     (r : Result (Unit {0}) FromHexError)
@@ -106,14 +86,28 @@ unfolding encode_with
 sum_at h = refl
 
 -- those that were read back are those of the line
-pub same_head : (number octets sum : ℕ) (h : SegmentHead) → Some number ≡ Some h.number
-    → Some octets
-    ≡ Some h.octets
-    → Some sum ≡ Some h.sum → record { number = number; octets = octets; sum = sum } ≡ h
-same_head number octets sum h n o s =
-    let by_number : ℕ → SegmentHead = λ m. record { number = m; octets = octets; sum = sum } in
-    let by_octets : ℕ → SegmentHead = λ m. record { number = h.number; octets = m; sum = sum } in
-    let by_sum : ℕ → SegmentHead = λ m. record { number = h.number; octets = h.octets; sum = m } in
+pub same_head : (number octets sum : ℕ) (is_sealed : Bool) (h : SegmentHead)
+    → Some number ≡ Some h.number → Some octets ≡ Some h.octets → Some sum ≡ Some h.sum
+    → is_sealed ≡ h.is_sealed
+    → record { number = number; octets = octets; sum = sum; is_sealed = is_sealed } ≡ h
+same_head number octets sum is_sealed h n o s r =
+    let by_number : ℕ → SegmentHead = λ m.
+    record { number = m; octets = octets; sum = sum; is_sealed = is_sealed } in
+    let by_octets : ℕ → SegmentHead = λ m.
+    record { number = h.number; octets = m; sum = sum; is_sealed = is_sealed } in
+    let by_sum : ℕ → SegmentHead = λ m.
+    record { number = h.number; octets = h.octets; sum = m; is_sealed = is_sealed } in
+    let by_rules : Bool → SegmentHead = λ b.
+    record { number = h.number; octets = h.octets; sum = h.sum; is_sealed = b } in
     ap by_number (let a : number ≡ h.number = cc in a)
     ∙ ap by_octets (let b : octets ≡ h.octets = cc in b)
     ∙ ap by_sum (let d : sum ≡ h.sum = cc in d)
+    ∙ ap by_rules r
+
+-- the rules stand there
+rules_told : (r : Bool) → (rules_of r == 50) ≡ r
+rules_told true = refl
+rules_told false = refl
+
+pub rules_read : (h : SegmentHead) → (slice_index (head_of h) 23 == 50) ≡ h.is_sealed
+rules_read h = rules_told h.is_sealed

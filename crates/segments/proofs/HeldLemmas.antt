@@ -1,19 +1,19 @@
 -- Octets that a segment holds and has yet to write, and the sum of them.
-use Rattle.std.proofs.Common.{◌≡◌, inl, inr, ℕ, ◌+◌, ◌-◌, ◌<◌, ◌≤◌, Bool, true, false, List, []}
+use Rattle.std.proofs.Common.{◌≡◌, inl, inr, ℕ, ◌+◌, ◌-◌, ◌<◌, ◌≤◌, List, []}
 use Rattle.std.proofs.Common.{◌∷◌, ◌++◌, length, get_or, take, drop, slice_index, refl, sym, ap}
-use Rattle.std.proofs.Common.{◌∙◌, append_assoc, add-zero, subst, arith, if◌then◌else◌}
+use Rattle.std.proofs.Common.{◌∙◌, append_assoc, add-zero, subst, arith}
 use Rattle.std.proofs.lemmas.Bool.{cases_lt}
-use Rattle.std.proofs.lemmas.List.{drop-append-le, ext_get_or, get_or-take, get_or_append_left}
+use Rattle.std.proofs.lemmas.List.{drop-append-le, ext_get_or, get_or-take}
 use Rattle.std.proofs.lemmas.List.{length-take-le, length-append, get_or_past, get_or-drop}
 use Rattle.std.proofs.lemmas.List.{length-drop, get_or-replicate, length-replicate}
 use Rattle.std.proofs.Math.Seq.{take-add}
 use Rattle.std.proofs.Math.ListN.{drop_of_length-le}
 use Rattle.sqlite_disk.specs.Disk.{Holds}
-use Rattle.segments.specs.Crash.{BeginsWith, HasNoOther, IsBlankFrom, IsWholeIfOpen}
+use Rattle.segments.specs.Crash.{IsBlankFrom, IsWholeIfOpen}
 use Rattle.segments.specs.Written.{text_in}
 use Rattle.statetext.specs.Sum.{divided, remainder_after}
 use Rattle.std.specs.Prelude.{bit_xor, replicate}
-use Rattle.segments.proofs.CrashLemmas.{length_text, text_before}
+use Rattle.segments.proofs.CrashLemmas.{length_text}
 use Rattle.segments.proofs.SegmentLemmas.{whole_text_is, whole_blank}
 
 -- Octets that are held behind others, and their sum
@@ -134,29 +134,6 @@ pub held_text : (stored : ℕ) (seen page page' octets : List ℕ) → page' ≡
 held_text stored seen page page' octets is = ap (λ (l : List ℕ). take stored seen ++ l) is
     ∙ grouped (take stored seen) page octets
 
-pub held_begins : (outcomes : List ℕ → Type 0) (stored durable size : ℕ) (seen page page' : List ℕ)
-    → length seen ≡ size
-    → stored ≤ size → durable ≤ stored → BeginsWith outcomes durable (text_in stored seen page)
-    → BeginsWith outcomes durable (text_in stored seen page')
-held_begins outcomes stored durable size seen page page' sized within ordered begins c left i lt =
-    begins c left i lt ∙ text_before stored seen page i (omega (arith, sized, within))
-    (omega (arith, lt, ordered))
-    ∙ sym (text_before stored seen page' i (omega (arith, sized, within))
-    (omega (arith, lt, ordered)))
-
-pub held_no_other : (outcomes : List ℕ → Type 0) (stored : ℕ) (seen page page' octets : List ℕ)
-    → page' ≡ page ++ octets
-    → HasNoOther outcomes (text_in stored seen page)
-    → HasNoOther outcomes (text_in stored seen page')
-held_no_other outcomes stored seen page page' octets is none c left i some =
-    elim (cases_lt i (length (text_in stored seen page))) [
-      | inl lt ↦
-          none c left i some ∙ sym (get_or_append_left (text_in stored seen page) octets 0 i lt)
-          ∙ ap (λ (l : List ℕ). slice_index l i) (sym (held_text stored seen page page' octets is))
-      | inr past ↦
-          absurd (some (none c left i some ∙ get_or_past (text_in stored seen page) i 0 past))
-    ]
-
 pub nothing_held : (seen page : List ℕ) → length seen ≡ 87 → page ≡ []
     → drop 87 (text_in 87 seen page) ≡ []
 nothing_held seen page sized none =
@@ -188,16 +165,6 @@ pub prepared_text : (stored end : ℕ) (seen seen' seen2 page : List ℕ) → te
     → row ++ drop 87 (text_in end seen2 []) ≡ whole
 prepared_text stored end seen seen' seen2 page text same row whole e =
     ap (λ (l : List ℕ). row ++ drop 87 l) (same ∙ text) ∙ e
-
-pub held_if : (done : Bool) (outcomes : List ℕ → Type 0) (stored : ℕ)
-    (seen page page' octets : List ℕ)
-    → page' ≡ (if done then page ++ octets else page)
-    → HasNoOther outcomes (text_in stored seen page)
-    → HasNoOther outcomes (text_in stored seen page')
-held_if true outcomes stored seen page page' octets is none =
-    held_no_other outcomes stored seen page page' octets is none
-held_if false outcomes stored seen page page' octets is none =
-    subst (λ (l : List ℕ). HasNoOther outcomes (text_in stored seen l)) (sym is) none
 
 -- What is read from a place on to the file's end
 

@@ -3,5 +3,5 @@ pub mod SegmentLemmas
 pub mod HeldLemmas
 pub mod HeadLemmas
 pub mod Fronts
-pub mod Zeros
+pub mod Sealed
 pub mod Crashes

@@ -9,46 +9,15 @@ use Rattle.std.proofs.lemmas.List.{take-append-le, get_or-drop, length-drop, tak
 use Rattle.std.proofs.lemmas.List.{take_all}
 use Rattle.std.proofs.Math.Seq.{take-append-add}
 use Rattle.sqlite_disk.specs.Disk.{Holds, Mixed, Torn, Follows, Only}
-use Rattle.segments.specs.Crash.{HasLength, BeginsWith, HasNoOther, IsBlankFrom, IsShut, IsLong}
+use Rattle.segments.specs.Crash.{HasLength, IsBlankFrom, IsShut, IsLong}
 use Rattle.segments.specs.Crash.{HasText, IsWholeIfOpen, IsTextIfOpen}
 use Rattle.segments.specs.Crashes.{AreShutOr}
 use Rattle.segments.specs.Written.{text_in}
 use Rattle.segments.specs.Zeroed.{IsZeroed}
-use Rattle.segments.proofs.CrashLemmas.{written_length, synced_begins, synced_no_other}
+use Rattle.segments.proofs.CrashLemmas.{written_length}
 use Rattle.segments.proofs.CrashLemmas.{behind_long, behind_shut}
 
 -- What a segment holds after a write and after a sync
-
-same_held : (stored : ℕ) (seen seen' page held : List ℕ) → held ≡ page → text_in stored seen' held
-    ≡ text_in stored seen held
-    → text_in stored seen' page ≡ text_in stored seen page
-same_held stored seen seen' page held e same =
-    subst (λ (h : List ℕ). text_in stored seen' h ≡ text_in stored seen h) e same
-
-pub failed_kept : (old new : List ℕ → Type 0) (seen seen' page held : List ℕ)
-    (stored durable size : ℕ) → held ≡ page
-    → durable ≤ stored → length seen ≡ size → HasLength old size
-    → BeginsWith old durable (text_in stored seen page)
-    → ((n : ℕ) (text : List ℕ) → n ≤ stored → HasLength old (length seen) → BeginsWith old n text
-    → BeginsWith new n text)
-    → text_in stored seen' held ≡ text_in stored seen held
-    → BeginsWith new durable (text_in stored seen' page)
-failed_kept old new seen seen' page held stored durable size e ordered sized long kept call same =
-    subst (BeginsWith new durable) (sym (same_held stored seen seen' page held e same))
-    (call durable (text_in stored seen page) ordered (subst (HasLength old) (sym sized) long) kept)
-
-pub failed_mixed : (old new : List ℕ → Type 0) (seen seen' page held : List ℕ) (stored size : ℕ)
-    → held ≡ page → length seen ≡ size → HasLength old size
-    → HasNoOther old (text_in stored seen page)
-    → (HasLength old (length seen) → HasNoOther old (text_in stored seen held)
-    → HasNoOther new (text_in stored seen held))
-    → text_in stored seen' held ≡ text_in stored seen held
-    → HasNoOther new (text_in stored seen' page)
-failed_mixed old new seen seen' page held stored size e sized long kept call same =
-    subst (HasNoOther new) (ap (text_in stored seen) e
-    ∙ sym (same_held stored seen seen' page held e same))
-    (call (subst (HasLength old) (sym sized) long)
-    (subst (λ (h : List ℕ). HasNoOther old (text_in stored seen h)) (sym e) kept))
 
 pub written_again : (stored end : ℕ) (seen seen' page held cleared : List ℕ) → held ≡ page
     → end ≡ stored + length held → cleared ≡ []
@@ -58,56 +27,11 @@ written_again stored end seen seen' page held cleared e is none text =
     ap (λ (k : ℕ). text_in k seen' cleared) is ∙ ap (text_in (stored + length held) seen') none
     ∙ text ∙ ap (text_in stored seen) e
 
-pub written_kept : (old new : List ℕ → Type 0) (seen page text : List ℕ) (stored durable size : ℕ)
-    → durable ≤ stored → length seen ≡ size → HasLength old size
-    → BeginsWith old durable (text_in stored seen page)
-    → ((n : ℕ) (text : List ℕ) → n ≤ stored → HasLength old (length seen) → BeginsWith old n text
-    → BeginsWith new n text)
-    → text ≡ text_in stored seen page → BeginsWith new durable text
-written_kept old new seen page text stored durable size ordered sized long kept call same =
-    subst (BeginsWith new durable) (sym same)
-    (call durable (text_in stored seen page) ordered (subst (HasLength old) (sym sized) long) kept)
-
-pub written_mixed : (old new : List ℕ → Type 0) (seen page held text : List ℕ) (stored size : ℕ)
-    → held ≡ page → length seen ≡ size → HasLength old size
-    → HasNoOther old (text_in stored seen page)
-    → (HasLength old (length seen) → HasNoOther old (text_in stored seen held)
-    → HasNoOther new (text_in stored seen held))
-    → text ≡ text_in stored seen page → HasNoOther new text
-written_mixed old new seen page held text stored size e sized long kept call same =
-    subst (HasNoOther new) (ap (text_in stored seen) e ∙ sym same)
-    (call (subst (HasLength old) (sym sized) long)
-    (subst (λ (h : List ℕ). HasNoOther old (text_in stored seen h)) (sym e) kept))
-
 pub long_again : (old new : List ℕ → Type 0) (seen : List ℕ) (size : ℕ) → length seen ≡ size
     → HasLength old size
     → (HasLength old (length seen) → HasLength new (length seen)) → HasLength new size
 long_again old new seen size sized long call =
     subst (HasLength new) sized (call (subst (HasLength old) (sym sized) long))
-
-pub fewer_begin : (old new : List ℕ → Type 0) (seen seen' page : List ℕ) (stored n : ℕ)
-    → ((c : List ℕ) → new c → old c)
-    → seen' ≡ seen → BeginsWith old n (text_in stored seen page)
-    → BeginsWith new n (text_in stored seen' page)
-fewer_begin old new seen seen' page stored n fewer same kept =
-    subst (λ (f : List ℕ). BeginsWith new n (text_in stored f page)) (sym same)
-    (λ c left. kept c (fewer c left))
-
-pub all_begins : (new : List ℕ → Type 0) (seen seen' page : List ℕ) (stored : ℕ) → Only seen new
-    → seen' ≡ seen → stored ≤ length seen
-    → page ≡ [] → BeginsWith new stored (text_in stored seen' page)
-all_begins new seen seen' page stored only same le none =
-    subst (λ (f : List ℕ). BeginsWith new stored (text_in stored f page)) (sym same)
-    (subst (λ (p : List ℕ). BeginsWith new stored (text_in stored seen p)) (sym none)
-    (synced_begins seen new stored only le))
-
-pub all_mixed : (new : List ℕ → Type 0) (seen seen' page : List ℕ) (stored : ℕ) → Only seen new
-    → seen' ≡ seen → stored ≤ length seen
-    → page ≡ [] → IsBlankFrom stored seen → HasNoOther new (text_in stored seen' page)
-all_mixed new seen seen' page stored only same le none blank =
-    subst (λ (f : List ℕ). HasNoOther new (text_in stored f page)) (sym same)
-    (subst (λ (p : List ℕ). HasNoOther new (text_in stored seen p)) (sym none)
-    (synced_no_other seen new stored only le blank))
 
 -- Zeros at the end
 

@@ -1,5 +1,5 @@
 -- What a crash may leave of a file whose text is appended to (profile).
-use Rattle.std.specs.Prelude.{◌≡◌, ◌≢◌, ℕ, ◌<◌, ◌≤◌, IsTrue, List, length, take, slice_index}
+use Rattle.std.specs.Prelude.{◌≡◌, ◌≢◌, ℕ, ◌+◌, ◌<◌, ◌≤◌, IsTrue, List, length, take, slice_index}
 use Rattle.sqlite_disk.specs.declared.Disk.{Ghosts}
 
 -- the disk says of each file that a crash leaves each octet below its old end old or new
@@ -19,6 +19,11 @@ BeginsWith outcomes n text =
 abbrev pub HasNoOther : (List ℕ → Type 0) → List ℕ → Type 0
 HasNoOther outcomes text =
     (c : List ℕ) → outcomes c → (i : ℕ) → slice_index c i ≢ 0 → slice_index c i ≡ slice_index text i
+
+-- a text has these octets at this place
+abbrev pub HasAt : ℕ → List ℕ → List ℕ → Type 0
+HasAt at octets text =
+    (i : ℕ) → i < length octets → slice_index text (at + i) ≡ slice_index octets i
 
 -- from this place on there are zeros alone
 abbrev pub IsBlankFrom : ℕ → List ℕ → Type 0

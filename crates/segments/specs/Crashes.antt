@@ -1,27 +1,29 @@
 -- What a start finds where there was a crash (profile).
-use Rattle.std.specs.Prelude.{◌≡◌, ◌⊎◌, ℕ, ◌+◌, ◌<◌, ◌≤◌, List, ◌++◌, length, drop}
-use Rattle.std.specs.Prelude.{slice_index}
+use Rattle.std.specs.Prelude.{◌≡◌, ◌⊎◌, true, ℕ, ◌+◌, ◌-◌, ◌<◌, ◌≤◌, List, ◌++◌, length, Option}
 use Rattle.segments.specs.Crash.{BeginsWith, HasLength, HasText}
-use Rattle.segments.specs.Head.{Fits, head_for, whole_text}
-use Rattle.segments.specs.Starts.{IsBacked, IsFoundIn, IsShut, before_zero}
+use Rattle.segments.specs.Head.{Fits, head_for, head_of, whole_text}
+use Rattle.segments.specs.Room.{are_blocks, damage_in, log_in}
+use Rattle.segments.specs.Starts.{IsBacked, IsFoundIn, IsShut}
+use Rattle.statetext.specs.Sealed.{AreWrites, sealed_text}
 use Rattle.segments.specs.declared.head.SegmentHead.{SegmentHead}
 
--- no octet of these lines is 0
-abbrev pub HasNoZero : List ℕ → Type 0
-HasNoZero lines = (i : ℕ) → i < length lines → slice_index lines i ≡ 0 → ⊥
+-- the text of a segment with this checkpoint and these writes, each of which has its seal
+abbrev pub log_text : (number : ℕ) → (body : List ℕ) → (writes : List (List ℕ)) → List ℕ
+log_text number body writes =
+    whole_text number body ++ sealed_text (head_of (head_for number body)) writes
 
 -- Whatever a crash leaves of a segment's file: the segment has this number and this checkpoint, and
--- behind that these lines, of which so many octets are synced. No octet of a line is 0.
-pub record Survives (outcomes : List ℕ → Type 0) (number : ℕ) (body lines : List ℕ)
-    (synced : ℕ) : Type 0 where
+-- behind that these writes, which are synced. The file goes on for whole blocks behind it.
+pub record Survives (outcomes : List ℕ → Type 0) (number : ℕ) (body : List ℕ)
+    (writes : List (List ℕ)) : Type 0 where
   pub fits : Fits (head_for number body)
-  pub within : synced ≤ length lines
-  pub some : HasNoZero lines
+  pub are : AreWrites writes
   pub size : ℕ
   pub long : HasLength outcomes size
-  pub room : length (whole_text number body ++ lines) ≤ size
-  pub kept : BeginsWith outcomes (length (whole_text number body) + synced)
-      (whole_text number body ++ lines)
+  pub blocks : are_blocks (size - (87 + length body)) ≡ true
+  pub room : length (log_text number body writes) ≤ size
+  pub kept : BeginsWith outcomes (length (log_text number body writes))
+      (log_text number body writes)
 
 -- each segment that a crash may leave in a file has a number below this one
 abbrev pub AreOlder : (List ℕ → Type 0) → ℕ → Type 0
@@ -47,9 +49,12 @@ StandsIn outcomes number = (c : List ℕ) → outcomes c → (body : List ℕ)
 abbrev pub StaysBacked : (newest : List ℕ → Type 0) → (other : List ℕ) → Type 0
 StaysBacked newest other = (c : List ℕ) → newest c → IsBacked c other
 
--- the lines that a start reads behind the checkpoint of a file
+-- the lines that a start reads behind the checkpoint of a file, and where they end for damage
 abbrev pub lines_behind : (body file : List ℕ) → List ℕ
-lines_behind body file = before_zero (drop (87 + length body) file)
+lines_behind body file = log_in (87 + length body) file
+
+abbrev pub damage_behind : (body file : List ℕ) → Option ℕ
+damage_behind body file = damage_in (87 + length body) file
 
 -- these are the two files
 abbrev pub AreBoth : (one two newest other : List ℕ) → Type 0

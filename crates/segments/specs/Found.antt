@@ -1,7 +1,7 @@
 -- What a start shows of the newest segment.
-use Rattle.std.specs.Prelude.{ℕ, List, drop, IsTrue}
+use Rattle.std.specs.Prelude.{ℕ, List, Option, IsTrue}
 use Rattle.sqlite_disk.specs.declared.Disk.{Ghosts}
-use Rattle.segments.specs.Starts.{before_zero}
+use Rattle.segments.specs.Room.{damage_in, log_in}
 use Rattle.segments.specs.declared.start.Side.{Side}
 use Rattle.segments.specs.declared.start.Start.{Start}
 
@@ -14,9 +14,13 @@ module _ {D : Type 0} {g : Ghosts D} where
   abbrev pub begins_at : Start D g → ℕ
   begins_at s = s.at
 
-  -- its lines, and what a crash left of one
+  -- its lines
   abbrev pub events_in : Start D g → List ℕ
-  events_in s = before_zero (drop s.at (g.seen s.newest))
+  events_in s = log_in s.at (g.seen s.newest)
+
+  -- where they end for damage
+  abbrev pub damage_of : Start D g → Option ℕ
+  damage_of s = damage_in s.at (g.seen s.newest)
 
   -- the other file, into which the next segment goes
   abbrev pub other_of : Start D g → D

@@ -1,14 +1,21 @@
 -- The first line of a segment (profile).
-use Rattle.std.specs.Prelude.{◌≡◌, ℕ, ◌<◌, ◌^◌, List, [], ◌∷◌, ◌++◌, codes, drop, length}
+use Rattle.std.specs.Prelude.{◌≡◌, ℕ, ◌<◌, ◌^◌, Bool, true, false, List, [], ◌∷◌, ◌++◌, codes}
+use Rattle.std.specs.Prelude.{drop, length}
 use Rattle.std.specs.Int.{w32, w64, to_be_bytes}
 use Rattle.statetext.specs.Sum.{sum_of}
 use Rattle.hex.specs.Hex.{encode_lower}
 use Rattle.segments.specs.declared.head.SegmentHead.{SegmentHead}
 
+-- the rules: 2 (50) where writes bear seals, or else 1 (49)
+abbrev pub rules_of : (is_sealed : Bool) → ℕ
+rules_of true = 50
+rules_of false = 49
+
 -- the form and the rules; then the segment's number, how many octets the checkpoint behind this
 -- line has, and the sum CRC-32 of these, each with all its digits in hexadecimal
 abbrev pub head_of : SegmentHead → List ℕ
-head_of h = codes "telegate state 1 rules 1 segment " ++ encode_lower (to_be_bytes w64 h.number)
+head_of h = codes "telegate state 1 rules " ++ rules_of h.is_sealed ∷ codes " segment "
+    ++ encode_lower (to_be_bytes w64 h.number)
     ++ codes " octets " ++ encode_lower (to_be_bytes w64 h.octets)
     ++ codes " sum " ++ encode_lower (to_be_bytes w32 h.sum) ++ 10 ∷ []
 
@@ -20,7 +27,12 @@ pub record Fits (h : SegmentHead) : Type 0 where
 
 -- the first line of the segment with this number and this checkpoint
 abbrev pub head_for : ℕ → List ℕ → SegmentHead
-head_for number body = record { number = number; octets = length body; sum = sum_of body }
+head_for number body = record {
+  number = number;
+  octets = length body;
+  sum = sum_of body;
+  is_sealed = true;
+}
 
 -- the text of a segment with this checkpoint, before its first line of events
 unfoldable pub whole_text : ℕ → List ℕ → List ℕ

@@ -1,9 +1,11 @@
+pub mod Contents
 pub mod Crash
 pub mod Written
 pub mod Zeroed
 pub mod Segment
 pub mod Head
 pub mod Writer
+pub mod Room
 pub mod Starts
 pub mod Found
 pub mod Crashes

@@ -1,7 +1,7 @@
 -- What a start finds in a file (profile).
 use Rattle.std.specs.Io.Iter.{u64_saturate}
-use Rattle.std.specs.Prelude.{◌≡◌, ◌⊎◌, Bool, true, false, nat_le, ℕ, ◌+◌, ◌==◌, ◌<◌, ◌≤◌}
-use Rattle.std.specs.Prelude.{List, length, slice_index, take, position, Option, Some, None}
+use Rattle.std.specs.Prelude.{◌≡◌, ◌⊎◌, Bool, true, false, nat_le, ℕ, ◌+◌, ◌<◌, ◌≤◌}
+use Rattle.std.specs.Prelude.{List, length, slice_index}
 use Rattle.sqlite_disk.specs.Disk.{Holds}
 use Rattle.statetext.specs.Sum.{sum_of}
 use Rattle.segments.specs.Head.{Fits, head_of}
@@ -55,14 +55,6 @@ pub record IsFoundIn (file : List ℕ) (head : SegmentHead) (text : List ℕ) : 
   pub octets : length text ≡ head.octets
   pub sum : sum_of text ≡ head.sum
   pub behind : 0 < length text → Holds file 87 text
-
-abbrev pub up_to : Option ℕ → List ℕ → List ℕ
-up_to None text = text
-up_to (Some place) text = take place text
-
--- the octets before the first octet 0
-abbrev pub before_zero : List ℕ → List ℕ
-before_zero text = up_to (position (λ c. c == 0) text) text
 
 -- the file has no segment
 abbrev pub HasNone : List ℕ → Type 0

@@ -3,7 +3,7 @@ ghost use Rattle.std.specs.Prelude.{◌≡◌, ℕ, ◌<◌, ◌^◌, true, fals
 ghost use Rattle.std.specs.Prelude.{IfSome};
 ghost use Rattle.hex.specs.Hex.{encode_lower};
 ghost use Rattle.std.specs.Int.{w32, w64, to_be_bytes};
-ghost use Rattle.segments.specs.Head.{Fits, head_of};
+ghost use Rattle.segments.specs.Head.{Fits, head_of, rules_of};
 ghost use Rattle.segments.specs.declared.head.SegmentHead.{SegmentHead};
 
 use crate::gate::HEAD;
@@ -20,6 +20,8 @@ pub struct SegmentHead {
     pub octets: u64,
     /// The sum CRC-32 of these.
     pub sum: u32,
+    /// Each write behind the checkpoint has its seal. Those of older versions have none.
+    pub is_sealed: bool,
 }
 
 /// The text of the line, and how long it is.
@@ -32,11 +34,20 @@ pub(crate) fn print(alloc: Global, head: &SegmentHead) -> Result<Vec<u8>, AllocE
     Ok(row)
 }
 
+/// By which rules a segment was written.
+fn rules_of(is_sealed: bool) -> u8
+    ensures { result ≡ rules_of is_sealed }
+{
+    if is_sealed { b'2' } else { b'1' }
+}
+
 /// The text of the line.
 fn spell(alloc: Global, head: &SegmentHead) -> Result<Vec<u8>, AllocError>
     ensures { IfOk result (λ row. row.items ≡ head_of head.now) }
 {
-    let mut row = Vec::from_slice(alloc, b"telegate state 1 rules 1 segment ")?;
+    let mut row = Vec::from_slice(alloc, b"telegate state 1 rules ")?;
+    row.push(rules_of(head.is_sealed))?;
+    row.extend_from_slice(b" segment ")?;
     put_hexadecimal(&mut row, &head.number.to_be_bytes())?;
     row.extend_from_slice(b" octets ")?;
     put_hexadecimal(&mut row, &head.octets.to_be_bytes())?;
@@ -99,6 +110,7 @@ pub(crate) fn parse(alloc: Global, text: &[u8]) -> Result<Option<SegmentHead>, A
         number,
         octets,
         sum,
+        is_sealed: text[23] == b'2',
     };
     // Printed anew, since the digits are read in either case and a head has one text.
     let row = print(alloc, &head)?;

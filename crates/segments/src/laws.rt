@@ -1,10 +1,12 @@
 //! What holds of both files over a crash.
 ghost use Rattle.std.specs.Prelude.{◌≡◌, ◌⊎◌, ◌+◌, ◌-◌, ◌^◌, ◌<◌, ◌≤◌, ℕ, List, [], ◌∷◌, ◌++◌};
-ghost use Rattle.std.specs.Prelude.{codes, length, take};
+ghost use Rattle.std.specs.Prelude.{None, codes, drop, false, length, take, true};
+ghost use Rattle.std.specs.List.{concat};
 ghost use Rattle.segments.specs.Crash.{HasNoOther, IsShut, IsTextIfOpen};
 ghost use Rattle.segments.specs.Crashes.{AreBoth, AreOlder, AreShutOr, IsThatOf, StaysBacked};
-ghost use Rattle.segments.specs.Crashes.{Survives};
-ghost use Rattle.segments.specs.Crashes.{lines_behind};
+ghost use Rattle.segments.specs.Crashes.{Survives, damage_behind, lines_behind, log_text};
+ghost use Rattle.segments.specs.Room.{damage_in, is_sealed, log_in};
+ghost use Rattle.statetext.specs.Sealed.{AreLines, AreWrites, end_in, mark_of, sealed_text};
 ghost use Rattle.segments.specs.Head.{Fits, head_for, head_of, whole_text};
 ghost use Rattle.segments.specs.Starts.{BeginsNewer, IsAbove, IsBacked, IsFoundIn, IsNewest};
 ghost use Rattle.segments.specs.Starts.{IsNext};
@@ -18,26 +20,53 @@ use sqlite_disk::Disk;
 /// of its file ([`crate::Segment::survives`]) has the segment whole, and where each segment that it
 /// may leave in the other file is older, what [`crate::Start::open`] promises of the newest one
 /// speaks of this one. The lines that the start reads behind the checkpoint begin with all that was
-/// synced; and where a crash leaves each octet old or new, they are a beginning of those that were
-/// appended.
+/// synced; and where a crash leaves each octet old or new, these are all, or the lines of the write
+/// that wasn't synced follow, whole.
 pub fn a_start_finds_what_was_synced<D: Disk>()
-    ensures whole { (mine : D) (number : ℕ) (body lines : List ℕ) (synced : ℕ) (c : List ℕ) →
-        Survives (D.Disk.may_leave mine) number body lines synced → D.Disk.may_leave mine c →
-        IsFoundIn c (head_for number body) body }
-    ensures newest { (mine spare : D) (number : ℕ) (body lines : List ℕ) (synced : ℕ)
+    ensures whole { (mine : D) (number : ℕ) (body : List ℕ) (writes : List (List ℕ))
+        (c : List ℕ) → Survives (D.Disk.may_leave mine) number body writes →
+        D.Disk.may_leave mine c → IsFoundIn c (head_for number body) body }
+    ensures newest { (mine spare : D) (number : ℕ) (body : List ℕ) (writes : List (List ℕ))
         (c d newest other : List ℕ) (head : SegmentHead) (text : List ℕ) →
-        Survives (D.Disk.may_leave mine) number body lines synced →
+        Survives (D.Disk.may_leave mine) number body writes →
         AreOlder (D.Disk.may_leave spare) number → D.Disk.may_leave mine c →
         D.Disk.may_leave spare d → AreBoth c d newest other → IsNewest newest other → Fits head →
         IsFoundIn newest head text → IsThatOf c number body newest head text }
-    ensures synced { (mine : D) (number : ℕ) (body lines : List ℕ) (synced : ℕ) (c : List ℕ) →
-        Survives (D.Disk.may_leave mine) number body lines synced → D.Disk.may_leave mine c →
-        take synced (lines_behind body c) ≡ take synced lines }
-    ensures no_other { (mine : D) (number : ℕ) (body lines : List ℕ) (synced : ℕ) (c : List ℕ) →
-        Survives (D.Disk.may_leave mine) number body lines synced →
-        HasNoOther (D.Disk.may_leave mine) (whole_text number body ++ lines) →
+    ensures synced { (mine : D) (number : ℕ) (body : List ℕ) (writes : List (List ℕ))
+        (c : List ℕ) → Survives (D.Disk.may_leave mine) number body writes →
         D.Disk.may_leave mine c →
-        lines_behind body c ≡ take (length (lines_behind body c)) lines }
+        (more : List ℕ) × (lines_behind body c ≡ concat writes ++ more) }
+    ensures no_other { (mine : D) (number : ℕ) (body : List ℕ) (writes : List (List ℕ))
+        (late c : List ℕ) → Survives (D.Disk.may_leave mine) number body writes →
+        AreLines late →
+        HasNoOther (D.Disk.may_leave mine) (log_text number body (writes ++ late ∷ [])) →
+        D.Disk.may_leave mine c → (lines_behind body c ≡ concat writes)
+        ⊎ (lines_behind body c ≡ concat writes ++ late) }
+{}
+
+/// What a crash leaves of a write that wasn't synced is no damage: where it leaves each octet old,
+/// which is 0, or new, also of the seal.
+pub fn a_torn_write_is_no_damage<D: Disk>()
+    ensures { (mine : D) (number : ℕ) (body : List ℕ) (writes : List (List ℕ)) (late c : List ℕ) →
+        Survives (D.Disk.may_leave mine) number body writes → AreLines late →
+        HasNoOther (D.Disk.may_leave mine) (log_text number body (writes ++ late ∷ [])) →
+        D.Disk.may_leave mine c → damage_behind body c ≡ None }
+{}
+
+/// What is read of a log bears its seals: the text behind the checkpoint begins with writes whose
+/// lines are those that are read, each with the seal of its own place and lines. No write that
+/// follows is passed over unseen: where no damage is told, no seal of another place stands behind
+/// them, so none of a later write.
+pub fn what_is_read_of_a_log_bears_its_seals()
+    ensures writes { (begins : ℕ) (file : List ℕ) → is_sealed file ≡ true →
+        (writes : List (List ℕ)) × (rest : List ℕ) × AreWrites writes ×
+        (drop begins file ≡ sealed_text (take 87 file) writes ++ rest) ×
+        (log_in begins file ≡ concat writes) }
+    ensures none { (begins : ℕ) (file before behind : List ℕ) (place : ℕ) → begins ≤ length file →
+        length file < 2 ^ 64 → is_sealed file ≡ true → damage_in begins file ≡ None → place < 2 ^ 64 →
+        drop (end_in (take 87 file) (drop begins file)) (drop begins file)
+        ≡ before ++ mark_of place ++ behind →
+        place ≡ end_in (take 87 file) (drop begins file) }
 {}
 
 /// What the other file may have while the next segment is begun there: nothing but older segments,
@@ -46,8 +75,8 @@ pub fn a_start_finds_what_was_synced<D: Disk>()
 /// has those that it had. Where the last octet was written, or that failed, it has the new segment,
 /// or none.
 pub fn the_other_file_has_older_segments<D: Disk>()
-    ensures survived { (spare : D) (number next : ℕ) (body lines : List ℕ) (synced : ℕ) →
-        Survives (D.Disk.may_leave spare) number body lines synced → number < next →
+    ensures survived { (spare : D) (number next : ℕ) (body : List ℕ) (writes : List (List ℕ)) →
+        Survives (D.Disk.may_leave spare) number body writes → number < next →
         AreOlder (D.Disk.may_leave spare) next }
     ensures shut { (spare : D) (number : ℕ) → IsShut (D.Disk.may_leave spare) →
         AreOlder (D.Disk.may_leave spare) number }
@@ -106,10 +135,15 @@ pub fn only_a_newer_segment_is_in_the_way()
 
 /// The first line of a segment, by literal numbers: states that older versions wrote are read.
 pub fn first_lines_by_example()
-    ensures first { head_of (record { number = 1; octets = 0; sum = 0 }) ≡ codes
+    ensures older { head_of (record { number = 1; octets = 0; sum = 0; is_sealed = false }) ≡ codes
         "telegate state 1 rules 1 segment 0000000000000001 octets 0000000000000000 sum 00000000"
         ++ 10 ∷ [] }
-    ensures later { head_of (record { number = 258; octets = 4660; sum = 3735928559 }) ≡ codes
-        "telegate state 1 rules 1 segment 0000000000000102 octets 0000000000001234 sum deadbeef"
+    ensures sealed { head_of (record {
+      number = 258;
+      octets = 4660;
+      sum = 3735928559;
+      is_sealed = true;
+    }) ≡ codes
+        "telegate state 1 rules 2 segment 0000000000000102 octets 0000000000001234 sum deadbeef"
         ++ 10 ∷ [] }
 {}

@@ -1,70 +1,90 @@
 //! The segment whose lines are appended.
-ghost use Rattle.std.specs.Prelude.{◌≡◌, ◌≢◌, ◌+◌, ◌-◌, ◌<◌, ◌≤◌, ◌^◌, ◌++◌, ℕ, List, [], length};
-ghost use Rattle.std.specs.Prelude.{drop, slice_index, take, IsTrue, OnOk, OnErr, IfOk, IfErr, Err};
-ghost use Rattle.std.specs.Prelude.{true};
-ghost use Rattle.std.specs.Prelude.{false};
+ghost use Rattle.std.specs.Prelude.{◌≡◌, ◌+◌, ◌-◌, ◌<◌, ◌≤◌, ◌^◌, ◌∷◌, ◌++◌, ℕ, List, []};
+ghost use Rattle.std.specs.Prelude.{length, drop, slice_index, take, IsTrue, OnOk, OnErr, IfOk, IfErr};
+ghost use Rattle.std.specs.Prelude.{Err, true, false};
+ghost use Rattle.std.specs.List.{concat};
 ghost use Rattle.segments.specs.declared.fault.SegmentFault.TheVariants.{Device, Full, NoMemory};
-ghost use Rattle.segments.specs.Crash.{AreMixing, HasLength, BeginsWith, HasNoOther, IsBlankFrom};
-ghost use Rattle.segments.specs.Crashes.{HasNoZero, StandsIn, StaysBacked, Survives};
-ghost use Rattle.segments.specs.Head.{Fits, IsWholeText, head_for, whole_text};
+ghost use Rattle.segments.specs.Crash.{AreMixing, HasLength, BeginsWith, HasAt, HasNoOther, IsBlankFrom};
+ghost use Rattle.segments.specs.Crashes.{StandsIn, StaysBacked, Survives, log_text};
+ghost use Rattle.segments.specs.Head.{Fits, head_for, head_of, whole_text};
+ghost use Rattle.segments.specs.Room.{are_blocks};
 ghost use Rattle.segments.specs.Starts.{BeginsNewer};
 ghost use Rattle.segments.specs.Written.{text_in};
 ghost use Rattle.sqlite_disk.specs.Disk.{Only};
-ghost use Rattle.statetext.specs.Sum.{sum_of};
+ghost use Rattle.statetext.specs.Sealed.{AreWrites, sealed_text};
+ghost use Rattle.statetext.specs.Sum.{remainder_after, sum_of};
 
 use crate::SegmentFault;
 use crate::start::{front_at, number_of};
+use crate::written::Written;
 use sqlite_disk::Disk;
+use statetext::{SEAL, Sum, seal_of};
 use std::alloc::Global;
 
 /// How many octets are held at most before they are written.
 const PAGE: usize = 65_536;
 
 /// A segment whose lines are appended. Its file was zeroed to its full length and synced before.
+/// What is appended between two syncs is a write: the sync puts a seal behind its lines.
 #[derive(Drop)]
 pub struct Segment<D: Disk> {
     file: D,
     number: u64,
     /// Where the lines behind its checkpoint begin.
     begins: usize,
+    /// How many octets of the text are synced. There the write begins that isn't sealed yet.
+    durable: usize,
     /// How many octets of the text stand in the file. Zeros stand behind them.
     stored: usize,
-    /// How many of these are synced.
-    durable: usize,
     /// How long the file is.
     size: usize,
     /// The octets of the text that are still to be written.
     page: Vec<u8>,
+    /// The sum of the first line.
+    seed: Sum,
+    /// The sum of the first line and of the lines behind the last seal.
+    sum: Sum,
     /// No write or sync has failed.
     is_open: bool,
-    ghost begun: { begins ≤ durable },
+    written: Written,
+    ghost begun: { begins ≡ 87 + length written.has.body },
+    ghost fits: { Fits (head_for number written.has.body) },
+    ghost safe: { durable ≡ length (log_text number written.has.body written.has.writes) },
     ghost ordered: { durable ≤ stored },
     ghost within: { stored + length page.items ≤ size },
+    ghost sealable: { durable < stored + length page.items →
+        stored + length page.items + 27 ≤ size },
+    ghost blocks: { are_blocks (size - begins) ≡ true },
     ghost sized: { length (D.Disk.seen file) ≡ size },
     ghost usable: { IsTrue is_open → IsTrue (D.Disk.is_usable file) },
     ghost blank: { IsTrue is_open → IsBlankFrom stored (D.Disk.seen file) },
+    ghost text: { IsTrue is_open → text_in stored (D.Disk.seen file) page.items
+        ≡ log_text number written.has.body written.has.writes ++ written.has.lines },
     ghost long: { HasLength (D.Disk.may_leave file) size },
     ghost kept: { BeginsWith (D.Disk.may_leave file) durable
-        (text_in stored (D.Disk.seen file) page.items) },
+        (log_text number written.has.body written.has.writes) },
+    ghost left: { AreMixing D.Disk → IsTrue is_open → HasNoOther (D.Disk.may_leave file)
+        (log_text number written.has.body written.has.writes ++ written.has.lines) },
     ghost mixed: { AreMixing D.Disk → HasNoOther (D.Disk.may_leave file)
-        (text_in stored (D.Disk.seen file) page.items) },
-    ghost whole: { IsWholeText number (take begins (D.Disk.seen file)) },
+        (log_text number written.has.body (written.has.writes ++ written.has.lines ∷ [])) },
+    ghost seeded: { seed.remainder
+        ≡ remainder_after 0xffffffff (head_of (head_for number written.has.body)) },
+    ghost summed: { IsTrue is_open →
+        sum.remainder ≡ remainder_after seed.remainder written.has.lines },
 }
 
 /// Writes octets where zeros stand.
-fn store<D: Disk>(file: &mut D, at: usize, page: &[u8]) -> Result<usize, SegmentFault>
+fn store<D: Disk>(file: &mut D, at: usize, octets: &[u8]) -> Result<usize, SegmentFault>
     requires usable { IsTrue (D.Disk.is_usable file.old) }
-    requires some { 0 < length page.now }
-    requires within { at + length page.now ≤ length (D.Disk.seen file.old) }
-    requires small { at + length page.now < 2 ^ 64 }
+    requires some { 0 < length octets.now }
+    requires within { at + length octets.now ≤ length (D.Disk.seen file.old) }
+    requires small { at + length octets.now < 2 ^ 64 }
     requires blank { IsBlankFrom at (D.Disk.seen file.old) }
-    ensures end { IfOk result (λ end. end ≡ at + length page.now) }
-    ensures text { OnOk result (text_in (at + length page.now) (D.Disk.seen file.new) []
-        ≡ text_in at (D.Disk.seen file.old) page.now) }
-    ensures blank { OnOk result (IsBlankFrom (at + length page.now) (D.Disk.seen file.new)) }
+    ensures end { IfOk result (λ end. end ≡ at + length octets.now) }
+    ensures text { OnOk result (text_in (at + length octets.now) (D.Disk.seen file.new) []
+        ≡ text_in at (D.Disk.seen file.old) octets.now) }
+    ensures blank { OnOk result (IsBlankFrom (at + length octets.now) (D.Disk.seen file.new)) }
     ensures fault { IfErr result (λ e. e ≡ Device) }
-    ensures before { text_in at (D.Disk.seen file.new) page.now
-        ≡ text_in at (D.Disk.seen file.old) page.now }
     ensures sized { length (D.Disk.seen file.new) ≡ length (D.Disk.seen file.old) }
     ensures usable { IsTrue (D.Disk.is_usable file.new) }
     ensures long { HasLength (D.Disk.may_leave file.old) (length (D.Disk.seen file.old))
@@ -74,46 +94,101 @@ fn store<D: Disk>(file: &mut D, at: usize, page: &[u8]) -> Result<usize, Segment
         → BeginsWith (D.Disk.may_leave file.old) n text
         → BeginsWith (D.Disk.may_leave file.new) n text }
     ensures mixing { D.Disk.is_mixing file.new ≡ D.Disk.is_mixing file.old }
-    ensures mixed { IsTrue (D.Disk.is_mixing file.old)
+    ensures mixed { (text : List ℕ) → IsTrue (D.Disk.is_mixing file.old)
         → HasLength (D.Disk.may_leave file.old) (length (D.Disk.seen file.old))
-        → HasNoOther (D.Disk.may_leave file.old) (text_in at (D.Disk.seen file.old) page.now)
-        → HasNoOther (D.Disk.may_leave file.new) (text_in at (D.Disk.seen file.old) page.now) }
+        → HasAt at octets.now text
+        → HasNoOther (D.Disk.may_leave file.old) text
+        → HasNoOther (D.Disk.may_leave file.new) text }
 {
-    match file.write_at(at, page) {
-        Ok(()) => Ok(at + page.len()),
+    match file.write_at(at, octets) {
+        Ok(()) => Ok(at + octets.len()),
+        Err(_) => Err(SegmentFault::Device),
+    }
+}
+
+/// Writes octets where zeros stand, and syncs.
+fn commit<D: Disk>(file: &mut D, at: usize, octets: &[u8]) -> Result<usize, SegmentFault>
+    requires usable { IsTrue (D.Disk.is_usable file.old) }
+    requires some { 0 < length octets.now }
+    requires within { at + length octets.now ≤ length (D.Disk.seen file.old) }
+    requires small { at + length octets.now < 2 ^ 64 }
+    requires blank { IsBlankFrom at (D.Disk.seen file.old) }
+    ensures end { IfOk result (λ end. end ≡ at + length octets.now) }
+    ensures text { OnOk result (text_in (at + length octets.now) (D.Disk.seen file.new) []
+        ≡ text_in at (D.Disk.seen file.old) octets.now) }
+    ensures blank { OnOk result (IsBlankFrom (at + length octets.now) (D.Disk.seen file.new)) }
+    ensures durable { OnOk result (Only (D.Disk.seen file.new) (D.Disk.may_leave file.new)) }
+    ensures usable { OnOk result (IsTrue (D.Disk.is_usable file.new)) }
+    ensures fault { IfErr result (λ e. e ≡ Device) }
+    ensures sized { length (D.Disk.seen file.new) ≡ length (D.Disk.seen file.old) }
+    ensures long { HasLength (D.Disk.may_leave file.old) (length (D.Disk.seen file.old))
+        → HasLength (D.Disk.may_leave file.new) (length (D.Disk.seen file.old)) }
+    ensures kept { (n : ℕ) (text : List ℕ) → n ≤ at
+        → HasLength (D.Disk.may_leave file.old) (length (D.Disk.seen file.old))
+        → BeginsWith (D.Disk.may_leave file.old) n text
+        → BeginsWith (D.Disk.may_leave file.new) n text }
+    ensures mixed { (text : List ℕ) → IsTrue (D.Disk.is_mixing file.old)
+        → HasLength (D.Disk.may_leave file.old) (length (D.Disk.seen file.old))
+        → HasAt at octets.now text
+        → HasNoOther (D.Disk.may_leave file.old) text
+        → HasNoOther (D.Disk.may_leave file.new) text }
+{
+    let end = store(file, at, octets)?;
+    match file.sync() {
+        Ok(()) => Ok(end),
         Err(_) => Err(SegmentFault::Device),
     }
 }
 
 impl<D: Disk> Segment<D> {
-    ghost use Rattle.segments.specs.Segment.{text_of, durable_of, size_of, is_open};
-    ghost use Rattle.segments.specs.Segment.{outcomes_of, file_of, own_number};
+    ghost use Rattle.segments.specs.Segment.{body_of, file_of, fixed_of, is_open, octets_of};
+    ghost use Rattle.segments.specs.Segment.{open_of, outcomes_of, own_number, seal_octets, size_of};
+    ghost use Rattle.segments.specs.Segment.{with_write, writes_of};
 
-    /// A segment in a file that is synced: the text ends there, zeros stand behind it.
-    pub(crate) fn begun(alloc: Global, file: D, number: u64, end: usize, size: usize) -> Segment<D>
+    /// A segment in a file that is synced: the text ends there, zeros stand behind it. The sum is
+    /// that of the first line.
+    pub(crate) fn begun(
+        file: D,
+        number: u64,
+        end: usize,
+        size: usize,
+        seed: Sum,
+        alloc: Global,
+    ) -> Segment<D>
         requires usable { IsTrue (D.Disk.is_usable file) }
+        requires behind { 87 ≤ end }
         requires summed { sum_of (drop 87 (take end (D.Disk.seen file))) < 2 ^ 32 }
         requires whole { take end (D.Disk.seen file)
             ≡ whole_text number (drop 87 (take end (D.Disk.seen file))) }
+        requires blocks { are_blocks (size - end) ≡ true }
         requires within { end ≤ size }
         requires sized { length (D.Disk.seen file) ≡ size }
         requires synced { Only (D.Disk.seen file) (D.Disk.may_leave file) }
         requires blank { IsBlankFrom end (D.Disk.seen file) }
-        ensures text { text_of result ≡ text_in end (D.Disk.seen file) [] }
-        ensures whole { IsWholeText number (text_of result) }
-        ensures durable { durable_of result ≡ end }
+        requires seeded { seed.remainder ≡ remainder_after 0xffffffff (head_of
+            (head_for number (drop 87 (take end (D.Disk.seen file))))) }
+        ensures number { own_number result ≡ number }
+        ensures body { body_of result ≡ drop 87 (take end (D.Disk.seen file)) }
+        ensures fits { Fits (head_for number (drop 87 (take end (D.Disk.seen file)))) }
+        ensures writes { writes_of result ≡ [] }
+        ensures none { open_of result ≡ [] }
+        ensures octets { octets_of result ≡ end }
         ensures size { size_of result ≡ size }
         ensures open { is_open result ≡ true }
     {
+        let written = Written::of(&file, end);
         Segment {
             file,
             number,
             begins: end,
-            stored: end,
             durable: end,
+            stored: end,
             size,
             page: Vec::new(alloc),
+            seed,
+            sum: seed,
             is_open: true,
+            written,
         }
     }
 
@@ -145,26 +220,21 @@ impl<D: Disk> Segment<D> {
         file
     }
 
-    /// Whatever a crash leaves now begins with the text that is synced. Where the disk says that a
-    /// crash leaves each octet old or new, there is nothing behind that but octets of the text, and
-    /// zeros.
+    /// Whatever a crash leaves now begins with the checkpoint and the writes that are synced, each
+    /// with its seal. Where the disk says that a crash leaves each octet old or new, there is
+    /// nothing behind them but octets of the write that isn't synced, and zeros.
     pub fn survives(&self)
-        ensures long { HasLength (outcomes_of self.now) (size_of self.now) }
-        ensures kept { BeginsWith (outcomes_of self.now) (durable_of self.now) (text_of self.now) }
-        ensures durable { durable_of self.now ≤ length (text_of self.now) }
-        ensures mixed { AreMixing D.Disk →
-            HasNoOther (outcomes_of self.now) (text_of self.now) }
-        // So the segment stands there whole, whichever number its first line says.
-        ensures stands { (number begins : ℕ) → begins ≤ durable_of self.now →
-            IsWholeText number (take begins (text_of self.now)) →
-            StandsIn (outcomes_of self.now) number }
-        // So a start finds its checkpoint and its synced lines, of which no octet is 0
-        // ([`crate::a_start_finds_what_was_synced`]).
-        ensures start { (number : ℕ) (body lines : List ℕ) → Fits (head_for number body) →
-            text_of self.now ≡ whole_text number body ++ lines → HasNoZero lines →
-            length (whole_text number body) ≤ durable_of self.now →
-            Survives (outcomes_of self.now) number body lines
-            (durable_of self.now - length (whole_text number body)) }
+        ensures stands { StandsIn (outcomes_of self.now) (own_number self.now) }
+        // So a start finds its checkpoint and its writes, if no octet of a line is 0 or begins a
+        // seal ([`crate::a_start_finds_what_was_synced`]).
+        ensures survives { AreWrites (writes_of self.now) → Survives (outcomes_of self.now)
+            (own_number self.now) (body_of self.now) (writes_of self.now) }
+        ensures mixed { AreMixing D.Disk → HasNoOther (outcomes_of self.now) (log_text
+            (own_number self.now) (body_of self.now)
+            (writes_of self.now ++ open_of self.now ∷ [])) }
+        ensures octets { IsTrue (is_open self.now) → octets_of self.now ≡ length (log_text
+            (own_number self.now) (body_of self.now) (writes_of self.now))
+            + length (open_of self.now) }
     {
         let _ = &self.file;
     }
@@ -176,42 +246,37 @@ impl<D: Disk> Segment<D> {
         self.is_open
     }
 
-    /// The octets of the text.
+    /// The octets of the text, with the seals.
     pub fn octets(&self) -> usize
-        ensures { result ≡ length (text_of self.now) }
+        ensures { result ≡ octets_of self.now }
     {
         self.stored + self.page.len()
     }
 
-    /// For how many octets there is room.
-    pub fn room(&self) -> usize
-        ensures { length (text_of self.now) + result ≡ size_of self.now }
-    {
-        self.size - self.stored - self.page.len()
-    }
-
-    /// Appends octets. They are on the disk once a `sync` has answered `Ok`. An `Err` says that
-    /// none was appended: `Full`, that there is no room; `Device`, that a write failed, now or
-    /// before.
+    /// Appends lines. They are on the disk once a `sync` has answered `Ok`. An `Err` says that
+    /// none was appended: `Full`, that there is no room for them and a seal; `Device`, that a write
+    /// failed, now or before.
     pub fn append(&mut self, octets: &[u8]) -> Result<(), SegmentFault>
-        ensures text { OnOk result (text_of self.new ≡ text_of self.old ++ octets.now) }
-        ensures none { OnErr result (text_of self.new ≡ text_of self.old) }
-        ensures durable { durable_of self.new ≡ durable_of self.old }
-        ensures size { size_of self.new ≡ size_of self.old }
+        ensures open { OnOk result (open_of self.new ≡ open_of self.old ++ octets.now) }
+        ensures none { OnErr result (open_of self.new ≡ open_of self.old) }
+        ensures octets { OnOk result
+            (octets_of self.new ≡ octets_of self.old + length octets.now) }
+        ensures writes { writes_of self.new ≡ writes_of self.old }
+        ensures same { fixed_of self.new ≡ fixed_of self.old }
         ensures shut { is_open self.old ≡ false → result ≡ Err Device }
-        // Octets are too many exactly where the file has no room for them. Lines that fill it to
-        // its last octet are appended.
+        // Octets are too many exactly where the file has no room for them and a seal. Lines that
+        // fill it to its last octet are appended.
         ensures full { result ≡ Err Full →
-            size_of self.old < length (text_of self.old) + length octets.now }
+            size_of self.old < octets_of self.old + length octets.now + 27 }
         ensures beyond { is_open self.old ≡ true →
-            size_of self.old < length (text_of self.old) + length octets.now →
-            result ≡ Err Full }
+            size_of self.old < octets_of self.old + length octets.now + 27 → result ≡ Err Full }
         ensures device { result ≡ Err Device → is_open self.new ≡ false }
     {
         if !self.is_open {
             return Err(SegmentFault::Device);
         }
-        if octets.len() > self.room() {
+        let room = self.size - self.octets();
+        if octets.len() > room || room - octets.len() < SEAL {
             return Err(SegmentFault::Full);
         }
         if self.page.len() > PAGE {
@@ -220,17 +285,24 @@ impl<D: Disk> Segment<D> {
         self.hold(octets)
     }
 
-    /// Holds octets behind those that are held.
+    /// Holds lines behind those that are held.
     fn hold(&mut self, octets: &[u8]) -> Result<(), SegmentFault>
-        requires { length (text_of self.old) + length octets.now ≤ size_of self.old }
-        ensures text { OnOk result (text_of self.new ≡ text_of self.old ++ octets.now) }
-        ensures none { OnErr result (text_of self.new ≡ text_of self.old) }
-        ensures durable { durable_of self.new ≡ durable_of self.old }
-        ensures size { size_of self.new ≡ size_of self.old }
+        requires open { IsTrue (is_open self.old) }
+        requires room { octets_of self.old + length octets.now + 27 ≤ size_of self.old }
+        ensures open { OnOk result (open_of self.new ≡ open_of self.old ++ octets.now) }
+        ensures none { OnErr result (open_of self.new ≡ open_of self.old) }
+        ensures octets { OnOk result
+            (octets_of self.new ≡ octets_of self.old + length octets.now) }
+        ensures writes { writes_of self.new ≡ writes_of self.old }
+        ensures same { fixed_of self.new ≡ fixed_of self.old }
         ensures fault { IfErr result (λ e. e ≡ NoMemory) }
     {
         match self.page.extend_from_slice(octets) {
-            Ok(()) => Ok(()),
+            Ok(()) => {
+                self.sum.add(octets);
+                self.written = self.written.next(octets);
+                Ok(())
+            }
             Err(_) => Err(SegmentFault::NoMemory),
         }
     }
@@ -238,9 +310,10 @@ impl<D: Disk> Segment<D> {
     /// Writes what is held.
     fn write(&mut self) -> Result<(), SegmentFault>
         requires open { IsTrue (is_open self.old) }
-        ensures text { text_of self.new ≡ text_of self.old }
-        ensures durable { durable_of self.new ≡ durable_of self.old }
-        ensures size { size_of self.new ≡ size_of self.old }
+        ensures lines { open_of self.new ≡ open_of self.old }
+        ensures octets { OnOk result (octets_of self.new ≡ octets_of self.old) }
+        ensures writes { writes_of self.new ≡ writes_of self.old }
+        ensures same { fixed_of self.new ≡ fixed_of self.old }
         ensures open { OnOk result (IsTrue (is_open self.new)) }
         ensures shut { OnErr result (is_open self.new ≡ false) }
         ensures fault { IfErr result (λ e. e ≡ Device) }
@@ -263,13 +336,20 @@ impl<D: Disk> Segment<D> {
         }
     }
 
-    /// Writes what is held, and syncs: then all of the text is on the disk. After an `Err` nothing
-    /// more can be done with the file: each later call fails.
+    /// Writes what is held and a seal behind it, if lines came since the last one, and syncs: then
+    /// all of the text is on the disk. After an `Err` nothing more can be done with the file: each
+    /// later call fails. It takes no memory.
     pub fn sync(&mut self) -> Result<(), SegmentFault>
-        ensures synced { OnOk result (durable_of self.new ≡ length (text_of self.new)) }
-        ensures text { text_of self.new ≡ text_of self.old }
-        ensures least { durable_of self.old ≤ durable_of self.new }
-        ensures size { size_of self.new ≡ size_of self.old }
+        ensures synced { OnOk result
+            (concat (writes_of self.new) ≡ concat (writes_of self.old) ++ open_of self.old) }
+        ensures writes { OnOk result
+            (writes_of self.new ≡ with_write (writes_of self.old) (open_of self.old)) }
+        ensures open { OnOk result (open_of self.new ≡ []) }
+        ensures octets { OnOk result
+            (octets_of self.new ≡ octets_of self.old + seal_octets (open_of self.old)) }
+        ensures none { OnErr result ((writes_of self.new ≡ writes_of self.old)
+            × (open_of self.new ≡ open_of self.old)) }
+        ensures same { fixed_of self.new ≡ fixed_of self.old }
         ensures shut { OnErr result (is_open self.new ≡ false) }
         ensures fault { IfErr result (λ e. e ≡ Device) }
     {
@@ -277,16 +357,66 @@ impl<D: Disk> Segment<D> {
             return Err(SegmentFault::Device);
         }
         self.write()?;
+        if self.stored == self.durable {
+            self.sync_only()
+        } else {
+            self.seal()
+        }
+    }
+
+    /// Syncs where no lines came since the last seal.
+    fn sync_only(&mut self) -> Result<(), SegmentFault>
+        requires open { IsTrue (is_open self.old) }
+        requires held { self.old.page.items ≡ [] }
+        requires none { self.old.stored ≡ self.old.durable }
+        ensures writes { writes_of self.new ≡ writes_of self.old }
+        ensures lines { open_of self.new ≡ open_of self.old }
+        ensures octets { octets_of self.new ≡ octets_of self.old }
+        ensures same { fixed_of self.new ≡ fixed_of self.old }
+        ensures shut { OnErr result (is_open self.new ≡ false) }
+        ensures fault { IfErr result (λ e. e ≡ Device) }
+    {
         // A file whose sync failed is used no more (docs/DECISIONS.md, "Two files, written in
         // turn").
         self.is_open = false;
         match self.file.sync() {
             Ok(()) => {
-                self.durable = self.stored;
                 self.is_open = true;
                 Ok(())
             }
             Err(_) => Err(SegmentFault::Device),
+        }
+    }
+
+    /// Writes a seal behind the lines that came since the last one, and syncs.
+    fn seal(&mut self) -> Result<(), SegmentFault>
+        requires open { IsTrue (is_open self.old) }
+        requires held { self.old.page.items ≡ [] }
+        requires some { self.old.durable < self.old.stored }
+        ensures writes { OnOk result
+            (writes_of self.new ≡ writes_of self.old ++ open_of self.old ∷ []) }
+        ensures lines { OnOk result (open_of self.new ≡ []) }
+        ensures octets { OnOk result (octets_of self.new ≡ octets_of self.old + 27) }
+        ensures none { OnErr result ((writes_of self.new ≡ writes_of self.old)
+            × (open_of self.new ≡ open_of self.old)) }
+        ensures same { fixed_of self.new ≡ fixed_of self.old }
+        ensures shut { OnErr result (is_open self.new ≡ false) }
+        ensures fault { IfErr result (λ e. e ≡ Device) }
+    {
+        let _size = self.size;
+        let place = self.durable - self.begins;
+        let seal = seal_of(self.sum, place as u64);
+        self.is_open = false;
+        match commit(&mut self.file, self.stored, &seal) {
+            Ok(end) => {
+                self.stored = end;
+                self.durable = end;
+                self.sum = self.seed;
+                self.written = self.written.next(&seal);
+                self.is_open = true;
+                Ok(())
+            }
+            Err(fault) => Err(fault),
         }
     }
 }

@@ -4,22 +4,25 @@ ghost use Rattle.std.specs.Io.Iter.{u64_saturate};
 ghost use Rattle.std.specs.Prelude.{◌≡◌, ◌==◌, ℕ, ◌+◌, ◌-◌, ◌<◌, ◌≤◌, ◌^◌, false, true, List, None};
 ghost use Rattle.std.specs.Prelude.{◌&&◌};
 ghost use Rattle.std.specs.Prelude.{drop, length, take, position, IsTrue, IfOk, IfNone};
-ghost use Rattle.std.specs.Prelude.{IfSome};
+ghost use Rattle.std.specs.Prelude.{IfSome, Some};
 ghost use Rattle.std.specs.Prelude.{if◌then◌else◌};
 ghost use Rattle.sqlite_disk.specs.Disk.{Holds};
-ghost use Rattle.segments.specs.Head.{Fits};
+ghost use Rattle.segments.specs.Head.{Fits, head_of};
+ghost use Rattle.segments.specs.Room.{are_blocks, before_zero, damage_in, log_in};
 ghost use Rattle.segments.specs.Starts.{ArePlaced, BeginsNewer, FitsIn, HasNoNewer, HasNone};
 ghost use Rattle.segments.specs.Starts.{IsAbove};
 ghost use Rattle.segments.specs.Starts.{IsBacked, IsBackedBy, IsBelow, IsFoundIn, IsWholeIn};
-ghost use Rattle.segments.specs.Starts.{IsHeadIn, IsNewest, IsNext, IsShut, IsSound, before_zero};
+ghost use Rattle.segments.specs.Starts.{IsHeadIn, IsNewest, IsNext, IsShut, IsSound};
 ghost use Rattle.segments.specs.Starts.{is_shut, may_have_newer, number_in, other_side};
+ghost use Rattle.segments.specs.declared.head.SegmentHead.{SegmentHead};
+ghost use Rattle.segments.specs.declared.start.FileFront.TheVariants.{Head};
 ghost use Rattle.statetext.specs.Sum.{sum_of};
 
 use crate::SegmentFault;
-use crate::gate::HEAD;
-use crate::head::{SegmentHead, parse};
+use crate::gate::{BLOCK, HEAD};
+use crate::head::{SegmentHead, parse, print};
 use sqlite_disk::{Disk, Files};
-use statetext::Sum;
+use statetext::{Sum, read_sealed};
 use std::alloc::Global;
 
 /// How many octets are read at once.
@@ -81,20 +84,23 @@ pub(crate) fn front_at<D: Disk>(alloc: Global, file: &mut D) -> Result<FileFront
     if octets < 2 {
         return Ok(FileFront::Shut);
     }
-    let mut first = [0];
-    if file.read_at(0, &mut first).is_err() {
-        return Err(SegmentFault::Device);
-    }
-    // This octet is written last: with 0 there the segment was never finished, or the file is shut.
-    if first[0] == 0 {
-        return Ok(FileFront::Shut);
-    }
     if octets < HEAD {
+        let mut first = [0];
+        if file.read_at(0, &mut first).is_err() {
+            return Err(SegmentFault::Device);
+        }
+        if first[0] == 0 {
+            return Ok(FileFront::Shut);
+        }
         return Ok(FileFront::Other);
     }
     let mut row = [0; HEAD];
     if file.read_at(0, &mut row).is_err() {
         return Err(SegmentFault::Device);
+    }
+    // This octet is written last: with 0 there the segment was never finished, or the file is shut.
+    if row[0] == 0 {
+        return Ok(FileFront::Shut);
     }
     match parse(alloc, &row) {
         Ok(Some(head)) => Ok(FileFront::Head(head)),
@@ -222,6 +228,7 @@ fn rest_at<D: Disk>(alloc: Global, file: &mut D, at: usize) -> Result<Vec<u8>, S
         0 < length text.items → Holds (D.Disk.seen file.new) at text.items) }
     ensures octets { IfOk result (λ text. IsTrue (D.Disk.is_clean file.new) →
         length text.items ≡ length (D.Disk.seen file.new) - at) }
+    ensures small { IfOk result (λ text. at + length text.items < 2 ^ 64) }
     ensures usable { IsTrue (D.Disk.is_usable file.new) }
     ensures clean { IsTrue (D.Disk.is_clean file.new) → IsTrue (D.Disk.is_clean file.old) }
     ensures seen { D.Disk.seen file.new ≡ D.Disk.seen file.old }
@@ -250,6 +257,67 @@ fn place_of_zero(text: &[u8]) -> Option<usize>
     text.iter().position(|octet| *octet == 0)
 }
 
+/// The lines behind a checkpoint.
+#[derive(Drop)]
+pub struct FoundLog {
+    /// The lines of the writes that are whole, one behind another, without the seals.
+    pub lines: Vec<u8>,
+    /// The octet of the file from which on nothing is read, if that is for damage: no crash leaves
+    /// what stands there, or the file was cut.
+    pub damage: Option<usize>,
+}
+
+/// Whether so many octets are whole blocks, at least one.
+fn are_blocks(octets: usize) -> bool
+    ensures { result ≡ are_blocks octets }
+{
+    octets % BLOCK == 0 && octets > 0
+}
+
+/// The place, if there is damage.
+fn damage_at(is_damaged: bool, place: usize) -> Option<usize>
+    ensures { result ≡ (if is_damaged then Some place else None) }
+{
+    if is_damaged { Some(place) } else { None }
+}
+
+/// Reads the text behind a checkpoint that ends at this place of a file.
+fn log_behind(
+    alloc: Global,
+    head: &SegmentHead,
+    at: usize,
+    text: Vec<u8>,
+) -> Result<FoundLog, SegmentFault>
+    requires { at + length text.items < 2 ^ 64 }
+    ensures lines { (file : List ℕ) → Holds file 0 (head_of head.now) → text.items ≡ drop at file →
+        IfOk result (λ log. log.lines.items ≡ log_in at file) }
+    ensures damage { (file : List ℕ) → Holds file 0 (head_of head.now) →
+        text.items ≡ drop at file → IfOk result (λ log. log.damage ≡ damage_in at file) }
+{
+    let mut text = text;
+    if !head.is_sealed {
+        cut_at_zero(&mut text);
+        return Ok(FoundLog {
+            lines: text,
+            damage: None,
+        });
+    }
+    let Ok(row) = print(alloc, head) else {
+        return Err(SegmentFault::NoMemory);
+    };
+    let mut sum = Sum::new();
+    sum.add(&row);
+    let room = text.as_slice();
+    let Ok(read) = read_sealed(alloc, sum, room) else {
+        return Err(SegmentFault::NoMemory);
+    };
+    let is_damaged = read.is_damaged || !are_blocks(room.len());
+    Ok(FoundLog {
+        lines: read.lines,
+        damage: damage_at(is_damaged, at + read.end),
+    })
+}
+
 /// A checkpoint, and the first line before it.
 #[derive(Drop)]
 pub struct FoundHead {
@@ -265,6 +333,8 @@ pub struct Start<D: Disk> {
     other: D,
     /// Where the newest segment stands.
     side: Side,
+    /// How its file begins.
+    front: FileFront,
     /// Its checkpoint, until it is taken.
     checkpoint: Option<FoundHead>,
     /// Where the lines behind it begin.
@@ -275,6 +345,8 @@ pub struct Start<D: Disk> {
     is_doubtful: bool,
     ghost usable: { IsTrue (D.Disk.is_usable newest) },
     ghost other_usable: { IsTrue (D.Disk.is_usable other) },
+    ghost begins: { IsTrue (D.Disk.is_clean newest) → (head : SegmentHead) →
+        front ≡ Head head → Holds (D.Disk.seen newest) 0 (head_of head) },
     ghost stands: { ForSome checkpoint (λ c. (at ≡ 87 + length c.text.items)
         × (IsTrue (D.Disk.is_clean newest) →
         IsFoundIn (D.Disk.seen newest) c.head c.text.items)) },
@@ -513,19 +585,28 @@ impl<D: Disk + Drop> Start<D> {
         let (mut newer, mut older) = (newer, older);
         if let Some(found) = found_in(alloc, &mut newer, front)? {
             let is_doubtful = may_have_newer(found.head.number, other_front);
-            return Start::made(newer, older, side, Some(found), number, is_doubtful);
+            return Start::made(newer, front, older, side, Some(found), number, is_doubtful);
         }
         let side = side.other();
         if let Some(found) = found_in(alloc, &mut older, other_front)? {
             let is_doubtful = may_have_newer(found.head.number, front);
-            return Start::made(older, newer, side, Some(found), number, is_doubtful);
+            return Start::made(
+                older,
+                other_front,
+                newer,
+                side,
+                Some(found),
+                number,
+                is_doubtful,
+            );
         }
         let is_doubtful = !are_shut(front, other_front);
-        Start::made(older, newer, side, None, number, is_doubtful)
+        Start::made(older, other_front, newer, side, None, number, is_doubtful)
     }
 
     fn made(
         newest: D,
+        front: FileFront,
         other: D,
         side: Side,
         checkpoint: Option<FoundHead>,
@@ -534,6 +615,7 @@ impl<D: Disk + Drop> Start<D> {
     ) -> Result<Start<D>, SegmentFault>
         requires newest { IsTrue (D.Disk.is_usable newest) }
         requires other { IsTrue (D.Disk.is_usable other) }
+        requires head { IsTrue (D.Disk.is_clean newest) → IsHeadIn (D.Disk.seen newest) front }
         requires stands { IfSome checkpoint (λ c. IsTrue (D.Disk.is_clean newest) →
             IsFoundIn (D.Disk.seen newest) c.head c.text.items) }
         ensures newest { IfOk result (λ s. newest_of s ≡ newest) }
@@ -554,6 +636,7 @@ impl<D: Disk + Drop> Start<D> {
             newest,
             other,
             side,
+            front,
             checkpoint,
             at,
             number,
@@ -563,7 +646,8 @@ impl<D: Disk + Drop> Start<D> {
 }
 
 impl<D: Disk> Start<D> {
-    ghost use Rattle.segments.specs.Found.{begins_at, events_in, newest_of, next_of, other_of};
+    ghost use Rattle.segments.specs.Found.{begins_at, damage_of, events_in, newest_of, next_of};
+    ghost use Rattle.segments.specs.Found.{other_of};
 
     /// Whether a segment was found, and its checkpoint wasn't taken yet.
     pub fn is_found(&self) -> bool
@@ -609,12 +693,20 @@ impl<D: Disk> Start<D> {
         self.checkpoint.take()
     }
 
-    /// The octets behind the checkpoint, up to the first octet 0 or the file's end: the lines that
-    /// were appended, and what a crash left of one.
-    #[tactic(auto, using(crate::proofs::HeldLemmas::read_rest))]
-    pub fn events(&mut self, alloc: Global) -> Result<Vec<u8>, SegmentFault>
-        ensures text { IfOk result (λ text. IsTrue (D.Disk.is_clean (newest_of self.new)) →
-            text.items ≡ events_in self.new) }
+    /// The lines behind the checkpoint, up to the first write that isn't whole, and where they end
+    /// for damage. A log of an older version, whose writes have no seals, is read up to its first
+    /// octet 0.
+    ///
+    /// What a crash leaves of the last write is no damage, and its lines aren't read. So damage
+    /// that can't be told from that isn't seen: the last write is spoilt so that a part of it reads
+    /// as zeros, or its seal's first octet is another; or all from some write on reads as zeros.
+    ///
+    /// The octets are read once at each call. An `Err` is `Device` if no segment was found, too.
+    pub fn log(&mut self, alloc: Global) -> Result<FoundLog, SegmentFault>
+        ensures text { IfOk result (λ log. IsTrue (D.Disk.is_clean (newest_of self.new)) →
+            log.lines.items ≡ events_in self.new) }
+        ensures damage { IfOk result (λ log. IsTrue (D.Disk.is_clean (newest_of self.new)) →
+            log.damage ≡ damage_of self.new) }
         ensures seen { D.Disk.seen (newest_of self.new) ≡ D.Disk.seen (newest_of self.old) }
         ensures clean { IsTrue (D.Disk.is_clean (newest_of self.new)) →
             IsTrue (D.Disk.is_clean (newest_of self.old)) }
@@ -623,9 +715,11 @@ impl<D: Disk> Start<D> {
         ensures other { other_of self.new ≡ other_of self.old }
         ensures next { next_of self.new ≡ next_of self.old }
     {
-        let mut text = rest_at(alloc, &mut self.newest, self.at)?;
-        cut_at_zero(&mut text);
-        Ok(text)
+        let FileFront::Head(head) = self.front else {
+            return Err(SegmentFault::Device);
+        };
+        let text = rest_at(alloc, &mut self.newest, self.at)?;
+        log_behind(alloc, &head, self.at, text)
     }
 
     /// The two files: that of the segment that was found, and the one for the next segment.

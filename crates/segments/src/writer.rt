@@ -6,7 +6,7 @@ ghost use Rattle.std.specs.Prelude.{true, false};
 ghost use Rattle.sqlite_disk.specs.Disk.{Only};
 ghost use Rattle.segments.specs.Crash.{AreMixing, HasText, IsShut, IsLong, IsBlankFrom};
 ghost use Rattle.segments.specs.Crash.{IsTextIfOpen};
-ghost use Rattle.segments.specs.Head.{IsWholeText, whole_text};
+ghost use Rattle.segments.specs.Head.{Fits, head_for, head_of, whole_text};
 ghost use Rattle.segments.specs.Crashes.{AreShutOr, HasWhole, StaysBacked};
 ghost use Rattle.segments.specs.Written.{text_in};
 ghost use Rattle.statetext.specs.Sum.{remainder_after};
@@ -52,7 +52,8 @@ pub struct Writer<D: Disk> {
 }
 
 impl<D: Disk> Writer<D> {
-    ghost use Rattle.segments.specs.Segment.{text_of, durable_of, size_of, is_open};
+    ghost use Rattle.segments.specs.Segment.{body_of, is_open, octets_of, open_of, own_number};
+    ghost use Rattle.segments.specs.Segment.{size_of, writes_of};
     ghost use Rattle.segments.specs.Writer.{appended_to};
 
     /// Begins a segment in a file: first of all the file is shut, on the disk too. What stood there
@@ -91,10 +92,14 @@ impl<D: Disk> Writer<D> {
     /// lines to come. All is synced. An `Err` gives the file back; then it is shut, or it has the
     /// whole segment.
     pub fn finish(self, alloc: Global, number: u64, blocks: usize) -> Result<Segment<D>, Failed<D>>
-        ensures text { IfOk result (λ s. text_of s ≡ whole_text number (appended_to self)) }
-        ensures whole { IfOk result (λ s. IsWholeText number (text_of s)) }
-        ensures durable { IfOk result (λ s. durable_of s ≡ length (text_of s)) }
-        ensures room { IfOk result (λ s. size_of s ≡ length (text_of s) + blocks * 4096) }
+        requires { 0 < blocks }
+        ensures number { IfOk result (λ s. own_number s ≡ number) }
+        ensures body { IfOk result (λ s. body_of s ≡ appended_to self) }
+        ensures fits { IfOk result (λ _. Fits (head_for number (appended_to self))) }
+        ensures writes { IfOk result (λ s. writes_of s ≡ []) }
+        ensures none { IfOk result (λ s. open_of s ≡ []) }
+        ensures octets { IfOk result (λ s. octets_of s ≡ 87 + length (appended_to self)) }
+        ensures room { IfOk result (λ s. size_of s ≡ octets_of s + blocks * 4096) }
         ensures open { IfOk result (λ s. IsTrue (is_open s)) }
         ensures crash { IfErr result (λ failed. IsTextIfOpen (D.Disk.may_leave failed.file)
             (whole_text number (appended_to self))) }
@@ -114,7 +119,7 @@ impl<D: Disk> Writer<D> {
         }
         let _sum = sum.value();
         match fill(alloc, &mut file, stored, &page, number, sum, blocks) {
-            Ok((end, size)) => Ok(Segment::begun(alloc, file, number, end, size)),
+            Ok((end, size, seed)) => Ok(Segment::begun(file, number, end, size, seed, alloc)),
             Err(fault) => Err(Failed { file, fault }),
         }
     }
@@ -143,6 +148,8 @@ fn prepare<D: Disk>(
     ensures text { IfOk result (λ parts.
         parts.2.items ++ drop 87 (text_in parts.0 (D.Disk.seen file.new) [])
         ≡ whole_text number (drop 87 (text_in stored (D.Disk.seen file.old) page.now))) }
+    ensures line { IfOk result (λ parts. parts.2.items ≡ head_of (head_for number
+        (drop 87 (text_in stored (D.Disk.seen file.old) page.now)))) }
     ensures head { IfOk result (λ parts. length parts.2.items ≡ 87) }
     ensures first { IfOk result (λ parts. slice_index parts.2.items 0 ≡ 116) }
     ensures end { IfOk result (λ parts. parts.0 ≡ stored + length page.now) }
@@ -161,7 +168,8 @@ fn prepare<D: Disk>(
     Ok((end, size, head))
 }
 
-/// Writes what is held, the zeros and the first line, and says where the text and the file end.
+/// Writes what is held, the zeros and the first line, and says where the text and the file end, and
+/// the sum of the first line.
 fn fill<D: Disk>(
     alloc: Global,
     file: &mut D,
@@ -170,7 +178,7 @@ fn fill<D: Disk>(
     number: u64,
     sum: Sum,
     blocks: usize,
-) -> Result<(usize, usize), SegmentFault>
+) -> Result<(usize, usize, Sum), SegmentFault>
     requires usable { IsTrue (D.Disk.is_usable file.old) }
     requires behind { 87 ≤ stored }
     requires sized { length (D.Disk.seen file.old) ≡ stored }
@@ -183,6 +191,8 @@ fn fill<D: Disk>(
     ensures end { IfOk result (λ ends. length (text_in ends.0 (D.Disk.seen file.new) []) ≡ ends.0) }
     ensures size { IfOk result (λ ends. ends.1 ≡ ends.0 + blocks * 4096) }
     ensures sized { IfOk result (λ ends. length (D.Disk.seen file.new) ≡ ends.1) }
+    ensures seed { IfOk result (λ ends. ends.2.remainder ≡ remainder_after 0xffffffff (head_of
+        (head_for number (drop 87 (text_in stored (D.Disk.seen file.old) page.now))))) }
     ensures blank { IfOk result (λ ends. IsBlankFrom ends.0 (D.Disk.seen file.new)) }
     ensures synced { OnOk result (Only (D.Disk.seen file.new) (D.Disk.may_leave file.new)) }
     ensures usable { OnOk result (IsTrue (D.Disk.is_usable file.new)) }
@@ -194,8 +204,10 @@ fn fill<D: Disk>(
         ⊎ (stored + length page.now < 2 ^ 64)) }
 {
     let (end, size, head) = prepare(alloc, file, stored, page, number, sum, blocks)?;
+    let mut seed = Sum::new();
+    seed.add(&head);
     match publish(file, &head) {
-        Ok(()) => Ok((end, size)),
+        Ok(()) => Ok((end, size, seed)),
         Err(fault) => Err(fault),
     }
 }
@@ -230,6 +242,9 @@ fn head_line(alloc: Global, number: u64, octets: usize, sum: Sum) -> Result<Vec<
     ensures text { (body : List ℕ) → octets ≡ length body
         → sum.remainder ≡ remainder_after 0xffffffff body
         → IfOk result (λ row. row.items ++ body ≡ whole_text number body) }
+    ensures line { (body : List ℕ) → octets ≡ length body
+        → sum.remainder ≡ remainder_after 0xffffffff body
+        → IfOk result (λ row. row.items ≡ head_of (head_for number body)) }
     ensures octets { IfOk result (λ row. length row.items ≡ 87) }
     ensures first { IfOk result (λ row. slice_index row.items 0 ≡ 116) }
 {
@@ -237,6 +252,7 @@ fn head_line(alloc: Global, number: u64, octets: usize, sum: Sum) -> Result<Vec<
         number,
         octets: octets as u64,
         sum: sum.value(),
+        is_sealed: true,
     };
     match print(alloc, &head) {
         Ok(row) => Ok(row),

@@ -99,7 +99,7 @@ same_after r s (c ∷ cs) few few' octets is =
     (same_after (divided (divided (bit_xor r c))) (divided (divided (bit_xor s c))) cs
     (small_step r c few octets.0) (small_step s c few' octets.0) octets.1 is))
 
-after_front : (r : ℕ) (front rest : List ℕ)
+pub after_front : (r : ℕ) (front rest : List ℕ)
     → remainder_after r (front ++ rest) ≡ remainder_after (remainder_after r front) rest
 after_front r [] rest = refl
 after_front r (c ∷ cs) rest = after_front (divided (divided (bit_xor r c))) cs rest

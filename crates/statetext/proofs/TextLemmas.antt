@@ -1,8 +1,8 @@
 -- Lines that were put are read.
-use Rattle.std.proofs.Common.{◌≡◌, ◌≢◌, ℕ, ◌+◌, ◌-◌, ◌*◌, ◌/◌, ◌%◌, ◌^◌, ◌<◌, ◌≤◌, ◌==◌, nat_le}
+use Rattle.std.proofs.Common.{◌≡◌, ℕ, ◌+◌, ◌-◌, ◌*◌, ◌/◌, ◌%◌, ◌^◌, ◌<◌, ◌≤◌, ◌==◌, nat_le}
 use Rattle.std.proofs.Common.{nat_lt, ◌&&◌, Bool, true, false, List, [], ◌∷◌, ◌++◌, length, get_or}
-use Rattle.std.proofs.Common.{take, drop, cond, Option, Some, None, option_map, Result, Ok, Err}
-use Rattle.std.proofs.Common.{OnOk, OnErr, Fits, w8, w64, suc, subst, if◌then◌else◌, refl, sym, ap}
+use Rattle.std.proofs.Common.{take, drop, cond, Option, Some, None, Result, Ok, Err}
+use Rattle.std.proofs.Common.{OnOk, OnErr, Fits, w8, w64, suc, subst, refl, sym, ap}
 use Rattle.std.proofs.Common.{◌∙◌, arith, append_assoc}
 use Rattle.std.proofs.lemmas.List.{append-nil, drop-drop, take_rest}
 use Rattle.std.proofs.lemmas.Result.{on_ok_weaker}
@@ -18,11 +18,10 @@ use Rattle.std.proofs.lemmas.Fmt.{decimal_is_IsNumeral, decimal_by_steps}
 use Rattle.std.proofs.lemmas.Str.Parse.{digit_from_value}
 use Rattle.std.specs.Str.Parse.{AllDigits}
 use Rattle.std.specs.Fmt.{decimal}
-use Rattle.std.specs.List.{All, AllByRecursion, slice_split}
-use Rattle.std.specs.Option.{option_and_then}
-use Rattle.hex.specs.Hex.{IsBytes, encode_lower, is_hex_digit, decode_of}
+use Rattle.std.specs.List.{All, slice_split}
+use Rattle.hex.specs.Hex.{IsBytes, encode_lower, is_hex_digit}
 use Rattle.hex.proofs.HexLemmas.{decode_of-encode_lower, decode_of-ok}
-use Rattle.statetext.specs.Text.{text_behind, text_of_numbers, text_of_octets, with_digit, before}
+use Rattle.statetext.specs.Text.{text_behind, text_of_numbers, text_of_octets, before}
 use Rattle.statetext.specs.Text.{numbers_behind, octets_read, line_in, before_lines, lines_of_parts}
 use Rattle.statetext.specs.Text.{lines_in, IsWhole}
 

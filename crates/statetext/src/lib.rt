@@ -9,10 +9,12 @@
 
 mod laws;
 mod lines;
+mod seal;
 mod sheet;
 mod sum;
 
 pub use laws::{a_line_of_numbers_has_one_text, no_sum_hides_a_rotten_octet, sums_by_example};
 pub use lines::TextLines;
+pub use seal::{Front, SEAL, SealedLines, read_sealed, seal_of};
 pub use sheet::{Octets, TextSheet, put_hexadecimal};
 pub use sum::Sum;

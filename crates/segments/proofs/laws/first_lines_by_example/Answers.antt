@@ -2,10 +2,10 @@ use Rattle.std.proofs.Common.{refl}
 use Rattle.hex.specs.Hex.{encode_with}
 use Rattle.segments.proofs.laws.first_lines_by_example.Goals as goal
 
-pub returns-clause-first : goal.returns-clause-first
+pub returns-clause-older : goal.returns-clause-older
 unfolding encode_with
-returns-clause-first c = refl
+returns-clause-older c = refl
 
-pub returns-clause-later : goal.returns-clause-later
+pub returns-clause-sealed : goal.returns-clause-sealed
 unfolding encode_with
-returns-clause-later c = refl
+returns-clause-sealed c = refl

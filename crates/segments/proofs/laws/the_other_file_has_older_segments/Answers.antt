@@ -2,8 +2,8 @@ use Rattle.segments.proofs.Crashes.{finished_whole, shut_older, survived_older, 
 use Rattle.segments.proofs.laws.the_other_file_has_older_segments.Goals as goal
 
 pub returns-clause-survived : goal.returns-clause-survived
-returns-clause-survived g c = λ spare number next body lines synced s less.
-    survived_older (g.D.Disk.may_leave spare) number next body lines synced s less
+returns-clause-survived g c = λ spare number next body writes s less.
+    survived_older (g.D.Disk.may_leave spare) number next body writes s less
 
 pub returns-clause-shut : goal.returns-clause-shut
 returns-clause-shut g c = λ spare number shut. shut_older (g.D.Disk.may_leave spare) number shut

@@ -1,4 +1,4 @@
-use Rattle.segments.proofs.CrashLemmas.{written_text, written_blank, written_before, written_length}
+use Rattle.segments.proofs.CrashLemmas.{written_text, written_blank, written_length}
 use Rattle.segments.proofs.CrashLemmas.{length_kept, beginning_kept, no_other_kept}
 use Rattle.segments.proofs.segment.store.Goals as goal
 
@@ -10,10 +10,6 @@ returns-in-Ok-clause-text g c =
 pub returns-in-Ok-clause-blank : goal.returns-in-Ok-clause-blank
 returns-in-Ok-clause-blank g c =
     written_blank c.args.at _ _ _ c.write_at.ensures.others c.requires.within c.requires.blank
-
-pub returns-in-Ok-clause-before : goal.returns-in-Ok-clause-before
-returns-in-Ok-clause-before g c =
-    written_before c.args.at _ _ _ _ c.write_at.ensures.others c.requires.within
 
 pub returns-in-Ok-clause-sized : goal.returns-in-Ok-clause-sized
 returns-in-Ok-clause-sized g c = written_length c.args.at _ _ _ c.write_at.ensures.others
@@ -30,12 +26,8 @@ returns-in-Ok-clause-kept g c =
 
 pub returns-in-Ok-clause-mixed : goal.returns-in-Ok-clause-mixed
 returns-in-Ok-clause-mixed g c =
-    λ mixing long. no_other_kept c.args.at _ _ _ _
-    (c.write_at.ensures.mixed mixing c.requires.small) c.requires.within long
-
-pub returns-in-Err-clause-before : goal.returns-in-Err-clause-before
-returns-in-Err-clause-before g c =
-    written_before c.args.at _ _ _ _ c.write_at.ensures.others c.requires.within
+    λ text mixing long has. no_other_kept c.args.at _ _ text _ _
+    (c.write_at.ensures.mixed mixing c.requires.small) c.requires.within long has
 
 pub returns-in-Err-clause-sized : goal.returns-in-Err-clause-sized
 returns-in-Err-clause-sized g c = written_length c.args.at _ _ _ c.write_at.ensures.others
@@ -52,5 +44,5 @@ returns-in-Err-clause-kept g c =
 
 pub returns-in-Err-clause-mixed : goal.returns-in-Err-clause-mixed
 returns-in-Err-clause-mixed g c =
-    λ mixing long. no_other_kept c.args.at _ _ _ _
-    (c.write_at.ensures.mixed mixing c.requires.small) c.requires.within long
+    λ text mixing long has. no_other_kept c.args.at _ _ text _ _
+    (c.write_at.ensures.mixed mixing c.requires.small) c.requires.within long has

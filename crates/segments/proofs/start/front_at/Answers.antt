@@ -1,4 +1,4 @@
-use Rattle.std.proofs.Common.{◌≡◌, ◌<◌, ◌≤◌, length, List, ℕ, IsTrue, sym, subst, ◌∙◌, lit<, arith}
+use Rattle.std.proofs.Common.{◌≡◌, ◌<◌, ◌≤◌, length, List, ℕ, sym, subst, ◌∙◌, lit<, arith}
 use Rattle.sqlite_disk.specs.Disk.{Holds}
 use Rattle.segments.specs.Starts.{IsHeadIn}
 use Rattle.segments.specs.declared.start.FileFront.TheVariants as fronts
@@ -12,8 +12,8 @@ returns-then-octets-lt-HEAD-clause-head g c clean =
     let n = c.in-Ok.ensures.len (c.read_at.ensures.clean clean) in
     let same = c.len.ensures.seen in
     subst (λ (file : List ℕ). IsHeadIn file fronts.Other) (sym c.read_at.ensures.seen)
-    (other_short _ c.read_at.new.buf first (let one : length c.read_at.new.buf ≡ 1 =
-    c.read_at.auto.buf in one)
+    (other_short _ c.read_at.new.buf first (let one : 0 < length c.read_at.new.buf =
+    omega (arith, c.read_at.auto.buf) in one)
     c.if-first-eq0.false
     (let long : 2 ≤ length (g.D.Disk.seen c.len.new.self) =
     subst (λ (file : List ℕ). 2 ≤ length file) (sym same) (omega (arith, n)) in long)
@@ -22,7 +22,7 @@ returns-then-octets-lt-HEAD-clause-head g c clean =
 
 pub returns-in-Ok-Some-clause-head : goal.returns-in-Ok-Some-clause-head
 returns-in-Ok-Some-clause-head g c clean =
-    let row : Holds (g.D.Disk.seen c.read_at.new.self) 0 c.read_at-2.new.buf =
+    let row : Holds (g.D.Disk.seen c.len.new.self) 0 c.read_at-2.new.buf =
     gone_well c.read_at-2.result c.if-is_err-2.ensures.value c.read_at-2.ensures.read clean
     (lit< tt) in
     subst (λ (file : List ℕ). IsHeadIn file (fronts.Head c.in-Ok-Some.head))
@@ -34,20 +34,16 @@ returns-in-Ok-Some-clause-head g c clean =
 
 pub returns-in-Ok-None-clause-head : goal.returns-in-Ok-None-clause-head
 returns-in-Ok-None-clause-head g c clean =
-    let before : IsTrue (g.D.Disk.is_clean c.read_at.new.self) = c.read_at-2.ensures.clean clean in
-    let first : Holds (g.D.Disk.seen c.len.new.self) 0 c.read_at.new.buf =
-    gone_well c.read_at.result c.if-is_err.ensures.value c.read_at.ensures.read before (lit< tt) in
-    let row : Holds (g.D.Disk.seen c.read_at.new.self) 0 c.read_at-2.new.buf =
+    let row : Holds (g.D.Disk.seen c.len.new.self) 0 c.read_at-2.new.buf =
     gone_well c.read_at-2.result c.if-is_err-2.ensures.value c.read_at-2.ensures.read clean
     (lit< tt) in
-    let n = c.in-Ok.ensures.len (c.read_at.ensures.clean before) in
+    let n = c.in-Ok.ensures.len (c.read_at-2.ensures.clean clean) in
     let same = c.len.ensures.seen in
     subst (λ (file : List ℕ). IsHeadIn file fronts.Other) (sym c.read_at-2.ensures.seen)
-    (other_line (g.D.Disk.seen c.read_at.new.self) c.read_at.new.buf c.read_at-2.new.buf
-    (subst (λ (file : List ℕ). Holds file 0 c.read_at.new.buf) (sym c.read_at.ensures.seen) first)
-    (let one : length c.read_at.new.buf ≡ 1 = c.read_at.auto.buf in one) c.if-first-eq0.false
-    (let long : 2 ≤ length (g.D.Disk.seen c.read_at.new.self)
-    = subst (λ (file : List ℕ). 2 ≤ length file) (sym (c.read_at.ensures.seen ∙ same))
-    (omega (arith, n)) in long)
+    (other_line (g.D.Disk.seen c.len.new.self) c.read_at-2.new.buf c.read_at-2.new.buf row
+    (let some : 0 < length c.read_at-2.new.buf = omega (arith, c.read_at-2.auto.buf) in some)
+    c.if-row-eq0.false
+    (let long : 2 ≤ length (g.D.Disk.seen c.len.new.self)
+    = subst (λ (file : List ℕ). 2 ≤ length file) (sym same) (omega (arith, n)) in long)
     row (let count : length c.read_at-2.new.buf ≡ 87 = c.read_at-2.auto.buf in count)
     (λ head fits is. sym c.in-Ok-None.field-0-is ∙ c.in-Ok-None.ensures.all head fits is))

@@ -13,7 +13,7 @@ returns-in-Ok-clause-text g c =
     published_text c.in_ok-end.head.items _ _ _ c.in_ok-end.size c.in_ok-end.end p.head some within
     p.sized
     (c.in-Ok.ensures.written ∙ ap (λ (l : List ℕ). l ++ drop 87 (g.D.Disk.seen c.prepare.new.file))
-    c.deref.ensures.value) p.text
+    c.deref-2.ensures.value) p.text
 
 pub returns-in-Ok-clause-sized : goal.returns-in-Ok-clause-sized
 returns-in-Ok-clause-sized g c =
@@ -23,7 +23,7 @@ returns-in-Ok-clause-sized g c =
     published_length c.in_ok-end.head.items _ _ c.in_ok-end.size c.in_ok-end.end p.head some within
     p.sized
     (c.in-Ok.ensures.written ∙ ap (λ (l : List ℕ). l ++ drop 87 (g.D.Disk.seen c.prepare.new.file))
-    c.deref.ensures.value)
+    c.deref-2.ensures.value)
 
 pub returns-in-Ok-clause-end : goal.returns-in-Ok-clause-end
 returns-in-Ok-clause-end g c =
@@ -33,7 +33,7 @@ returns-in-Ok-clause-end g c =
     let long = published_length c.in_ok-end.head.items _ _ c.in_ok-end.size c.in_ok-end.end p.head
     some within p.sized
     (c.in-Ok.ensures.written ∙ ap (λ (l : List ℕ). l ++ drop 87 (g.D.Disk.seen c.prepare.new.file))
-    c.deref.ensures.value) in
+    c.deref-2.ensures.value) in
     ended_length (g.D.Disk.seen c.publish.new.file) c.in_ok-end.end (omega (arith, long, within))
 
 pub returns-in-Ok-clause-blank : goal.returns-in-Ok-clause-blank
@@ -42,7 +42,7 @@ returns-in-Ok-clause-blank g c =
     let some : 87 ≤ c.in_ok-end.end = omega (arith, p.end, c.requires.behind) in
     published_blank c.in_ok-end.head.items _ _ c.in_ok-end.end p.head some p.blank
     (c.in-Ok.ensures.written ∙ ap (λ (l : List ℕ). l ++ drop 87 (g.D.Disk.seen c.prepare.new.file))
-    c.deref.ensures.value)
+    c.deref-2.ensures.value)
 
 pub returns-clause-crash : goal.returns-clause-crash
 returns-clause-crash g c =
@@ -53,8 +53,8 @@ returns-clause-crash g c =
     whole_open (g.D.Disk.may_leave c.publish.new.file) c.in_ok-end.end c.in_ok-end.head.items
     (g.D.Disk.seen c.prepare.new.file) _
     p.head some within p.blank p.text
-    (at_deref c.in_ok-end.head.items c.deref.result.now (g.D.Disk.seen c.prepare.new.file)
-    (g.D.Disk.may_leave c.publish.new.file) c.deref.ensures.value c.publish.ensures.crash)
+    (at_deref c.in_ok-end.head.items c.deref-2.result.now (g.D.Disk.seen c.prepare.new.file)
+    (g.D.Disk.may_leave c.publish.new.file) c.deref-2.ensures.value c.publish.ensures.crash)
 
 pub returns-clause-mixed : goal.returns-clause-mixed
 returns-clause-mixed g c mixing =
@@ -68,4 +68,4 @@ returns-clause-mixed g c mixing =
     p.head some within p.blank p.text)
     (subst (λ (h : List ℕ). AreShutOr (g.D.Disk.may_leave c.publish.new.file)
     (λ (file : List ℕ). file ≡ h ++ drop 87 (g.D.Disk.seen c.prepare.new.file)))
-    c.deref.ensures.value (c.publish.ensures.mixed mixing))
+    c.deref-2.ensures.value (c.publish.ensures.mixed mixing))

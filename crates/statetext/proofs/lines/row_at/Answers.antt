@@ -1,4 +1,4 @@
-use Rattle.std.proofs.Common.{sym, ◌∙◌}
+use Rattle.std.proofs.Common.{sym}
 use Rattle.statetext.proofs.TextLemmas.{row_behind, no_row_behind}
 use Rattle.statetext.proofs.lines.row_at.Goals as goal
 

@@ -1,22 +1,39 @@
-use Rattle.std.proofs.Common.{◌≤◌, length, arith}
-use Rattle.segments.proofs.Crashes.{stands, survives}
+use Rattle.std.proofs.Common.{◌∙◌, ◌≡◌, ◌-◌, ℕ, ap, arith, length, length-append, subst, sym, true}
+use Rattle.segments.specs.Crash.{BeginsWith}
+use Rattle.segments.specs.Crashes.{log_text}
+use Rattle.segments.specs.Room.{are_blocks}
 use Rattle.segments.proofs.CrashLemmas.{length_text}
-use Rattle.segments.specs.Segment.{text_of}
+use Rattle.segments.proofs.Crashes.{stands}
 use Rattle.segments.proofs.segment.Segment.survives.Goals as goal
 
-pub returns-clause-start : goal.returns-clause-start
-returns-clause-start g c = λ number body lines fits is some head.
-    let s = c.args.self.now in
-    let below : s.stored ≤ length (g.D.Disk.seen s.file) = omega (arith, s.within, s.sized) in
-    let count = length_text s.stored (g.D.Disk.seen s.file) s.page.items below in
-    survives (g.D.Disk.may_leave s.file) number body lines s.durable s.size (text_of s) fits is some
-    head
-    (omega (arith, count, s.ordered)) (omega (arith, count, s.within)) s.long s.kept
-
 pub returns-clause-stands : goal.returns-clause-stands
-returns-clause-stands g c = λ number begins head whole.
+returns-clause-stands g c =
     let s = c.args.self.now in
-    let below : s.stored ≤ length (g.D.Disk.seen s.file) = omega (arith, s.within, s.sized) in
-    let count = length_text s.stored (g.D.Disk.seen s.file) s.page.items below in
-    stands (g.D.Disk.may_leave s.file) number begins s.durable s.size (text_of s) whole head
-    (omega (arith, count, s.ordered)) (omega (arith, count, s.within)) s.long s.kept
+    stands (g.D.Disk.may_leave s.file) s.number s.durable s.size s.written.has.body
+    s.written.has.writes s.fits s.safe (omega (arith, s.ordered, s.within)) s.long s.kept
+
+pub returns-clause-survives : goal.returns-clause-survives
+returns-clause-survives g c are =
+    let s = c.args.self.now in
+    let w = s.written.has in
+    record {
+      fits = s.fits;
+      are = are;
+      size = s.size;
+      long = s.long;
+      blocks = subst (λ (n : ℕ). are_blocks (s.size - n) ≡ true) s.begun s.blocks;
+      room = omega (arith, s.safe, s.ordered, s.within);
+      kept = subst (λ (n : ℕ). BeginsWith (g.D.Disk.may_leave s.file) n
+          (log_text s.number w.body w.writes)) s.safe s.kept;
+    }
+
+pub returns-clause-mixed : goal.returns-clause-mixed
+returns-clause-mixed g c mixing = c.args.self.now.mixed mixing
+
+pub returns-clause-octets : goal.returns-clause-octets
+returns-clause-octets g c on =
+    let s = c.args.self.now in
+    let w = s.written.has in
+    sym (length_text s.stored (g.D.Disk.seen s.file) s.page.items
+    (omega (arith, s.within, s.sized)))
+    ∙ ap length (s.text on) ∙ length-append (log_text s.number w.body w.writes) w.lines

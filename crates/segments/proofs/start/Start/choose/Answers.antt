@@ -7,7 +7,6 @@ use Rattle.segments.specs.declared.start.FoundHead.{FoundHead}
 use Rattle.segments.specs.declared.start.FileFront.TheVariants as fronts
 use Rattle.segments.proofs.Fronts.{above_front, backed_first, first_newest, next_front, next_other}
 use Rattle.segments.proofs.Fronts.{are_doubtful, of_both, only_beside}
-use Rattle.segments.proofs.Fronts.{of_four}
 use Rattle.segments.proofs.Fronts.{of_some, of_three, placed_as, placed_other, sure_beside}
 use Rattle.segments.proofs.start.Start.choose.Goals as goal
 

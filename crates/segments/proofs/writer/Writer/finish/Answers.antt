@@ -1,12 +1,15 @@
-use Rattle.std.proofs.Common.{◌≡◌, ◌+◌, ◌<◌, ◌≤◌, ◌^◌, [], subst, List, ℕ, drop, take, arith}
+use Rattle.std.proofs.Common.{◌≡◌, ◌∙◌, ◌+◌, ◌*◌, ◌<◌, ◌≤◌, ◌^◌, [], subst, List, ℕ, drop, take}
+use Rattle.std.proofs.Common.{ap, sym, arith}
 use Rattle.std.proofs.Common.{length, length-append}
 use Rattle.std.specs.Prelude.{◌⊎◌}
 use Rattle.std.proofs.lemmas.List.{length-drop, length-take}
 use Rattle.segments.specs.Crash.{HasText, IsShut, IsTextIfOpen}
 use Rattle.segments.specs.Crashes.{AreShutOr}
-use Rattle.segments.specs.Head.{whole_text}
+use Rattle.segments.specs.Head.{Fits, head_for, head_of, whole_text}
+use Rattle.statetext.specs.Sum.{remainder_after}
 use Rattle.segments.specs.Written.{text_in}
-use Rattle.segments.proofs.Crashes.{few_or_shut, summed_front, whole_front}
+use Rattle.segments.proofs.Crashes.{body_is, few_or_shut, summed_front, whole_front, whole_length}
+use Rattle.segments.proofs.Sealed.{blocks_so}
 use Rattle.segments.proofs.writer.Writer.finish.Goals as goal
 
 at_page : (number end stored : ℕ) (seen old held page : List ℕ) → held ≡ page
@@ -60,3 +63,58 @@ begun-requires-clause-summed g c =
     (at_page c.args.number c.in-Ok.end s.stored (g.D.Disk.seen c.fill.new.file)
     (g.D.Disk.seen s.file) _ _ c.deref.ensures.value c.in-Ok.ensures.text)
     few c.value-sum.ensures s.summed
+
+pub begun-requires-clause-behind : goal.begun-requires-clause-behind
+begun-requires-clause-behind g c =
+    let s = c.args.self in
+    let body : List ℕ = drop 87 (text_in s.stored (g.D.Disk.seen s.file) c.deref.result.now) in
+    omega (
+      arith,
+      sym c.in-Ok.ensures.end ∙ ap length c.in-Ok.ensures.text,
+      whole_length c.args.number body,
+    )
+
+pub begun-requires-clause-blocks : goal.begun-requires-clause-blocks
+begun-requires-clause-blocks g c =
+    blocks_so c.args.blocks c.in-Ok.end c.in-Ok.size c.requires c.in-Ok.ensures.size
+
+pub begun-requires-clause-seeded : goal.begun-requires-clause-seeded
+begun-requires-clause-seeded g c =
+    c.in-Ok.ensures.seed
+    ∙ ap (λ (b : List ℕ). remainder_after 0xffffffff (head_of (head_for c.args.number b)))
+    (sym (body_is c.args.number c.in-Ok.end (g.D.Disk.seen c.fill.new.file) _
+    c.in-Ok.ensures.text))
+
+-- the checkpoint of the segment that is begun
+body_begun : (number end stored : ℕ) (seen old held page : List ℕ) → held ≡ page
+    → text_in end seen [] ≡ whole_text number (drop 87 (text_in stored old held))
+    → drop 87 (take end seen) ≡ drop 87 (text_in stored old page)
+body_begun number end stored seen old held page is text =
+    body_is number end seen (drop 87 (text_in stored old held)) text
+    ∙ ap (λ (p : List ℕ). drop 87 (text_in stored old p)) is
+
+pub returns-in-Ok-clause-body : goal.returns-in-Ok-clause-body
+returns-in-Ok-clause-body g c =
+    let s = c.args.self in
+    c.begun.ensures.body ∙ body_begun c.args.number c.in-Ok.end s.stored
+    (g.D.Disk.seen c.fill.new.file) (g.D.Disk.seen s.file) _ _ c.deref.ensures.value
+    c.in-Ok.ensures.text
+
+pub returns-in-Ok-clause-fits : goal.returns-in-Ok-clause-fits
+returns-in-Ok-clause-fits g c =
+    let s = c.args.self in
+    subst (λ (b : List ℕ). Fits (head_for c.args.number b))
+    (body_begun c.args.number c.in-Ok.end s.stored (g.D.Disk.seen c.fill.new.file)
+    (g.D.Disk.seen s.file) _ _ c.deref.ensures.value c.in-Ok.ensures.text) c.begun.ensures.fits
+
+pub returns-in-Ok-clause-octets : goal.returns-in-Ok-clause-octets
+returns-in-Ok-clause-octets g c =
+    c.begun.ensures.octets ∙ sym c.in-Ok.ensures.end ∙ ap length c.in-Ok.ensures.text
+    ∙ whole_length c.args.number _
+    ∙ ap (λ (p : List ℕ). 87 + length (drop 87 (text_in c.args.self.stored
+    (g.D.Disk.seen c.args.self.file) p))) c.deref.ensures.value
+
+pub returns-in-Ok-clause-room : goal.returns-in-Ok-clause-room
+returns-in-Ok-clause-room g c =
+    c.begun.ensures.size ∙ c.in-Ok.ensures.size
+    ∙ ap (λ (n : ℕ). n + c.args.blocks * 4096) (sym c.begun.ensures.octets)

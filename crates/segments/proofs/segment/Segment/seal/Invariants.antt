@@ -1,0 +1,9 @@
+use Rattle.std.proofs.Common.{◌∷◌, ◌++◌, []}
+use Rattle.segments.proofs.segment.Segment.seal.Given as goal
+
+abbrev pub ghost-next : goal.ghost-next
+ghost-next g a = record {
+  body = a.self.now.has.body;
+  writes = a.self.now.has.writes ++ a.self.now.has.lines ∷ [];
+  lines = [];
+}
