@@ -5,6 +5,7 @@ ghost use Rattle.apci.specs.Spelling.{counter, function};
 ghost use Rattle.apci.specs.Control.{IsFormat};
 
 use crate::apdu::Uf;
+use byteorder::{ByteOrder, LittleEndian};
 
 /// The format that a first control octet names.
 #[derive(Clone, Copy)]
@@ -54,5 +55,5 @@ pub(crate) fn counter_of(low: u8, high: u8) -> u16
     ensures value { counter result ≡ low ∷ high ∷ [] }
     ensures fits { result < 2 ^ 15 }
 {
-    u16::from(low / 2) + 128 * u16::from(high)
+    LittleEndian::read_u16(&[low, high]) / 2
 }

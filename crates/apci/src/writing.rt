@@ -6,6 +6,7 @@ ghost use Rattle.apci.specs.Short.{apdu_of};
 
 use crate::apdu::{Apdu, Short};
 use arrayvec::ArrayVec;
+use byteorder::{ByteOrder, LittleEndian};
 
 /// The octet that begins each APDU.
 pub(crate) const START: u8 = 0x68;
@@ -20,7 +21,9 @@ pub(crate) fn counter_octets(n: u16) -> [u8; 2]
 {
     // Bit 0 of the low octet belongs to the format, so the number begins at bit 1 (IEC
     // 60870-5-104, 5).
-    [(n % 128 * 2) as u8, (n / 128) as u8]
+    let mut octets = [0; 2];
+    LittleEndian::write_u16(&mut octets, n * 2);
+    octets
 }
 
 impl Short {

@@ -9,6 +9,7 @@ ghost use Rattle.ft12.specs.Tail.{IsTail};
 
 use crate::frame::{FrameRef, Front, FrontRef, LinkSize, Why};
 use crate::writing::{END, SINGLE, START_DATA, START_FIXED, sum_of};
+use byteorder::{ByteOrder, LittleEndian};
 
 /// What stands where some octets, their sum and the end octet are due.
 enum Tail {
@@ -47,7 +48,7 @@ fn parts(size: LinkSize, octets: &[u8]) -> (u8, u16, &[u8])
         LinkSize::One => (octets[0], u16::from(octets[1]), &octets[2..]),
         LinkSize::Two => (
             octets[0],
-            u16::from(octets[1]) + 256 * u16::from(octets[2]),
+            LittleEndian::read_u16(&[octets[1], octets[2]]),
             &octets[3..],
         ),
     }

@@ -10,6 +10,7 @@ ghost use Rattle.ft12.specs.DueOctet.{is_end, summed_octets};
 use crate::frame::{Frame, LinkSize, Why};
 use crate::writing::{END, SINGLE, START_DATA, START_FIXED};
 use arrayvec::ArrayVec;
+use byteorder::{ByteOrder, LittleEndian};
 use std::alloc::AllocError;
 use std::mem;
 
@@ -145,7 +146,7 @@ impl FixedFields {
             },
             FixedFields::LowAddress { c, low } => FixedFields::Address {
                 c,
-                a: u16::from(low) + 256 * u16::from(octet),
+                a: LittleEndian::read_u16(&[low, octet]),
             },
             FixedFields::Address { c, a } => {
                 kept.push(octet);

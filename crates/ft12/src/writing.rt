@@ -7,6 +7,7 @@ ghost use Rattle.ft12.specs.Spelling.{address_len, checked, user, spelling, spel
 
 use crate::frame::{Frame, FrameRef, LinkSize};
 use arrayvec::ArrayVec;
+use byteorder::{ByteOrder, LittleEndian};
 
 /// The single character: a short confirmation.
 pub(crate) const SINGLE: u8 = 0xE5;
@@ -50,8 +51,10 @@ fn push_user<const CAP: usize>(
     match size {
         LinkSize::One => out.push(a as u8),
         LinkSize::Two => {
-            out.push((a % 256) as u8);
-            out.push((a / 256) as u8);
+            let mut low_first = [0; 2];
+            LittleEndian::write_u16(&mut low_first, a);
+            out.push(low_first[0]);
+            out.push(low_first[1]);
         }
     }
     out.try_extend_from_slice(body).unwrap();
