@@ -183,11 +183,6 @@ unfolding Admitted
 judged_by xs now wall s (Some cause) = refl
 judged_by xs now wall s None = admitted_by xs now s (lacks_selection (command_at xs) now s) refl
 
-pub judged_alike : (xs : List ℕ) (now : ℕ) (wall : Option ℕ) (s : State)
-    → seen_by (fault s.sizes s.stations s.max_age_ms wall xs) xs now wall s (glance_of s)
-    ≡ (refusal_of xs now wall s, glance_of (judged xs now wall s).1)
-judged_alike xs now wall s = judged_by xs now wall s (fault s.sizes s.stations s.max_age_ms wall xs)
-
 -- another state with the same settings may be asked
 asked_of : List StationInfo → Sizes → ℕ → ℕ → State
 asked_of stations sizes select_ms max_age_ms = record {

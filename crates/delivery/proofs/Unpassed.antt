@@ -77,10 +77,6 @@ left_elsewhere p log before after l =
     ap (λ (c : Course). mirrors_of c.works) l.is
     ∙ done_elsewhere (latest log) (room_in p log before) before.works
 
-received_elsewhere : (f : Apdu) (now : ℕ) (wall : Option ℕ) (w : Works)
-    → mirrors_of (received_works f now wall w) ≡ mirrors_of w
-received_elsewhere f now wall w = refl
-
 frames_elsewhere : (p : Setup) (fs : List Apdu) (now : ℕ) (wall : Option ℕ) (c : Course)
     → mirrors_of (with_frames p fs now wall c).works ≡ mirrors_of c.works
 frames_elsewhere p [] now wall c = refl

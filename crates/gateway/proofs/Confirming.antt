@@ -69,28 +69,6 @@ pub pulled_next : (s t : State) (r : Option Apdu) → ◌≡◌ {A =
 pulled_next s t r e rest = rest
     ∙ ap (λ (x : Session). with_session x s) (ap (λ (d : Option Apdu × Session). d.1) e)
 
--- what the laws of calls say of two and three of them
-pub three_confirm : ((s : Session) → IsConfirmed (after_confirm (after_confirm (after_confirm s))))
-    → (s t u v : State)
-    → t ≡ with_session (after_confirm s.centre.session) s
-    → u ≡ with_session (after_confirm t.centre.session) t
-    → v ≡ with_session (after_confirm u.centre.session) u → IsConfirmed v.centre.session
-three_confirm law s t u v a b c =
-    subst IsConfirmed (sym (ap (λ (x : State). x.centre.session) c
-    ∙ ap (λ (x : State). after_confirm x.centre.session) b
-    ∙ ap (λ (x : State). after_confirm (after_confirm x.centre.session)) a)) (law s.centre.session)
-
-pub two_pulls : ((now : ℕ) (s : Session)
-    → (session.pulled now (after_pull now (after_pull now s))).0 ≡ None)
-    → (s t u : State) → t ≡ with_session (after_pull s.moment s.centre.session) s
-    → u ≡ with_session (after_pull t.moment t.centre.session) t
-    → (session.pulled u.moment u.centre.session).0 ≡ None
-two_pulls law s t u a b =
-    let same : u ≡ with_session (after_pull s.moment (after_pull s.moment s.centre.session)) s = b
-    ∙ ap (λ (x : State). with_session (after_pull x.moment x.centre.session) x) a in
-    subst (λ (x : State). (session.pulled x.moment x.centre.session).0 ≡ None) (sym same)
-    (law s.moment s.centre.session)
-
 pub confirm_in_time : ((now : ℕ) (s : Session) → IsInTime now s → IsInTime now (after_confirm s))
     → (s t : State)
     → t ≡ with_session (after_confirm s.centre.session) s → StaysInTime s t

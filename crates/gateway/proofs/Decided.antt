@@ -51,14 +51,6 @@ rest_course : Laws → (p : Setup) (log : Log) (b : Course) (rest : IsAtRest p l
 rest_course laws p log b rest r none = one_before laws p log rest.course b rest.course_runs r
     (λ f may. none_whole laws.unique p log (latest log) f rest.course rest.talk.all may) none
 
--- an action that isn't for TCP needs that the step goes on
-needs_due : (p : Setup) (log : Log) (a : Output) (b : Course) → Needs p log a b
-    → (b.works.is_due ≡ true) ⊎ ((octets : List ℕ) × (a ≡ TcpOut octets))
-needs_due p log (LineOut x) b n = inl n.1.due
-needs_due p log (TcpOut x) b n = inr (x, refl)
-needs_due p log (GapOut i s) b n = inl n.1.due
-needs_due p log (Closed x) b n = inl n.1
-
 at_rest_none : Laws → (p : Setup) (log : Log) (now : ℕ) (a : Output) (rest : IsAtRest p log)
     → GoesOut p log now a → Needs p log a rest.course → ⊥
 at_rest_none laws p log now (LineOut x) rest g n =

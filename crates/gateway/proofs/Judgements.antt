@@ -95,12 +95,6 @@ judged_on p (Some log) s t f rest on fits so j a = subst (λ x. Agrees p x log r
     (sym j.after)
     (frame_taken p s log rest f a.0 on a.1 a.2 a.3 fits so j.passes true j.place)
 
-pub judged_open : (s t : State) (f : Apdu) → session.is_open s.centre.session ≡ true
-    → Judged s f None t
-    → session.is_open t.centre.session ≡ true
-judged_open s t f on j = ap (λ (x : State). session.is_open x.centre.session) j.after
-    ∙ (taken_stays f s.moment s.centre.session).connected ∙ on
-
 -- a frame with a fault leaves nothing but what the close drops
 fault_dropped : (s : State) (f : Apdu) (cause : Close) → Closes cause
     ≡ outcome_of s.centre.session f

@@ -284,20 +284,3 @@ mirrors s t at transferring sizes v report ps pieces fits law passed tagged moni
       after = after;
       all = all;
     }
-
--- the same of the whole gateway, in its own sizes
-pub learns_mirrored : (s t : State) (transferring : Bool) (sizes : Sizes) (report octets : List ℕ)
-    (fits : Bool)
-    → is_command_report s.sizes report ≡ true → sizes ≡ s.sizes → octets ≡ report
-    → transferring ≡ is_transferring s.centre.session
-    → Mirrors sizes s.moment transferring s.serial octets fits t.serial → t ≡ with_serial t.serial s
-    → LearnsReport (is_command_report s.sizes report) s report fits t
-learns_mirrored s t transferring sizes report octets fits of same is same_transfer m only =
-    subst (λ b. LearnsReport b s report fits t) (sym of) (
-      subst (λ z. Mirrors z s.moment (is_transferring s.centre.session) s.serial report fits
-          t.serial) same
-          (subst (λ x. Mirrors sizes s.moment (is_transferring s.centre.session) s.serial x fits
-          t.serial) is
-          (subst (λ r. Mirrors sizes s.moment r s.serial octets fits t.serial) same_transfer m)),
-      only,
-    )

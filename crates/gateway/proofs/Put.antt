@@ -40,18 +40,6 @@ use Rattle.gateway.proofs.Agreement.{GoesOut, faithful, after_piece, after_own, 
 use Rattle.gateway.proofs.Closing.{stands_now, after_close}
 use Rattle.gateway.proofs.Resting.{rested}
 
--- The events of a log stay as actions go out.
-pub events_went : (logged : Option Log) (now : ℕ) (action : Output)
-    → events_logged (with_news logged (Went now action ∷ [])) ≡ events_logged logged
-events_went None now action = refl
-events_went (Some log) now action = refl
-
-pub events_put : (b : Bool) (logged after : Option Log) (now : ℕ) (action : Output)
-    → after ≡ (if b then with_news logged (Went now action ∷ []) else logged) → events_logged after
-    ≡ events_logged logged
-events_put true logged after now action e = ap events_logged e ∙ events_went logged now action
-events_put false logged after now action e = ap events_logged e
-
 pub logged_faithful : (p : Setup) (logged : Option Log) (s : State) (unjudged : List ℕ)
     (phase : Phase)
     → Tracks p s logged unjudged phase → IfSome logged (IsFaithful p)
@@ -368,12 +356,6 @@ logged_closed p logged after s t cause now phase e same is h =
         rw (h.same, moment, ← h.leads) (after_close p h.state log h.unjudged cause h.phase
         h.fault h.agrees
         h.open_is h.last h.timely h.stands h.why)
-
-pub may_close_faithful : (p : Setup) (logged : Option Log) (s : State) (cause : Close)
-    (phase : Phase)
-    → IfSome logged (MayClose p s cause phase) → IfSome logged (IsFaithful p)
-may_close_faithful p None s cause phase h = tt
-may_close_faithful p (Some log) s cause phase h = faithful p h.state log h.unjudged h.phase h.agrees
 
 -- A step is done
 

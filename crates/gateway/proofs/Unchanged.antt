@@ -140,10 +140,6 @@ unchanged goes_on before now k h =
 
 -- The link of a station that is given up is down
 
-carried_down : (retries address : ℕ) (s : StationState)
-    → is_up (station_carried retries address (station_given_up s)).link ≡ true → ⊥
-carried_down retries address s h = cc
-
 down_up : (address : ℕ) → is_up (station_new address).link ≡ true → ⊥
 down_up address h = cc
 

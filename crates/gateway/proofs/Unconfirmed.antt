@@ -20,9 +20,6 @@ numbered_more n (g ∷ fs) f h all =
     let moved : n + suc (length fs) ≡ suc n + length fs = omega arith in
     (all.0, numbered_more (suc n) fs f (h ∙ ap (λ k. k % 32768) moved) all.1)
 
-pub unconfirmed_new : Unconfirmed 0 [] [] []
-unconfirmed_new = record { count = refl; kinds = refl; pieces_are = refl }
-
 pub unconfirmed_more : (n more : ℕ) (sent : List Sent) (us : List Unacknowledged)
     (pieces : List (List ℕ))
     → more ≤ length us → Unconfirmed n sent us pieces → Unconfirmed (n + more) sent (drop more us)

@@ -46,8 +46,3 @@ not_received s octets result only no_whole =
       refl,
       refl,
     )
-
-pub whole_all : (size : LinkSize) (octets : List ℕ) (frame : Frame) (n : ℕ) → n ≡ length octets
-    → IsFront size octets (Whole frame n) → IsLineFrame size frame octets
-whole_all size octets frame n e front =
-    subst (IsLineFrame size frame) (take_all n octets (omega arith)) front.0

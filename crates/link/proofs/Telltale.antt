@@ -20,11 +20,6 @@ use Rattle.link.proofs.Serving.{busy_says}
 
 -- ---- the bit
 
-bit-append : (bit : Option Bool) (xs ys : List Asked) → bit_after bit (xs ++ ys)
-    ≡ bit_after (bit_after bit xs) ys
-bit-append bit [] ys = refl
-bit-append bit (x ∷ xs) ys = bit-append (bit_by bit x) xs ys
-
 same_bit : (a b : Bool) → is_same a b ≡ true → a ≡ b
 same_bit true true e = refl
 same_bit true false e = cc

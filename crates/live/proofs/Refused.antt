@@ -41,12 +41,6 @@ refuses_nobody g r = record {
   ends = ap (λ p. record { peers = p; said = r.said }) (none_more r.peers);
 }
 
--- a stranger
-pub stranger_of : (g : AllowList) (peer : IpAddr) (b : Bool) → IsTrue b ↔ Allows g peer
-    → b ≡ false → Allows g peer → ⊥
-stranger_of g peer b is off allows =
-    let wrong : false ≡ true = sym off ∙ is.1 allows in absurd (cc)
-
 pub refuses_one : (g : AllowList) (peer : IpAddr) (before : List IpAddr) (said : RefusedPeers)
     → (Allows g peer → ⊥)
     → RefusesStrangers g (record { peers = Some before; said = said })

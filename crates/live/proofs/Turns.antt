@@ -480,29 +480,6 @@ quiet_more start before found new first count begun now f buf was is_due quiet t
     nothing
     (due_of start found new first now was is_due awaited done is ∙ undue))
 
-pub looked_due : (start before found new : LiveEnds) (first count begun now : ℕ)
-    (f : Option SourceEvent)
-    (buf : List ℕ)
-    (was is_due : Bool) → QuietRounds start first count begun before
-    → IsTurn begun before f buf found
-    → was ≡ is_awaited start.timing → new ≡ clock_read_at now found
-    → is_due ≡ is_tick_due first was now new → is_due ≡ true → LooksOn first start now f buf new
-looked_due start before found new first count begun now f buf was is_due quiet turn awaited done is
-    due =
-    looked_last start before found new first count begun now f buf quiet turn
-    (inl (due_of start found new first now was is_due awaited done is ∙ due)) done
-
--- something was found
-pub looked_some : (start before found new : LiveEnds) (first count begun now : ℕ)
-    (f : Option SourceEvent)
-    (buf : List ℕ)
-    → QuietRounds start first count begun before → IsTurn begun before f buf found → is_some f
-    ≡ true
-    → new ≡ clock_read_at now found → LooksOn first start now f buf new
-looked_some start before found new first count begun now None buf quiet turn some done = absurd (cc)
-looked_some start before found new first count begun now (Some f) buf quiet turn some done =
-    looked_found start before found new first count begun now f buf quiet turn done
-
 -- and where nothing was, nothing failed
 pub none_failed : (f : Option SourceEvent) (old new : ℕ) → is_some f ≡ false
     → new ≡ old + faults_in f

@@ -40,41 +40,6 @@ pub record AuditsTo (settings : Settings) (known coming : Option (List ℕ)) (st
   pub are : (t : List ℕ) → whole_lines (before ++ t) ≡ lines ++ whole_lines t
   pub stands : Stands settings lines state h standing
 
--- at first
-pub audit_begins : (settings : Settings) (known coming : Option (List ℕ)) (state : State)
-    (h : Halted) (ahead : Vec ℕ Global)
-    → coming ≡ known → h ≡ record {
-      tally = record { lines = 0; events = 0; actions = 0 };
-      log =
-          [];
-    } → ahead.items ≡ []
-    → Follows (setup_of settings) state (Some [])
-    → AuditsTo settings known coming state h (Level ahead)
-audit_begins settings known coming state h ahead all fresh none follows =
-    subst (λ (c : Option (List ℕ)). AuditsTo settings known c state h (Level ahead)) (sym all)
-    (subst (λ (x : Halted). AuditsTo settings known known state x (Level ahead)) (sym fresh)
-    (record {
-      before = [];
-      rest = λ t is. is;
-      lines = [];
-      are = λ t. refl;
-      stands = record {
-        runs = record {
-          right = refl;
-          events = refl;
-          passed = refl;
-          actions = refl;
-          follows =
-              follows;
-          rests = tt;
-        };
-        compared = (
-          λ more later. ap (λ xs. first_difference 1 more (whole_lines xs ++ later)) (sym none),
-          subst AreWhole (sym none) none_whole,
-        );
-      };
-    }))
-
 -- the lines of a block
 pub record AreOf (block : List ℕ) (over : Bool) (part : Option (List ℕ)) : Type 0 where
   pub last : over ≡ true → parts_after 10 part ≡ whole_lines block
@@ -181,13 +146,6 @@ module _ (settings : Settings) (known coming : Option (List ℕ)) (state : State
           }
   audit_stops faults.Unread wrong = tt
   audit_stops faults.NoMemory wrong = tt
-
--- no more of it is had
-pub audit_unread : (known : Option (List ℕ)) (fault : RecordFault) → IsReadFault fault
-    → IsAuditFault known fault
-audit_unread known (faults.Line n) is = absurd is
-audit_unread known faults.Unread is = tt
-audit_unread known faults.NoMemory is = tt
 
 -- what is promised of a fault that is passed on
 pub as_err : {T : Type 0} (P : Result T RecordFault → Type 0) (r : Result T RecordFault)

@@ -23,21 +23,11 @@ use Rattle.record.specs.declared.audit.passing.LineCounts.{LineCounts}
 
 -- One line
 
--- a line that was cut short logs nothing
-pub cut_action : (line : List ℕ) → is_cut line ≡ true → is_action line ≡ false
-cut_action line cut = ap (λ (b : Bool). if b then false
-    else is_marked (slice_split (λ b. b == 32) line)) cut
-
 pub uncut_action : (line : List ℕ) (b : Bool) → is_cut line ≡ false
     → is_marked (slice_split (λ b. b == 32) line) ≡ b
     → is_action line ≡ b
 uncut_action line b uncut is =
     ap (λ (b : Bool). if b then false else is_marked (slice_split (λ b. b == 32) line)) uncut ∙ is
-
-pub cut_line : (line : List ℕ) → is_cut line ≡ true → event_line line ≡ []
-cut_line line cut =
-    ap (λ (b : Bool). if b then [] else if is_cut line then [] else line) (cut_action line cut)
-    ∙ ap (λ (b : Bool). if b then [] else line) cut
 
 pub action_line : (line : List ℕ) → is_action line ≡ true → event_line line ≡ []
 action_line line is = ap (λ (b : Bool). if b then [] else if is_cut line then [] else line) is
@@ -49,14 +39,6 @@ plain_line line uncut is =
     ∙ ap (λ (b : Bool). if b then [] else line) uncut
 
 -- What a line logs
-
-pub kind_cut : (line buf : List ℕ) → is_cut line ≡ true → IsKind line buf kinds.Neither
-kind_cut line buf cut =
-    let none : event_line line ≡ [] = cut_line line cut in (
-      cut_action line cut,
-      ap (λ l. events_in (l ∷ [])) none,
-      ap is_wrong none,
-    )
 
 right_logged : (line : List ℕ) (event : Event) → logged line ≡ Some event → is_wrong line ≡ false
 right_logged line event = by (is_skipped line) (event_in line)
@@ -79,23 +61,6 @@ one_event line x more is = by (logged line) refl is
     by (Some event) some h =
         let same : x ≡ came event = cc in
         (ap (λ e. e ∷ []) same, right_logged line event some)
-
-pub kind_none : (line buf : List ℕ) (left : Option (List ℕ)) → is_cut line ≡ false → is_action line
-    ≡ false
-    → IsOneLine line → IsFirst (lines_of line) left answers.Done buf → IsKind line buf kinds.Neither
-kind_none line buf left uncut plain one first =
-    let done : left ≡ None = first.done refl in
-    let whole : event_line line ≡ line = plain_line line uncut plain in
-    let none : events_in (line ∷ []) ≡ [] =
-    ap events_in (sym one) ∙ sym (first.none refl) ∙ ap (λ l. events_in (parts_after 10 l)) done in
-    let all : AllByRecursion IsRight (lines_of line) =
-    first.right (subst (λ (l : Option (List ℕ)). AllByRecursion IsRight (parts_after 10 l))
-    (sym done) tt) in
-    let one_right : AllByRecursion IsRight (line ∷ []) = subst (AllByRecursion IsRight) one all in (
-      plain,
-      ap (λ l. events_in (l ∷ [])) whole ∙ none,
-      ap is_wrong whole ∙ one_right.0,
-    )
 
 event_with : (line buf : List ℕ) (left : Option (List ℕ)) (next : Next) (x : LogEntry) → is_cut line
     ≡ false
@@ -150,15 +115,6 @@ one_logged answers.Done buf logs = cc
 one_logged answers.Fault buf logs = cc
 
 -- Lines
-
-pub passes_none : (lines : List (List ℕ)) (tally : LineCounts) → Passes [] lines tally lines tally
-passes_none lines tally = record {
-  logged = refl;
-  right = λ all. all;
-  counted = refl;
-  events = omega arith;
-  actions = refl;
-}
 
 -- a line more was passed
 passes_line : (news : List LogEntry) (lines left rest : List (List ℕ)) (line : List ℕ)

@@ -165,10 +165,6 @@ more_written reads (Some text) held lines are is =
     (subst (λ more. IsText ((text ++ held) ++ more)) (sym are.are)
     (more_text reads (text ++ held) are.news are.printable is))
 
-pub gave_written : (t : Option (List ℕ)) (held : List ℕ) → IsWritten (added t held)
-    → IsWritten (added (added t held) [])
-gave_written t held is = nothing_held (added t held) is
-
 -- The log
 
 -- what was written and what was missed, and these lines behind it
@@ -196,21 +192,6 @@ logged_missed : (t : Option (List ℕ)) (missed : Option Log) (news : Log)
 logged_missed None missed news = refl
 logged_missed (Some text) None news = refl
 logged_missed (Some text) (Some log) news = ap Some (append_assoc news log (log_in text))
-
--- or it passed unwritten
-pub missed_logged : (old new : Recording) (news : Log) (missed : Option Log) (over : Bool)
-    → missed ≡ with_news old.missed news
-    → new ≡ record old { is_over = over; missed = missed } → log_of new
-    ≡ with_news (log_of old) news
-missed_logged old new news missed over logs is =
-    ap log_of is ∙ ap (logged_behind (text_of old)) logs
-    ∙ logged_missed (text_of old) old.missed news
-
-pub gives_log : (old new : Recording) → Gives old new → new.missed ≡ old.missed → log_of new
-    ≡ log_of old
-gives_log old new g same =
-    ap (λ t. logged_behind t new.missed) (gives_text old new g)
-    ∙ ap (logged_behind (text_of old)) same
 
 -- what holds where a call succeeds
 pub on_success : {T E : Type 0} (r : Result T E) (P : Type 0) → is_err r ≡ false → OnOk r P → P

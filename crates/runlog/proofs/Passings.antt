@@ -61,16 +61,6 @@ same w = record {
   addresses = refl;
 }
 
-then_same : (a b c : Watching) → Same a b → Same b c → Same a c
-then_same a b c x y = record {
-  connection = x.connection ∙ y.connection;
-  wall = x.wall ∙ y.wall;
-  moment = x.moment ∙ y.moment;
-  link = x.link ∙ y.link;
-  stations = x.stations ∙ y.stations;
-  addresses = x.addresses ∙ y.addresses;
-}
-
 -- One station's traffic is replaced by one with its address.
 replaced : (ts : List Traffic) (place : ℕ) (t v : Traffic) → slice_get ts place ≡ Some t
     → v.address ≡ t.address → addresses_of (slice_set ts place v) ≡ addresses_of ts

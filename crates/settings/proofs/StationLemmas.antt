@@ -45,13 +45,6 @@ pub wrong_here : (link : LinkSize) (ca : CaSize) (at : ℕ) (before : List Stati
     → wrong_from link ca at before (items_view (drop i vs)) ≡ Some at
 wrong_here link ca at before vs i d f lt e = rw (items_view-drop vs i d lt, e)
 
-pub wrong_later : (link : LinkSize) (ca : CaSize) (at : ℕ) (before : List StationSettings)
-    (vs : List Value) (i : ℕ) (d : Value) (s : StationSettings) → i < length vs
-    → station_of link ca before (view (get_or vs i d)) ≡ Ok s
-    → wrong_from link ca at before (items_view (drop i vs))
-    ≡ wrong_from link ca (at + 1) (before ++ s ∷ []) (items_view (drop (i + 1) vs))
-wrong_later link ca at before vs i d s lt e = rw (items_view-drop vs i d lt, e)
-
 pub wrong_end : (link : LinkSize) (ca : CaSize) (at : ℕ) (before : List StationSettings)
     (vs : List Value) (i : ℕ) → length vs ≤ i
     → wrong_from link ca at before (items_view (drop i vs)) ≡ None

@@ -136,14 +136,6 @@ module _ (lines part : List ℕ) where
         ∙ ap (λ (xs : List ℕ). first_wrong first (lines_of xs)) (sym none);
   }
 
--- a part that was read is what was run
-pub part_as : (as_record : Bool) (lines lines_too : List ℕ) (is_over over : Bool) (part : List ℕ)
-    → lines ≡ lines_too → is_over ≡ over → IsPartRead as_record lines is_over part
-    → IsPartRead as_record lines_too over part
-part_as as_record lines lines_too is_over over part same so read =
-    subst (λ (o : Bool). IsPartRead as_record lines_too o part) so
-    (subst (λ (ls : List ℕ). IsPartRead as_record ls is_over part) same read)
-
 -- a block with these lines was cut off what was still to come
 pub cut_as : (block : Reading) (lines : List ℕ) (coming : Option (List ℕ)) → lines ≡ block.lines
     → IfSome coming (λ text. IsGiven text block) → (over : Bool) → block.is_over ≡ over
@@ -161,9 +153,6 @@ pub record IsJudgedTo (r : Bool) (known coming : Option (List ℕ)) (next : ℕ)
   pub rest : IsRest known before coming
   pub wrong : (t : List ℕ)
       → first_wrong 1 (lines_read r (before ++ t)) ≡ first_wrong next (lines_read r t)
-
-pub judging_begins : (r : Bool) (known : Option (List ℕ)) → IsJudgedTo r known known 1
-judging_begins r known = record { before = []; rest = rest_begins known; wrong = λ t. refl }
 
 module _ (r : Bool) (known coming later : Option (List ℕ)) (lines part : List ℕ) (over : Bool)
     (first : ℕ) (h : IsJudgedTo r known coming first) (read : IsPartRead r lines over part) where

@@ -202,15 +202,6 @@ wanted config manner has closing known NoMemory want = inl (keeps_same known)
 wanted config manner has closing known Unread want = inl (keeps_same known)
 wanted config manner has closing known other want = absurd want
 
--- settings are wrong
-pub misconfigured : (config : List ℕ) (manner : Manner) (has : List ℕ → Type 0) (closing : Closing)
-    (known : Option (List ℕ))
-    (fault : Fault) → IsConfigFault config fault
-    → IsReplayed config manner has closing known known (Err fault)
-misconfigured config manner has closing known (Config why) wrong = (wrong, keeps_same known)
-misconfigured config manner has closing known NoMemory wrong = inl (keeps_same known)
-misconfigured config manner has closing known other wrong = absurd wrong
-
 -- a trace is wrong
 pub misjudged : (config : List ℕ) (manner : Manner) (r : Bool) (has : List ℕ → Type 0)
     (closing : Closing) (settings : Settings)

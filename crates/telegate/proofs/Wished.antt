@@ -29,30 +29,6 @@ no_memory texts Address fault other = absurd (other refl)
 no_memory texts NoMemory fault other = tt
 no_memory texts _ fault other = absurd fault
 
--- who is named by the texts of the site's file
-pub is_allow_list : (allow : Option (Vec (String Global) Global))
-    (addresses : Vec (String Global) Global)
-    (texts : Bor (List (String Global))) (allow_list : AllowList) → allow ≡ Some addresses
-    → texts.now
-    ≡ addresses.items
-    → IsAllowListOf (Some (map string_bytes texts.now)) allow_list
-    → IsAllowListOf (option_map texts_in allow) allow_list
-is_allow_list allow addresses texts allow_list named same are =
-    rw named
-    (subst (λ (ts : List (String Global)). IsAllowListOf (Some (map string_bytes ts)) allow_list)
-    same are)
-
--- why these name nobody
-pub why_not : (allow : Option (Vec (String Global) Global)) (addresses : Vec (String Global) Global)
-    (texts : Bor (List (String Global))) (fault : Fault) → allow ≡ Some addresses
-    → texts.now ≡ addresses.items
-    → IsAllowListFault (Some (map string_bytes texts.now)) fault
-    → IsAllowListFault (option_map texts_in allow) fault
-why_not allow addresses texts fault named same none =
-    rw named
-    (subst (λ (ts : List (String Global)). IsAllowListFault (Some (map string_bytes ts)) fault) same
-    none)
-
 -- what a site's file says can be, where the words that say nothing are met beside it
 pub can_be : (words : Said) (octets : List ℕ) (site : SiteFile) (names : SiteNames)
     (wishes : Wishes)

@@ -24,13 +24,6 @@ use Rattle.traces.proofs.FirstLineLemmas.{lines_behind}
 use Rattle.traces.proofs.OctetLemmas.{bits_below, octets_decoded, pair_is, value_small}
 use Rattle.traces.proofs.OctetLemmas.{wrong_length}
 
-pub pairs_start : (text buf : List ℕ) → Paired text buf 0
-pairs_start text buf rest = by (decode_pairs 0 rest)
-  where
-    by : (r : Result (List ℕ) FromHexError) → r ≡ prepend [] r
-    by (Ok octets) = refl
-    by (Err e) = refl
-
 -- the number of two digits' values
 pub pair_of_values : (a b high low : ℕ)
     → option_map (λ v. 16 * v) (hex_digit_value a) ≡ (if nat_lt high 256 then Some high else None)

@@ -37,12 +37,6 @@ pub events_skip : (lines rest : List (List ℕ)) (line : List ℕ) → lines ≡
     → events_in rest ≡ events_in lines
 events_skip lines rest line is e = rw (is, e)
 
--- a line that is an event logs it
-pub events_next : (entry : Entry) (lines rest : List (List ℕ)) (line : List ℕ) → lines ≡ line ∷ rest
-    → is_skipped line ≡ false → event_in line ≡ Some (event_of entry)
-    → entry_event entry ∷ events_in rest ≡ events_in lines
-events_next entry lines rest line is e some = rw (is, e, some, came_entry)
-
 -- where each line is right, none is wrong
 pub none_wrong : (n : ℕ) (lines : List (List ℕ)) → AllByRecursion IsRight lines
     → first_wrong n lines ≡ None
@@ -151,11 +145,3 @@ logged_next p left started (answers.Wall now number) buf holds begun is logged r
     event_came p left started now (WallIs number) holds begun logged right
 logged_next p left started answers.Done buf holds begun is logged right = cc
 logged_next p left started answers.Fault buf holds begun is logged right = cc
-
--- the tick at moment 0 came
-pub ticked : (p : Progress) → IsProgress p → p.started ≡ false
-    → IsProgress (record p { started = true; log = Came 0 Ticked ∷ p.log })
-ticked p holds fresh = event_came p p.left true 0 Ticked holds refl logged holds.right
-  where
-    logged : Came 0 Ticked ∷ events_in (parts_after 10 p.left) ≡ coming_in p
-    logged = rw (holds.first fresh, fresh) refl

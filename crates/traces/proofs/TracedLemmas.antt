@@ -36,26 +36,6 @@ no_line (Cut now) log = refl
 no_line (Tick now) log = refl
 no_line (Wall now number) log = refl
 
--- an entry that came is no longer to come
-pub script_next : (entry : Entry) (log : Log) (left : List Entry)
-    → events_of (event_of entry ∷ log) ++ map event_of left
-    ≡ events_of log ++ map event_of (entry ∷ left)
-script_next (Line now octets) log left =
-    append_assoc (events_of log) (event_of (Line now octets) ∷ [])
-    (map event_of left)
-script_next (Open now) log left = append_assoc (events_of log) (event_of (Open now) ∷ [])
-    (map event_of left)
-script_next (Bytes now octets) log left =
-    append_assoc (events_of log) (event_of (Bytes now octets) ∷ [])
-    (map event_of left)
-script_next (Cut now) log left = append_assoc (events_of log) (event_of (Cut now) ∷ [])
-    (map event_of left)
-script_next (Tick now) log left = append_assoc (events_of log) (event_of (Tick now) ∷ [])
-    (map event_of left)
-script_next (Wall now number) log left =
-    append_assoc (events_of log) (event_of (Wall now number) ∷ [])
-    (map event_of left)
-
 -- An action that was put: its line went out, and it is stored.
 
 pub log_put : (xs ys zs : List StoredEntry) (logged : StoredEntry) (entry : LogEntry)
