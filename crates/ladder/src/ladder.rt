@@ -5,8 +5,8 @@ ghost use Rattle.ladder.specs.Described.{IsLadder};
 
 use crate::scribe::Scribe;
 use gateway::{Action, Next, Port};
-use pages::Paged;
 use std::marker::Model;
+use traces::Paged;
 
 /// A port that passes each event and each action of another one on unchanged, and puts each into
 /// words on a page, as a protocol analyser does: the moment in milliseconds, the way, and the
