@@ -36,7 +36,7 @@ use crate::stood::answer_stood;
 use crate::wishes::{judge_site, site_in, wishes_of};
 use clap::Error;
 use clap::error::ErrorKind;
-use sitefile::Site;
+use settings::Site;
 use std::alloc::Global;
 use std::io;
 use std::io::Write;
