@@ -7,8 +7,8 @@ use Rattle.gateway.specs.Log.{Output, LineOut, TcpOut, Closed, GapOut}
 use Rattle.session.specs.declared.kinds.Close.{Close}
 use Rattle.session.specs.declared.kinds.Close.TheVariants.{Grammar, SendNumber, ReceiveNumber}
 use Rattle.session.specs.declared.kinds.Close.TheVariants.{Stopped, Timeout, OwnAnswers, Replaced}
-use Rattle.show.specs.declared.condition.Condition.{Condition}
-use Rattle.show.specs.declared.sizes.LineSizes.{LineSizes}
+use Rattle.words.specs.declared.facts.condition.Condition.{Condition}
+use Rattle.words.specs.declared.facts.sizes.LineSizes.{LineSizes}
 use Rattle.ladder.specs.declared.rungs.Way.{Way}
 use Rattle.ladder.specs.declared.rungs.Way.TheVariants.{FromOutstation, ToOutstation, FromCentre}
 use Rattle.ladder.specs.declared.rungs.Way.TheVariants.{ToCentre, Inside}

@@ -11,9 +11,10 @@ ghost use Rattle.ladder.specs.Rungs.{AreActionWords, IsActionLine};
 use ft12::Received;
 use gateway::Action;
 use session::Close;
-use show::LineSizes;
 use std::alloc::{AllocError, Global};
-use words::{push_cut_off, push_line_frame, push_line_refusal, words_of_connection, words_of_line};
+use words::{
+    LineSizes, push_cut_off, push_line_frame, push_line_refusal, words_of_connection, words_of_line,
+};
 
 /// Which way something goes.
 #[derive(Clone, Copy)]

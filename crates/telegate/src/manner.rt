@@ -4,8 +4,8 @@ ghost use Rattle.telegate.specs.Manners.{is_set, manner_of, shows_colours, style
 
 use gateway::Config;
 use ladder::Style;
-use show::LineSizes;
 use std::env::VarError;
+use words::LineSizes;
 
 /// How what passes in a run is printed.
 #[derive(Clone, Copy, PartialEq, Eq)]

@@ -1,3 +1,9 @@
+pub mod Bits
+pub mod Sizes
+pub mod Condition
+pub mod UnitFacts
+pub mod LineFacts
+pub mod TcpFacts
 pub mod Numbers
 pub mod Quality
 pub mod Tags
