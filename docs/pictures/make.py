@@ -397,7 +397,7 @@ USES = {
 }
 # Those around the gateway, in rows of their names, and contracts of theirs.
 AROUND = [
-    (25, 100, "A live run", ["live runlog lookout status"],
+    (25, 100, "A live run", ["live runlog status"],
      ["the_log_has_what_passed", "what_is_gathered_is_logged_or_counted"]),
     (360, 100, "Its state on the disk", ["state state_files state_words", "segments statetext"],
      ["nothing_goes_out_before_it_is_on_disk", "Segment::survives"]),
