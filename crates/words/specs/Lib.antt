@@ -15,3 +15,6 @@ pub mod Connections
 pub mod Pipes
 pub mod Described
 pub mod Told
+pub mod Rungs
+pub mod Ladders
+pub mod Scribing

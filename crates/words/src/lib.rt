@@ -1,5 +1,5 @@
 //! Frames in words: one line for a frame in the field's words, as a protocol analyser has them, or
-//! a fact a line (`facts`).
+//! a fact a line (`facts`); and a run in these words, line by line (`ladder`).
 //!
 //! `words_of_line` and `words_of_connection` answer a `Shown` for what stands at the front of
 //! octets: the frame and its ASDU with the standard's names, values with their units, quality and
@@ -21,6 +21,7 @@ mod facts;
 mod faults;
 mod floats;
 mod forms;
+mod ladder;
 mod laws;
 mod lines;
 mod monitored;
@@ -38,6 +39,7 @@ pub use facts::{
     octets_that_are_no_frame_are_a_fault, read_sizes, show_line, show_tcp,
 };
 pub use faults::push_cut_off;
+pub use ladder::{Ladder, Scribe, Style, drive_in_words};
 pub use laws::{
     apdus_are_told_field_by_field, asdus_are_told_field_by_field, commands_are_told_bit_by_bit,
     frames_are_told_field_by_field, tags_are_told_field_by_field, values_are_told_bit_by_bit,
