@@ -3,7 +3,7 @@ ghost use Rattle.std.specs.Prelude.{◌≡◌, [], false, map, IfErr, IfOk, IfSo
 ghost use Rattle.std.specs.Io.KnownBytes.{Appends};
 ghost use Rattle.std.specs.Option.{option_copied};
 ghost use Rattle.traces.specs.Blocks.{Gives, IsGiven};
-ghost use Rattle.pages.specs.Pouring.{IsBegun};
+ghost use Rattle.traces.specs.Pouring.{IsBegun};
 ghost use Rattle.traces.specs.Fields.{parts_after};
 ghost use Rattle.capture.specs.Captures.{blocks_of, last_packets};
 ghost use Rattle.capture.specs.Texts.{AreWritten, IsCaptured, IsEndFault, IsPartFault};
@@ -13,12 +13,11 @@ ghost use Rattle.capture.specs.declared.whole.CaptureFault.TheVariants.{Unwritte
 use crate::capturing::Capture;
 use crate::passing::{Passed, put_lines};
 use ft12::LinkSize;
-use pages::print;
 use record::part_of;
 use std::alloc::{AllocError, Global};
 use std::io::{Read, Write};
 use thiserror::Error;
-use traces::{BlockFault, Blocks, Page};
+use traces::{BlockFault, Blocks, Page, print};
 
 /// Why there is no capture of a whole record.
 #[derive(Clone, Copy, Debug, PartialEq, Eq, Error)]

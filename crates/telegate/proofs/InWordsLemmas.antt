@@ -14,7 +14,7 @@ use Rattle.telegate.specs.Parts.{IsPartStopped, StaysFaithful}
 use Rattle.telegate.specs.Printed.{IsPoured}
 use Rattle.telegate.specs.InWords.{HasWritten}
 use Rattle.telegate.proofs.PartLemmas.{RunsTo, part_start, runs_begin}
-use Rattle.pages.proofs.Poured.{appends_none}
+use Rattle.traces.proofs.Poured.{appends_none}
 
 -- nothing is written of nothing
 pub no_words : (style : Style) → IsLadder style [] []

@@ -22,7 +22,7 @@ use Rattle.telegate.specs.declared.fault.Fault.TheVariants.{Device, Unread, NoMe
 use Rattle.telegate.specs.declared.piping.Piped.{Piped}
 use Rattle.telegate.proofs.PartLemmas.{IsRest, joined, rest_begins, rest_behind, rest_last}
 use Rattle.telegate.proofs.PartLemmas.{rest_some, cut_as}
-use Rattle.pages.proofs.Poured.{appends_more, appends_none, appends_begun, begun_behind}
+use Rattle.traces.proofs.Poured.{appends_more, appends_none, appends_begun, begun_behind}
 
 both_along : (a b c : Condition) → both (both a b) c ≡ both a (both b c)
 both_along Good b c = refl

@@ -26,8 +26,8 @@ pub use self::driving::drive_in_words;
 pub use self::rungs::Style;
 pub use self::scribe::Scribe;
 use gateway::{Action, Next, Port};
-use pages::Paged;
 use std::marker::Model;
+use traces::Paged;
 
 /// A port that passes each event and each action of another one on unchanged, and puts each into
 /// words on a page, as a protocol analyser does: the moment in milliseconds, the way, and the

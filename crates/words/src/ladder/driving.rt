@@ -6,12 +6,12 @@ ghost use Rattle.gateway.specs.Agrees.{Follows, Rests};
 ghost use Rattle.gateway.specs.Reports.{Setup};
 ghost use Rattle.gateway.specs.Runs.{UnlessDevice, MoreEvents};
 ghost use Rattle.gateway.specs.Traffic.{IsFaithful, HasRested};
-ghost use Rattle.pages.specs.Pouring.{IsPoured};
+ghost use Rattle.traces.specs.Pouring.{IsPoured};
 
 use crate::ladder::Ladder;
 use gateway::{End, Gateway, drive_on};
-use pages::{Paged, print_behind};
 use std::io::Write;
+use traces::{Paged, print_behind};
 
 /// So many turns pass before their lines are printed: some 30 KB, where each event has an action.
 const PART: u64 = 256;

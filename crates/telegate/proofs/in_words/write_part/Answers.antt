@@ -10,7 +10,7 @@ use Rattle.traces.specs.Progress.{Progress, coming_in, script_of, is_through}
 use Rattle.traces.specs.Trace.{first_wrong, lines_of}
 use Rattle.telegate.specs.Printed.{IsPoured}
 use Rattle.telegate.proofs.PartLemmas.{part_run, standing_of, turns_left}
-use Rattle.pages.proofs.Poured.{poured_begun}
+use Rattle.traces.proofs.Poured.{poured_begun}
 use Rattle.telegate.proofs.RunLemmas.{at_finish}
 use Rattle.telegate.proofs.InWordsLemmas.{writing_stopped}
 use Rattle.telegate.proofs.in_words.write_part.Goals as goal

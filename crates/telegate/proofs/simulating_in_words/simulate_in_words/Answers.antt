@@ -11,7 +11,7 @@ use Rattle.sim.specs.Played.{Simulated, Stands}
 use Rattle.sim.proofs.SimulationLemmas.{at_turns, at_finish, at_first_call, run_turns, ended_calls}
 use Rattle.telegate.specs.Manners.{style_of}
 use Rattle.telegate.specs.Printed.{IsPoured}
-use Rattle.pages.proofs.Poured.{appends_none, poured_begun}
+use Rattle.traces.proofs.Poured.{appends_none, poured_begun}
 use Rattle.telegate.proofs.SimInWordsLemmas.{words_of_all, words_stopped}
 use Rattle.telegate.proofs.simulating_in_words.simulate_in_words.Goals as goal
 

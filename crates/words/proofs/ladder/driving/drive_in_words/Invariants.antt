@@ -4,7 +4,7 @@ use Rattle.std.proofs.Common.{◌≡◌, ◌≤◌, ◌-◌, ℕ, List, Option}
 use Rattle.gateway.specs.Agrees.{Follows, Rests}
 use Rattle.gateway.specs.Reports.{Setup}
 use Rattle.gateway.specs.Runs.{MoreEvents}
-use Rattle.pages.specs.Pouring.{IsPoured}
+use Rattle.traces.specs.Pouring.{IsPoured}
 use Rattle.words.proofs.Driven.{SoFar}
 use Rattle.words.proofs.ladder.driving.drive_in_words.Given as goal
 

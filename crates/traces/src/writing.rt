@@ -1,7 +1,7 @@
 //! A text that is written whole.
 ghost use Rattle.std.specs.Prelude.{◌++◌, ℕ, List, OnErr, OnOk, Option};
 ghost use Rattle.std.specs.Io.KnownBytes.{Appends};
-ghost use Rattle.pages.specs.Pouring.{IsBegun, IsPoured};
+ghost use Rattle.traces.specs.Pouring.{IsBegun, IsPoured};
 
 use std::io;
 use std::io::{ErrorKind, Write};

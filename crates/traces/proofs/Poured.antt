@@ -7,7 +7,7 @@ use Rattle.std.specs.Result.{is_ok}
 use Rattle.std.specs.Io.KnownBytes.{Appends}
 use Rattle.gateway.specs.Log.{Log}
 use Rattle.traces.specs.Actions.{lines_of_actions}
-use Rattle.pages.specs.Pouring.{IsBegun, IsPoured}
+use Rattle.traces.specs.Pouring.{IsBegun, IsPoured}
 
 -- nothing was printed
 pub appends_none : (known : Option (List ℕ)) → Appends known known []

@@ -2,10 +2,10 @@ use Rattle.std.proofs.Common.{◌≡◌, ℕ, ◌++◌, List, Option, IfSome, Bo
 use Rattle.std.specs.Result.{is_ok}
 use Rattle.gateway.specs.Log.{Log}
 use Rattle.traces.specs.Actions.{lines_of_actions}
-use Rattle.pages.specs.Pouring.{IsBegun, IsPoured}
-use Rattle.pages.proofs.Poured.{poured_more, begun_longer, poured_as}
-use Rattle.pages.proofs.driving.pour.Goals as goal
-use Rattle.pages.proofs.driving.pour.Goals.{then-is_whole, else-is_whole}
+use Rattle.traces.specs.Pouring.{IsBegun, IsPoured}
+use Rattle.traces.proofs.Poured.{poured_more, begun_longer, poured_as}
+use Rattle.traces.proofs.driving.pour.Goals as goal
+use Rattle.traces.proofs.driving.pour.Goals.{then-is_whole, else-is_whole}
 
 pub returns-clause-poured : goal.returns-clause-poured
 returns-clause-poured g c = λ before poured.

@@ -1,8 +1,8 @@
 use Rattle.std.proofs.Common.{Bool, ◌++◌, subst, refl}
 use Rattle.std.specs.Result.{is_ok}
-use Rattle.pages.specs.Pouring.{IsPoured}
-use Rattle.pages.proofs.Poured.{poured_more, begun_longer, poured_as}
-use Rattle.pages.proofs.printing.print_behind.Goals as goal
+use Rattle.traces.specs.Pouring.{IsPoured}
+use Rattle.traces.proofs.Poured.{poured_more, begun_longer, poured_as}
+use Rattle.traces.proofs.writing.print_behind.Goals as goal
 
 pub returns-then-not-is_whole : goal.returns-then-not-is_whole
 returns-then-not-is_whole g c = λ before earlier poured.

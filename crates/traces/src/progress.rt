@@ -1,7 +1,7 @@
 //! How far a long run has come, as a terminal shows it.
 ghost use Rattle.std.specs.Prelude.{◌≡◌, ◌<◌, ◌≤◌, false, OnOk};
 ghost use Rattle.std.specs.Io.KnownBytes.{Appends};
-ghost use Rattle.pages.specs.Percent.{percent_of, percent_text, blank_text};
+ghost use Rattle.traces.specs.Percent.{percent_of, percent_text, blank_text};
 
 use std::io;
 use std::io::Write;

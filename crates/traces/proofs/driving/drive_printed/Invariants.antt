@@ -5,8 +5,8 @@ use Rattle.gateway.specs.Agrees.{Follows, Rests}
 use Rattle.gateway.specs.Reports.{Setup}
 use Rattle.gateway.specs.Runs.{MoreEvents}
 use Rattle.traces.specs.Actions.{lines_of_actions}
-use Rattle.pages.specs.Pouring.{IsPoured}
-use Rattle.pages.proofs.driving.drive_printed.Given as goal
+use Rattle.traces.specs.Pouring.{IsPoured}
+use Rattle.traces.proofs.driving.drive_printed.Given as goal
 
 abbrev pub invariant-parts : goal.invariant-parts
 invariant-parts g l = record {

@@ -5,8 +5,8 @@ ghost use Rattle.std.proofs.Common.{ap};
 ghost use Rattle.traces.specs.Actions.{lines_of_actions};
 ghost use Rattle.traces.specs.Progress.{Part};
 
+use crate::text_port::TextPort;
 use gateway::Port;
-use traces::TextPort;
 
 /// A port that prints the lines of its actions on a page, from which they can be taken between two
 /// turns.

@@ -5,8 +5,8 @@ use Rattle.std.proofs.Common.{arith}
 use Rattle.std.proofs.lemmas.List.{take_all, length-drop}
 use Rattle.std.specs.Prelude.{Result, Ok, Err}
 use Rattle.std.specs.Io.KnownBytes.{Appends, Keeps, WriteAppends}
-use Rattle.pages.specs.Pouring.{IsBegun}
-use Rattle.pages.proofs.Poured.{appends_more}
+use Rattle.traces.specs.Pouring.{IsBegun}
+use Rattle.traces.proofs.Poured.{appends_more}
 
 take_add : (m n k : ℕ) (xs : List ℕ) → k ≡ m + n → take k xs ≡ take m xs ++ take n (drop m xs)
 take_add zero n k xs e = let same : k ≡ n = omega arith in ap (λ (p : ℕ). take p xs) same

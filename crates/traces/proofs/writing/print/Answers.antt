@@ -1,8 +1,8 @@
 use Rattle.std.proofs.Common.{◌+◌, ℕ, refl, arith}
 use Rattle.std.proofs.lemmas.List.{length-take, length-drop}
-use Rattle.pages.proofs.Writes.{begun_so_far, taken, not_taken}
-use Rattle.pages.proofs.printing.print.Goals as goal
-use Rattle.pages.proofs.printing.print.Goals.{in-Ok, in-Err}
+use Rattle.traces.proofs.Writes.{begun_so_far, taken, not_taken}
+use Rattle.traces.proofs.writing.print.Goals as goal
+use Rattle.traces.proofs.writing.print.Goals.{in-Ok, in-Err}
 
 pub returns-in-Ok-eq0-clause-begun : goal.returns-in-Ok-eq0-clause-begun
 returns-in-Ok-eq0-clause-begun g c =

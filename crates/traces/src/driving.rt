@@ -7,11 +7,11 @@ ghost use Rattle.gateway.specs.Reports.{Setup};
 ghost use Rattle.gateway.specs.Runs.{UnlessDevice, MoreEvents};
 ghost use Rattle.gateway.specs.Traffic.{IsFaithful, HasRested};
 ghost use Rattle.traces.specs.Actions.{lines_of_actions};
-ghost use Rattle.pages.specs.Pouring.{IsPoured};
+ghost use Rattle.traces.specs.Pouring.{IsPoured};
 
 use crate::paged::Paged;
-use crate::printing::print;
 use crate::progress::{blank_if, show_percent};
+use crate::writing::print;
 use gateway::{End, Gateway, drive_on};
 use std::io::Write;
 

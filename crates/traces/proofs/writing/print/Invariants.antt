@@ -1,6 +1,6 @@
 use Rattle.std.proofs.Common.{length, ◌≤◌, take}
 use Rattle.std.specs.Io.KnownBytes.{Appends}
-use Rattle.pages.proofs.printing.print.Given as goal
+use Rattle.traces.proofs.writing.print.Given as goal
 
 abbrev pub invariant-writing : goal.invariant-writing
 invariant-writing g l = record {

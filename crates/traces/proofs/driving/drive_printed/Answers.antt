@@ -5,9 +5,9 @@ use Rattle.gateway.specs.Log.{Log}
 use Rattle.gateway.specs.Runs.{UnlessDevice, MoreEvents}
 use Rattle.gateway.specs.Traffic.{IsFaithful, HasRested}
 use Rattle.traces.specs.Actions.{lines_of_actions}
-use Rattle.pages.specs.Pouring.{IsPoured}
-use Rattle.pages.proofs.Ends.{at_turns, turns_joined}
-use Rattle.pages.proofs.driving.drive_printed.Goals as goal
+use Rattle.traces.specs.Pouring.{IsPoured}
+use Rattle.traces.proofs.Ends.{at_turns, turns_joined}
+use Rattle.traces.proofs.driving.drive_printed.Goals as goal
 
 pub returns-in_default-clause-faithful : goal.returns-in_default-clause-faithful
 returns-in_default-clause-faithful g c = λ p begins rested.
