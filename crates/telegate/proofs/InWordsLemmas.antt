@@ -4,9 +4,9 @@ use Rattle.std.proofs.Common.{subst, ap, ◌∙◌, append_assoc}
 use Rattle.std.proofs.lemmas.List.{append-nil}
 use Rattle.gateway.specs.Log.{Log, LogEntry, Came, Went, events_of}
 use Rattle.gateway.specs.State.{State}
-use Rattle.ladder.specs.Scribing.{Scribing}
-use Rattle.ladder.specs.Described.{IsLadder, first_remembered}
-use Rattle.ladder.specs.declared.rungs.Style.{Style}
+use Rattle.words.specs.Scribing.{Scribing}
+use Rattle.words.specs.Ladders.{IsLadder, first_remembered}
+use Rattle.words.specs.declared.ladder.rungs.Style.{Style}
 use Rattle.sim.specs.Runs.{IsBegun}
 use Rattle.std.specs.Io.KnownBytes.{Appends}
 use Rattle.traces.specs.Progress.{Progress, Standing, coming_in, script_of}

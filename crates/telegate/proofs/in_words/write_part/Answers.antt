@@ -3,9 +3,9 @@ use Rattle.gateway.specs.Accounts.{IsAccounted}
 use Rattle.gateway.specs.Agrees.{Follows}
 use Rattle.gateway.specs.Log.{events_of}
 use Rattle.gateway.specs.Traffic.{HasRested}
-use Rattle.ladder.specs.Scribing.{Climbing, Scribing}
-use Rattle.ladder.specs.Described.{IsLadder}
-use Rattle.ladder.specs.declared.rungs.Style.{Style}
+use Rattle.words.specs.Scribing.{Climbing, Scribing}
+use Rattle.words.specs.Ladders.{IsLadder}
+use Rattle.words.specs.declared.ladder.rungs.Style.{Style}
 use Rattle.traces.specs.Progress.{Progress, coming_in, script_of, is_through}
 use Rattle.traces.specs.Trace.{first_wrong, lines_of}
 use Rattle.telegate.specs.Printed.{IsPoured}

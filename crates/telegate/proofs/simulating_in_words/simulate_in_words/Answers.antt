@@ -1,9 +1,9 @@
 use Rattle.std.proofs.Common.{◌≡◌, Some, true, ap, sym, subst, ◌∙◌}
 use Rattle.gateway.specs.Setups.{setup_of}
 use Rattle.gateway.specs.Traffic.{HasRested, IsFaithful}
-use Rattle.ladder.specs.Scribing.{Climbing, Scribing}
-use Rattle.ladder.specs.Described.{IsLadder}
-use Rattle.ladder.specs.declared.rungs.Style.{Style}
+use Rattle.words.specs.Scribing.{Climbing, Scribing}
+use Rattle.words.specs.Ladders.{IsLadder}
+use Rattle.words.specs.declared.ladder.rungs.Style.{Style}
 use Rattle.sim.specs.Calls.{calls_in}
 use Rattle.sim.specs.Lives.{Plan, plan_of}
 use Rattle.sim.specs.Losses.{turns_of}
