@@ -192,7 +192,8 @@ answer_noted_at (Some place) w = answer_noted place w
 -- octets came from the line
 abbrev pub line_received : List ℕ → Watching → Watching
 line_received octets w =
-    answer_noted_at w.exchange.place (record w { exchange = exchange.received octets w.exchange })
+    answer_noted_at w.exchange.place
+    (record w { exchange = exchange.received w.link octets w.moment w.exchange })
 
 abbrev pub is_repeat_by : Option StationWatch → List ℕ → Bool
 is_repeat_by None octets = false
@@ -220,7 +221,8 @@ sent_at place what octets w = w
 
 abbrev pub exchanged : Option ℕ → AwaitedAnswer → List ℕ → (now : ℕ) → Watching → Watching
 exchanged place what octets now w =
-    sent_at place what octets (record w { exchange = exchange.asked place what now w.exchange })
+    sent_at place what octets
+    (record w { exchange = exchange.asked w.link octets place what now w.exchange })
 
 -- a request goes out
 -- While the line is away a request reaches no station: nothing is noted or logged of one.
@@ -260,7 +262,8 @@ as_seen counts w = record w { seen = counts }
 -- event.
 unfoldable pub counts_noted : Counts → Watching → Watching
 counts_noted counts w =
-    as_seen counts (suffered_if (nat_lt w.seen.spoilt counts.spoilt) mishap.Spoilt
+    as_seen counts (suffered_if (nat_lt w.seen.spoilt counts.spoilt)
+    (mishap.Spoilt w.exchange.spoiling)
     (suffered_if (nat_lt w.seen.mirrors counts.mirrors) mishap.MirrorDropped
     (suffered_if (nat_lt w.seen.lost counts.lost) mishap.GivenUp w)))
 
@@ -272,7 +275,8 @@ as_late late w = record w { late = late }
 abbrev pub late_noted : (late : ℕ) → Watching → Watching
 late_noted late w =
     as_late late
-    (if nat_lt w.late late then suffered_at w.exchange.overdue mishap.Late w else w)
+    (if nat_lt w.late late
+    then suffered_at w.exchange.overdue (mishap.Late (exchange.lag w.exchange)) w else w)
 
 -- the wall clock shows this at that moment
 abbrev pub walled : (now shown : ℕ) → Watching → Watching

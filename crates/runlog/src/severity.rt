@@ -66,7 +66,7 @@ impl Note {
             Note::GivenUp(_, _, _, _) => Severity::Warning,
             Note::StateDamaged(_) | Note::SlowSync(_) => Severity::Warning,
             Note::Refused(_, _, _) | Note::Skipped(_, _, _) => Severity::Warning,
-            Note::MirrorDropped(_) | Note::Spoilt(_) | Note::Late(_) => Severity::Warning,
+            Note::MirrorDropped(_) | Note::Spoilt(_, _) | Note::Late(_, _) => Severity::Warning,
             Note::LineReached | Note::LineReachedAgain | Note::QueueFree => Severity::Notice,
             Note::Up(_) | Note::Again(_) | Note::SettingsChanged => Severity::Notice,
             Note::StateBegins | Note::StateGoesOn(_) => Severity::Notice,
