@@ -1,8 +1,7 @@
 -- What came in the place of an answer, and how a line shows it (this gateway's own profile).
-use Rattle.std.specs.Prelude.{ℕ, ◌/◌, ◌%◌, ◌&&◌, not, nat_le, nat_lt, Bool, List, [], ◌∷◌, ◌++◌}
-use Rattle.std.specs.Prelude.{codes, drop, length, min, take, if◌then◌else◌}
+use Rattle.std.specs.Prelude.{ℕ, ◌/◌, ◌%◌, ◌&&◌, nat_le, nat_lt, Bool, true, List, [], ◌∷◌}
+use Rattle.std.specs.Prelude.{◌++◌, codes, drop, length, min, take, if◌then◌else◌}
 use Rattle.std.specs.Fmt.{decimal, digit_glyph}
-use Rattle.std.specs.List.{position_or_len}
 use Rattle.runlog.specs.declared.spoiling.FirstOctets.{FirstOctets}
 use Rattle.runlog.specs.declared.spoiling.Spoiling.{Spoiling}
 use Rattle.runlog.specs.declared.spoiling.Spoiling.TheVariants.{Echo, Late, Frame, Octets}
@@ -32,7 +31,8 @@ is_printable octet = nat_le 0x20 octet && nat_le octet 0x7E
 
 -- the printable octets at the front, which are ASCII
 abbrev pub letters : List ℕ → List ℕ
-letters octets = take (position_or_len (λ octet. not (is_printable octet)) octets) octets
+letters [] = []
+letters (octet ∷ octets) = if is_printable octet then octet ∷ letters octets else []
 
 -- four letters or more are shown as a text, too
 abbrev pub letters_words : List ℕ → List ℕ
@@ -42,10 +42,13 @@ letters_words text =
 abbrev pub octets_words : List ℕ → List ℕ
 octets_words octets = codes "octets " ++ hex_text octets ++ letters_words (letters octets)
 
-abbrev pub spoiling_words : Spoiling → List ℕ
-spoiling_words Echo = codes "its request came back"
-spoiling_words (Late station ms) =
+abbrev pub late_answer : (station ms : ℕ) → List ℕ
+late_answer station ms =
     (codes "an answer of station " ++ decimal station ++ codes ", " ++ decimal ms
     ++ codes " ms behind its request") ++ codes ": answer_ms is short"
+
+abbrev pub spoiling_words : Spoiling → List ℕ
+spoiling_words Echo = codes "its request came back"
+spoiling_words (Late station ms) = late_answer station ms
 spoiling_words (Frame station) = codes "a frame with link address " ++ decimal station
 spoiling_words (Octets first) = octets_words (shown first)

@@ -6,6 +6,7 @@ ghost use Rattle.std.specs.declared.net.ip_addr.IpAddr.{IpAddr};
 ghost use Rattle.asdu.specs.Sizes.{tcp};
 ghost use Rattle.asdu.specs.declared.sizes.Sizes.{Sizes};
 ghost use Rattle.ft12.specs.Spelling.{spelling};
+ghost use Rattle.ft12.specs.declared.frame.LinkSize.{LinkSize};
 ghost use Rattle.gateway.specs.Counting.{counted, one_skipped};
 ghost use Rattle.gateway.specs.Log.{LineOut, Output};
 ghost use Rattle.gateway.specs.State.{State, counts_of};

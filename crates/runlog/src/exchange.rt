@@ -1,5 +1,5 @@
 //! The request that went out last, and what is received in answer to it.
-ghost use Rattle.std.specs.Prelude.{◌≡◌};
+ghost use Rattle.std.specs.Prelude.{◌≡◌, ◌++◌, ◌-◌, length, take};
 ghost use Rattle.ft12.specs.Borrowed.{FitsMemory, owned};
 ghost use Rattle.ft12.specs.Fronts.{front_of};
 ghost use Rattle.runlog.specs.Exchange as spec;
@@ -107,6 +107,24 @@ pub(crate) fn awaited_of(request: &[u8]) -> AwaitedAnswer
         } => AwaitedAnswer::Reset,
         _ => AwaitedAnswer::Nothing,
     }
+}
+
+/// More octets come behind these. No frame is longer: what finds no room isn't of it.
+fn add(octets: &mut ArrayVec<u8, 261>, more: &[u8])
+    ensures { octets.new.items
+        ≡ octets.old.items ++ take (261 - length octets.old.items) more.now }
+{
+    let count = more.len().min(octets.remaining_capacity());
+    let _ = octets.try_extend_from_slice(&more[..count]);
+}
+
+/// The octets of a request.
+fn kept_of(request: &[u8]) -> ArrayVec<u8, 261>
+    ensures { result.items ≡ take 261 request.now }
+{
+    let mut octets = ArrayVec::new();
+    add(&mut octets, request);
+    octets
 }
 
 /// A request of which this is awaited.
@@ -270,9 +288,7 @@ impl RequestWatch {
             what: awaited_of(self.request.as_slice()),
             since: self.since,
         };
-        self.request.clear();
-        let count = request.len().min(self.request.remaining_capacity());
-        let _ = self.request.try_extend_from_slice(&request[..count]);
+        self.request = kept_of(request);
         self.overdue = if self.is_over(now) { self.place } else { None };
         self.since = now;
         self.place = place;
@@ -284,10 +300,15 @@ impl RequestWatch {
     pub(crate) fn receive(&mut self, size: LinkSize, octets: &[u8], now: u64)
         ensures { self.new ≡ spec.received size octets.now now self.old }
     {
-        // No frame is longer: what finds no room isn't of the answer.
-        let count = octets.len().min(self.octets.remaining_capacity());
-        let _ = self.octets.try_extend_from_slice(&octets[..count]);
+        self.hear(octets);
         self.spoiling = self.spoiling_at(size, now);
+    }
+
+    /// They are of this exchange.
+    fn hear(&mut self, octets: &[u8])
+        ensures { self.new ≡ spec.heard octets.now self.old }
+    {
+        add(&mut self.octets, octets);
     }
 
     /// What stands in the place of an answer, if what came up to this moment isn't one.

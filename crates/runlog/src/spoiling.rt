@@ -1,5 +1,5 @@
 //! What came in the place of an answer.
-ghost use Rattle.std.specs.Prelude.{◌≡◌, ◌≤◌, length};
+ghost use Rattle.std.specs.Prelude.{◌≡◌, ◌≤◌, length, take};
 ghost use Rattle.std.specs.Fmt.{WritesOnOk};
 ghost use Rattle.runlog.specs.Spoilings as spec;
 
@@ -57,12 +57,27 @@ fn is_printable(octet: u8) -> bool
     (0x20..=0x7E).contains(&octet)
 }
 
+/// How many printable octets stand at the front.
+fn letter_count(octets: &[u8]) -> usize
+    ensures letters { take result octets.now ≡ spec.letters octets.now }
+    ensures within { result ≤ length octets.now }
+{
+    match octets.split_first() {
+        Some((octet, rest)) if is_printable(*octet) => 1 + letter_count(rest),
+        _ => 0,
+    }
+}
+
 /// The printable octets at the front.
+#[tactic(auto, using(crate::proofs::Letters::letters_utf8))]
 fn letters(octets: &[u8]) -> &str
     ensures { result.now ≡ spec.letters octets.now }
 {
-    let end = octets.iter().position(|octet| !is_printable(*octet));
-    str::from_utf8(&octets[..end.unwrap_or(octets.len())]).unwrap_or("")
+    match str::from_utf8(&octets[..letter_count(octets)]) {
+        Ok(letters) => letters,
+        // Never: they are ASCII.
+        Err(_) => "",
+    }
 }
 
 fn write_octet<W: fmt::Write>(octet: u8, f: &mut fmt::Formatter<W>) -> fmt::Result
@@ -95,6 +110,16 @@ fn write_octets<W: fmt::Write>(octets: &[u8], f: &mut fmt::Formatter<W>) -> fmt:
     write!(f, " (\"{letters}\")")
 }
 
+fn write_late<W: fmt::Write>(station: u16, ms: u64, f: &mut fmt::Formatter<W>) -> fmt::Result
+    ensures { WritesOnOk W.write_str_gives f.old result (spec.late_answer station ms) f.new }
+{
+    write!(
+        f,
+        "an answer of station {station}, {ms} ms behind its request"
+    )?;
+    f.write_str(": answer_ms is short")
+}
+
 /// Writes what is said of it behind whose answer it was.
 pub(crate) fn write_spoiling<W: fmt::Write>(
     spoiling: &Spoiling,
@@ -104,13 +129,7 @@ pub(crate) fn write_spoiling<W: fmt::Write>(
 {
     match spoiling {
         Spoiling::Echo => f.write_str("its request came back"),
-        Spoiling::Late(station, ms) => {
-            write!(
-                f,
-                "an answer of station {station}, {ms} ms behind its request"
-            )?;
-            f.write_str(": answer_ms is short")
-        }
+        Spoiling::Late(station, ms) => write_late(*station, *ms, f),
         Spoiling::Frame(station) => write!(f, "a frame with link address {station}"),
         Spoiling::Octets(first) => write_octets(first.octets(), f),
     }

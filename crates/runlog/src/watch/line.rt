@@ -109,7 +109,8 @@ impl Watch {
     {
         if self.late < late {
             let place = self.exchange.overdue();
-            self.suffer(place, Mishap::Late(self.exchange.lag()));
+            let ms = self.exchange.lag();
+            self.suffer(place, Mishap::Late(ms));
         }
         self.late = late;
     }
