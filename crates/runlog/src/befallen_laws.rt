@@ -1,7 +1,7 @@
 //! Laws of the station that answers, commands and mishaps are noted of, of what passes a run that
 //! is watched, of APDUs that come in a step, and of how a run ends.
 ghost use Rattle.std.specs.Prelude.{◌≡◌, ℕ, ◌+◌, ◌%◌, ◌<◌, ◌≤◌, Bool, List, ◌∷◌, ◌++◌, length};
-ghost use Rattle.std.specs.Prelude.{drop, Option, Some, None, true, false, ◌≢◌, ◌⊎◌};
+ghost use Rattle.std.specs.Prelude.{◌-◌, drop, Option, Some, None, true, false, ◌≢◌, ◌⊎◌};
 ghost use Rattle.std.specs.declared.net.ip_addr.IpAddr.{IpAddr};
 ghost use Rattle.asdu.specs.Sizes.{tcp};
 ghost use Rattle.asdu.specs.declared.sizes.Sizes.{Sizes};
