@@ -1,6 +1,5 @@
 use Rattle.std.proofs.Common.{◌≡◌, ◌∙◌, ◌+◌, ◌*◌, ◌<◌, ◌≤◌, ◌^◌, [], subst, List, ℕ, drop, take}
-use Rattle.std.proofs.Common.{ap, sym, arith, Bool, IsTrue, true, false}
-use Rattle.std.specs.Prelude.{not}
+use Rattle.std.proofs.Common.{ap, sym, arith}
 use Rattle.std.proofs.Common.{length, length-append}
 use Rattle.std.specs.Prelude.{◌⊎◌}
 use Rattle.std.proofs.lemmas.List.{length-drop, length-take, length-take-le}
@@ -30,10 +29,6 @@ page_length stored seen page sized some = omega (
   some,
 )
 
-opened : (b : Bool) → not b ≡ false → IsTrue b
-opened true shut = tt
-opened false shut = absurd (cc)
-
 pub returns-clause-crash : goal.returns-clause-crash
 returns-clause-crash g c =
     let s = c.args.self in
@@ -62,7 +57,7 @@ returns-clause-mixed g c mixing =
     (blocks_so c.args.blocks (87 + length body)
     (s.stored + length s.page.items + c.args.blocks * 4096) c.requires
     (ap (λ (n : ℕ). n + c.args.blocks * 4096)
-    (page_length s.stored (g.D.Disk.seen s.file) s.page.items (s.sized (opened s.is_open c.if-not-is_open.false)) s.behind)))
+    (page_length s.stored (g.D.Disk.seen s.file) s.page.items (s.sized c.if-not-is_open.false) s.behind)))
     (subst (λ (h : List ℕ). AreShutOr (g.D.Disk.may_leave c.fill.new.file)
     (IsTextTo (s.stored + length h + c.args.blocks * 4096)
     (whole_text c.args.number (drop 87 (text_in s.stored (g.D.Disk.seen s.file) h)))))
