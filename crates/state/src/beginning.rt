@@ -204,6 +204,17 @@ pub(crate) fn lines_of<D: Disk + Drop>(
     }
 }
 
+/// Whether a log was read whole: each line of it logs an event, and no damage ends it.
+fn is_read_whole(is_whole: bool, damage: Option<usize>) -> bool
+    ensures whole { result ≡ true → (is_whole ≡ true) × (damage ≡ None) }
+    ensures others { result ≡ false → is_whole ≡ true → damage ≡ None → ⊥ }
+{
+    match damage {
+        None => is_whole,
+        Some(_) => false,
+    }
+}
+
 /// The gateway with these settings that stood at the head of a log, behind the lines of its events.
 pub(crate) fn replayed<K: Lineage, D: Disk + Drop>(
     alloc: Global,
@@ -236,11 +247,12 @@ pub(crate) fn replayed<K: Lineage, D: Disk + Drop>(
     let mut gateway = read::<K>(alloc, config, lines)?;
     let LogText { lines, damage } = lines_of(alloc, start)?;
     let Replayed { gap, log, is_whole } = replay::<K, EventText>(alloc, &mut gateway, lines)?;
+    let is_read = is_read_whole(is_whole, damage);
     Ok(Arrived {
         gateway,
         gap,
         before: log,
-        is_whole: is_whole && damage.is_none(),
+        is_whole: is_read,
         damage,
     })
 }
