@@ -297,6 +297,14 @@ pub(crate) fn read_opening<D: Disk + Drop>(
     })
 }
 
+/// Whether links go on: the state is trusted, and its log was read whole.
+fn links_go_on(is_trusted: bool, is_whole: bool) -> bool
+    ensures on { result ≡ true → (is_trusted ≡ true) × (is_whole ≡ true) }
+    ensures off { result ≡ false → (is_trusted ≡ false) ⊎ (is_whole ≡ false) }
+{
+    is_trusted && is_whole
+}
+
 /// It has ended the connection and given up this, and each command without an answer, which is the
 /// restart in its log.
 fn restarted(arrived: Arrived, given_up: Vec<GivenUp>, goes_on: bool) -> Resumed
@@ -370,7 +378,7 @@ fn go_on<K: Lineage, D: Disk + Drop>(
     let Ok(given_up) = given_up_by(alloc, config.line().sizes, &arrived.gateway) else {
         return Err(StateFault::NoMemory);
     };
-    let goes_on = is_trusted && arrived.is_whole;
+    let goes_on = links_go_on(is_trusted, arrived.is_whole);
     Ok(restarted(arrived, given_up, goes_on))
 }
 

@@ -55,8 +55,8 @@ returns-in_err-resumed-2-clause-wrong g c =
     read
     (c.in_err-resumed-2.ensures.wrong wrong) state)
 
-pub returns-then-goes_on-clause-goes_on : goal.returns-then-goes_on-clause-goes_on
-returns-then-goes_on-clause-goes_on g c clean =
+pub returns-then-resumed-clause-goes_on : goal.returns-then-resumed-clause-goes_on
+returns-then-resumed-clause-goes_on g c clean =
     let written : List ℕ = c.in_ok-opening.opening.settings.items in
     let lines : List (List ℕ) =
     lines_in (drop c.in_ok-opening.opening.lines.at c.in_ok-opening.opening.lines.text.items) in
@@ -74,8 +74,8 @@ returns-then-goes_on-clause-goes_on g c clean =
     (c.are_same-is_same.ensures.same c.if-is_same.true))
     c.if-resumed.true e.moved (e.went clean) (e.damage clean)
 
-pub returns-then-goes_on-clause-read : goal.returns-then-goes_on-clause-read
-returns-then-goes_on-clause-read g c on clean =
+pub returns-then-resumed-clause-read : goal.returns-then-resumed-clause-read
+returns-then-resumed-clause-read g c on clean =
     let written : List ℕ = c.in_ok-opening.opening.settings.items in
     let lines : List (List ℕ) =
     lines_in (drop c.in_ok-opening.opening.lines.at c.in_ok-opening.opening.lines.text.items) in
@@ -96,8 +96,8 @@ returns-then-is_same-clause-goes_on g c =
     let e = c.move_on.ensures in
     let was = c.in_ok-resumed.resumed in
     let m = c.move_on.result in
-    if_ok_map m (if_ok_both m e.gateway (if_ok_both m e.gap (if_ok_both m e.given_up
-    (if_ok_both m e.damage (if_ok_both m e.before (if_ok_both m e.moved e.goes_on))))))
+    if_ok_map m (if_ok_both _ _ m e.gateway (if_ok_both _ _ m e.gap (if_ok_both _ _ m e.given_up
+    (if_ok_both _ _ m e.damage (if_ok_both _ _ m e.before (if_ok_both _ _ m e.moved e.goes_on))))))
     (λ r (gateway, gap, given_up, damage, before, moved, on) clean.
     moved_from r.goes_on c.are_same-is_same.result r.is_moved r.damage c.args.config.now
     g.K.Lineage.log (g.D.Disk.seen c.go_on.new.start.newest) c.go_on.new.start.at written lines r.gap
@@ -162,8 +162,8 @@ returns-clause-goes_on g c =
     let e = c.move_on-2.ensures in
     let was = c.in_ok-resumed-2.resumed in
     let m = c.move_on-2.result in
-    if_ok_map m (if_ok_both m e.gateway (if_ok_both m e.gap (if_ok_both m e.given_up
-    (if_ok_both m e.damage (if_ok_both m e.before (if_ok_both m e.moved e.goes_on))))))
+    if_ok_map m (if_ok_both _ _ m e.gateway (if_ok_both _ _ m e.gap (if_ok_both _ _ m e.given_up
+    (if_ok_both _ _ m e.damage (if_ok_both _ _ m e.before (if_ok_both _ _ m e.moved e.goes_on))))))
     (λ r (gateway, gap, given_up, damage, before, moved, on) clean.
     moved_from r.goes_on c.are_same-is_same.result r.is_moved r.damage c.args.config.now
     g.K.Lineage.log (g.D.Disk.seen c.go_on-2.new.start.newest) c.go_on-2.new.start.at written lines r.gap
