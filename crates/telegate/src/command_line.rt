@@ -12,7 +12,7 @@ use clap::{Arg, ArgAction, ArgMatches, Command, Error};
 use std::alloc::{AllocError, Global};
 
 /// What the words ask for.
-#[derive(Clone, Copy, PartialEq, Eq)]
+#[derive(Clone, Copy)]
 pub(crate) enum CommandRequest<'m, 'a> {
     /// The sizes of addresses, octets or `-`, and whether a frame is shown in one line of words.
     Show101 {

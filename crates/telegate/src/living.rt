@@ -1,5 +1,5 @@
 //! The command that runs the gateway between a line and a control centre.
-ghost use Rattle.std.specs.Prelude.{◌≡◌, ◌+◌, IfOk, IfErr, Some, None, Option, is_some, []};
+ghost use Rattle.std.specs.Prelude.{◌≡◌, ◌⊎◌, ◌+◌, IfOk, IfErr, Some, None, Option, is_some, []};
 ghost use Rattle.std.specs.Prelude.{false, not, true, ◌∷◌};
 ghost use Rattle.std.specs.declared.net.socket_addr.SocketAddr.{SocketAddr};
 ghost use Rattle.gateway.specs.Agrees.{Follows};
@@ -18,7 +18,7 @@ ghost use Rattle.telegate.specs.Asked.{call_if, ends_asked, listen_asked, scribe
 ghost use Rattle.telegate.specs.Kept.{HasLivedFrom, HasLivedOn, IsEndFault, IsKeptFault};
 ghost use Rattle.telegate.specs.Kept.{first_moment};
 ghost use Rattle.telegate.specs.Living.{HasLived, IsPortOf};
-ghost use Rattle.telegate.specs.Ran.{HasLivedAs, IfOver};
+ghost use Rattle.telegate.specs.Ran.{HasCome, HasLivedAs, HasNotBegun, IfOver, answer_to};
 ghost use Rattle.telegate.specs.Running.{IsReadLiveConfig};
 ghost use Rattle.telegate.specs.Served.{HasServedAnew, HasServedOn};
 ghost use Rattle.telegate.specs.Turns.{in_life, shown_to};
@@ -28,7 +28,7 @@ ghost use Rattle.telegate.specs.Logged.{note_if_on, note_of_address};
 use crate::fault::Fault;
 use crate::help::VERSION;
 use crate::host::Wishes;
-use crate::running::{Lived, Scribes, live};
+use crate::running::{DeviceFailed, Lived, Scribes, live};
 use crate::site::{EndRefusal, RunSite};
 use gateway::{Action, Config, Gateway, History};
 use live::{AllowList, Listener, Live, OctetStream, RunPort};
@@ -309,6 +309,45 @@ pub(crate) fn run_at<T: RunSite>(
     match wishes.state {
         None => Ok(Over::Anew(run_anew(site, config, wishes)?)),
         Some(directory) => Ok(Over::Kept(run_kept(site, config, text, directory, wishes)?)),
+    }
+}
+
+/// How a run ended that is over.
+fn ended_of<T: RunSite>(over: &RunOver<T>) -> Result<(), DeviceFailed>
+    ensures { IfOver over.now (λ anew. result ≡ anew.ended) (λ kept. result ≡ kept.ended) }
+{
+    match over {
+        Over::Anew(run) => run.ended,
+        Over::Kept(run) => run.ended,
+    }
+}
+
+/// What is answered of a run that has ended so.
+fn answer_to(ended: Result<(), DeviceFailed>) -> Result<(), Fault>
+    ensures { result ≡ answer_to ended }
+{
+    match ended {
+        Ok(()) => Ok(()),
+        Err(DeviceFailed) => Err(Fault::Device),
+    }
+}
+
+/// Runs the gateway live with these settings, which were read from this text, until it ends, and
+/// lets its ends go.
+pub(crate) fn run_out<T: RunSite>(
+    site: &mut T,
+    config: &Config,
+    text: &[u8],
+    wishes: Wishes<'_>,
+) -> Result<(), Fault>
+    requires severity { T.severe site.old ≡ wishes.log_severity }
+    ensures { HasNotBegun result ⊎ HasCome (BeginsIn T.Folder.File.Disk config.now
+        (T.asked site.old).lineage) config.now wishes.entry (T.asked site.old)
+        (T.asked site.new) result }
+{
+    match run_at(site, config, text, wishes) {
+        Ok(over) => answer_to(ended_of::<T>(&over)),
+        Err(fault) => Err(fault),
     }
 }
 
