@@ -1,6 +1,6 @@
 //! The command that runs the gateway between a line and a control centre.
 ghost use Rattle.std.specs.Prelude.{◌≡◌, ◌⊎◌, ◌+◌, IfOk, IfErr, Some, None, Option, is_some, []};
-ghost use Rattle.std.specs.Prelude.{false, not, true, ◌∷◌};
+ghost use Rattle.std.specs.Prelude.{false, map, not, true, ◌∷◌};
 ghost use Rattle.std.specs.declared.net.socket_addr.SocketAddr.{SocketAddr};
 ghost use Rattle.gateway.specs.Agrees.{Follows};
 ghost use Rattle.gateway.specs.Setups.{setup_of};
@@ -15,8 +15,10 @@ ghost use Rattle.state.specs.declared.beginning.Origin.{Origin};
 ghost use Rattle.telegate.specs.AsWished.{IsAsWished};
 ghost use Rattle.telegate.specs.Asked.{RecordAt, StateIn, StatusAt, UnclockedIfErr, asked_for};
 ghost use Rattle.telegate.specs.Asked.{call_if, ends_asked, listen_asked, scribes_asked};
+ghost use Rattle.state_words.specs.Notes.{note_of_given_up};
 ghost use Rattle.telegate.specs.Kept.{HasLivedFrom, HasLivedOn, IsEndFault, IsKeptFault};
 ghost use Rattle.telegate.specs.Kept.{first_moment};
+ghost use Rattle.telegate.specs.Law.{LogsAll};
 ghost use Rattle.telegate.specs.Living.{HasLived, IsPortOf};
 ghost use Rattle.telegate.specs.Ran.{HasCome, HasLivedAs, HasNotBegun, IfOver, answer_to};
 ghost use Rattle.telegate.specs.Running.{IsReadLiveConfig};
@@ -36,8 +38,8 @@ use lookout::Lookout;
 use record::{Pen, RecordSheet};
 use runlog::{LogSink, Logger, Note, Trouble, Watch};
 use settings::{ConfigFault, LiveSettings, read_live_config};
-use state::{Begun, DiskStore, FolderFault, Keeper, Origin, Pair, ReportedGap, begin};
-use state_words::{note_of, note_of_queue, note_of_settings};
+use state::{Begun, DiskStore, FolderFault, GivenUp, Keeper, Origin, Pair, ReportedGap, begin};
+use state_words::{note_of, note_of_given_up, note_of_queue, note_of_settings};
 use std::alloc::Global;
 use std::net::SocketAddr;
 
@@ -591,7 +593,19 @@ fn log_gap<S: LogSink + Drop>(moment: Option<u64>, gap: Option<ReportedGap>, log
     logger.put(moment, &Action::Gap { station, session });
 }
 
-/// Logs how a run begins, and the gap that may not have been seen.
+/// Logs what a start gives up of the connection before it, one line for each.
+fn log_given_up<S: LogSink + Drop>(given_up: &[GivenUp], logger: &mut Logger<S>)
+    ensures logs { LogsAll (map note_of_given_up given_up.now) logger.old logger.new }
+    ensures fixed { book_fixture logger.new ≡ book_fixture logger.old }
+{
+    let mut left = given_up;
+    while let [first, more @ ..] = left {
+        logger.note(note_of_given_up(first));
+        left = more;
+    }
+}
+
+/// Logs how a run begins, what is given up for it, and the gap that may not have been seen.
 fn log_beginning<S: LogSink + Drop>(origin: &Origin, logger: &mut Logger<S>)
     ensures logs { LogsBeginning origin.now logger.old logger.new }
     ensures fixed { book_fixture logger.new ≡ book_fixture logger.old }
@@ -599,5 +613,6 @@ fn log_beginning<S: LogSink + Drop>(origin: &Origin, logger: &mut Logger<S>)
     log(note_of(origin.beginning), logger);
     log(note_of_settings(origin.is_moved), logger);
     log(note_if_on(origin.moment, &origin.gateway), logger);
+    log_given_up(origin.given_up.as_slice(), logger);
     log_gap(origin.moment, origin.gap, logger);
 }

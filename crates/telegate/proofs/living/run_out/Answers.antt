@@ -33,5 +33,5 @@ returns-in-Ok g c =
       answered = c.answer_to.ensures ∙ ap answer_to ends;
     }))
 
-pub returns : goal.returns
-returns g c = inl c.in-Err.ensures.fault
+pub returns-in-Err : goal.returns-in-Err
+returns-in-Err g c = inl c.in-Err.ensures.fault
