@@ -8,14 +8,16 @@
   output, then standard error), and `(status N)` if its exit status isn't 0.
 - The table of docs/ARCHITECTURE.md has the crates of crates.txt, each below the crates that it
   uses.
-- Lines of README.md and of the documents have at most 100 columns. The pages that are judged
-  sentence by sentence have no sentence of 30 words or more. Each file that a document names is
-  there.
+- Lines of README.md and of the documents have at most 100 columns. All pages together have at most
+  45,000 words, a crate's README.md at most 30 lines. No sentence of the documents has 30 words or
+  more, but for CHANGELOG.md and for what is printed from the sources. Each file that a document
+  names is there.
+- docs/PROOFS.md and docs/CALLS.md say of each function what the sources say (tools/laws.py).
 - The repository stands alone: no line of a document, of an example or of a crate cites a demand by
   a letter and a number.
 - The program, the man page, CHANGELOG.md and each document that names a version name the same one.
 - Lines of src/, specs/ and tests/ have at most 100 columns, except imports and attributes.
-- An entry of a document that a comment in src/ names, as `docs/NAME.md, "HEADING"`, is there.
+- An entry of a document that a comment or a document names, as `docs/NAME.md, "HEADING"`, is there.
 - The table of docs/TESTS.md has the scripts of checks/list.txt as those of the gate.
 - The pictures are those that docs/pictures/make.py makes.
 """
@@ -29,15 +31,13 @@ import sys
 import frame
 
 TOP = frame.TOP
+sys.path.append(os.path.join(TOP, "tools"))
+import laws
+
 COLUMNS = 100
 SENTENCE = 30
-# The pages whose sentences are judged: none is long.
-PLAIN = ["README.md", "CONTRIBUTING.md", "SECURITY.md", "packaging/README.md", "docs/README.md"]
-PLAIN += [f"docs/{name}.md" for name in ("COMMISSIONING", "RUNNING", "TROUBLE", "GLOSSARY")]
-PLAIN += [f"docs/{name}.md" for name in ("SETTINGS", "SITE", "STATUS", "TEXTS", "STATIONS")]
-PLAIN += [f"docs/{name}.md" for name in ("PROFILE", "INTEROPERABILITY", "LIBRARY", "PERFORMANCE")]
-PLAIN += [f"docs/{name}.md" for name in ("PROOFS", "MISREADINGS", "MISREADINGS_GATEWAY", "CHANGING")]
-PLAIN += [f"docs/{name}.md" for name in ("ARCHITECTURE", "DECISIONS", "MISREADINGS_PROGRAM", "TESTS", "GATE")]
+# How many words all documents may have, and how many lines the README.md of a crate.
+WORDS, LINES = 45000, 30
 # What a sentence names as a file: a path with one of these endings, or in one of these folders.
 NAMED = re.compile(r"`?(?<![\w/])((?:bench|checks|crates|docs|edits|examples|packaging|tests|tools|specs|src|\.ci)/[\w./*-]*\w|[\w-]+\.(?:md|txt|py))`?")
 
@@ -100,14 +100,14 @@ def judge_layout(judge, name, text):
 
 
 def prose(text):
-    """The text without blocks, tables and headings."""
-    text = re.sub(r"^```.*?^```$", "", text, flags=re.M | re.S)
+    """The text without blocks, tables, headings and what is printed from the sources."""
+    text = laws.ITEM.sub("", re.sub(r"^```.*?^```$", "", text, flags=re.M | re.S))
     return "\n".join(line for line in text.splitlines() if not line.startswith(("|", "#")))
 
 
 def judge_sentences(judge, name, text):
     for paragraph in re.split(r"\n\s*\n|\n\s*[-*] |\n\s*\d+\. ", prose(text)):
-        for sentence in re.split(r"[.:;?!]\s", paragraph.replace("\n", " ") + " "):
+        for sentence in re.split(r"[.:;?!](?:\*\*)?\s", paragraph.replace("\n", " ") + " "):
             count = len([word for word in sentence.split() if re.search(r"\w", word)])
             judge.case(count < SENTENCE, f"{name}: {count} words in: {sentence.strip()}")
 
@@ -152,13 +152,16 @@ def judge_sources(judge):
 
 
 def judge_entries(judge):
-    """Each heading of a document that a comment names is there: a heading of a part, or the bold
-    words that a point begins with."""
-    for name in sorted(glob.glob("crates/*/src/**/*.rt", root_dir=TOP, recursive=True) + glob.glob("tests/**/*.rs", root_dir=TOP, recursive=True)):
-        comments = re.sub(r"\n\s*//[/!]? ", " ", read(name))
-        for document, heading in re.findall(r'(docs/\w+\.md), "([^"]*)"', comments):
-            headings = re.findall(r"^(?:- \*\*(.*?)\.\*\*|#+ (.*))", read(document), re.M)
-            judge.case(any(heading in found for found in headings), f'{name} names {document}, "{heading}", which isn\'t there')
+    """Each heading of a document that a comment or a document names is there: a heading of a part,
+    or the bold words that a point begins with."""
+    patterns = ("crates/*/src/**/*.rt", "crates/*/specs/**/*.antt", "crates/*/proofs/**/*.antt", "tests/**/*.rs", "edits/*.toml", "tools/*.py", "packaging/**/*", "*.md", "docs/*.md")
+    headings = {name: re.findall(r"^(?:- \*\*(.*?)\.\*\*|#+ (.*))", text, re.M) for name, text in documents().items()}
+    for name in sorted(found for pattern in patterns for found in glob.glob(pattern, root_dir=TOP, recursive=True)):
+        if os.path.isfile(os.path.join(TOP, name)):
+            comments = re.sub(r"\n\s*(?:(?://[/!]?|--|#) )?", " ", read(name))
+            for document, heading in re.findall(r'\b((?:docs/\w+|[A-Z]+)\.md), "([^"]*)"', comments):
+                there = any(heading in found for found in headings.get(document, []))
+                judge.case(there, f'{name} names {document}, "{heading}", which isn\'t there')
 
 
 def judge_names(judge, name, text):
@@ -215,15 +218,36 @@ def sources(count, _program, _folder):
 
 
 def lists(count, program, _folder):
-    """What stands in two places: the version, the crates, and the scripts of the gate; and the
-    sentences of the pages."""
+    """What stands in two places: the version, the crates, and the scripts of the gate."""
     texts = documents()
     judge_version(count, program, texts)
     judge_crates(count, texts["docs/ARCHITECTURE.md"])
     judge_list(count, texts["docs/TESTS.md"])
-    for name in PLAIN + crate_pages():
-        judge_sentences(count, name, texts[name])
+
+
+def printed(count, _program, _folder):
+    """What docs/PROOFS.md and docs/CALLS.md say of functions is what the sources say."""
+    for name, text in laws.pages().items():
+        written = read(name)
+        wrong = [line for line in text.splitlines() if line not in written.splitlines()]
+        count.judge(name, text == written, f"tools/laws.py --write has other lines, the first {wrong[:1]}")
+    found = laws.items_of(read(laws.PROOFS))
+    count.judge("docs/PROOFS.md has each item once", found and len(found) == len(set(found)), f"{len(found)} items")
+    for call, crate in re.findall(r"\[`([\w:]+)`\]\(crates/(\w+)/src/", read("README.md")):
+        count.judge(f"README.md: {call}", (crate, call) in found, f"{laws.PROOFS} hasn't it")
+
+
+def words(count, _program, _folder):
+    """How much there is to read, page by page and in all."""
+    texts = documents()
+    for name, text in texts.items():
+        if name != "CHANGELOG.md":
+            judge_sentences(count, name, text)
+    for name in crate_pages():
+        count.judge(f"{name}: lines", texts[name].count("\n") <= LINES, f"{texts[name].count(chr(10))}, and not {LINES}")
+    number = sum(len(text.split()) for text in texts.values())
+    count.judge("the words of all documents", number <= WORDS, f"{number}, and not {WORDS}")
 
 
 if __name__ == "__main__":
-    frame.main(pages, pictures, sources, lists)
+    frame.main(pages, pictures, sources, lists, printed, words)

@@ -11,8 +11,8 @@ docs/*.md, packaging/*.md and crates/*/README.md outside of their blocks. A name
 - A word with a capital letter or with `_` inside, such as `Owner` or `drive_on`, has to stand
   somewhere outside of comments: in a crate, in the toolchain's libraries, in a script, in settings
   or in packaging/.
-- A file of the repository, such as `checks/rows.py`, has to be there. The contracts that README's
-  tables name have to be in the file that they name.
+- A file of the repository, such as `checks/rows.py`, has to be there. The contracts that README
+  links have to be in the file that it links.
 
 Octets, settings' values, texts that the program prints and names of the standard (`M_SP_NA_1`) are
 no such names. CHANGELOG.md isn't judged, since it says what was.
@@ -250,12 +250,14 @@ def documents(count, _program, _folder):
 
 
 def contracts(count, _program, _folder):
-    """Each row of README's table: the crate has a file of this name with this function."""
-    row = re.compile(r"^\| `(\w+)` \| `([\w:]+)` \|.*\| ([\w/]+\.rt) \|$", re.M)
-    for crate, call, file in row.findall(read(os.path.join(TOP, "README.md"))):
-        paths = glob.glob(os.path.join(TOP, "crates", crate, "src/**", file), recursive=True)
-        holds = any(re.search(rf"\bfn {call.split('::')[-1]}\b", read(path)) for path in paths)
-        count.judge(f"README.md: {crate}: {call}", holds, f"no {file} of {crate} has it")
+    """Each contract that README names: the file that it links has a function of this name."""
+    link = re.compile(r"\[`([\w:]+)`\]\((crates/\w+/src/[\w/]+\.rt)\)")
+    named = link.findall(read(os.path.join(TOP, "README.md")))
+    for call, file in named:
+        holds = re.search(rf"\bfn {call.split('::')[-1]}\b", read(os.path.join(TOP, file)))
+        count.judge(f"README.md: {call}", holds, f"{file} hasn't it")
+    # A README that names none would pass for want of any.
+    count.judge("README.md names contracts", len(named) > 5, named)
 
 
 if __name__ == "__main__":

@@ -7,9 +7,10 @@
   `systemd-analyze verify` of both units, if systemd is there.
 - With dpkg-deb and binutils: the package, the same octets twice, and lintian without an error, if
   it is there.
-- With `--chroot`, as root and with debootstrap: the package in a Debian of its own, with a second
-  package that is a version above it and has other settings and another unit. What an operator wrote
-  stays through each step: settings, words, a file of `systemctl edit`, the folder of a second line.
+- With `--chroot`, as root and with debootstrap: the package in a Debian of its own, with one that is
+  a version above it and has other settings and another unit, and with one whose settings are
+  configuration files, as they were before. What an operator wrote stays through each step, and dpkg
+  asks nothing: settings, words, a file of `systemctl edit`, the folder of a second line.
 
 A chroot takes a minute and fetches some 60 MB, so the gate leaves it out. FOLDER is where what
 debootstrap made is kept and taken again. If a part can't run here, a line `left out: ..` says so.
@@ -25,6 +26,8 @@ import frame
 
 TOP = frame.TOP
 SUITE = "bookworm"
+# What the first installation copies from usr/share/telegate.
+SETTINGS = ("gateway.toml", "site.toml", "telegate.env")
 OWN_SETTINGS = "# what an operator wrote\n"
 OWN_SITE = 'allow = ["192.0.2.20"]\n'
 OWN_WORDS = "TELEGATE_OPTIONS=--site /etc/telegate/site.toml --status 127.0.0.1:8104\n"
@@ -47,9 +50,7 @@ BROUGHT = [
     "usr/share/bash-completion/completions/telegate",
     "usr/share/zsh/vendor-completions/_telegate",
     "usr/share/fish/vendor_completions.d/telegate.fish",
-    "etc/telegate/gateway.toml",
-    "etc/telegate/site.toml",
-    "etc/telegate/telegate.env",
+    *(f"etc/telegate/{name}" for name in SETTINGS),
 ]
 
 
@@ -125,25 +126,28 @@ def judge_units(count, program, folder):
         verified = run(["systemd-analyze", "verify", "--man=no", os.path.join(folder, "units", instance)])
         count.case(verified.returncode == 0 and not said(verified), f"systemd-analyze verify {instance}: {said(verified)}")
     line = read(os.path.join(folder, "units/telegate@.service"))
+    count.case(re.search(r"^User=telegate-%i$", line, re.M), "telegate@.service has no user of its own")
     count.case("/etc/telegate/%i/" in line and not re.search(r"/etc/telegate/(?!%i/)", line), "telegate@.service reads settings that aren't its line's")
 
 
 def judge_starts(count, program, folder):
-    """What a unit calls before a start judges both files: that of the site is the one that the words name, if they name one."""
+    """What a unit calls before a start and a reload judges both files: that of the site is the one that the words name, if they name one."""
     root = os.path.join(folder, "started")
     run([os.path.join(TOP, "packaging/install.sh")], env={**os.environ, "DESTDIR": root, "TELEGATE_PROGRAM": program})
     site = ("line 1, column 7: 1\nwanted: true or false\n", "site: log\n")
     settings = ("no value: it belongs below line 1\nwanted: 1 to 2\n", "config: line.link\n")
     for name, place in (("telegate.service", "etc/telegate"), ("telegate@.service", "etc/telegate/north")):
         unit = read(os.path.join(root, "usr/local/lib/systemd/system", name))
-        before = re.search(r"^ExecStartPre=-(.*)$", unit, re.M)[1].replace("$$", "$").replace("%i", "north")
-        before = before.replace("/usr/local/bin/telegate", program).replace("/etc/", f"{root}/etc/")
         write(os.path.join(root, place, "gateway.toml"), "[line]\n")
         write(os.path.join(root, place, "site.toml"), "log = 1\n")
         named = ["--site", os.path.join(root, place, "site.toml")]
-        for words, want in (([], settings), (named, site), (["--allow", "192.0.2.7", *named, "--redial"], site), (["--redial"], settings)):
-            ran = run([part for word in shlex.split(before) for part in (words if word == "$TELEGATE_OPTIONS" else [word])])
-            count.case((ran.stdout, ran.stderr, ran.returncode) == (*want, 1), f"{name}, before a start with {words}: {ran.stdout!r} {ran.stderr!r}")
+        tried = (([], settings), (named, site), (["--allow", "192.0.2.7", *named, "--redial"], site), (["--redial"], settings))
+        for key in ("ExecStartPre=-", "ExecReload="):
+            before = re.search(rf"^{key}(/bin/sh .*)$", unit, re.M)[1].replace("$$", "$").replace("%i", "north")
+            before = before.replace("/usr/local/bin/telegate", program).replace("/etc/", f"{root}/etc/")
+            for words, want in tried:
+                ran = run([part for word in shlex.split(before) for part in (words if word == "$TELEGATE_OPTIONS" else [word])])
+                count.case((ran.stdout, ran.stderr, ran.returncode) == (*want, 1), f"{name}, {key} with {words}: {ran.stdout!r} {ran.stderr!r}")
 
 
 def make_package(program, into):
@@ -174,18 +178,37 @@ def judge_package(count, program, folder):
     return package
 
 
-def next_package(package, folder):
-    """A version above it, which ships other settings and another unit."""
-    image = os.path.join(folder, "image")
+def changed_package(package, folder, name, version, change):
+    """A package of another version, whose files are changed."""
+    image, made = os.path.join(folder, f"{name}-image"), os.path.join(folder, f"{name}.deb")
     run(["dpkg-deb", "-R", package, image])
     control = os.path.join(image, "DEBIAN/control")
-    write(control, re.sub(r"^Version: (.*)$", r"Version: \1+1", read(control), flags=re.M))
-    for name in ("etc/telegate/gateway.toml", "usr/lib/systemd/system/telegate.service"):
-        write(os.path.join(image, name), read(os.path.join(image, name)) + "# of the next version\n")
+    write(control, re.sub(r"^Version: (.*)$", rf"Version: \g<1>{version}", read(control), flags=re.M))
+    change(image)
     os.remove(os.path.join(image, "DEBIAN/md5sums"))
-    made = os.path.join(folder, "next.deb")
     run(["dpkg-deb", "--root-owner-group", "--build", image, made])
     return made
+
+
+def next_package(package, folder):
+    """A version above it, which ships other settings and another unit."""
+
+    def change(image):
+        for name in ("usr/share/telegate/gateway.toml", "usr/lib/systemd/system/telegate.service"):
+            write(os.path.join(image, name), read(os.path.join(image, name)) + "# of the next version\n")
+
+    return changed_package(package, folder, "next", "+1", change)
+
+
+def earlier_package(package, folder):
+    """A version below it, whose settings are configuration files."""
+
+    def change(image):
+        for name in SETTINGS:
+            write(os.path.join(image, "etc/telegate", name), read(os.path.join(image, "usr/share/telegate", name)) + "# of the version before\n")
+        write(os.path.join(image, "DEBIAN/conffiles"), "".join(f"/etc/telegate/{name}\n" for name in SETTINGS))
+
+    return changed_package(package, folder, "earlier", "~1", change)
 
 
 class Chroot:
@@ -223,25 +246,21 @@ def judge_first_installation(count, chroot, package):
     count.case(ran.returncode == 0 and ran.stdout.startswith("telegate "), f"install: telegate --version: {said(ran)}")
     checked = run(["chroot", chroot.root, "/usr/bin/telegate", "check", "/etc/telegate/gateway.toml"])
     count.case(checked.stdout == "ok\n", f"install: the settings to begin with: {said(checked)}")
-    conffiles = chroot.dpkg("-s", "telegate").stdout
-    count.case(all(f" /etc/telegate/{name} " in conffiles for name in ("gateway.toml", "site.toml", "telegate.env")), "install: settings aren't conffiles")
+    count.case("Conffiles" not in chroot.dpkg("-s", "telegate").stdout, "install: dpkg would ask about settings")
     wanted = glob.glob(chroot.path("etc/systemd/system/*.wants/telegate*"))
     count.case(not wanted, f"install: it enables the service: {wanted}")
 
 
-def judge_upgrades(count, chroot, package, above):
-    """Up and down again, with settings that the operator and the package have changed."""
-    plain = chroot.install(package)
-    count.case(plain.returncode == 0, f"the same version again, without an answer to any question: {said(plain)}")
-    judge_own(count, chroot.root, "the same version again")
-    upgraded = chroot.install(above, "--force-confdef", "--force-confold")
-    count.case(upgraded.returncode == 0, f"upgrade: {said(upgraded)}")
-    judge_own(count, chroot.root, "upgrade")
-    count.case("next version" in (read(chroot.path("etc/telegate/gateway.toml.dpkg-dist")) or ""), "upgrade: the new settings aren't beside the operator's")
-    count.case("next version" in read(chroot.path("usr/lib/systemd/system/telegate.service")), "upgrade: the unit isn't the new one")
-    back = chroot.install(package, "--force-confdef", "--force-confold")
-    count.case(back.returncode == 0, f"back to the version before: {said(back)}")
-    judge_own(count, chroot.root, "back to the version before")
+def judge_upgrades(count, chroot, packages):
+    """Up and down again, with settings that the operator and the package have changed. dpkg asks nothing."""
+    for step, package in packages.items():
+        installed = chroot.install(package)
+        count.case(installed.returncode == 0, f"{step}: {said(installed)}")
+        judge_own(count, chroot.root, step)
+        strange = set(os.listdir(chroot.path("etc/telegate"))) - {*SETTINGS, "north"}
+        count.case(not strange, f"{step}: {strange} beside the operator's files")
+        is_next = "next version" in read(chroot.path("usr/lib/systemd/system/telegate.service"))
+        count.case(is_next == (step == "upgrade"), f"{step}: the unit isn't that of the package")
 
 
 def judge_removal(count, chroot, package, before):
@@ -257,7 +276,7 @@ def judge_removal(count, chroot, package, before):
     count.case(removed.returncode == 0, f"remove: {said(removed)}")
     count.case(not os.path.exists(chroot.path("usr/bin/telegate")), "remove: the program is there")
     judge_own(count, chroot.root, "remove")
-    again = chroot.install(package, "--force-confdef", "--force-confold")
+    again = chroot.install(package)
     count.case(again.returncode == 0, f"install again: {said(again)}")
     judge_own(count, chroot.root, "install again")
     purged = chroot.dpkg("-P", "telegate")
@@ -280,9 +299,17 @@ def judge_chroot(count, package, base, folder):
             return
     chroot = Chroot(made, folder)
     before = chroot.files()
+    earlier = earlier_package(package, folder)
+    first = chroot.install(earlier)
+    count.case(first.returncode == 0, f"install the version before: {said(first)}")
+    write_own(chroot.root)
+    judge_upgrades(count, chroot, {"upgrade from the version before": package})
+    purged = chroot.dpkg("-P", "telegate")
+    count.case(purged.returncode == 0, f"purge: {said(purged)}")
     judge_first_installation(count, chroot, package)
     write_own(chroot.root)
-    judge_upgrades(count, chroot, package, next_package(package, folder))
+    above = next_package(package, folder)
+    judge_upgrades(count, chroot, {"the same version again": package, "upgrade": above, "back to the version before": package})
     judge_removal(count, chroot, package, before)
 
 

@@ -3,12 +3,11 @@
 
     docs/pictures/make.py
 
-Text and boxes alone, and what docs/PERFORMANCE.md measured: after a change of either call it again (checks/documents.py compares).
+Text and boxes alone: after a change call it again (checks/documents.py compares).
 Looking at one: `rsvg-convert NAME.svg -o NAME.png`. What stands between backticks is a line of the log, a word of the program or the
 name of a contract, as docs/TEXTS.md and the crates have it.
 """
 import os
-import re
 from html import escape
 
 HERE = os.path.dirname(os.path.abspath(__file__))
@@ -21,8 +20,6 @@ text { font: 13px sans-serif; fill: #1b1f24; }
 .box { fill: #eef4fb; stroke: #2f6db5; stroke-width: 1.3; }
 .far { fill: #f3f3f3; stroke: #6e7781; stroke-width: 1.3; }
 .disk { fill: #fdf6e3; stroke: #a67c00; stroke-width: 1.3; }
-.bar { fill: #2f6db5; }
-.other { fill: #c9ccd1; }
 .way { stroke: #1b1f24; stroke-width: 1.4; fill: none; marker-end: url(#head); }
 .back { stroke: #6e7781; stroke-width: 1.2; fill: none; stroke-dasharray: 5 3; marker-end: url(#grey); }
 .rule { stroke: #6e7781; stroke-width: 1; stroke-dasharray: 2 2; }
@@ -59,9 +56,6 @@ class Picture:
         self.text(x + width / 2, top, title, "title")
         if words:
             self.text(x + width / 2, top + 16, words, "small")
-
-    def bar(self, x, y, width, height, kind):
-        self.parts.append(f'<rect x="{x}" y="{y}" width="{width:.1f}" height="{height}" class="{kind}"/>')
 
     def way(self, points, kind="way"):
         path = "M" + " L".join(f"{x},{y}" for x, y in points)
@@ -123,7 +117,7 @@ def report():
     p.box(430, 215, 160, 60, "disk", "with `--state DIR`: it is\nthere before the next poll", "disk")
     p.way([(500, 130), (500, 215)])
     p.text(420, 245, "Without `--state` what the\nqueue holds ends with the process.", "loss", "end")
-    p.text(605, 240, "Where fewer than three places are free nothing is polled, and\nreports wait in the outstations: `queue full`.\nWhat is on the disk outlives the process and a power cut.", "small", "start")
+    p.text(605, 240, "If fewer than three places are free nothing is polled, and\nreports wait in the outstations: `queue full`.\nWhat is on the disk outlives the process and a power cut.", "small", "start")
     return p
 
 
@@ -147,8 +141,8 @@ def station():
     p.way([(780, 305), (780, 220)], "back")
     p.text(790, 258, "it answers\n`station A answers again`", "small", "start")
     p.text(40, 250, "At the first request to it:\n`station A asked for its status`", "small", "start")
-    p.text(40, 298, "Where it doesn't come up, asked retries + 1 times:\n`station A doesn't answer`", "small", "start")
-    p.text(40, 346, "Where a reset ended a session amid a poll:\n`station A gap: reports of it may be lost`", "loss", "start")
+    p.text(40, 298, "If it doesn't come up, asked retries + 1 times:\n`station A doesn't answer`", "small", "start")
+    p.text(40, 346, "If a reset ended a session amid a poll:\n`station A gap: reports of it may be lost`", "loss", "start")
     return p
 
 
@@ -192,42 +186,9 @@ def crates():
     return p
 
 
-def rows_behind(text, heading):
-    """The rows of the first table behind a heading of columns, by their first column."""
-    head, _, rest = text.partition(heading)
-    if not rest:
-        raise ValueError(f"docs/PERFORMANCE.md has no table {heading}")
-    table = rest.split("\n\n", 1)[0]
-    return {cells[0]: cells[1:] for cells in ([cell.strip() for cell in row.strip("|").split("|")] for row in table.splitlines()[2:])}
-
-
-def speed():
-    """Instructions beside plain Rust's, and peaks of memory, as docs/PERFORMANCE.md has them."""
-    with open(os.path.join(os.path.dirname(HERE), "PERFORMANCE.md"), encoding="utf-8") as file:
-        text = file.read()
-    counts = rows_behind(text, "| workload | before | now | plain Rust | now, of plain | tenfold | plain Rust | now, of plain |")
-    peaks = rows_behind(text, "| workload | events a second | time | peak memory | of plain Rust | the trace |")
-    p = Picture(980, 60 + 32 * len(counts), "Instructions and memory beside plain Rust")
-    p.text(330, 22, "instructions, of plain Rust's (the grey bar is 1.0)", "small")
-    p.text(730, 22, "peak memory: telegate, plain Rust", "small")
-    for place, (name, cells) in enumerate(counts.items()):
-        y, ratio = 45 + 32 * place, float(cells[3])
-        p.text(100, y + 12, name, "", "end")
-        p.bar(110, y - 3, 250, 8, "other")
-        p.bar(110, y + 6, 250 * ratio, 9, "bar")
-        p.text(115 + 250 * max(ratio, 1), y + 12, f"{ratio:.2f}", "small", "start")
-        if name in peaks:
-            ours, theirs = (float(re.match(r"[\d.]+", peaks[name][at])[0]) for at in (2, 3))
-            p.bar(580, y - 3, 220 * min(theirs / 45, 1), 8, "other")
-            p.bar(580, y + 6, 220 * ours / 45, 9, "bar")
-            told = f"{ours:.1f} and {theirs:.1f} MB" + (" (cut off)" if theirs > 45 else "")
-            p.text(585 + 220 * min(max(ours, theirs) / 45, 1), y + 12, told, "small", "start")
-    return p
-
-
 def pictures():
     """The text of each picture, by its name."""
-    return {make.__name__: make().svg() for make in (deployment, report, station, crates, speed)}
+    return {make.__name__: make().svg() for make in (deployment, report, station, crates)}
 
 
 def main():

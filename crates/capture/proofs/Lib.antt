@@ -9,13 +9,5 @@ pub mod Timing
 pub mod BlockShapes
 pub mod DatagramShapes
 pub mod SerialShapes
-pub mod Streaming
-pub mod Marking
 pub mod Fitting
 pub mod ReadBack
-pub mod ReadAlike
-pub mod Saying
-pub mod Kept
-pub mod Gaps
-pub mod Entering
-pub mod Stopping

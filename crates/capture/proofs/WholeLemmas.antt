@@ -152,46 +152,16 @@ module _ (all left : List (List ℕ)) (line : List ℕ) (first n : ℕ) (old mid
         },
       )
 
--- all were put
-pub put_all : (all left : List (List ℕ)) (first n : ℕ) (old new : Captured)
-    (before after : List ℕ) → left ≡ [] → PutTo all left first n old before after new
-    → ArePassed first old all before after new (All n)
-put_all all left first n old new before after none h =
-    let whole : h.done ≡ all =
-    sym (h.split ∙ (ap (λ (ls : List (List ℕ)). h.done ++ ls) none ∙ append-nil h.done)) in (
-      subst (λ (ls : List (List ℕ)). ArePut old ls before after new) whole h.put,
-      h.counted ∙ ap (λ (ls : List (List ℕ)). first + length ls) whole,
-    )
-
 -- ---- A part
 
 appends_none : (known : Option (List ℕ)) → Appends known known []
 appends_none None = tt
 appends_none (Some octets) = sym (append-nil octets)
 
--- nothing of it was written
-pub part_unbegun : (old : Captured) (lines : List (List ℕ)) (known : Option (List ℕ))
-    → IsPartBegun old lines known known
-part_unbegun old lines known = record {
-  some = [];
-  later = lines;
-  split = refl;
-  begun = ([], (ended_blocks old [], refl), appends_none known);
-}
-
 module _ (first : ℕ) (old new : Captured) (lines : List (List ℕ)) (empty page : List ℕ)
     (before after : Option (List ℕ)) (none : empty ≡ []) where
   page_is : (put : ArePut old lines empty page new) → page ≡ blocks_of_lines old lines
   page_is put = put.put ∙ ap (λ (xs : List ℕ). xs ++ blocks_of_lines old lines) none
-
-  pub part_written : (next : ℕ) → ArePassed first old lines empty page new (All next)
-      → Appends before after page → AreWritten first next old lines before after new
-  part_written next passed written = record {
-    right = passed.0.right;
-    written = subst (λ (xs : List ℕ). Appends before after xs) (page_is passed.0) written;
-    new_is = passed.0.new_is;
-    number = passed.1;
-  }
 
   pub part_cut : (next : ℕ) → ArePassed first old lines empty page new (All next)
       → IsBegun before after page → IsPartBegun old lines before after
@@ -203,29 +173,6 @@ module _ (first : ℕ) (old new : Captured) (lines : List (List ℕ)) (empty pag
         (blocks_of (last_packets (after_lines old lines)))
         (subst (λ (xs : List ℕ). IsBegun before after xs) (page_is passed.0) wrote);
   }
-
-  module _ (n : ℕ) (passed : ArePassed first old lines empty page new (Wrong n))
-      (ending : List ℕ) (put : ending ≡ page ++ blocks_of (last_packets new)) where
-    ending_is : ending ≡ ended_blocks old passed.0
-    ending_is = put ∙ (ap (λ (xs : List ℕ). xs ++ blocks_of (last_packets new))
-        (passed.2.put ∙ ap (λ (xs : List ℕ). xs ++ blocks_of_lines old passed.0) none)
-        ∙ ap (λ (c : Captured). blocks_of_lines old passed.0 ++ blocks_of (last_packets c))
-        passed.2.new_is)
-
-    pub part_wrong : Appends before after ending → IsWrongPart first n old lines before after
-    part_wrong written = record {
-      some = passed.0;
-      wrong = passed.1;
-      written = subst (λ (xs : List ℕ). Appends before after xs) ending_is written;
-    }
-
-    pub part_wrong_cut : IsBegun before after ending → IsPartBegun old lines before after
-    part_wrong_cut wrote = record {
-      some = passed.0;
-      later = passed.1.wrong ∷ passed.1.later;
-      split = passed.1.split;
-      begun = subst (λ (xs : List ℕ). IsBegun before after xs) ending_is wrote;
-    }
 
 -- ---- A record
 
@@ -318,9 +265,6 @@ module _ (size : LinkSize) (known coming : Option (List ℕ)) (c : Captured) (n 
   module _ (block : Reading) (octets : List ℕ) (same : octets ≡ block.lines)
       (cut : IfSome coming (λ text. IsGiven text block)) (part : Option (List ℕ))
       (of : AreOf octets block.is_over part) where
-    ours : List (List ℕ)
-    ours = map kept_line (parts_after 10 part)
-
     kept_on : block.is_over ≡ false → (t : List ℕ)
         → kept_lines (so.before ++ (octets ++ 10 ∷ t))
         ≡ (so.lines ++ map kept_line (parts_after 10 part)) ++ kept_lines t

@@ -9,9 +9,5 @@ pub mod Recorded
 pub mod Entries
 pub mod Examples
 pub mod Captures
-pub mod Streams
 pub mod Readers
-pub mod Remarks
-pub mod Entered
 pub mod Texts
-pub mod Stops

@@ -1,5 +1,5 @@
 //! The lines of a record, or of a trace.
-ghost use Rattle.std.specs.Prelude.{◌≡◌, ◌==◌, ◌∷◌, [], codes, option_map, IfOk, IfSome};
+ghost use Rattle.std.specs.Prelude.{◌≡◌, ◌==◌, ◌∷◌, codes, option_map, IfOk, IfSome};
 ghost use Rattle.std.specs.List.{slice_split};
 ghost use Rattle.std.specs.Option.{option_copied};
 ghost use Rattle.gateway.specs.Entries.{logged_of};
@@ -8,7 +8,7 @@ ghost use Rattle.traces.specs.Fields.{decimal_of, parts_after};
 ghost use Rattle.traces.specs.Printed.{cause_numbered, went_at};
 ghost use Rattle.traces.specs.Progress.{came};
 ghost use Rattle.capture.specs.Entries.{FitsPacket};
-ghost use Rattle.capture.specs.Recorded.{action_by, action_from, entry_from, gap_by};
+ghost use Rattle.capture.specs.Recorded.{action_by, action_from, entry_from};
 
 use gateway::{Entry, StoredEntry};
 use session::Close;

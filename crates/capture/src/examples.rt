@@ -1,5 +1,5 @@
 //! Comments on packets by worked examples: literal octets and texts.
-ghost use Rattle.std.specs.Prelude.{◌≡◌, ◌∷◌, [], ℕ, List, codes, true, false};
+ghost use Rattle.std.specs.Prelude.{◌≡◌, ◌∷◌, [], ℕ, codes, true, false};
 ghost use Rattle.ft12.specs.Fronts.{front_of};
 ghost use Rattle.ft12.specs.declared.frame.Why.{Why};
 ghost use Rattle.ft12.specs.declared.frame.Front.TheVariants.{More, Never};

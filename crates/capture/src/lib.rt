@@ -15,17 +15,9 @@
 //! octets that TCP took or brought by its lines, and so for the line
 //! ([`captures_carry_the_octets`]); the packets of each line stand at the time of the wall clock
 //! ([`packets_stand_at_their_times`]); each end numbers its segments on, from SYN to FIN or RST,
-//! and acknowledges what the other has sent ([`segments_run_on`]); a file is its header, the blocks
-//! of what the lines log, and nothing else ([`lines_are_captured`]). A reader finds each packet in
-//! its octets again, by the rules of pcapng, IPv4 and TCP ([`captures_are_read_back`],
-//! [`blocks_have_their_lengths`], [`datagrams_have_their_sums`]). Connections follow one another as
-//! TCP has it, and as the record says ([`connections_are_streams`],
-//! [`connections_are_as_recorded`]). Comments are as docs/TEXTS.md has them
-//! ([`comments_are_as_written`]), and lines are read as `traces` reads them
-//! ([`lines_are_read_as_recorded`]). Each line adds packets of its own
-//! ([`each_line_has_its_own_packets`]). The first wrong line ends a capture, and is named by its
-//! number ([`records_are_captured_up_to_a_wrong_line`]). Comments and octets have worked examples
-//! ([`comments_by_example`], [`octets_by_example`]).
+//! and acknowledges what the other has sent ([`segments_run_on`]). A reader finds each packet in
+//! the octets again, by the rules of pcapng, IPv4 and TCP ([`captures_are_read_back`]). Comments
+//! have worked examples ([`comments_by_example`]).
 //!
 //! [`capture_text`] writes the capture of a whole record, which is read block by block, and which
 //! lines of it were cut short it knows as `audit` does. Proved: what it writes is the file of the
@@ -42,30 +34,19 @@ mod clock;
 mod connection;
 mod entry;
 mod examples;
-mod format_laws;
 mod laws;
-mod octet_examples;
 mod octets;
 mod passing;
 mod pcapng;
-mod reader_laws;
 mod segment;
 mod whole;
 mod wire;
 
 pub use capturing::Capture;
 pub use examples::comments_by_example;
-pub use format_laws::{blocks_have_their_lengths, datagrams_have_their_sums};
 pub use laws::{
-    captures_carry_the_octets, lines_are_captured, lines_are_kept, lines_are_read_as_recorded,
-    packets_stand_at_their_times, records_are_captured_up_to_a_wrong_line,
-    segments_carry_the_octets, segments_run_on,
+    captures_are_read_back, captures_carry_the_octets, packets_stand_at_their_times,
+    segments_run_on,
 };
-pub use octet_examples::octets_by_example;
 pub use pcapng::put_file_header;
-pub use reader_laws::{
-    captures_are_read_back, comments_are_as_written, connections_are_as_recorded,
-    connections_are_streams, each_line_has_its_own_packets, frames_wait_for_their_rest,
-    gaps_are_as_recorded,
-};
 pub use whole::{CaptureFault, capture_text};

@@ -1,5 +1,5 @@
 //! The blocks of a pcapng file.
-ghost use Rattle.std.specs.Prelude.{◌≡◌, ◌++◌, ◌+◌, ◌<◌, ◌≤◌, ◌^◌, OnOk, length};
+ghost use Rattle.std.specs.Prelude.{◌≡◌, ◌++◌, ◌+◌, ◌<◌, ◌^◌, OnOk, length};
 ghost use Rattle.capture.specs.Blocks.{back, block, block_length as length_of_block};
 ghost use Rattle.capture.specs.Blocks.{comment_option, file_header, front};
 ghost use Rattle.capture.specs.Blocks.{number_of as interface_number};

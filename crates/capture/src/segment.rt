@@ -1,6 +1,5 @@
 //! Segments of TCP in IPv4 packets.
 ghost use Rattle.std.specs.Prelude.{◌≡◌, ◌++◌, ◌+◌, ◌*◌, ◌/◌, ◌<◌, ◌≤◌, ◌^◌, OnOk, length, sum};
-ghost use Rattle.std.specs.List.{flat_map};
 ghost use Rattle.capture.specs.Segments.{checksum as checksum_of, folded as folded_once};
 ghost use Rattle.capture.specs.Segments.{sum_of_words as words_summed};
 

@@ -32,6 +32,7 @@ mod restoring;
 mod ring;
 
 use asdu::{Asdu, Piece, Pieces, Translation};
+use circular_buffer::HeapCircularBuffer;
 pub use laws::{
     each_call_keeps_the_other_pieces, pieces_are_kept_in_order, pieces_outlive_other_places,
 };
@@ -191,6 +192,20 @@ impl Events {
         ensures { result ≡ length self.now.sent }
     {
         self.sent
+    }
+
+    /// The ring itself with the kept pieces, oldest first. It has as many places as the queue, or
+    /// more.
+    pub fn into_ring(self) -> HeapCircularBuffer<Piece>
+        ensures pieces { octets_of result.items ≡ kept self }
+        ensures capacity { self.places ≤ result.capacity }
+    {
+        let Events {
+            ring,
+            sent: _,
+            places: _,
+        } = self;
+        ring.into_buffer()
     }
 
     /// The kept pieces, oldest first.

@@ -1,39 +1,39 @@
-//! The ring that the pieces stand in: cells that are made once and then written over.
+//! The ring that the pieces stand in: the toolchain's, whose cells are made once and then written
+//! over.
 //!
 //! A piece is written over one that has left, so only its own octets are written. Once all pieces
 //! have left, the next one goes to the first cell. So a queue that is nearly empty stays in the
-//! processor's cache (docs/DECISIONS.md, "A ring of the queue's own").
-ghost use Rattle.std.specs.Prelude.{◌≡◌, ◌+◌, ◌<◌, ◌≤◌, ℕ, List, [], ◌∷◌, ◌++◌, length, vec_len};
-ghost use Rattle.std.specs.Prelude.{vec_capacity, slice_get, option_copied, IfOk, OnOk, OnErr};
-ghost use Rattle.events.specs.Ring.{ring_of, appended, without_oldest};
+//! processor's cache (docs/DECISIONS.md, "Cells that are used again").
+ghost use Rattle.std.specs.Prelude.{◌≡◌, ◌+◌, ◌<◌, ◌≤◌, ℕ, List, [], ◌∷◌, length};
+ghost use Rattle.std.specs.Prelude.{slice_get, option_copied, IfOk, OnOk, OnErr};
+ghost use Rattle.circular_buffer.specs.Buffer.{buffer};
+ghost use Rattle.events.specs.Ring.{ring_of, appended, without_oldest, pieces_in};
 
 use asdu::{Piece, Translation};
+use circular_buffer::HeapCircularBuffer;
 use std::alloc::{AllocError, Global};
 use std::marker::Model;
 
 /// The pieces, oldest first, in a ring of cells.
 #[derive(Drop)]
 pub(crate) struct PieceRing {
-    /// The cells that were written to. There is room for `capacity` of them from the start.
-    cells: Vec<Piece>,
-    /// Where the oldest piece stands.
-    start: usize,
+    /// Cells whose pieces have left, then those of the pieces, then cells to be written over.
+    cells: HeapCircularBuffer<Piece>,
+    /// In which cell the oldest piece stands.
+    first: usize,
     /// How many pieces there are.
     count: usize,
-    /// How many pieces there may be.
-    capacity: usize,
 }
 
 impl Model for PieceRing {
-    ghost use Rattle.std.specs.Prelude.{vec_capacity};
-    ghost use Rattle.events.specs.Ring.{Ring, ring_of, pieces_in, IsInCells};
+    ghost use Rattle.std.specs.Prelude.{◌+◌, ◌≤◌, length};
+    ghost use Rattle.events.specs.Ring.{Ring, ring_of, pieces_in};
 
     ghost Value = { Ring };
 
-    ghost view = { λ r. ring_of (pieces_in r.cells.items r.start r.count) r.capacity };
+    ghost view = { λ r. ring_of (pieces_in r.cells.items r.first r.count) r.cells.capacity };
 
-    ghost invariant = { λ r.
-        IsInCells r.cells.items r.start r.count r.capacity (vec_capacity r.cells) };
+    ghost invariant = { λ r. r.first + r.count ≤ length r.cells.items };
 }
 
 impl PieceRing {
@@ -41,12 +41,11 @@ impl PieceRing {
     pub(crate) fn with_capacity(alloc: Global, capacity: usize) -> Result<PieceRing, AllocError>
         ensures { IfOk result (λ r. r ≡ ring_of [] capacity) }
     {
-        let cells = Vec::with_capacity(alloc, capacity)?;
+        let cells = HeapCircularBuffer::with_capacity(alloc, capacity)?;
         Ok(PieceRing {
             cells,
-            start: 0,
+            first: 0,
             count: 0,
-            capacity,
         })
     }
 
@@ -55,6 +54,7 @@ impl PieceRing {
         ensures len { result ≡ length self.now.items }
         ensures within { result ≤ self.now.capacity }
     {
+        prove!(self.count <= self.cells.capacity());
         self.count
     }
 
@@ -62,7 +62,7 @@ impl PieceRing {
     pub(crate) fn capacity(&self) -> usize
         ensures { result ≡ self.now.capacity }
     {
-        self.capacity
+        self.cells.capacity()
     }
 
     /// The piece that is so many behind the oldest.
@@ -72,8 +72,8 @@ impl PieceRing {
         if index >= self.count {
             return None;
         }
-        let place = place_of(self.start, index, self.capacity);
-        Some(&self.cells[place])
+        prove!(index < self.cells.len() - self.first);
+        self.cells.get(self.first + index)
     }
 
     /// Appends a piece. There must be a place for it.
@@ -81,9 +81,12 @@ impl PieceRing {
         requires { length self.old.items < self.old.capacity }
         ensures { self.new ≡ appended piece.now.items self.old }
     {
-        let place = place_of(self.start, self.count, self.capacity);
-        reach(&mut self.cells, place);
-        overwrite(&mut self.cells[place], piece);
+        self.first = reach(&mut self.cells, self.first, self.count);
+        prove!(self.count < self.cells.len() - self.first);
+        let Some(cell) = self.cells.get_mut(self.first + self.count) else {
+            unreachable!();
+        };
+        overwrite(cell, piece);
         self.count += 1;
     }
 
@@ -95,9 +98,12 @@ impl PieceRing {
         ensures { (octets : List ℕ) × (self.new ≡ appended octets self.old)
             × (left.old ≡ octets ∷ left.new) }
     {
-        let place = place_of(self.start, self.count, self.capacity);
-        reach(&mut self.cells, place);
-        left.write_next(&mut self.cells[place]);
+        self.first = reach(&mut self.cells, self.first, self.count);
+        prove!(self.count < self.cells.len() - self.first);
+        let Some(cell) = self.cells.get_mut(self.first + self.count) else {
+            unreachable!();
+        };
+        left.write_next(cell);
         self.count += 1;
     }
 
@@ -106,11 +112,12 @@ impl PieceRing {
         requires { count ≤ length self.old.items }
         ensures { self.new ≡ without_oldest count self.old }
     {
+        prove!(self.count <= self.cells.len() - self.first);
         self.count -= count;
-        self.start = if self.count == 0 {
+        self.first = if self.count == 0 {
             0
         } else {
-            place_of(self.start, count, self.capacity)
+            self.first + count
         };
     }
 
@@ -121,56 +128,63 @@ impl PieceRing {
         ensures ok { OnOk result (self.new ≡ ring_of self.old.items capacity) }
         ensures err { OnErr result (self.new ≡ self.old) }
     {
-        let more = capacity - self.cells.len();
-        self.cells.reserve_exact(more)?;
-        // More cells can be added only where the row of pieces doesn't go on at the first cell.
-        self.cells.rotate_left(self.start);
-        self.start = 0;
-        self.capacity = capacity;
-        Ok(())
+        prove!(self.cells.len() <= capacity);
+        self.cells.resize(capacity)
+    }
+
+    /// The toolchain's ring with the pieces and no other cell.
+    pub(crate) fn into_buffer(self) -> HeapCircularBuffer<Piece>
+        ensures { result ≡ buffer self.items self.capacity }
+    {
+        let PieceRing {
+            mut cells,
+            first,
+            count,
+        } = self;
+        prove!(count <= cells.len() - first);
+        cells.truncate_back(first + count);
+        cells.truncate_front(count);
+        cells
     }
 }
 
-/// The place that is so many behind `start`, where the first follows the last. No more than
-/// `capacity` behind it.
+/// Has a cell behind the pieces, for which there must be a place. Answers in which cell the oldest
+/// piece stands then.
 #[inline(always)]
-fn place_of(start: usize, index: usize, capacity: usize) -> usize
-    requires start { start ≤ capacity }
-    requires index { index ≤ capacity }
-    ensures before { start + index < capacity → result ≡ start + index }
-    ensures round { capacity ≤ start + index → result + capacity ≡ start + index }
+fn reach(cells: &mut HeapCircularBuffer<Piece>, first: usize, count: usize) -> usize
+    requires pieces { first + count ≤ length cells.old.items }
+    requires room { count < cells.old.capacity }
+    ensures pieces { pieces_in cells.new.items result count
+        ≡ pieces_in cells.old.items first count }
+    ensures cell { result + count < length cells.new.items }
+    ensures capacity { cells.new.capacity ≡ cells.old.capacity }
 {
-    let before_end = capacity - start;
-    if index < before_end {
-        start + index
+    if count < cells.len() - first {
+        first
     } else {
-        index - before_end
+        add_cell(cells, first, count)
     }
 }
 
-/// Has a cell at the place, which is one of those that there are or the next one.
-#[inline(always)]
-fn reach(cells: &mut Vec<Piece>, place: usize)
-    requires place { place ≤ vec_len cells.old }
-    requires room { place < vec_capacity cells.old }
-    ensures there { place < vec_len cells.old → cells.new.items ≡ cells.old.items }
-    ensures next { place ≡ vec_len cells.old →
-        cells.new.items ≡ cells.old.items ++ record { items = [] } ∷ [] }
-    ensures room { vec_capacity cells.old ≤ vec_capacity cells.new }
-{
-    if place == cells.len() {
-        add_cell(cells);
-    }
-}
-
-/// Adds an empty cell, for which there is room.
+/// Adds an empty cell behind the pieces, which stand in the last cells. Where there is no room for
+/// one, the cells before the pieces go.
 #[inline(never)]
-fn add_cell(cells: &mut Vec<Piece>)
-    requires { vec_len cells.old < vec_capacity cells.old }
-    ensures cells { cells.new.items ≡ cells.old.items ++ record { items = [] } ∷ [] }
-    ensures room { vec_capacity cells.old ≤ vec_capacity cells.new }
+fn add_cell(cells: &mut HeapCircularBuffer<Piece>, first: usize, count: usize) -> usize
+    requires pieces { first + count ≡ length cells.old.items }
+    requires room { count < cells.old.capacity }
+    ensures pieces { pieces_in cells.new.items result count
+        ≡ pieces_in cells.old.items first count }
+    ensures cell { result + count < length cells.new.items }
+    ensures capacity { cells.new.capacity ≡ cells.old.capacity }
 {
-    let _ = cells.push(Piece::new());
+    let first = if cells.len() < cells.capacity() {
+        first
+    } else {
+        cells.truncate_front(count);
+        0
+    };
+    let _ = cells.try_push_back(Piece::new());
+    first
 }
 
 /// Writes the piece over what the cell held. Only its octets are copied.

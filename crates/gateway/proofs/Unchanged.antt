@@ -10,7 +10,6 @@ use Rattle.asdu.specs.Sizes.{cause_len, ca_len, ioa_len}
 use Rattle.link.specs.Procedure.{is_up}
 use Rattle.link.specs.declared.turn.StationState.{StationState}
 use Rattle.link.specs.Turns.{station_at}
-use Rattle.link.specs.Primary.{station_down}
 use Rattle.link.specs.Carried.{released, station_carried, station_given_up}
 use Rattle.gateway.specs.declared.settings.LineSettings.{LineSettings}
 use Rattle.gateway.specs.declared.settings.StationSettings.{StationSettings}
@@ -20,6 +19,7 @@ use Rattle.gateway.specs.Config.{Settings}
 use Rattle.gateway.specs.State.{State}
 use Rattle.gateway.specs.Starts.{have_same_sizes, are_alike, are_same, link_start}
 use Rattle.gateway.specs.Carried.{place_of, station_with, start_of, station_started, carried}
+use Rattle.gateway.specs.Carried.{station_new}
 use Rattle.gateway.specs.Unchanged.{IsUnchanged, MayGoOn}
 
 -- The table
@@ -144,7 +144,7 @@ carried_down : (retries address : ℕ) (s : StationState)
     → is_up (station_carried retries address (station_given_up s)).link ≡ true → ⊥
 carried_down retries address s h = cc
 
-down_up : (address : ℕ) → is_up (station_down address).link ≡ true → ⊥
+down_up : (address : ℕ) → is_up (station_new address).link ≡ true → ⊥
 down_up address h = cc
 
 up_start : (retries address : ℕ) (x : LinkStart) (s : StationState)
@@ -167,7 +167,7 @@ pub record AreKnown (goes_on : Bool) (before now : Settings) (s : State) : Type 
   pub other : (i : ℕ) (station : StationSettings) → slice_get now.stations i ≡ Some station
       → place_of station.address before.stations ≡ None
       → station_at (carried goes_on before now s).serial.line.stations i
-      ≡ station_down station.address
+      ≡ station_new station.address
 
 pub up_means : (goes_on : Bool) (before now : Settings) (s : State) (i : ℕ)
     (station : StationSettings)
@@ -209,7 +209,7 @@ up_means goes_on before now s i station are count there up =
     go None place =
         absurd
         (down_up station.address
-        (up_is (station_down station.address) (are.other i station there place)))
+        (up_is (station_new station.address) (are.other i station there place)))
     go (Some k) place =
         let within =
         (position-Some (λ (x : StationSettings). x.address == station.address) before.stations k

@@ -1,10 +1,13 @@
 -- What a restart makes of a gateway (this gateway's own profile).
 use Rattle.std.specs.Prelude.{ℕ, zero, suc, ◌==◌, Bool, List, length, map, slice_get, position}
-use Rattle.std.specs.Prelude.{Option, None, option_and_then, if◌then◌else◌}
+use Rattle.std.specs.Prelude.{Option, None, option_and_then, if◌then◌else◌, get_or, slice_set}
+use Rattle.std.specs.Prelude.{is_some}
 use Rattle.link.specs.Carried as line
 use Rattle.link.specs.Carried.{awaits_command}
 use Rattle.link.specs.declared.seat.ResumedStation.{ResumedStation}
 use Rattle.link.specs.declared.turn.StationState.{StationState}
+use Rattle.link.specs.Primary.{Primary, station_down}
+use Rattle.link.specs.Turns.{station_at}
 use Rattle.command.specs.Carried as tasks
 use Rattle.events.specs.Carried as queue
 use Rattle.gateway.specs.declared.settings.StationSettings.{StationSettings}
@@ -93,13 +96,32 @@ seats before now = map (seat_of before.stations) now.stations
 abbrev pub places : List ResumedStation → List (Option ℕ)
 places seats = map (λ (s : ResumedStation). s.before) seats
 
+-- Stations without a place before. Each may have been a station earlier, and of what it gave then a
+-- report may be lost: its session has a gap, which its first answered reset reports.
+abbrev pub seat_at : List ResumedStation → (place : ℕ) → ResumedStation
+seat_at seats place = get_or seats place (record { address = 0; before = None })
+
+-- of so many stations, from the first on
+abbrev pub stations_marked : List ResumedStation → (count : ℕ) → List StationState
+    → List StationState
+stations_marked seats zero stations = stations
+stations_marked seats (suc k) stations =
+    let marked = stations_marked seats k stations in
+    if is_some (seat_at seats k).before then marked
+    else slice_set marked k (line.with_gap_mark (station_at marked k))
+
+abbrev pub newcomers_marked : List ResumedStation → Primary → Primary
+newcomers_marked seats p =
+    record p { stations = stations_marked seats (length seats) p.stations }
+
 -- The line's side goes on with other stations: nothing is outstanding or waits, and no connection
 -- is left. Counts stay.
 abbrev pub serial_carried : (goes_on : Bool) → (before now : Settings) → Serial → Serial
 serial_carried goes_on before now s =
     let t : Serial = links_started goes_on before now s in
     record {
-      line = line.reseated (link_of now.line) (seats before now) t.line;
+      line = newcomers_marked (seats before now)
+          (line.reseated (link_of now.line) (seats before now) t.line);
       commands = tasks.carried (map info_of now.stations) now.line.sizes now.tcp.select_ms
           now.tcp.max_age_ms (places (seats before now)) t.commands;
       counts = t.counts;
@@ -128,6 +150,10 @@ carried goes_on before now s = record {
 }
 
 -- ---- What becomes of a station
+
+-- of one that wasn't there before: its link is down, and a gap is marked
+abbrev pub station_new : (address : ℕ) → StationState
+station_new address = line.with_gap_mark (station_down address)
 
 -- of one that was there, by the table: its link goes on or is down, and a gap is marked or not
 abbrev pub station_started : LinkStart → StationState → StationState

@@ -11,7 +11,7 @@ use ft12::LinkSize;
 /// What becomes of a station's link at a start.
 #[derive(Clone, Copy, PartialEq, Eq)]
 pub enum LinkStart {
-    /// The station is new: its link is down.
+    /// The station is new: its link is down, and its first answered reset reports a gap.
     Down,
     /// There is no such station any more. A command that is held for it is counted as lost; what is
     /// queued of it goes out.

@@ -1,4 +1,2 @@
 pub mod StationLemmas
 pub mod TwinLemmas
-pub mod HintLaws
-pub mod RefusedLaws

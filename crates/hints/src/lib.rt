@@ -12,13 +12,7 @@
 mod explaining;
 mod file;
 mod finding;
-mod laws;
 mod lines;
 mod stations;
 
 pub use explaining::{explain, explain_site};
-pub use laws::{
-    a_fault_is_told_with_its_place, a_path_names_its_table_and_its_key,
-    a_taken_number_is_that_of_the_first_station_that_has_it,
-    the_first_station_with_the_fault_is_meant,
-};

@@ -5,33 +5,12 @@ use Rattle.std.proofs.lemmas.List.{append-nil, length-drop, take_all}
 use Rattle.apci.specs.declared.apdu.Apdu.{Apdu}
 use Rattle.apci.specs.declared.assembling.Received.{Received as ApduReceived}
 use Rattle.ft12.specs.declared.assembling.Received.{Received as LineReceived}
-use Rattle.gateway.specs.Log.{LogEntry}
 use Rattle.ladder.specs.Rungs.{received_line}
-use Rattle.ladder.specs.Described.{Adds, AreApdusReceived, AreFramesReceived, IsEntryLogged}
-use Rattle.ladder.specs.Described.{IsLoggedTo, Listens}
-use Rattle.ladder.specs.Described.{ListensTo, Remembered, LogsNews, apdu_received_line, no_more}
+use Rattle.ladder.specs.Described.{Adds, AreApdusReceived, AreFramesReceived}
+use Rattle.ladder.specs.Described.{Listens}
+use Rattle.ladder.specs.Described.{ListensTo, Remembered, apdu_received_line, no_more}
 use Rattle.ladder.specs.Described.{no_more_apdus, one_more, one_more_apdu, still_awaited}
 use Rattle.ladder.specs.declared.rungs.Style.{Style}
-
--- an entry more
-pub entry_logged : (style : Style) (old new : Remembered) (entry : LogEntry) (a b : List ℕ)
-    → Adds (IsEntryLogged style old entry new) a b → LogsNews style old (entry ∷ []) new a b
-entry_logged style old new entry a b added = λ log taken logged. (
-  old,
-  taken ++ a,
-  added.0,
-  logged,
-  added.2,
-  ap (λ xs. taken ++ xs) added.1
-      ∙ sym (append_assoc taken a added.0),
-)
-
--- nothing more
-pub nothing_logged : (style : Style) (old new : Remembered) (a b : List ℕ) → new ≡ old → b ≡ a
-    → LogsNews style old [] new a b
-nothing_logged style old new a b same e = λ log taken logged.
-    subst (λ (m : Remembered). IsLoggedTo style log m (taken ++ b)) (sym same)
-    (subst (λ (xs : List ℕ). IsLoggedTo style log old (taken ++ xs)) (sym e) logged)
 
 module _ (style : Style) (now : ℕ) (first : Remembered) (octets text : List ℕ) where
   -- so much of a piece of the line was described: what is said of the rest comes behind it
@@ -41,14 +20,6 @@ module _ (style : Style) (now : ℕ) (first : Remembered) (octets text : List �
     pub rest : (after : Remembered) (lines : List ℕ)
         → AreFramesReceived style now mind left after lines
         → AreFramesReceived style now first octets after (so_far ++ lines)
-
-  pub frames_begin : FramesTo first octets text
-  frames_begin = record {
-    so_far = [];
-    written_is = sym (append-nil text);
-    rest =
-        λ after lines h. h;
-  }
 
   pub frames_on : (mind next : Remembered) (left written later : List ℕ) (n : ℕ)
       (arrived : LineReceived)
@@ -96,14 +67,6 @@ module _ (style : Style) (now : ℕ) (first : Remembered) (octets text : List �
     pub rest : (after : Remembered) (lines : List ℕ)
         → AreApdusReceived style now mind left after lines
         → AreApdusReceived style now first octets after (so_far ++ lines)
-
-  pub apdus_begin : ApdusTo first octets text
-  apdus_begin = record {
-    so_far = [];
-    written_is = sym (append-nil text);
-    rest =
-        λ after lines h. h;
-  }
 
   pub apdus_on : (mind next : Remembered) (left written later : List ℕ) (n : ℕ)
       (arrived : ApduReceived)

@@ -1,12 +1,11 @@
 -- What a scribe has on its page.
-use Rattle.std.proofs.Common.{◌≡◌, ℕ, Bool, true, false, List, [], ◌++◌, refl, sym, subst, ap, ◌∙◌}
+use Rattle.std.proofs.Common.{◌≡◌, ℕ, Bool, true, false, List, ◌++◌, refl, sym, ap, ◌∙◌}
 use Rattle.std.proofs.Common.{append_assoc, ◌&&◌}
-use Rattle.std.proofs.lemmas.List.{append-nil}
 use Rattle.std.specs.Prelude.{Result, Ok, Err, OnOk}
 use Rattle.std.specs.Result.{is_ok}
 use Rattle.gateway.specs.Log.{Log}
 use Rattle.ladder.specs.Scribing.{IsScribing, Scribing}
-use Rattle.ladder.specs.Described.{IsLoggedTo, Remembered, LogsNews}
+use Rattle.ladder.specs.Described.{Remembered, LogsNews}
 
 both_so : (a b : Bool) → (a && b) ≡ true → (a ≡ true) × (b ≡ true)
 both_so true true h = (refl, refl)
@@ -39,16 +38,6 @@ noted_on s news mind page r noted is logged h = record {
     ap (λ (l : Log). news ++ l) h.behind.1
         ∙ sym (append_assoc news h.behind.0 s.poured),
   );
-}
-
--- the page is cleared
-pub poured_on : (s : Scribing) → s.is_noted ≡ true → IsScribing s
-    → IsScribing (record s { poured = s.log; logged = s.logged ++ s.page; page = [] })
-poured_on s noted h = record {
-  noted = λ so. subst (λ (xs : List ℕ). IsLoggedTo s.style s.log s.remembered xs)
-      (sym (append-nil (s.logged ++ s.page))) (h.noted noted);
-  poured = record { mind = s.remembered; logged = h.noted noted };
-  behind = ([], refl);
 }
 
 -- two tests, of which the second is made where the first is so

@@ -1,4 +1,3 @@
 pub mod Rungs
 pub mod Described
 pub mod Scribing
-pub mod Remarks

@@ -1,5 +1,5 @@
 //! Runs that print what passes in words while they go on.
-ghost use Rattle.std.specs.Prelude.{◌≡◌, ◌⊎◌, ◌+◌, ◌-◌, ◌<◌, ◌≤◌, ℕ, List, Option, IfSome, Some};
+ghost use Rattle.std.specs.Prelude.{◌≡◌, ◌⊎◌, ◌+◌, ◌-◌, ◌<◌, ℕ, List, Option, IfSome, Some};
 ghost use Rattle.std.specs.Prelude.{true};
 ghost use Rattle.gateway.specs.Accounts.{IsAccounted};
 ghost use Rattle.gateway.specs.Agrees.{Follows, Rests};

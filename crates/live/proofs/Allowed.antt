@@ -9,7 +9,8 @@ use Rattle.gateway.specs.Log.{Log, Output, LineOut, TcpOut, Closed, GapOut}
 use Rattle.session.specs.declared.kinds.Close.TheVariants as close
 use Rattle.gateway.specs.declared.ports.Next.{Next}
 use Rattle.gateway.specs.declared.ports.Next.TheVariants as next
-use Rattle.live.specs.Timing.{is_behind, moment_at}
+use Rattle.live.specs.Timing.{is_behind, told_at}
+use Rattle.live.specs.Ends.{brings_frame}
 use Rattle.live.specs.Ends.{LiveEnds, Peer, IsAllowedPeer, Answers, QuietRounds, NoRound, OneRound}
 use Rattle.live.specs.Ends.{LooksOn}
 use Rattle.live.specs.Ends.{Turns, LogsTurn, as_logged, looking, event_at, taken_by, clock_read_at}
@@ -212,7 +213,7 @@ kept_out_by old new event buf (inr t) =
     found in
     let given : IsKeptOut old.allow_list (peer_of old) t.given.taken new.connection =
     subst Q (sym t.given.ends) taken in
-    subst P (sym t.given.given) (given_out old new (moment_at new.timing t.now) t.given.taken given)
+    subst P (sym t.given.given) (given_out old new (told_at new.timing (brings_frame t.given.taken buf) t.now) t.given.taken given)
 
 -- the log is no matter
 logged_out : (log : Log) (old new : LiveEnds) (event : Next)

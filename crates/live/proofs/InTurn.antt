@@ -5,10 +5,11 @@ use Rattle.std.proofs.Common.{Option, Some, None, refl, sym, ap, subst, arith, �
 use Rattle.gateway.specs.declared.ports.Next.{Next}
 use Rattle.gateway.specs.declared.ports.Next.TheVariants as next
 use Rattle.gateway.specs.Log.{Log, Output}
-use Rattle.live.specs.Timing.{is_behind, moment_at}
+use Rattle.live.specs.Timing.{is_behind, told_at}
 use Rattle.live.specs.Walls.{is_wall}
 use Rattle.live.specs.Law.{AtRounds}
 use Rattle.live.specs.OctetStreams.{WasGone, WasQuiet, looked}
+use Rattle.live.specs.Ends.{brings_frame}
 use Rattle.live.specs.Ends.{LiveEnds, Answers, Turns, LogsTurn, LogsPut, as_logged, IsTurn}
 use Rattle.live.specs.Ends.{TurnsToEnds, event_at, taken_by}
 use Rattle.live.specs.Ends.{looking, clock_read_at, turn_by, sources_by, held_by, round, look}
@@ -98,7 +99,7 @@ behind_by old new event buf (inl t) =
     subst P (sym t.given.given) (ap (λ (e : LiveEnds). e.first) t.given.ends)
 behind_by old new event buf (inr t) =
     let l = t.looks in
-    let n = moment_at new.timing t.now in
+    let n = told_at new.timing (brings_frame t.given.taken buf) t.now in
     let P : Next → Type 0 = λ e. BeginsBehind e old.first new.first in
     let Q : Option SourceEvent × LiveEnds → Type 0 = λ p. Begins p.0 p.1.first in
     let R : LiveEnds → Type 0 = λ e. Begins t.f e.first in
@@ -298,7 +299,7 @@ round_at : (old new : LiveEnds) (event : Next) (buf : List ℕ) (t : TurnsToEnds
 round_at old new event buf t q rounds due none level =
     let l = t.looks in
     let start = looking (clock_read_at t.first old) in
-    let n = moment_at new.timing t.now in
+    let n = told_at new.timing (brings_frame t.given.taken buf) t.now in
     let k = quiet_stays start q l.begun l.before rounds in
     let S : EventSource → Type 0 = λ s. Looked l.begun s t.f l.before l.found in
     let looked_so = subst S k.first (in_turn l.begun l.before l.found t.f buf l.turn (k.due ∙ due)
@@ -350,7 +351,7 @@ each_at : (old new : LiveEnds) (event : Next) (buf : List ℕ) (t : TurnsToEnds 
 each_at old new event buf t q rounds =
     let l = t.looks in
     let start = looking (clock_read_at t.first old) in
-    let n = moment_at new.timing t.now in
+    let n = told_at new.timing (brings_frame t.given.taken buf) t.now in
     let R : LiveEnds → Type 0 = λ e. EachRoundLooks q (event_at n t.f) start e in
     let here : EachRoundLooks q (event_at n t.f) start t.found =
     subst R (sym l.done) (each_behind n l.begun t.now q buf t.f start l.before l.found rounds
@@ -396,7 +397,7 @@ held_at : (old new : LiveEnds) (event : Next) (buf : List ℕ) (t : TurnsToEnds 
     ⊎ HoldsOctets event (take (length old.held) buf) new.timing new.held t.now
 held_at old new event buf t q rounds due some level =
     let l = t.looks in
-    let n = moment_at new.timing t.now in
+    let n = told_at new.timing (brings_frame t.given.taken buf) t.now in
     let count = length old.held in
     let k = quiet_stays (looking (clock_read_at t.first old)) q l.begun l.before rounds in
     let octets : t.f ≡ Some (found.Bytes count) =

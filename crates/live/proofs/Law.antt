@@ -1,19 +1,20 @@
 -- The laws of the port over live ends.
 use Rattle.std.proofs.Common.{◌≡◌, ℕ, ◌+◌, ◌-◌, ◌<◌, ◌≤◌, true, false, Bool, List, [], ◌∷◌, Option}
 use Rattle.std.proofs.Common.{Some, None, refl, sym, ap, subst, arith, nat_lt, if◌then◌else◌, ◌∙◌}
-use Rattle.std.proofs.Common.{inl, inr}
+use Rattle.std.proofs.Common.{inl, inr, ◌⊎◌, take}
 use Rattle.gateway.specs.declared.ports.Next.{Next}
 use Rattle.live.specs.Timing.{Moments, read_at, moment_at, moment_by, is_waited_out, goes_on}
-use Rattle.live.specs.Timing.{is_behind, eve}
+use Rattle.live.specs.Timing.{is_behind, eve, told_at}
 use Rattle.live.specs.Ends.{LiveEnds, Peer, Answers, IsTurn, QuietRounds, NoRound, OneRound}
-use Rattle.live.specs.Ends.{LooksOn}
+use Rattle.live.specs.Ends.{LooksOn, brings_frame}
+use Rattle.live.specs.Streams.{ends_frame}
 use Rattle.live.specs.Ends.{Turns, LogsTurn, as_logged, looking, event_at, taken_by, clock_read_at}
 use Rattle.live.specs.Ends.{turn_by, sources_by, held_by, round, look, unless_found, next_round}
 use Rattle.live.specs.Ends.{looked_at, found_at, after, nothing_more, accepted, turned_away}
 use Rattle.live.proofs.Apart.{clock_of, clock_apart, taken_same}
 use Rattle.live.specs.declared.source.EventSource.{EventSource}
 use Rattle.live.specs.declared.source.EventSource.TheVariants.{Listener, Connection, Line}
-use Rattle.live.specs.Law.{AtMoment, AtBytes, AtClock, IsWaitedOut}
+use Rattle.live.specs.Law.{AtMoment, AtBytes, AtClock, IsWaitedOut, is_frame}
 use Rattle.live.specs.declared.found.SourceEvent.{SourceEvent}
 use Rattle.live.specs.declared.found.SourceEvent.TheVariants as found
 use Rattle.live.specs.declared.timing.Timing.{Timing}
@@ -47,32 +48,57 @@ by_request t q r now asked some late = waited_by (is_waited_out t r) (goes_on t 
     (let P : Option WrittenRequest → Type 0 = λ q. r.moment + t.answer_ms ≤ moment_by t q now in
     subst P asked late)
 
+-- the line was waited out by this moment of the event, or that brings a frame
+IsReadBy : Timing → WrittenRequest → Next → (buf : List ℕ) → (moment : ℕ) → Type 0
+IsReadBy t r event buf moment = r.moment + t.answer_ms ≤ moment
+    → (t.answer_ms ≤ t.looked - r.written) ⊎ (is_frame event buf ≡ true)
+
+frame_read : (g : Bool) (t : Timing) (r : WrittenRequest) (now len : ℕ) (buf : List ℕ)
+    → ends_frame (take len buf) ≡ g → t.request ≡ Some r → 0 < t.answer_ms
+    → r.moment + t.answer_ms ≤ told_at t g now
+    → (t.answer_ms ≤ t.looked - r.written) ⊎ (ends_frame (take len buf) ≡ true)
+frame_read true t r now len buf ends asked some late = inr ends
+frame_read false t r now len buf ends asked some late =
+    inl (by_request t t.request r now asked some late)
+
+event_read : (t : Timing) (r : WrittenRequest) (now : ℕ) (f : Option SourceEvent) (buf : List ℕ)
+    → t.request ≡ Some r → 0 < t.answer_ms
+    → let e = event_at (told_at t (brings_frame f buf) now) f in AtMoment e (IsReadBy t r e buf)
+unfolding IsReadBy
+event_read t r now None buf asked some =
+    λ late. inl (by_request t t.request r now asked some late)
+event_read t r now (Some found.Open) buf asked some =
+    λ late. inl (by_request t t.request r now asked some late)
+event_read t r now (Some (found.Bytes len)) buf asked some =
+    λ late. inl (by_request t t.request r now asked some late)
+event_read t r now (Some found.Cut) buf asked some =
+    λ late. inl (by_request t t.request r now asked some late)
+event_read t r now (Some (found.Line len)) buf asked some =
+    λ late. frame_read (ends_frame (take len buf)) t r now len buf refl asked some late
+event_read t r now (Some found.Fault) buf asked some = tt
+
 waited_out_by : (old new : LiveEnds) (event : Next) (buf : List ℕ) (r : WrittenRequest)
     → Turns old event buf new
     → new.timing.request ≡ Some r
-    → 0 < new.timing.answer_ms →
-    AtMoment event (λ moment. r.moment + new.timing.answer_ms ≤ moment
-    → new.timing.answer_ms ≤ new.timing.looked - r.written)
+    → 0 < new.timing.answer_ms → AtMoment event (IsReadBy new.timing r event buf)
+unfolding IsReadBy
 waited_out_by old new event buf r (inl t) asked some =
-    let Holds : ℕ → Type 0 = λ moment. r.moment + new.timing.answer_ms ≤ moment →
-    new.timing.answer_ms ≤ new.timing.looked - r.written in
-    let P : Next → Type 0 = λ e. AtMoment e Holds in
-    let Q : Timing → Type 0 = λ k. Holds (moment_at k t.begun) in
+    let P : Next → Type 0 = λ e. AtMoment e (IsReadBy new.timing r e buf) in
+    let Q : Timing → Type 0 = λ k. r.moment + new.timing.answer_ms ≤ moment_at k t.begun
+    → new.timing.answer_ms ≤ new.timing.looked - r.written in
     let same : new.timing ≡ old.timing = ap (λ (e : LiveEnds). e.timing) t.given.ends in
-    subst P (sym t.given.given)
-    (subst Q same (by_request new.timing new.timing.request r t.begun asked some))
+    let read = subst Q same (by_request new.timing new.timing.request r t.begun asked some) in
+    subst P (sym t.given.given) (λ late. inl (read late))
 waited_out_by old new event buf r (inr t) asked some =
-    let Holds : ℕ → Type 0 = λ moment. r.moment + new.timing.answer_ms ≤ moment →
-    new.timing.answer_ms ≤ new.timing.looked - r.written in
-    let P : Next → Type 0 = λ e. AtMoment e Holds in
-    subst P (sym t.given.given) (at_moment (moment_at new.timing t.now) t.given.taken Holds
-    (by_request new.timing new.timing.request r t.now asked some))
+    let P : Next → Type 0 = λ e. AtMoment e (IsReadBy new.timing r e buf) in
+    subst P (sym t.given.given) (event_read new.timing r t.now t.given.taken buf asked some)
 
 pub waited_out : (old new : LiveEnds) (event : Next) (buf : List ℕ) (r : WrittenRequest)
     → LogsTurn old event buf new
     → new.timing.request ≡ Some r → 0 < new.timing.answer_ms →
     AtMoment event (λ moment. r.moment + new.timing.answer_ms ≤ moment
-    → new.timing.answer_ms ≤ new.timing.looked - r.written)
+    → (new.timing.answer_ms ≤ new.timing.looked - r.written) ⊎ (is_frame event buf ≡ true))
+unfolding IsReadBy
 waited_out old new event buf r l = waited_out_by old (as_logged old.log new) event buf r l.turns
 
 -- the clock has given this last
@@ -104,6 +130,14 @@ clocks_by : (t : Timing) (q : Option WrittenRequest) (now : ℕ) → IsWaitedOut
 clocks_by t None now out = refl
 clocks_by t (Some r) now out = out_by (is_waited_out t r) t r now refl out
 
+if_so : (b : Bool) (now moment : ℕ) → moment ≡ now → (if b then now else moment) ≡ now
+if_so true now moment is = refl
+if_so false now moment is = is
+
+told_clocks : (g : Bool) (t : Timing) (now : ℕ) → moment_at t now ≡ now → told_at t g now ≡ now
+told_clocks true t now is = if_so (is_behind t now) now (moment_at t now) is
+told_clocks false t now is = is
+
 clocks_of : (old new : LiveEnds) (event : Next) (buf : List ℕ) → Turns old event buf new
     → IsWaitedOut new.timing new.timing.request
     → AtClock new.clock (λ now. AtMoment event (λ moment. moment ≡ now))
@@ -117,7 +151,7 @@ clocks_of old new event buf (inl t) out =
     subst P (sym t.given.given) (subst R (sym given) (at_clock old.clock t.begun (λ now. m ≡ now)
     (subst Q same (clocks_by new.timing new.timing.request t.begun out))))
 clocks_of old new event buf (inr t) out =
-    let m = moment_at new.timing t.now in
+    let m = told_at new.timing (brings_frame t.given.taken buf) t.now in
     let P : Next → Type 0 = λ e. AtClock new.clock (λ now. AtMoment e (λ moment. moment ≡ now)) in
     let R : Moments → Type 0 =
     λ c. AtClock c (λ now. AtMoment (event_at m t.given.taken) (λ moment. moment ≡ now)) in
@@ -127,7 +161,8 @@ clocks_of old new event buf (inr t) out =
     subst P (sym t.given.given) (subst R (sym given) (at_clock t.looks.found.clock t.now
     (λ now. AtMoment (event_at m t.given.taken) (λ moment. moment ≡ now))
     (at_moment m t.given.taken (λ moment. moment ≡ t.now)
-    (clocks_by new.timing new.timing.request t.now out))))
+    (told_clocks (brings_frame t.given.taken buf) new.timing t.now
+    (clocks_by new.timing new.timing.request t.now out)))))
 
 pub clocks : (old new : LiveEnds) (event : Next) (buf : List ℕ) → LogsTurn old event buf new
     → IsWaitedOut new.timing new.timing.request
@@ -135,9 +170,9 @@ pub clocks : (old new : LiveEnds) (event : Next) (buf : List ℕ) → LogsTurn o
 clocks old new event buf l out = clocks_of old (as_logged old.log new) event buf l.turns out
 
 -- what a control centre sent is at most 50 ms behind the clock
-InTime : ℕ → Option SourceEvent × LiveEnds → Type 0
-InTime now p =
-    AtClock p.1.clock (λ n. AtBytes (event_at (moment_at p.1.timing now) p.0) (λ m. n ≤ m + 50))
+InTime : ℕ → (buf : List ℕ) → Option SourceEvent × LiveEnds → Type 0
+InTime now buf p = AtClock p.1.clock (λ n.
+    AtBytes (event_at (told_at p.1.timing (brings_frame p.0 buf) now) p.0) (λ m. n ≤ m + 50))
 
 level_bound : (now m : ℕ) → nat_lt 50 (now - m) ≡ false → now ≤ m + 50
 level_bound now m level = grind (arith, level)
@@ -145,7 +180,7 @@ level_bound now m level = grind (arith, level)
 timely : (b : Bool) (buf : List ℕ) (f : Option SourceEvent) (e : LiveEnds) (now : ℕ)
     → is_behind e.timing now
     ≡ b
-    → InTime now (taken_by b buf f (clock_read_at now e))
+    → InTime now buf (taken_by b buf f (clock_read_at now e))
 unfolding InTime
 timely true buf None e now behind = at_clock e.clock now (λ n. Unit {0}) tt
 timely true buf (Some found.Open) e now behind = at_clock e.clock now (λ n. Unit {0}) tt
@@ -175,14 +210,59 @@ in_time_by old new event buf (inl t) =
 in_time_by old new event buf (inr t) =
     let P : Next → Type 0 =
     λ e. AtClock new.clock (λ now. AtBytes e (λ moment. now ≤ moment + 50)) in
-    let Q : Option SourceEvent × LiveEnds → Type 0 = λ p. InTime t.now p in
-    let R : LiveEnds → Type 0 = λ e. InTime t.now (taken_by (is_behind e.timing t.now) buf t.f e) in
+    let Q : Option SourceEvent × LiveEnds → Type 0 = λ p. InTime t.now buf p in
+    let R : LiveEnds → Type 0 =
+    λ e. InTime t.now buf (taken_by (is_behind e.timing t.now) buf t.f e) in
     subst P (sym t.given.given) (subst Q (sym t.given.ends) (subst R (sym t.looks.done)
     (timely (is_behind t.looks.found.timing t.now) buf t.f t.looks.found t.now refl)))
 
 pub in_time : (old new : LiveEnds) (event : Next) (buf : List ℕ) → LogsTurn old event buf new
     → AtClock new.clock (λ now. AtBytes event (λ moment. now ≤ moment + 50))
 in_time old new event buf l = in_time_by old (as_logged old.log new) event buf l.turns
+
+-- a frame of the line is at most 50 ms behind the clock
+told_level : (b : Bool) (now m : ℕ) → nat_lt 50 (now - m) ≡ b → now ≤ (if b then now else m) + 50
+told_level true now m behind = omega (arith)
+told_level false now m level = level_bound now m level
+
+frame_level : (g : Bool) (t : Timing) (now : ℕ) → g ≡ true → now ≤ told_at t g now + 50
+frame_level true t now ends = told_level (is_behind t now) now (moment_at t now) refl
+frame_level false t now ends = absurd (cc)
+
+event_level : (t : Timing) (now : ℕ) (f : Option SourceEvent) (buf : List ℕ)
+    → let e = event_at (told_at t (brings_frame f buf) now) f in
+    is_frame e buf ≡ true → AtMoment e (λ moment. now ≤ moment + 50)
+event_level t now None buf ends = absurd (cc)
+event_level t now (Some found.Open) buf ends = absurd (cc)
+event_level t now (Some (found.Bytes len)) buf ends = absurd (cc)
+event_level t now (Some found.Cut) buf ends = absurd (cc)
+event_level t now (Some (found.Line len)) buf ends =
+    frame_level (ends_frame (take len buf)) t now ends
+event_level t now (Some found.Fault) buf ends = absurd (cc)
+
+caught_up_by : (old new : LiveEnds) (event : Next) (buf : List ℕ) → Turns old event buf new
+    → is_frame event buf ≡ true
+    → AtClock new.clock (λ now. AtMoment event (λ moment. now ≤ moment + 50))
+caught_up_by old new event buf (inl t) ends =
+    let no : false ≡ true = sym (ap (λ e. is_frame e buf) t.given.given) ∙ ends in absurd (cc)
+caught_up_by old new event buf (inr t) ends =
+    let e = event_at (told_at new.timing (brings_frame t.given.taken buf) t.now) t.given.taken in
+    let P : Next → Type 0 =
+    λ e. AtClock new.clock (λ now. AtMoment e (λ moment. now ≤ moment + 50)) in
+    let R : Moments → Type 0 =
+    λ c. AtClock c (λ now. AtMoment e (λ moment. now ≤ moment + 50)) in
+    let clock = clock_read t.now (is_behind t.found.timing t.now) buf t.f t.looks.found t.found new
+    t.given.taken t.looks.done t.given.ends in
+    let is : is_frame e buf ≡ true = sym (ap (λ e. is_frame e buf) t.given.given) ∙ ends in
+    subst P (sym t.given.given) (subst R (sym clock) (at_clock t.looks.found.clock t.now
+    (λ now. AtMoment e (λ moment. now ≤ moment + 50))
+    (event_level new.timing t.now t.given.taken buf is)))
+
+pub caught_up : (old new : LiveEnds) (event : Next) (buf : List ℕ) → LogsTurn old event buf new
+    → is_frame event buf ≡ true
+    → AtClock new.clock (λ now. AtMoment event (λ moment. now ≤ moment + 50))
+caught_up old new event buf l ends =
+    caught_up_by old (as_logged old.log new) event buf l.turns ends
 
 -- the latest request and how long an answer is awaited are the same
 Keeps : Timing → Timing → Type 0

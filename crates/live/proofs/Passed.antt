@@ -8,7 +8,8 @@ use Rattle.session.specs.declared.kinds.Close.{Close}
 use Rattle.session.specs.declared.kinds.Close.TheVariants as close
 use Rattle.live.specs.OctetStreams.{Happening, Gave, WasQuiet, WasGone, Dropped, Wrote}
 use Rattle.live.specs.OctetStreams.{StreamHistory, IsNew, noted, Attempts, attempted}
-use Rattle.live.specs.Timing.{is_behind, moment_at}
+use Rattle.live.specs.Timing.{is_behind, told_at}
+use Rattle.live.specs.Ends.{brings_frame}
 use Rattle.live.specs.Ends.{LiveEnds, Peer, IsAllowedPeer, Answers, QuietRounds, NoRound, OneRound}
 use Rattle.live.specs.Ends.{LooksOn, Turns, PutsOut, as_logged, looking, event_at, taken_by}
 use Rattle.live.specs.Ends.{clock_read_at, turn_by, sources_by, held_by, IsFront, round, look}
@@ -353,7 +354,7 @@ turn_logged old new event buf log (inl t) h =
     let Q : LiveEnds → Type 0 = λ e. LogsEnds log e in
     subst P (sym t.given.given) (subst Q (sym t.given.ends) h)
 turn_logged old new event buf log (inr t) h =
-    let n = moment_at new.timing t.now in
+    let n = told_at new.timing (brings_frame t.given.taken buf) t.now in
     let P : Next → Type 0 = λ e. LogsEnds (logged_by e buf ++ log) new in
     let R : Option SourceEvent × LiveEnds
     → Type 0 = λ p. LogsEnds (logged_by (event_at n p.0) buf ++ log)

@@ -2,7 +2,8 @@
 use Rattle.std.proofs.Common.{◌≡◌, ℕ, true, false, Bool, List, [], ◌∷◌, Option, Some, None, refl}
 use Rattle.std.proofs.Common.{sym, ap, subst, inl, inr, ◌∙◌, is_some}
 use Rattle.gateway.specs.declared.ports.Next.{Next}
-use Rattle.live.specs.Timing.{is_behind, moment_at}
+use Rattle.live.specs.Timing.{is_behind, told_at}
+use Rattle.live.specs.Ends.{brings_frame}
 use Rattle.live.specs.Ends.{LiveEnds, Peer, Answers, QuietRounds, NoRound, OneRound, LooksOn, Turns}
 use Rattle.live.specs.Ends.{LogsTurn, as_logged, looking, event_at, taken_by, clock_read_at}
 use Rattle.live.specs.Ends.{turn_by, sources_by, held_by, round, look, unless_found, next_round}
@@ -351,7 +352,7 @@ turns_reasoned old new event buf (inr t) =
     subst Q (sym t.given.ends)
     (taken_reasoned d old.why_cut n (is_behind t.found.timing t.now) buf t.f t.found found) in
     subst P (sym t.given.given)
-    (given_reasoned d old.why_cut n (moment_at new.timing t.now) t.given.taken new given)
+    (given_reasoned d old.why_cut n (told_at new.timing (brings_frame t.given.taken buf) t.now) t.given.taken new given)
 
 -- the log is no matter
 pub reasoned : (old new : LiveEnds) (event : Next) (buf : List ℕ) → LogsTurn old event buf new

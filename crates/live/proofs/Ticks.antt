@@ -5,12 +5,13 @@ use Rattle.std.proofs.Common.{subst, arith, ◌∙◌, inl, inr}
 use Rattle.std.specs.Prelude.{All}
 use Rattle.std.proofs.lemmas.List.Elements.{All-cons, All-nil}
 use Rattle.gateway.specs.declared.ports.Next.{Next}
-use Rattle.live.specs.Timing.{Moments, read_at, moment_at, is_awaited, is_awaited_by, is_behind}
+use Rattle.live.specs.Timing.{Moments, read_at, told_at, is_awaited, is_awaited_by, is_behind}
 use Rattle.live.specs.Timing.{line_looked_at}
 use Rattle.live.specs.InTurn.{looked_before}
 use Rattle.live.specs.Walls.{is_wall, is_wall_due}
 use Rattle.live.specs.Law.{SomeRounds, AtRounds, first_of, IsTickDue, LongSince, TooLate, WallIsDue}
 use Rattle.live.specs.Law.{FarBehind, ManyRounds, IfTick, IsOneOf}
+use Rattle.live.specs.Ends.{brings_frame}
 use Rattle.live.specs.Ends.{LiveEnds, Turns, LogsTurn, as_logged, TurnsToWall, TurnsToEnds}
 use Rattle.live.specs.Ends.{QuietRounds}
 use Rattle.live.specs.Ends.{NoRound, OneRound, is_tick_due, IsLast, event_at, taken_by, looking}
@@ -319,7 +320,7 @@ tick_by old new event buf (inr t) =
     let Holds : ℕ → List ℕ → ℕ → Type 0 = λ begun quiet now. IsTickDue old.timing new.timing
     new.walled (first_of begun quiet) quiet now in
     let P : Next → Type 0 = λ e. IfTick e (AtRounds old.clock new.clock Holds) in
-    subst P (sym t.given.given) (if_tick (moment_at new.timing t.now) t.given.taken
+    subst P (sym t.given.given) (if_tick (told_at new.timing (brings_frame t.given.taken buf) t.now) t.given.taken
     (AtRounds old.clock new.clock Holds)
     (λ none. at_rounds old event buf new t Holds
     (λ before b. let Q : ℕ → Type 0 = λ first. IsTickDue old.timing new.timing new.walled first

@@ -6,7 +6,8 @@ use Rattle.std.proofs.Common.{◌∙◌, inl, inr}
 use Rattle.std.specs.declared.net.ip_addr.IpAddr.{IpAddr}
 use Rattle.live.specs.AllowLists.{AreStrangers}
 use Rattle.live.specs.declared.allow_list.AllowList.{AllowList}
-use Rattle.live.specs.Timing.{is_behind, moment_at, is_awaited}
+use Rattle.live.specs.Timing.{is_behind, moment_at, is_awaited, told_at}
+use Rattle.live.specs.Ends.{brings_frame}
 use Rattle.live.specs.Ends.{LiveEnds, Peer, IsAllowedPeer, accepted, Answers, after, found_at}
 use Rattle.live.specs.Ends.{turned_away}
 use Rattle.live.specs.Ends.{looked_at}
@@ -389,7 +390,8 @@ given_held now old new len event buf behind done given =
 
 -- octets that came in time
 pub given_level : (now : ℕ) (old : LiveEnds) (f : Option SourceEvent) (event : Next) (buf : List ℕ)
-    → is_behind old.timing now ≡ false → event ≡ event_at (moment_at old.timing now) f
+    → is_behind old.timing now ≡ false
+    → event ≡ event_at (told_at old.timing (brings_frame f buf) now) f
     → GivesEvent now old f event buf old
 given_level now old f event buf level given = record {
   taken = f;

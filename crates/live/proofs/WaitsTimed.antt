@@ -6,7 +6,8 @@ use Rattle.gateway.specs.Log.{Output, LineOut, TcpOut, Closed, GapOut}
 use Rattle.gateway.specs.declared.ports.Next.{Next}
 use Rattle.live.specs.OctetStreams.{StreamHistory, Dropped, Wrote, noted}
 use Rattle.live.specs.Timing.{Moments, moment_at, moment_by, is_waited_out, goes_on, eve}
-use Rattle.live.specs.Timing.{asked_at, line_looked_at, is_behind}
+use Rattle.live.specs.Timing.{asked_at, line_looked_at, is_behind, told_at}
+use Rattle.live.specs.Ends.{brings_frame}
 use Rattle.live.specs.Walls.{is_wall}
 use Rattle.live.specs.Law.{AtMoment, AtClock, AtWall, AtRounds, AsksNothing, IsEve, IsOneOf}
 use Rattle.live.specs.Law.{IsWrittenBehind}
@@ -58,7 +59,7 @@ shown_by old new event buf (inl t) =
 shown_by old new event buf (inr t) =
     let P : Next → Type 0 = λ e. AtWall e (λ moment number. AtClock new.clock (λ now.
     AtClock new.walls (λ shown. number ≡ shown - (now - moment)))) in
-    subst P (sym t.given.given) (no_wall_at (moment_at new.timing t.now) t.given.taken
+    subst P (sym t.given.given) (no_wall_at (told_at new.timing (brings_frame t.given.taken buf) t.now) t.given.taken
     (λ moment number. AtClock new.clock (λ now.
     AtClock new.walls (λ shown. number ≡ shown - (now - moment)))))
 
@@ -119,6 +120,16 @@ held_at : (t : Timing) (q : Option WrittenRequest) (now : ℕ)
 held_at t None now = inl refl
 held_at t (Some r) now = eve_by (is_waited_out t r) (goes_on t r now) t r now refl refl
 
+told_by : (b : Bool) (t : Timing) (now : ℕ) → let m = if b then now else moment_at t now in
+    (m ≡ now) ⊎ IsEve t t.request m now
+told_by true t now = inl refl
+told_by false t now = held_at t t.request now
+
+told : (g : Bool) (t : Timing) (now : ℕ)
+    → (told_at t g now ≡ now) ⊎ IsEve t t.request (told_at t g now) now
+told true t now = told_by (is_behind t now) t now
+told false t now = held_at t t.request now
+
 held_by_turn : (old new : LiveEnds) (event : Next) (buf : List ℕ) → Turns old event buf new
     → AtMoment event (λ moment. AtClock new.clock (λ now.
     (moment ≡ now) ⊎ IsEve new.timing new.timing.request moment now))
@@ -135,7 +146,7 @@ held_by_turn old new event buf (inl t) =
     (λ now. (m ≡ now) ⊎ IsEve new.timing new.timing.request m now)
     (subst T (sym same) (held_at old.timing old.timing.request t.begun))))
 held_by_turn old new event buf (inr t) =
-    let m = moment_at new.timing t.now in
+    let m = told_at new.timing (brings_frame t.given.taken buf) t.now in
     let P : Next → Type 0 = λ e. AtMoment e (λ moment. AtClock new.clock (λ now.
     (moment ≡ now) ⊎ IsEve new.timing new.timing.request moment now)) in
     let C : Moments → Type 0 =
@@ -147,7 +158,7 @@ held_by_turn old new event buf (inr t) =
     (moment ≡ now) ⊎ IsEve new.timing new.timing.request moment now))
     (subst C (sym clock) (at_clock t.looks.found.clock t.now
     (λ now. (m ≡ now) ⊎ IsEve new.timing new.timing.request m now)
-    (held_at new.timing new.timing.request t.now))))
+    (told (brings_frame t.given.taken buf) new.timing t.now))))
 
 pub held : (old new : LiveEnds) (event : Next) (buf : List ℕ) → LogsTurn old event buf new
     → AtMoment event (λ moment. AtClock new.clock (λ now.

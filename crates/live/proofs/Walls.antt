@@ -4,11 +4,12 @@ use Rattle.std.proofs.Common.{true}
 use Rattle.std.proofs.Common.{false, List, Option, Some, None, IfSome, arith, refl, sym, ap, subst}
 use Rattle.std.proofs.Common.{◌∙◌, inl, inr}
 use Rattle.gateway.specs.declared.ports.Next.{Next}
-use Rattle.live.specs.Timing.{Moments, read_at, moment_at, is_behind, is_awaited}
+use Rattle.live.specs.Timing.{Moments, read_at, told_at, is_behind, is_awaited}
 use Rattle.live.specs.Walls.{is_wall, is_wall_due, is_due_since}
 use Rattle.live.specs.Law.{AtBegun, AtClock}
 use Rattle.live.proofs.Apart.{walled_of, walled_apart, clock_of, clock_apart, taken_same}
 use Rattle.live.proofs.Rounds.{walled_aside, turn_kept, quiet_kept, looks_kept}
+use Rattle.live.specs.Ends.{brings_frame}
 use Rattle.live.specs.Ends.{LiveEnds, QuietRounds, NoRound, OneRound, Turns, LogsTurn, as_logged}
 use Rattle.live.specs.Ends.{TurnsToWall, TurnsToEnds, event_at, looking, clock_read_at}
 use Rattle.live.specs.declared.found.SourceEvent.{SourceEvent}
@@ -27,7 +28,7 @@ no_wall now (Some found.Fault) = refl
 pub of_ends : (old new : LiveEnds) (event : Next) (buf : List ℕ) → TurnsToEnds old event buf new
     → is_wall event ≡ false
 of_ends old new event buf t = ap is_wall t.given.given
-    ∙ no_wall (moment_at new.timing t.now) t.given.taken
+    ∙ no_wall (told_at new.timing (brings_frame t.given.taken buf) t.now) t.given.taken
 
 -- once it was given it isn't due before the ends have been looked at
 undue : (a b c d : LiveEnds) (first second : Next) → b.walled ≡ c.walled → TurnsToWall a first b

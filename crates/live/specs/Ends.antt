@@ -15,8 +15,9 @@ use Rattle.live.specs.OctetStreams.{looked, Dropped, WasGone, Wrote, StreamHisto
 use Rattle.live.specs.OctetStreams.{Attempts, attempted}
 use Rattle.live.specs.declared.ends.Got.{Got}
 use Rattle.live.specs.declared.ends.Got.TheVariants.{Octets, Quiet, Gone}
+use Rattle.live.specs.Streams.{ends_frame}
 use Rattle.live.specs.Timing.{Moments, read_at, moment_at, is_behind, is_awaited, line_looked_at}
-use Rattle.live.specs.Timing.{asked_at}
+use Rattle.live.specs.Timing.{asked_at, told_at}
 use Rattle.live.specs.Walls.{is_wall_due, given_at_moment, never_given}
 use Rattle.live.specs.declared.timing.Timing.{Timing}
 use Rattle.live.specs.declared.walled.Walled.{Walled}
@@ -284,6 +285,11 @@ IsFront true is_behind held buf = Unit {0}
 IsFront false true held buf = Unit {0}
 IsFront false false held buf = take (length held) buf ≡ held
 
+-- octets of the line that end as a frame does
+abbrev pub brings_frame : Option SourceEvent → (buf : List ℕ) → Bool
+brings_frame (Some (found.Line len)) buf = ends_frame (take len buf)
+brings_frame _ buf = false
+
 -- Octets of the connection that would bear a moment too far behind the clock are held: they are
 -- given once no moment is that far behind.
 abbrev pub taken_by : Bool → (buf : List ℕ) → Option SourceEvent → LiveEnds → Option SourceEvent
@@ -342,7 +348,7 @@ pub record GivesEvent (now : ℕ) (old : LiveEnds) (f : Option SourceEvent) (eve
     (new : LiveEnds) : Type 0 where
   pub taken : Option SourceEvent
   pub ends : (taken, new) ≡ taken_by (is_behind old.timing now) buf f old
-  pub given : event ≡ event_at (moment_at new.timing now) taken
+  pub given : event ≡ event_at (told_at new.timing (brings_frame taken buf) now) taken
 
 -- the wall clock shows this, and is given at this moment of the clock
 abbrev pub wall_given_at : (now shown : ℕ) → LiveEnds → LiveEnds

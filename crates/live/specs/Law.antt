@@ -1,11 +1,12 @@
 -- Words of the laws (this gateway's own profile).
-use Rattle.std.specs.Prelude.{◌≡◌, ℕ, ◌+◌, ◌-◌, ◌<◌, ◌≤◌, true, false, List, [], ◌∷◌, ◌++◌, length}
+use Rattle.std.specs.Prelude.{◌≡◌, ℕ, ◌+◌, ◌-◌, ◌<◌, ◌≤◌, true, false, List, [], ◌∷◌, ◌++◌, length, take}
 use Rattle.std.specs.Prelude.{◌⊎◌, Bool, Option, Some, None, option_map, is_some}
 use Rattle.std.specs.declared.net.ip_addr.IpAddr.{IpAddr}
 use Rattle.live.specs.Ends.{LiveEnds, Peer}
 use Rattle.live.specs.AllowLists.{Allows}
 use Rattle.live.specs.OctetStreams.{Happening, StreamHistory, Dropped, WasGone, Wrote, noted}
 use Rattle.live.specs.Timing.{Moments, is_awaited, is_behind}
+use Rattle.live.specs.Streams.{ends_frame}
 use Rattle.live.specs.Walls.{is_wall_due}
 use Rattle.live.specs.declared.timing.Timing.{Timing}
 use Rattle.live.specs.declared.walled.Walled.{Walled}
@@ -157,6 +158,11 @@ AsksNothing (LineOut octets) = ⊥
 AsksNothing (TcpOut octets) = Unit {0}
 AsksNothing (Closed cause) = Unit {0}
 AsksNothing (GapOut station session) = Unit {0}
+
+-- the event brings octets of the line that end as a frame does
+abbrev pub is_frame : Next → (buf : List ℕ) → Bool
+is_frame (next.Line now len) buf = ends_frame (take len buf)
+is_frame event buf = false
 
 -- the event is a cut
 abbrev pub is_cut : Next → Bool

@@ -49,6 +49,12 @@ moment_at t now = moment_by t t.request now
 abbrev pub is_behind : Timing → ℕ → Bool
 is_behind t now = nat_lt 50 (now - moment_at t now)
 
+-- The moment that is told. Behind octets that end as a line frame does no answer is to come, so
+-- that such a moment is not behind the clock.
+abbrev pub told_at : Timing → (ends_frame : Bool) → ℕ → ℕ
+told_at t true now = if is_behind t now then now else moment_at t now
+told_at t false now = moment_at t now
+
 -- a look at the line, which began then
 abbrev pub line_looked_at : ℕ → Timing → Timing
 line_looked_at begun t = record t { looked = begun }

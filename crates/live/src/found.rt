@@ -1,8 +1,9 @@
 //! What a look at the ends finds.
-ghost use Rattle.std.specs.Prelude.{◌≡◌};
-ghost use Rattle.live.specs.Ends.{event_at, faults_in};
+ghost use Rattle.std.specs.Prelude.{◌≡◌, IfSome};
+ghost use Rattle.live.specs.Ends.{FitsFound, brings_frame, event_at, faults_in};
 ghost use Rattle.gateway.specs.Ports.{faults_of};
 
+use crate::stream::ends_frame;
 use gateway::Next;
 
 /// What a look at a source finds.
@@ -32,5 +33,16 @@ pub(crate) fn event_at(now: u64, found: Option<SourceEvent>) -> Next
         Some(SourceEvent::Cut) => Next::Cut(now),
         Some(SourceEvent::Line(len)) => Next::Line(now, len),
         Some(SourceEvent::Fault) => Next::Fault,
+    }
+}
+
+/// It is octets of the line, at the front of this buffer, that end as a line frame does.
+pub(crate) fn brings_frame(found: Option<SourceEvent>, buf: &[u8; 1024]) -> bool
+    requires { IfSome found FitsFound }
+    ensures { result ≡ brings_frame found buf.now }
+{
+    match found {
+        Some(SourceEvent::Line(len)) => ends_frame(&buf[..len]),
+        _ => false,
     }
 }

@@ -17,6 +17,7 @@ ghost use Rattle.live.specs.Ends.{LiveEnds, LogsTurn, LogsPut};
 ghost use Rattle.live.specs.Law.{AtMoment, AtBytes, AtClock, AtBegun, IsWaitedOut, AtRounds};
 ghost use Rattle.live.specs.Law.{first_of, IsTickDue, IfTick, AtWall, IsEve, IsOneOf};
 ghost use Rattle.live.specs.Law.{IsWrittenBehind, AsksNothing, IsFoundGone, IsLost, is_cut};
+ghost use Rattle.live.specs.Law.{is_frame};
 ghost use Rattle.live.specs.Law.{notes_of};
 ghost use Rattle.live.specs.Clocks.{GoesOn, ShowsWall, moment_by, wall_by};
 ghost use Rattle.live.specs.Cuts.{CutsFirst, is_wall_in, shuts_nothing};
@@ -43,14 +44,16 @@ ghost use Rattle.live.specs.declared.timing.WrittenRequest.{WrittenRequest};
 ghost use Rattle.live.specs.declared.walled.Walled.{Walled};
 
 /// Where an event's moment lets an exchange end (`answer_ms` or more after its request's), a look
-/// at the line has begun `answer_ms` or more after that request was written: a stall of the gateway
-/// ends no exchange whose answer waits.
+/// at the line has begun `answer_ms` or more after that request was written, or the event brings
+/// octets of the line that end as a frame does, which a gateway takes before it ends the exchange.
+/// So a stall of the gateway ends no exchange whose answer waits.
 #[tactic(auto, using(crate::proofs::Law::waited_out))]
 pub fn no_exchange_ends_unread()
     ensures { (old new : LiveEnds) (event : Next) (buf : List ℕ) (r : WrittenRequest) →
         LogsTurn old event buf new → new.timing.request ≡ Some r → 0 < new.timing.answer_ms →
         AtMoment event (λ moment. r.moment + new.timing.answer_ms ≤ moment →
-        new.timing.answer_ms ≤ new.timing.looked - r.written) }
+        (new.timing.answer_ms ≤ new.timing.looked - r.written)
+        ⊎ (is_frame event buf ≡ true)) }
 {}
 
 /// Once the line has been looked at for `answer_ms` since the latest request was written, and
@@ -237,6 +240,16 @@ pub fn the_wall_clock_is_given_each_second()
 pub fn what_the_centre_sent_is_given_in_time()
     ensures { (old new : LiveEnds) (event : Next) (buf : List ℕ) → LogsTurn old event buf new →
         AtClock new.clock (λ now. AtBytes event (λ moment. now ≤ moment + 50)) }
+{}
+
+/// Octets of the line that end as a frame does bear a moment at most 50 ms before the one that the
+/// clock gave last. So the first answer behind a stall, or behind a jump of the clock, ends it: the
+/// next request goes out at the clock's moment, and a control centre is looked at again.
+#[tactic(auto, using(crate::proofs::Law::caught_up))]
+pub fn a_frame_catches_the_clock_up()
+    ensures { (old new : LiveEnds) (event : Next) (buf : List ℕ) → LogsTurn old event buf new →
+        is_frame event buf ≡ true →
+        AtClock new.clock (λ now. AtMoment event (λ moment. now ≤ moment + 50)) }
 {}
 
 /// Looks at the ends leave the latest request and `answer_ms` as they were.

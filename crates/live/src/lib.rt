@@ -27,7 +27,8 @@
 //! ([`a_line_that_is_waited_out_holds_no_moment`],
 //! [`a_moment_is_held_only_before_the_end_of_an_exchange`]); where that moment is more than 50 ms
 //! behind the clock, the line alone is looked at, and octets of a control centre that would bear
-//! such a moment are held ([`what_the_centre_sent_is_given_in_time`]).
+//! such a moment are held ([`what_the_centre_sent_is_given_in_time`]), until a frame has come from
+//! the line, which bears none that is ([`a_frame_catches_the_clock_up`]).
 //!
 //! The wall clock is given at the first call, and again where a second has passed since and the
 //! ends have been looked at in between ([`the_ends_are_looked_at_between_wall_moments`],
@@ -102,7 +103,7 @@ pub use laws::tries::{
 };
 pub use laws::{
     a_clock_goes_on_with_the_systems, a_close_shuts_the_connection, a_cut_has_its_reason,
-    a_cut_shuts_the_connection, a_cut_that_is_due_comes_next,
+    a_cut_shuts_the_connection, a_cut_that_is_due_comes_next, a_frame_catches_the_clock_up,
     a_line_that_is_waited_out_holds_no_moment, a_look_gives_what_its_calls_brought,
     a_moment_is_held_only_before_the_end_of_an_exchange,
     a_request_is_written_and_timed_behind_what_waits, a_run_begins_with_the_wall_clock,

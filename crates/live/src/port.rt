@@ -16,7 +16,7 @@ use crate::allow_list::AllowList;
 use crate::ends::{
     Accepted, CutCause, Got, Listener, OctetStream, Presence, Reached, RefusedPeers, RunClock,
 };
-use crate::found::{SourceEvent, event_at};
+use crate::found::{SourceEvent, brings_frame, event_at};
 use crate::held::HeldOctets;
 use crate::source::EventSource;
 use crate::timing::Timing;
@@ -350,7 +350,8 @@ impl<S: OctetStream, L: Listener + Drop, C: RunClock + Drop> Live<S, L, C> {
 
     /// What was found, as an event of the moment that is due now. Octets of the connection whose
     /// moment would be too far behind the clock are held, since an execute among them could come in
-    /// time by that moment alone: they are given once no moment is that far behind.
+    /// time by that moment alone: they are given once no moment is that far behind. A frame of the
+    /// line bears none that is.
     #[tactic(auto, using(crate::proofs::Turns::given_held, crate::proofs::Turns::given_level))]
     fn give(&mut self, now: u64, found: Option<SourceEvent>, buf: &[u8; 1024]) -> Next
         requires { IfSome found FitsFound }
@@ -368,7 +369,7 @@ impl<S: OctetStream, L: Listener + Drop, C: RunClock + Drop> Live<S, L, C> {
                 taken = None;
             }
         }
-        event_at(self.timing.moment(now), taken)
+        event_at(self.timing.told(brings_frame(taken, buf), now), taken)
     }
 
     /// The wall clock, as it stood at the moment that is due now.

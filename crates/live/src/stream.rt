@@ -237,7 +237,7 @@ fn read_on<S: SystemStream>(stream: &mut S, buf: &mut [u8; 1024], first: usize) 
 }
 
 /// The octets end as a line frame does.
-fn ends_frame(octets: &[u8]) -> bool
+pub(crate) fn ends_frame(octets: &[u8]) -> bool
     requires { 1 ≤ length octets.now }
     ensures { result ≡ ends_frame octets.now }
 {

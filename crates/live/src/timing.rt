@@ -1,7 +1,7 @@
 //! What moment an event bears, so that a stall of the gateway is no late answer of the line.
 ghost use Rattle.std.specs.Prelude.{◌≡◌};
 ghost use Rattle.live.specs.Timing.{moment_at, is_behind, is_waited_out, is_awaited};
-ghost use Rattle.live.specs.Timing.{line_looked_at};
+ghost use Rattle.live.specs.Timing.{line_looked_at, told_at};
 ghost use Rattle.live.specs.Timing.{asked_at};
 
 /// How far the moment of what a control centre sends may be behind the clock, in ms.
@@ -54,6 +54,21 @@ impl Timing {
         ensures { result ≡ is_behind self.now now }
     {
         LAG_MS < now.saturating_sub(self.moment(now))
+    }
+
+    /// The moment that an event bears which is given at this moment of the clock: that one, but
+    /// where it is too far behind the clock, and the event brings octets of the line that end as a
+    /// frame does, the clock's. A gateway takes them before it ends the exchange, so that no answer
+    /// is late by that, and its next request goes out at the clock's moment.
+    pub(crate) fn told(&self, ends_frame: bool, now: u64) -> u64
+        ensures { result ≡ told_at self.now ends_frame now }
+    {
+        // By a moment that is held each exchange would take up `answer_ms` of a stall at the most,
+        // and a control centre wait so long behind a jump of the clock.
+        if ends_frame && self.is_behind(now) {
+            return now;
+        }
+        self.moment(now)
     }
 
     /// An answer to the latest request may still come in its time: the line hasn't been looked at

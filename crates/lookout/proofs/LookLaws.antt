@@ -1,5 +1,5 @@
 -- What is noted over many looks.
-use Rattle.std.proofs.Common.{◌≡◌, ◌≢◌, ℕ, ◌+◌, ◌-◌, ◌<◌, ◌≤◌, Bool, true, false}
+use Rattle.std.proofs.Common.{◌≡◌, ◌≢◌, ℕ, ◌+◌, ◌-◌, ◌<◌, Bool, true, false}
 use Rattle.std.proofs.Common.{List, []}
 use Rattle.std.proofs.Common.{◌∷◌, ◌++◌, Option, Some, None, is_some, nat_le}
 use Rattle.std.proofs.Common.{if◌then◌else◌, refl, sym}
@@ -9,7 +9,6 @@ use Rattle.std.proofs.lemmas.List.{append-nil}
 use Rattle.std.specs.List.{AllByRecursion}
 use Rattle.live.specs.declared.watched.Notice.{Notice}
 use Rattle.lookout.specs.Looking.{counted, first_of, gone_after, is_over, keeping_by, noted}
-use Rattle.lookout.specs.Looking.{turned_after}
 use Rattle.lookout.specs.Looks.{HasCounted, IsClosed, IsSilent, Look, Standing, after_look}
 use Rattle.lookout.specs.Looks.{after_looks, noted_after}
 use Rattle.lookout.specs.Shown.{keeping_after}
@@ -118,20 +117,6 @@ keeping_is s (b ∷ before) later l notice is all =
     keeping_is (noted b.watch b.notice s) before later l notice is all
 
 -- When visitors have a turn
-
-pub turns_again : (turned now : ℕ) → turned + 20 ≤ now → turned_after (Some turned) now ≡ Some now
-turns_again turned now le =
-    ap (λ (b : Bool). if b then Some now else Some turned) (over (now - turned) (omega arith))
-  where
-    over : (n : ℕ) → 20 ≤ n → nat_le 20 n ≡ true
-    over n le = grind (arith, nat_tests)
-
-pub turns_not : (turned now : ℕ) → now < turned + 20 → turned_after (Some turned) now ≡ Some turned
-turns_not turned now lt =
-    ap (λ (b : Bool). if b then Some now else Some turned) (under (now - turned) (omega arith))
-  where
-    under : (n : ℕ) → n < 20 → nat_le 20 n ≡ false
-    under n lt = grind (arith, nat_tests)
 
 -- What was counted
 

@@ -1,5 +1,5 @@
 -- Words of the laws of what is shown (this gateway's own profile).
-use Rattle.std.specs.Prelude.{◌≡◌, ℕ, ◌-◌, ◌<◌, Bool, true, false, List, [], ◌∷◌, ◌++◌, Option}
+use Rattle.std.specs.Prelude.{◌≡◌, ℕ, ◌-◌, ◌<◌, List, [], ◌∷◌, ◌++◌, Option}
 use Rattle.std.specs.Prelude.{None}
 use Rattle.gateway.specs.State.{State}
 use Rattle.live.specs.declared.watched.Notice.{Notice}
@@ -10,27 +10,11 @@ use Rattle.runlog.specs.Logging.{taken_in}
 use Rattle.runlog.specs.Stations as stations
 use Rattle.runlog.specs.Watching.{Watching}
 use Rattle.runlog.specs.declared.stations.StationWatch.{StationWatch}
-use Rattle.status.specs.Labels.{keeping_text, standing_text}
+use Rattle.status.specs.Labels.{standing_text}
 
 -- the word for how a station stands, on a page
 abbrev pub standing_word : StationWatch → List ℕ
 standing_word w = standing_text (standing_of (stations.standing_of w))
-
--- a request with this control octet went out to a station at these moments, the newest first
-abbrev pub asked_at : List ℕ → (control : ℕ) → StationWatch → StationWatch
-asked_at [] control w = w
-asked_at (now ∷ earlier) control w =
-    stations.counted (stations.asking_by control) now (asked_at earlier control w)
-
--- the control octets of requests that are counted, with their frame count bit: user data, class 1
--- and class 2 (IEC 60870-5-2)
-pub data IsCounted : (control : ℕ) (bit : Bool) → Type 0 where
-  UserData : IsCounted 0x53 false
-  NextUserData : IsCounted 0x73 true
-  Class1 : IsCounted 0x5A false
-  NextClass1 : IsCounted 0x7A true
-  Class2 : IsCounted 0x5B false
-  NextClass2 : IsCounted 0x7B true
 
 -- a look at the run: the gateway, what the watch knows, and what was reported of the state
 pub record Look : Type 0 where
@@ -50,10 +34,6 @@ IsSilent l = l.notice ≡ None
 abbrev pub noted_after : ShownRun → List Look → ShownRun
 noted_after s [] = s
 noted_after s (l ∷ looks) = noted_after (noted l.watch l.notice s) looks
-
--- the word for how the state is kept
-abbrev pub keeping_word : ShownRun → List ℕ
-keeping_word s = keeping_text s.keeping
 
 -- when the visitors had a turn last, and what is shown
 pub record Standing : Type 0 where

@@ -1,5 +1,5 @@
 //! What is known of the stations before a run.
-ghost use Rattle.std.specs.Prelude.{◌≡◌, IfOk, map, string_bytes, length};
+ghost use Rattle.std.specs.Prelude.{◌≡◌, IfOk};
 ghost use Rattle.lookout.specs.Shown.{AreKnown, text_or_none};
 ghost use Rattle.runlog.specs.Names.{name_in};
 

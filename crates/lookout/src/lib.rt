@@ -8,21 +8,18 @@
 //! Proved: a row has the numbers of the watch, the traffic and the settings that it is made of
 //! (`IsStationRow`), and a station the name that the site gives it (`AreKnown`), in the order of
 //! the settings (`AreRows`). What visitors are shown at a look is the run as it is then
-//! ([`Lookout::look`]): a station by what was asked of it ([`stations_are_shown_as_they_stand`]),
-//! the control centre and the state by the looks so far ([`looks_are_noted`]). Of the queue they
-//! are shown what was counted less than a second before ([`visitors_see_the_present`]).
+//! ([`Lookout::look`]): the control centre and the state by the looks so far, and of the queue what
+//! was counted less than a second before (`src/sight_laws.rt`).
 #![tactic(auto)]
 
 mod known;
-mod laws;
 mod lookout;
 mod setting;
 mod shown;
 mod sight_laws;
 
-pub use laws::{looks_are_noted, stations_are_shown_as_they_stand, visitors_see_the_present};
 pub use lookout::Lookout;
 pub use sight_laws::{
     each_station_has_its_row, line_state_and_settings_are_shown_as_they_are,
-    silence_is_shown_as_it_is_set, the_centre_is_shown_as_it_is, the_queue_is_shown_as_it_is,
+    the_centre_is_shown_as_it_is, the_queue_is_shown_as_it_is,
 };

@@ -1,5 +1,5 @@
 //! Stations, line and control centre as they are shown.
-ghost use Rattle.std.specs.Prelude.{◌≡◌, ◌≤◌, vec_len};
+ghost use Rattle.std.specs.Prelude.{◌≡◌};
 ghost use Rattle.lookout.specs.Shown as spec;
 
 use crate::known::Known;

@@ -4,12 +4,10 @@ ghost use Rattle.std.specs.List.{AllByRecursion};
 ghost use Rattle.std.specs.Prelude.{◌≡◌, ◌≢◌, ◌<◌, ◌≤◌, Bool, true, false, List, [], ◌∷◌, ◌++◌};
 ghost use Rattle.std.specs.Prelude.{codes, length, Some, None, ℕ};
 ghost use Rattle.gateway.specs.Config.{Settings};
-ghost use Rattle.gateway.specs.declared.settings.Silence.TheVariants as silence;
 ghost use Rattle.gateway.specs.declared.settings.StationSettings.{StationSettings};
 ghost use Rattle.live.specs.declared.ends.Presence.TheVariants as presence;
 ghost use Rattle.live.specs.declared.watched.Notice.TheVariants as notice;
 ghost use Rattle.lookout.specs.Looks.{HasCounted, IsClosed, IsSilent, Look};
-ghost use Rattle.lookout.specs.Shown.{silence_text};
 ghost use Rattle.lookout.specs.Sights.{IsSight, ShowsSettings, TellsOf, counts_after};
 ghost use Rattle.runlog.specs.Watching.{wall_of};
 ghost use Rattle.runlog.specs.declared.ends.OpenConnection.{OpenConnection};
@@ -144,11 +142,4 @@ pub fn line_state_and_settings_are_shown_as_they_are()
     ensures version { (c : Settings) (names : LogNames) (keeps : Bool) (looks : List Look)
         (last : Look) (s : Snapshot) → (sight : IsSight c names keeps looks last s) →
         s.version.now ≡ sight.fresh.version.now }
-{}
-
-/// What becomes of a station that doesn't answer is shown by the word that stands for it in
-/// settings.
-pub fn silence_is_shown_as_it_is_set()
-    ensures { (silence_text silence.Hold ≡ codes "hold")
-        × (silence_text silence.Reset ≡ codes "reset") }
 {}

@@ -6,22 +6,16 @@
 //! far it has come. [`print`] writes one text whole, and [`print_behind`] one behind others.
 //!
 //! Proved: what `drive_on` promises of the run; that what was printed is the lines of all actions
-//! of the log, in their order, and nothing else, or, where the output failed, a beginning of them;
-//! and which percent are shown: they never fall, and there are 100 only at the end
-//! ([`percents_are_whole`]). That they are shown at all isn't proved, nor what a terminal makes of
-//! them.
+//! of the log, in their order, and nothing else, or, where the output failed, a beginning of them.
+//! That the percent are shown isn't proved, nor what a terminal makes of them.
 #![tactic(auto)]
 
 mod driving;
-mod laws;
 mod paged;
 mod printing;
 mod progress;
 
 pub use driving::drive_printed;
-pub use laws::{
-    outputs_have_the_text_or_its_beginning, percents_are_whole, what_is_shown_is_blanked,
-};
 pub use paged::Paged;
 pub use printing::{print, print_behind};
 pub use progress::{blank_if, show_percent};

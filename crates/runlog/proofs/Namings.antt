@@ -217,6 +217,7 @@ other_subject (note.StateGoesOn a) station line = refl
 other_subject note.SettingsChanged station line = refl
 other_subject note.StateStale station line = refl
 other_subject note.StatePutAside station line = refl
+other_subject (note.GivenUp a b c d) station line = refl
 other_subject (note.State a) station line = refl
 other_subject (note.Trouble a) station line = refl
 other_subject (note.Ordered a b) station line = refl

@@ -14,6 +14,8 @@ use Rattle.runlog.specs.declared.content.Skip.{Skip}
 use Rattle.runlog.specs.declared.content.Skip.TheVariants as skip
 use Rattle.runlog.specs.declared.note.LogLine.{LogLine}
 use Rattle.runlog.specs.declared.note.RunCounts.{RunCounts}
+use Rattle.runlog.specs.declared.note.Remnant.{Remnant}
+use Rattle.runlog.specs.declared.note.Remnant.TheVariants as remnant
 use Rattle.runlog.specs.declared.note.Trouble.{Trouble}
 use Rattle.runlog.specs.declared.note.Trouble.TheVariants as trouble
 use Rattle.runlog.specs.declared.note.Note.{Note}
@@ -91,6 +93,18 @@ late_words address =
     (codes "answers of station " ++ decimal address ++ codes " come late")
     ++ codes ": answer_ms is short"
 
+-- what of the connection before it a start gives up
+abbrev pub remnant_words : Remnant → List ℕ
+remnant_words remnant.Unanswered = codes "command without an answer"
+remnant_words remnant.Waiting = codes "waiting command"
+remnant_words remnant.Selection = codes "selection"
+remnant_words remnant.OwnAnswer = codes "own answer"
+
+abbrev pub given_up_words : Remnant → (kind ca object : ℕ) → List ℕ
+given_up_words what kind ca object =
+    remnant_words what ++ (codes " of type " ++ decimal kind ++ codes " to " ++ decimal ca
+    ++ codes "/" ++ decimal object ++ codes ", given up at a start")
+
 abbrev pub words : Note → List ℕ
 words note.LineReached = codes "line reached"
 words note.LineReachedAgain = codes "line reached again"
@@ -122,6 +136,7 @@ words (note.StateGoesOn queued) = codes "state: goes on, " ++ decimal queued ++ 
 words note.SettingsChanged = codes "state: settings have changed"
 words note.StateStale = codes "state is stale: each link is reset"
 words note.StatePutAside = codes "state can't be read: put aside"
+words (note.GivenUp what kind ca object) = given_up_words what kind ca object
 words (note.State notice) = notice_words notice
 words (note.Trouble why) = trouble_words why
 words (note.Ordered order peer) = order_words order ++ peer_words peer

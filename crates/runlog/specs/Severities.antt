@@ -59,6 +59,7 @@ severity_of (note.StateGoesOn queued) = Noted
 severity_of note.SettingsChanged = Noted
 severity_of note.StateStale = Warning
 severity_of note.StatePutAside = Error
+severity_of (note.GivenUp what kind ca object) = Warning
 severity_of (note.State notice) = notice_severity notice
 severity_of (note.Trouble why) = Error
 severity_of (note.Ordered order peer) = Info

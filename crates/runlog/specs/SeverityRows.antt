@@ -11,6 +11,7 @@ use Rattle.runlog.specs.declared.fate.CommandFate.TheVariants as fate
 use Rattle.runlog.specs.declared.fate.Reason.{Reason}
 use Rattle.runlog.specs.declared.note.Note.{Note}
 use Rattle.runlog.specs.declared.note.Note.TheVariants as note
+use Rattle.runlog.specs.declared.note.Remnant.{Remnant}
 use Rattle.runlog.specs.declared.note.RunCounts.{RunCounts}
 use Rattle.runlog.specs.declared.note.Trouble.{Trouble}
 use Rattle.runlog.specs.declared.order.Order.{Order}
@@ -54,6 +55,8 @@ pub data HasRow : Note → ℕ → Type 0 where
   Denied : (o : Order) (a : ℕ) → HasRow (note.Fate o a fate.Denied) 4
   NotTaken : (o : Order) (a : ℕ) → HasRow (note.Fate o a fate.Busy) 4
   GivenUp : (o : Order) (a : ℕ) → HasRow (note.Fate o a fate.GivenUp) 4
+  -- find out what became of the command
+  Remains : (what : Remnant) (kind ca object : ℕ) → HasRow (note.GivenUp what kind ca object) 4
   -- nothing: the links are reset
   Stale : HasRow note.StateStale 4
   -- what was wrong is over, or seldom happens

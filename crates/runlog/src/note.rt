@@ -3,7 +3,8 @@ ghost use Rattle.std.specs.Prelude.{◌≡◌, Some};
 ghost use Rattle.std.specs.Fmt.{WritesOnOk};
 ghost use Rattle.runlog.specs.Notes.{close_words, counts_words, cut_words, late_words};
 ghost use Rattle.runlog.specs.Notes.{left_out_words, line_text, notice_words, of_station};
-ghost use Rattle.runlog.specs.Notes.{peer_words, refused_peers_words};
+ghost use Rattle.runlog.specs.Notes.{given_up_words, peer_words, refused_peers_words};
+ghost use Rattle.runlog.specs.Notes.{remnant_words};
 ghost use Rattle.runlog.specs.Notes.{skip_words, skipped_words, trouble_words, words};
 
 use crate::content::Skip;
@@ -64,6 +65,19 @@ pub enum Trouble {
     StatusUnusable,
 }
 
+/// What of the connection before it a start gives up.
+#[derive(Clone, Copy, PartialEq, Eq)]
+pub enum Remnant {
+    /// A command on the line to which no answer came.
+    Unanswered,
+    /// A command that was never put on the line.
+    Waiting,
+    /// A selection.
+    Selection,
+    /// An own answer that wasn't sent.
+    OwnAnswer,
+}
+
 /// What a line says.
 #[derive(Clone, Copy, PartialEq, Eq)]
 pub enum Note {
@@ -116,6 +130,9 @@ pub enum Note {
     StateStale,
     /// What is kept can't be read, and stands under another name now.
     StatePutAside,
+    /// A start gives up this of the connection before it: its type octet, its common address and
+    /// the address of its object.
+    GivenUp(Remnant, u8, u16, u32),
     /// The state on the disk, from now on or still.
     State(Notice),
     /// The run can't begin, or go on.
@@ -269,6 +286,30 @@ fn write_skipped<W: fmt::Write>(
     f.write_str(skip_words(why))
 }
 
+fn remnant_words(what: Remnant) -> &'static str
+    ensures { result.now ≡ remnant_words what }
+{
+    match what {
+        Remnant::Unanswered => "command without an answer",
+        Remnant::Waiting => "waiting command",
+        Remnant::Selection => "selection",
+        Remnant::OwnAnswer => "own answer",
+    }
+}
+
+fn write_given_up<W: fmt::Write>(
+    what: Remnant,
+    kind: u8,
+    ca: u16,
+    object: u32,
+    f: &mut fmt::Formatter<W>,
+) -> fmt::Result
+    ensures { WritesOnOk W.write_str_gives f.old result (given_up_words what kind ca object) f.new }
+{
+    f.write_str(remnant_words(what))?;
+    write!(f, " of type {kind} to {ca}/{object}, given up at a start")
+}
+
 fn write_of_station<W: fmt::Write>(
     address: u16,
     words: &str,
@@ -327,6 +368,9 @@ impl fmt::Display for Note {
             Note::SettingsChanged => f.write_str("state: settings have changed"),
             Note::StateStale => f.write_str("state is stale: each link is reset"),
             Note::StatePutAside => f.write_str("state can't be read: put aside"),
+            Note::GivenUp(what, kind, ca, object) => {
+                write_given_up(*what, *kind, *ca, *object, f)
+            }
             Note::State(notice) => f.write_str(notice_words(*notice)),
             Note::Trouble(trouble) => f.write_str(trouble_words(*trouble)),
             Note::Ordered(order, peer) => {

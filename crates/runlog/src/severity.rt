@@ -61,6 +61,7 @@ impl Note {
             Note::LineSilent | Note::StatePutAside | Note::Trouble(_) => Severity::Error,
             Note::Cut(_) | Note::Closed(_) | Note::RefusedPeers(_, _) => Severity::Warning,
             Note::Silent(_) | Note::Down(_) | Note::StateStale => Severity::Warning,
+            Note::GivenUp(_, _, _, _) => Severity::Warning,
             Note::StillSilent(_) | Note::LeftOut(_) => Severity::Warning,
             Note::Refused(_, _, _) | Note::Skipped(_, _, _) => Severity::Warning,
             Note::MirrorDropped(_) | Note::Spoilt(_) | Note::Late(_) => Severity::Warning,

@@ -1,10 +1,8 @@
 -- Four digits that name the sizes of a line (this gateway's own profile): link address, cause,
 -- common address, object address, each by its number of octets.
-use Rattle.std.specs.Prelude.{ℕ, ◌+◌, ◌==◌, if◌then◌else◌, List, [], ◌∷◌, Option, Some, None}
-use Rattle.ft12.specs.Spelling.{address_len}
+use Rattle.std.specs.Prelude.{ℕ, ◌==◌, if◌then◌else◌, List, [], ◌∷◌, Option, Some, None}
 use Rattle.ft12.specs.declared.frame.LinkSize.{LinkSize}
 use Rattle.ft12.specs.declared.frame.LinkSize.TheVariants as link
-use Rattle.asdu.specs.Sizes.{cause_len, ca_len, ioa_len}
 use Rattle.asdu.specs.declared.sizes.CauseSize.{CauseSize}
 use Rattle.asdu.specs.declared.sizes.CauseSize.TheVariants as cause
 use Rattle.asdu.specs.declared.sizes.CaSize.{CaSize}
@@ -41,9 +39,3 @@ abbrev pub sizes_of : List ℕ → Option LineSizes
 sizes_of (l ∷ c ∷ a ∷ i ∷ []) =
     sizes_from (link_size_of l) (cause_size_of c) (ca_size_of a) (ioa_size_of i)
 sizes_of _ = None
-
--- The digits that name these sizes, for the laws: each is its number of octets; 48 is `0`.
-abbrev pub digits_of : LineSizes → List ℕ
-digits_of s =
-    (48 + address_len s.link) ∷ (48 + cause_len s.asdu.cause) ∷ (48 + ca_len s.asdu.ca)
-    ∷ (48 + ioa_len s.asdu.ioa) ∷ []

@@ -1,5 +1,5 @@
 //! Parts of an octet.
-ghost use Rattle.std.specs.Prelude.{◌≡◌, ◌<◌, ◌%◌, ◌^◌};
+ghost use Rattle.std.specs.Prelude.{◌≡◌, ◌<◌, ◌%◌};
 ghost use Rattle.show.specs.Bits.{bit, flag};
 
 /// One bit of an octet, 0 or 1. Bit 0 is the lowest.

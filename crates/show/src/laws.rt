@@ -27,7 +27,6 @@ ghost use Rattle.elements.specs.declared.types.TypeId.{TypeId};
 ghost use Rattle.show.specs.Condition.{rest_line, with_rest};
 ghost use Rattle.show.specs.Line.{control_text, frame_condition, frame_line, frame_lines};
 ghost use Rattle.show.specs.Line.{front_condition, front_lines, number_of};
-ghost use Rattle.show.specs.Sizes.{digits_of, sizes_of};
 ghost use Rattle.show.specs.Tcp.{apdu_condition, apdu_line, apdu_lines, function_text};
 ghost use Rattle.show.specs.Tcp.{number_of as apdu_number};
 ghost use Rattle.show.specs.Tcp.{front_condition as apdu_front, front_lines as apdu_fronts};
@@ -140,13 +139,4 @@ pub fn octets_that_are_no_frame_are_a_fault()
         × (frame_condition s Single ≡ condition.Good)
         × (apdu_lines (U f) ≡ codes "U " ++ function_text f ++ 10 ∷ [])
         × (apdu_condition (U f) ≡ condition.Good) }
-{}
-
-/// Four digits name the sizes of a line: how many octets a link address, the cause, a common
-/// address and an object's address have, in this order. All sizes are named so, and no other text
-/// names any.
-pub fn sizes_are_named_by_four_digits()
-    ensures named { (s : LineSizes) → sizes_of (digits_of s) ≡ Some s }
-    ensures only { (text : List ℕ) (s : LineSizes) → sizes_of text ≡ Some s →
-        text ≡ digits_of s }
 {}

@@ -10,15 +10,12 @@
 //! (`IsLineShown`, `IsTcpShown`), every field, object, value and time tag with its verdict; an
 //! `Err` is want of memory alone. Octets that are an ASDU are shown as that, object by object
 //! (`asdus_are_shown`), and each field is shown by its name, whatever it is (`fields_are_shown`).
-//! What is no frame is a fault (`octets_that_are_no_frame_are_a_fault`), and four digits name sizes
-//! (`sizes_are_named_by_four_digits`). The texts have worked examples (`line_texts_by_example`,
-//! `connection_texts_by_example`, `asdu_texts_by_example`).
+//! What is no frame is a fault (`octets_that_are_no_frame_are_a_fault`).
 #![tactic(auto)]
 
 mod bits;
 mod condition;
 mod control;
-mod examples;
 mod laws;
 mod line;
 mod objects;
@@ -27,11 +24,7 @@ mod tcp;
 mod units;
 
 pub use condition::{Condition, Shown};
-pub use examples::{asdu_texts_by_example, connection_texts_by_example, line_texts_by_example};
-pub use laws::{
-    asdus_are_shown, fields_are_shown, octets_that_are_no_frame_are_a_fault,
-    sizes_are_named_by_four_digits,
-};
+pub use laws::{asdus_are_shown, fields_are_shown, octets_that_are_no_frame_are_a_fault};
 pub use line::show_line;
 pub use sizes::{LineSizes, read_sizes};
 pub use tcp::show_tcp;

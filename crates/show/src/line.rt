@@ -1,7 +1,7 @@
 //! Octets of the line in words.
-ghost use Rattle.std.specs.Prelude.{◌≡◌, ◌++◌, IfOk, OnOk, length, string_bytes};
+ghost use Rattle.std.specs.Prelude.{◌≡◌, ◌++◌, IfOk, OnOk, string_bytes};
 ghost use Rattle.ft12.specs.Borrowed.{owned, owned_front};
-ghost use Rattle.show.specs.Line.{frame_line, frame_lines, frame_condition, front_lines};
+ghost use Rattle.show.specs.Line.{frame_lines, frame_condition, front_lines};
 ghost use Rattle.show.specs.Line.{front_condition, number_of, IsLineShown};
 
 use crate::condition::push_rest;

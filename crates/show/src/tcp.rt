@@ -1,5 +1,5 @@
 //! Octets of the connection in words.
-ghost use Rattle.std.specs.Prelude.{◌≡◌, ◌++◌, IfOk, OnOk, length, string_bytes};
+ghost use Rattle.std.specs.Prelude.{◌≡◌, ◌++◌, IfOk, OnOk, string_bytes};
 ghost use Rattle.apci.specs.Borrowed.{owned, owned_front};
 ghost use Rattle.show.specs.Tcp.{apdu_lines, apdu_condition, front_lines, front_condition};
 ghost use Rattle.show.specs.Tcp.{function_text, number_of, IsTcpShown};

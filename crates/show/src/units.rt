@@ -1,5 +1,5 @@
 //! ASDUs in words.
-ghost use Rattle.std.specs.Prelude.{◌≡◌, ◌++◌, IfOk, OnOk, length, string_bytes};
+ghost use Rattle.std.specs.Prelude.{◌≡◌, ◌++◌, IfOk, OnOk, string_bytes};
 ghost use Rattle.std.specs.List.{flat_map};
 ghost use Rattle.elements.specs.Types.{row};
 ghost use Rattle.asdu.specs.Asdu.{IsAsdu};

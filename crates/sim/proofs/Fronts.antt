@@ -165,11 +165,6 @@ fronts_received laws size i piece e turns h =
 
 -- All fronts
 
-views_append : (f : List ℕ → Front) (xs ys : List OpenExchange) → views f (xs ++ ys)
-    ≡ views f xs ++ views f ys
-views_append f [] ys = refl
-views_append f (x ∷ xs) ys = ap (λ l. view f x ∷ l) (views_append f xs ys)
-
 pub its-append : (size : LinkSize) (i : ℕ) (xs ys : List OpenExchange)
     → its size i (xs ++ ys) ≡ its size i xs ++ its size i ys
 its-append size i [] ys = refl

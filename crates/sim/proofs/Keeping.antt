@@ -1,6 +1,6 @@
 -- The fields of the port after one event or one action.
 use Rattle.std.proofs.Common.{◌≡◌, ℕ, ◌+◌, ◌<◌, ◌^◌, min, List, [], ◌∷◌, ◌++◌, length, replicate}
-use Rattle.std.proofs.Common.{take, drop, Option, None, IfSome, if◌then◌else◌, refl, ap, ◌∙◌}
+use Rattle.std.proofs.Common.{take, drop, Option, None, IfSome, if◌then◌else◌, ap, ◌∙◌}
 use Rattle.std.specs.List.{AllByRecursion}
 use Rattle.std.proofs.lemmas.List.{take_at}
 use Rattle.ft12.specs.declared.frame.Frame.{Frame}
@@ -8,11 +8,8 @@ use Rattle.ft12.specs.Spelling.{Fits}
 use Rattle.link.specs.Secondary.{Secondary}
 use Rattle.gateway.specs.Log.{Log, LogEntry, Came, Went, Input, LineOut, TcpOut, Closed, GapOut}
 use Rattle.gateway.specs.Log.{last_moment}
-use Rattle.gateway.specs.Ports.{logged_by}
 use Rattle.gateway.specs.declared.ports.Next.{Next}
-use Rattle.gateway.specs.declared.ports.Next.TheVariants as answers
 use Rattle.session.specs.declared.kinds.Close.{Close}
-use Rattle.traces.specs.Actions.{lines_of_actions}
 use Rattle.sim.specs.declared.centre.Centre.{Centre}
 use Rattle.sim.specs.Centres.{shut, after_receiving}
 use Rattle.sim.specs.Connections.{objects_in_apdu, add_latest, counted_after}
@@ -25,18 +22,6 @@ use Rattle.sim.proofs.Standing.{stands_came, stands_asked, stands_handed, stands
 use Rattle.sim.proofs.Standing.{stands_logged, stands_fresh}
 use Rattle.sim.proofs.Below.{KeepsSize}
 use Rattle.sim.proofs.ReceivingLemmas.{sizes_out}
-
--- an event has no line
-pub logged_lines : (next : Next) (buf : List ℕ) (log : Log)
-    → lines_of_actions (logged_by next buf ++ log) ≡ lines_of_actions log
-logged_lines (answers.Line now len) buf log = refl
-logged_lines (answers.Open now) buf log = refl
-logged_lines (answers.Bytes now len) buf log = refl
-logged_lines (answers.Cut now) buf log = refl
-logged_lines (answers.Tick now) buf log = refl
-logged_lines (answers.Wall now number) buf log = refl
-logged_lines answers.Done buf log = refl
-logged_lines answers.Fault buf log = refl
 
 pub entry_is : (s v : Simulated) (event : Input) (now : ℕ) → v ≡ s
     → event ≡ event_at v.plan.directives (v.standing.call + 1) v.standing.centre v.standing.waiting

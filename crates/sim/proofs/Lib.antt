@@ -1,12 +1,10 @@
 pub mod ScriptLemmas
 pub mod Numbering
-pub mod LossLemmas
 pub mod Places
 pub mod Counts
 pub mod Standing
 pub mod Spoils
 pub mod ReceivingLemmas
-pub mod Receptions
 pub mod Below
 pub mod Requests
 pub mod Turns
@@ -18,7 +16,6 @@ pub mod Addressed
 pub mod Awaited
 pub mod Honest
 pub mod Few
-pub mod Firsts
 pub mod Serviceable
 pub mod Served
 pub mod Closing
@@ -28,14 +25,3 @@ pub mod TextLemmas
 pub mod RunLemmas
 pub mod Bare
 pub mod SimulationLemmas
-pub mod Moments
-pub mod Connected
-pub mod Waiting
-pub mod Reported
-pub mod ClosingTexts
-pub mod WrittenLines
-pub mod WrongLines
-pub mod Beginnings
-pub mod PrintedRuns
-pub mod WholeDirectives
-pub mod Supposing

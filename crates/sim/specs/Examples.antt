@@ -1,16 +1,13 @@
 -- What the worked examples of a simulated line speak of: the control centre on an open connection,
--- two stations and what they receive, and the texts of scripts.
-use Rattle.std.specs.Prelude.{◌≡◌, ℕ, true, false, List, [], ◌∷◌, ◌++◌, Option, Some}
-use Rattle.ft12.specs.declared.frame.Frame.{Frame}
+-- a command, and the texts of scripts.
+use Rattle.std.specs.Prelude.{ℕ, true, List, [], ◌∷◌, ◌++◌, Option}
 use Rattle.ft12.specs.declared.frame.LinkSize.TheVariants.{One}
 use Rattle.gateway.specs.Log.{Log, Came, Went, Opened, TcpIn, TcpOut}
-use Rattle.link.specs.Secondary.{Secondary, fresh_station}
 use Rattle.sim.specs.declared.centre.Centre.{Centre}
 use Rattle.sim.specs.declared.directive.Directive.{Directive}
 use Rattle.sim.specs.Directives.{directive_in}
-use Rattle.sim.specs.declared.directive.RequestFate.{RequestFate}
 use Rattle.sim.specs.Scripts.{first_wrong, lines_of}
-use Rattle.sim.specs.Lives.{Plan, IsPutOut}
+use Rattle.sim.specs.Lives.{Plan}
 
 -- data transfer runs on its connection, with these counts of I frames
 abbrev pub started : (sent received acknowledged : ℕ) → Centre
@@ -35,37 +32,6 @@ command = 0x2D ∷ 0x01 ∷ 0x06 ∷ 0x00 ∷ 0x01 ∷ 0x00 ∷ 0x0A ∷ 0x00 �
 -- a plan of a line with one-octet addresses, of this script
 abbrev pub with_script : Plan → List Directive → Plan
 with_script plan directives = record plan { size = One; directives = directives }
-
--- a station before the first reset of its link, and after it
-abbrev pub unreset : (address : ℕ) → Secondary
-unreset address = fresh_station One address
-
-abbrev pub was_reset : (address : ℕ) → Secondary
-was_reset address = record (fresh_station One address) { bit = Some false }
-
--- two of them, with the addresses 1 and 2
-abbrev pub two_stations : List Secondary
-two_stations = unreset 1 ∷ unreset 2 ∷ []
-
--- a plan of a line with these two
-abbrev pub with_two_stations : Plan → List Directive → Plan
-with_two_stations plan directives = record (with_script plan directives) { stations = two_stations }
-
--- the reset of the link of station 1, and of station 2 (FT1.2; function 0 of a primary station),
--- and the first with a wrong sum
-abbrev pub reset_of_1 : List ℕ
-reset_of_1 = 0x10 ∷ 0x40 ∷ 0x01 ∷ 0x41 ∷ 0x16 ∷ []
-
-abbrev pub reset_of_2 : List ℕ
-reset_of_2 = 0x10 ∷ 0x40 ∷ 0x02 ∷ 0x42 ∷ 0x16 ∷ []
-
-abbrev pub spoilt_reset : List ℕ
-spoilt_reset = 0x10 ∷ 0x40 ∷ 0x01 ∷ 0xBE ∷ 0x16 ∷ []
-
--- where this becomes of a request to the two, it is answered so, and leaves them so
-abbrev pub Leaves : RequestFate → List ℕ → Option Frame → List Secondary → Type 0
-Leaves fate octets answer stations = (given : Option Frame) (after : List Secondary)
-    → IsPutOut fate octets two_stations given after → (given ≡ answer) × (after ≡ stations)
 
 -- what a line says where there are two stations, with one-octet link addresses
 abbrev pub says : List ℕ → Option Directive

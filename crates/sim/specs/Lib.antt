@@ -15,7 +15,3 @@ pub mod Closing
 pub mod Runs
 pub mod Simulations
 pub mod Examples
-pub mod Fates
-pub mod Firsts
-pub mod Connected
-pub mod Written

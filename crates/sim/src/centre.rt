@@ -1,7 +1,5 @@
 //! The control centre's end of the connection.
 ghost use Rattle.std.specs.Prelude.{◌≡◌, ◌+◌, ◌<◌, ◌≤◌, ◌^◌, length, IfSome};
-ghost use Rattle.apci.specs.Spelling.{spelling};
-ghost use Rattle.gateway.specs.Entries.{event_of};
 ghost use Rattle.sim.specs.Centres.{shut, opened, first_control, is_data, after_sending};
 ghost use Rattle.sim.specs.Centres.{after_receiving, start_apdu, acknowledging_apdu, data_apdu};
 

@@ -1,7 +1,6 @@
 //! What is counted of the control centre's connections.
 ghost use Rattle.std.specs.Prelude.{◌≡◌, [], length, drop, OnOk, OnErr};
 ghost use Rattle.gateway.specs.Entries.{event_of};
-ghost use Rattle.gateway.specs.Log.{Went, TcpOut};
 ghost use Rattle.gateway.specs.Objects.{objects};
 ghost use Rattle.sim.specs.Connections.{objects_in_apdu, add_latest, counted_after};
 

@@ -1,12 +1,10 @@
-//! Scripts, calls and closing lines by worked examples: literal texts and octets.
+//! Scripts, losses and calls by worked examples: literal texts and octets.
 ghost use Rattle.std.specs.Prelude.{◌≡◌, ◌++◌, ◌∷◌, [], ℕ, List, codes, replicate, true, false};
-ghost use Rattle.std.specs.Prelude.{Option, Some, None};
-ghost use Rattle.ft12.specs.declared.frame.Frame.{Frame};
+ghost use Rattle.std.specs.Prelude.{Some, None};
 ghost use Rattle.ft12.specs.declared.frame.Frame.TheVariants.{Single, Fixed};
 ghost use Rattle.ft12.specs.declared.frame.LinkSize.TheVariants.{One, Two};
-ghost use Rattle.gateway.specs.Log.{Input, LineIn, Opened, TcpIn, CutOff, Ticked, WallIs, LineOut};
-ghost use Rattle.gateway.specs.Log.{TcpOut, Closed, GapOut, Came, Went};
-ghost use Rattle.link.specs.Secondary.{Secondary};
+ghost use Rattle.gateway.specs.Log.{LineIn, Opened, TcpIn, CutOff, Ticked, WallIs, LineOut};
+ghost use Rattle.gateway.specs.Log.{TcpOut, Closed, Came, Went};
 ghost use Rattle.session.specs.declared.kinds.Close.TheVariants.{Grammar};
 ghost use Rattle.sim.specs.declared.directive.Class.TheVariants as class;
 ghost use Rattle.sim.specs.declared.directive.Directive.TheVariants.{Turns, Ack, Wall, Report};
@@ -17,25 +15,19 @@ ghost use Rattle.sim.specs.declared.directive.RequestFate.TheVariants.{AnswerSpo
 ghost use Rattle.sim.specs.declared.directive.RequestFate.TheVariants.{Answered};
 ghost use Rattle.sim.specs.Calls.{calls_in, moment_of, event_at, lasting, next_moment};
 ghost use Rattle.sim.specs.Centres.{shut, opened, centre_of, data_apdu};
-ghost use Rattle.sim.specs.Connections.{add_latest, counted_in};
 ghost use Rattle.sim.specs.Directives.{of_three, of_four, reporting_by, sending_by};
 ghost use Rattle.sim.specs.Examples.{started, busy, command, with_script, says, line, wrong_line};
-ghost use Rattle.sim.specs.Examples.{unreset, was_reset, two_stations, with_two_stations};
-ghost use Rattle.sim.specs.Examples.{reset_of_1, reset_of_2, spoilt_reset, Leaves};
-ghost use Rattle.sim.specs.Lives.{Plan, AreLived, arriving, later, requests_in, waiting_in};
+ghost use Rattle.sim.specs.Lives.{Plan, arriving, later, requests_in, waiting_in};
 ghost use Rattle.sim.specs.Losses.{turns_of, ack_of, wall_at, is_cut_at, sent_at, fate_of};
 ghost use Rattle.sim.specs.Losses.{report_said};
 ghost use Rattle.sim.specs.Scripts.{clashes, lines_of};
 ghost use Rattle.traces.specs.Fields.{octets_of};
-ghost use Rattle.sim.specs.Texts.{station_line, connection_line, connection_lines};
-ghost use Rattle.sim.specs.Texts.{line_of_sessions};
-
-use ft12::{spellings_cancel, spoilt_lines_are_no_lines};
 
 /// What each line of a script says, the edges of its ranges and what no line says (docs/TEXTS.md
 /// has them in words); which lines clash; and the first wrong line of a text.
 pub fn scripts_by_example()
     ensures numbers { (says (codes "turns 000000008") ≡ Some (Turns 8))
+        × (says (codes "turns 999999999") ≡ Some (Turns 999999999))
         × (says (codes "turns 0000000001") ≡ None) × (says (codes "turns x") ≡ None)
         × (says (codes "turns  1") ≡ None) × (says (codes "Turns 1") ≡ None)
         × (says (codes "ack 1") ≡ Some (Ack 1)) × (says (codes "ack 32767") ≡ Some (Ack 32767))
@@ -111,7 +103,8 @@ pub fn losses_by_example()
         × (later (Some Single) None ≡ Some Single)
         × (later None (Some Single) ≡ Some Single) }
     ensures numbers { (turns_of (Ack 5 ∷ Turns 9 ∷ []) ≡ 9) × (turns_of [] ≡ 0)
-        × (ack_of (Turns 9 ∷ Ack 5 ∷ []) ≡ 5) × (ack_of (Turns 9 ∷ []) ≡ 1)
+        × (ack_of (Turns 9 ∷ Ack 5 ∷ []) ≡ 5) × (ack_of (Ack 32767 ∷ []) ≡ 32767)
+        × (ack_of (Turns 9 ∷ []) ≡ 1)
         × (wall_at (Wall 17 ∷ []) 1 ≡ Some 17) × (wall_at (Wall 17 ∷ []) 2 ≡ None)
         × (wall_at [] 1 ≡ None) }
     ensures calls { (is_cut_at (Cut 2 ∷ Cut 4 ∷ []) 4 ≡ true)
@@ -120,12 +113,15 @@ pub fn losses_by_example()
         × (sent_at (Send 2 command ∷ []) 3 ≡ None) }
     ensures reports { (report_said 0 class.One (Report 0 class.One command) ≡ command ∷ [])
         × (report_said 0 class.One (Report 1 class.One command) ≡ [])
-        × (report_said 0 class.One (Report 0 class.Two command) ≡ []) }
+        × (report_said 0 class.One (Report 0 class.Two command) ≡ [])
+        × (report_said 2 class.Two (Report 2 class.Two command) ≡ command ∷ []) }
     // An answer waits until it is given, or the next request goes out.
     ensures waiting { (plan : Plan) →
         (waiting_in (with_script plan []) (Went 1 (LineOut []) ∷ []) (Some Single ∷ [])
         ≡ Some (0xE5 ∷ []))
         × (waiting_in (with_script plan []) (Came 2 Ticked ∷ Went 1 (LineOut []) ∷ [])
+        (Some Single ∷ []) ≡ Some (0xE5 ∷ []))
+        × (waiting_in (with_script plan []) (Came 2 CutOff ∷ Went 1 (LineOut []) ∷ [])
         (Some Single ∷ []) ≡ Some (0xE5 ∷ []))
         × (waiting_in (with_script plan []) (Came 2 (LineIn []) ∷ Went 1 (LineOut []) ∷ [])
         (Some Single ∷ []) ≡ None)
@@ -135,27 +131,6 @@ pub fn losses_by_example()
         × (requests_in (Went 3 (LineOut []) ∷ Came 2 Ticked ∷ Went 1 (LineOut []) ∷ []) ≡ 2) }
 {}
 
-/// What stations receive, as literal octets, and how they answer (IEC 60870-5-2, 5.1: a reset of
-/// the link is confirmed, here by `E5`): a request that isn't lost is received by all and answered
-/// by the one whose address it has, whatever becomes of that answer. Octets that are no frame are
-/// received by none.
-pub fn receptions_by_example()
-    ensures arrived { Leaves Answered reset_of_1 (Some Single) (was_reset 1 ∷ unreset 2 ∷ [])
-        × Leaves Answered reset_of_2 (Some Single) (unreset 1 ∷ was_reset 2 ∷ [])
-        × Leaves AnswerLost reset_of_1 (Some Single) (was_reset 1 ∷ unreset 2 ∷ [])
-        × Leaves (AnswerSpoilt 1) reset_of_2 (Some Single) (unreset 1 ∷ was_reset 2 ∷ []) }
-    ensures unreceived { Leaves RequestLost reset_of_1 None two_stations
-        × Leaves Answered spoilt_reset None two_stations }
-    ensures lived { (plan : Plan) (answers : List (Option Frame)) (stations : List Secondary) →
-        AreLived (with_two_stations plan (LoseRequest 2 ∷ []))
-        (Went 3 (LineOut reset_of_2) ∷ Came 2 Ticked ∷ Went 1 (LineOut reset_of_1) ∷ [])
-        answers stations →
-        (answers ≡ None ∷ Some Single ∷ []) × (stations ≡ was_reset 1 ∷ unreset 2 ∷ []) }
-{
-    spellings_cancel();
-    spoilt_lines_are_no_lines();
-}
-
 /// What each call gives, the first of seven that applies, and how long it takes; and what the
 /// control centre knows and sends (IEC 60870-5-104, 5.1 and 5.3).
 pub fn calls_by_example()
@@ -163,6 +138,7 @@ pub fn calls_by_example()
         × (event_at (Wall 17 ∷ []) 2 shut None ≡ Opened)
         × (event_at (Cut 2 ∷ []) 2 shut None ≡ Opened)
         × (event_at (Cut 2 ∷ []) 2 opened None ≡ CutOff)
+        × (event_at (Send 2 command ∷ Cut 2 ∷ []) 2 (started 1 2 0) None ≡ CutOff)
         × (event_at (Send 3 command ∷ []) 3 opened (Some (0xE5 ∷ []))
         ≡ TcpIn (0x68 ∷ 0x04 ∷ 0x07 ∷ 0x00 ∷ 0x00 ∷ 0x00 ∷ []))
         × (event_at (Send 3 command ∷ []) 3 (started 1 2 0) (Some (0xE5 ∷ []))
@@ -172,6 +148,7 @@ pub fn calls_by_example()
         × (event_at (Ack 2 ∷ []) 3 (started 1 2 1) (Some (0xE5 ∷ [])) ≡ LineIn (0xE5 ∷ []))
         × (event_at (Ack 2 ∷ []) 3 (started 1 2 1) None ≡ Ticked) }
     ensures lasts { (lasting 200 Ticked ≡ 200) × (lasting 200 Opened ≡ 1)
+        × (lasting 200 CutOff ≡ 1) × (lasting 200 (WallIs 17) ≡ 1)
         × (lasting 200 (LineIn (0xE5 ∷ [])) ≡ 1) }
     ensures counts { (calls_in (Went 5 (LineOut []) ∷ Came 5 Ticked ∷ Came 4 Opened ∷ []) ≡ 2)
         × (moment_of (Went 5 (LineOut []) ∷ Came 5 Ticked ∷ Came 4 Opened ∷ []) ≡ 5)
@@ -200,36 +177,4 @@ pub fn calls_by_example()
         × (centre_of (Came 6 Opened ∷ Came 5 CutOff ∷ busy) ≡ opened) }
     ensures turned_round { data_apdu (started 32769 32770 0) command
         ≡ 0x68 ∷ 0x0E ∷ 0x02 ∷ 0x00 ∷ 0x04 ∷ 0x00 ∷ command }
-{}
-
-/// The closing lines of a run (docs/TEXTS.md has them in words): stations and connections are
-/// counted from 1, and a link with one session has no line of sessions.
-pub fn closing_lines_by_example()
-    ensures stations { station_line 1 4 3 2
-        ≡ line (codes "station 1 reports 4 given 3 accepted 2") }
-    ensures connections { (connection_line 2 3 ≡ line (codes "connection 2 objects 3"))
-        × (connection_lines 1 [] ≡ [])
-        × (connection_lines 1 (7 ∷ 0 ∷ [])
-        ≡ line (codes "connection 1 objects 7") ++ line (codes "connection 2 objects 0")) }
-    // A connection counts what goes out on it: S and U frames bear nothing.
-    ensures counts { (counted_in (Came 4 Opened ∷ Went 3 (TcpOut (0x68 ∷ 0x04 ∷ 0x0B ∷ []))
-        ∷ Came 1 Opened ∷ Came 0 Ticked ∷ []) ≡ 0 ∷ 0 ∷ [])
-        × (add_latest 2 (3 ∷ 4 ∷ []) ≡ 3 ∷ 6 ∷ []) × (add_latest 2 [] ≡ [])
-        × (add_latest 2 (18446744073709551614 ∷ []) ≡ 18446744073709551615 ∷ []) }
-    ensures sessions { (line_of_sessions 0 (record {
-      sessions = 3;
-      gaps = 2;
-      lost = 1;
-      taken = 7;
-      given = 8;
-      is_polled = true;
-    }) ≡ line (codes "sessions 1 3 gaps 2 lost 1"))
-        × (line_of_sessions 0 (record {
-          sessions = 1;
-          gaps = 0;
-          lost = 0;
-          taken = 7;
-          given = 8;
-          is_polled = true;
-        }) ≡ []) }
 {}

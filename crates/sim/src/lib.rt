@@ -27,24 +27,8 @@
 //! order of actions in each step and delivers what was taken, and that its lines have the numbers
 //! of that run (`specs/Runs.antt`).
 //!
-//! A line of a script is about the one request or call whose number it has
-//! ([`each_line_is_about_its_number`]), and what becomes of a request and of its answer is what the
-//! lines with its number say ([`each_request_fares_by_its_lines`], `specs/Fates.antt`).
-//!
-//! When the events of a run come ([`events_have_their_moments`]), and what the control centre
-//! counts and sends ([`the_centre_counts_the_frames_of_its_connection`]), holds of every run. An
-//! answer waits until it is given ([`answers_wait_until_they_are_given`]), and a station reports
-//! what its lines say ([`reports_are_those_of_their_lines`]). Scripts are read field by field
-//! ([`lines_say_what_they_write`]) and line by line ([`texts_are_read_line_by_line`]). What one
-//! says once holds ([`what_is_said_once_holds`]), and the closing lines tell of each station
-//! ([`closing_lines_tell_of_all`]). What holds of a run's latest event holds of each
-//! ([`each_beginning_of_a_run_is_a_run`]), and a run is printed to its end
-//! ([`runs_are_printed_to_their_end`]).
-//!
 //! Worked examples have literal texts and octets: of scripts ([`scripts_by_example`]), of what they
-//! do to requests and answers ([`losses_by_example`]), of what stations receive
-//! ([`receptions_by_example`]), of calls ([`calls_by_example`]) and of closing lines
-//! ([`closing_lines_by_example`]).
+//! do to requests and answers ([`losses_by_example`]), and of calls ([`calls_by_example`]).
 //!
 //! Not proved: that a report is ever asked for, or that a port whose device fails wanted memory (it
 //! fails too where more than 2^64 requests or frames would be counted).
@@ -65,7 +49,6 @@ mod paged;
 mod reading;
 mod receiving;
 mod script;
-mod script_laws;
 mod sim;
 mod simulating;
 mod tallies;
@@ -74,26 +57,13 @@ mod text;
 
 pub use beginning::begin;
 pub use directive::{Class, Directive, RequestFate};
-pub use examples::{
-    calls_by_example, closing_lines_by_example, losses_by_example, receptions_by_example,
-    scripts_by_example,
-};
+pub use examples::{calls_by_example, losses_by_example, scripts_by_example};
 pub use fault::SimFault;
-pub use laws::{
-    answers_wait_until_they_are_given, calls_give_the_first_that_applies,
-    closing_lines_tell_of_all, connections_are_counted, each_beginning_of_a_run_is_a_run,
-    each_line_is_about_its_number, each_request_fares_by_its_lines, events_have_their_moments,
-    laws_of_a_run_suppose_no_more, reports_are_those_of_their_lines, runs_are_printed_to_their_end,
-    stations_are_honest, the_centre_counts_the_frames_of_its_connection,
-};
+pub use laws::{connections_are_counted, stations_are_honest};
 pub use line::read_line;
 pub use reading::read_script;
 pub use receiving::{arriving, put_out};
 pub use script::Script;
-pub use script_laws::{
-    each_directive_has_its_line, lines_say_what_they_write, texts_are_read_line_by_line,
-    what_is_said_once_holds,
-};
 pub use sim::Sim;
 pub use simulating::{simulate, simulate_watched};
 pub use tally::StationTally;

@@ -4,7 +4,7 @@ ghost use Rattle.ft12.specs.declared.frame.LinkSize.{LinkSize};
 ghost use Rattle.traces.specs.Fields.{decimal_of};
 ghost use Rattle.sim.specs.Directives.{number_of, counted, counted_by, walled_by, of_two};
 ghost use Rattle.sim.specs.Directives.{losing_by, sending_by, spoiling_by, longest_report};
-ghost use Rattle.sim.specs.Directives.{class_of, classed, reporting_by, of_three, of_four};
+ghost use Rattle.sim.specs.Directives.{class_of, reporting_by, of_three, of_four};
 ghost use Rattle.sim.specs.Directives.{directive_in, FitsStations, IsWithinRanges};
 
 use crate::directive::{Class, Directive};

@@ -1,5 +1,4 @@
 //! A simulated line prints its actions on a page.
-ghost use Rattle.std.specs.Prelude.{◌≡◌};
 ghost use Rattle.gateway.specs.Log.{Log};
 ghost use Rattle.sim.specs.Lives.{Plan};
 ghost use Rattle.std.proofs.Common.{ap};

@@ -1,10 +1,10 @@
 //! The port of a simulated line.
-ghost use Rattle.std.specs.Prelude.{◌≡◌, ℕ, ◌+◌, ◌<◌, ◌≤◌, ◌^◌, min, Bool, true, false, List, []};
+ghost use Rattle.std.specs.Prelude.{◌≡◌, ◌+◌, ◌<◌, ◌≤◌, ◌^◌, min, true, false, []};
 ghost use Rattle.std.specs.Prelude.{◌∷◌, ◌++◌, IfOk, IfSome, OnOk, OnErr, Option, Some, None};
-ghost use Rattle.std.specs.Prelude.{if◌then◌else◌, option_map, nat_le};
-ghost use Rattle.gateway.specs.Log.{Log, LogEntry, Came, Went, LineOut, TcpOut, Closed, GapOut};
-ghost use Rattle.gateway.specs.Log.{Input, with_news, last_moment};
-ghost use Rattle.gateway.specs.Ports.{logged_by, output_of, FitsBuffer, faults_of};
+ghost use Rattle.std.specs.Prelude.{if◌then◌else◌, option_map};
+ghost use Rattle.gateway.specs.Log.{Log, Went, LineOut, TcpOut, Closed, GapOut};
+ghost use Rattle.gateway.specs.Log.{last_moment};
+ghost use Rattle.gateway.specs.Ports.{logged_by, FitsBuffer, faults_of};
 ghost use Rattle.gateway.specs.Entries.{FitsPort, event_of};
 ghost use Rattle.traces.specs.Actions.{lines_of_actions};
 ghost use Rattle.sim.specs.Lives.{Plan, plan_of};

@@ -6,6 +6,3 @@ pub mod Naming
 mod Knowing
 mod TextLemmas
 mod NamingBack
-mod UnknownNamed
-mod Refusing
-mod Wording

@@ -1,5 +1,5 @@
 -- The names of stations, item by item.
-use Rattle.std.proofs.Common.{◌≡◌, ℕ, ◌+◌, ◌<◌, ◌≤◌, List, [], ◌∷◌, ◌++◌, length, drop, get_or, map}
+use Rattle.std.proofs.Common.{◌≡◌, ℕ, ◌<◌, ◌≤◌, List, [], ◌∷◌, length, drop, get_or, map}
 use Rattle.std.proofs.Common.{Ok, Err, Some, None, refl, ◌==◌}
 use Rattle.std.proofs.lemmas.List.{drop_all}
 use Rattle.std.specs.List.{list_any}
@@ -16,13 +16,6 @@ pub stations_from_wrong : (before : List Named) (vs : List Value) (i : ℕ) (d :
     ≡ Err f
 stations_from_wrong before vs i d f lt e = rw (items_view-drop vs i d lt, e)
 
-pub stations_from_next : (before : List Named) (vs : List Value) (i : ℕ) (d : Value) (s : Named)
-    → i < length vs
-    → named_of before (view (get_or vs i d)) ≡ Ok s
-    → stations_from before (items_view (drop i vs))
-    ≡ stations_from (before ++ s ∷ []) (items_view (drop (i + 1) vs))
-stations_from_next before vs i d s lt e = rw (items_view-drop vs i d lt, e)
-
 pub stations_from_end : (before : List Named) (vs : List Value) (i : ℕ) → length vs ≤ i
     → stations_from before (items_view (drop i vs)) ≡ Ok before
 stations_from_end before vs i le = rw (drop_all i vs le)
@@ -32,13 +25,6 @@ pub wrong_here : (at : ℕ) (before : List Named) (vs : List Value) (i : ℕ) (d
     → named_of before (view (get_or vs i d)) ≡ Err f
     → wrong_from at before (items_view (drop i vs)) ≡ Some at
 wrong_here at before vs i d f lt e = rw (items_view-drop vs i d lt, e)
-
-pub wrong_later : (at : ℕ) (before : List Named) (vs : List Value) (i : ℕ) (d : Value) (s : Named)
-    → i < length vs
-    → named_of before (view (get_or vs i d)) ≡ Ok s
-    → wrong_from at before (items_view (drop i vs))
-    ≡ wrong_from (at + 1) (before ++ s ∷ []) (items_view (drop (i + 1) vs))
-wrong_later at before vs i d s lt e = rw (items_view-drop vs i d lt, e)
 
 pub wrong_end : (at : ℕ) (before : List Named) (vs : List Value) (i : ℕ) → length vs ≤ i
     → wrong_from at before (items_view (drop i vs)) ≡ None

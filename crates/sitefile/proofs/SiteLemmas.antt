@@ -1,6 +1,6 @@
 -- From a table to the text that it was read from, and the texts of a list.
-use Rattle.std.proofs.Common.{◌≡◌, ℕ, ◌+◌, ◌<◌, ◌≤◌, List, [], ◌∷◌, ◌++◌, length, drop, get_or}
-use Rattle.std.proofs.Common.{Some, None, Result, Ok, Err}
+use Rattle.std.proofs.Common.{◌≡◌, ℕ, ◌<◌, ◌≤◌, List, length, drop, get_or}
+use Rattle.std.proofs.Common.{None, Result, Ok, Err}
 use Rattle.std.proofs.lemmas.List.{drop_all}
 use Rattle.std.specs.Prelude.{codes}
 use Rattle.toml.specs.Data.{Members, as_str}
@@ -46,13 +46,6 @@ pub texts_from_wrong : (before : List (List ℕ)) (vs : List Value) (i : ℕ) (d
     → as_str (view (get_or vs i d)) ≡ None
     → texts_from before (items_view (drop i vs)) ≡ Err (codes "allow")
 texts_from_wrong before vs i d lt e = rw (items_view-drop vs i d lt, e)
-
-pub texts_from_next : (before : List (List ℕ)) (vs : List Value) (i : ℕ) (d : Value) (t : List ℕ)
-    → i < length vs
-    → as_str (view (get_or vs i d)) ≡ Some t
-    → texts_from before (items_view (drop i vs))
-    ≡ texts_from (before ++ t ∷ []) (items_view (drop (i + 1) vs))
-texts_from_next before vs i d t lt e = rw (items_view-drop vs i d lt, e)
 
 pub texts_from_end : (before : List (List ℕ)) (vs : List Value) (i : ℕ) → length vs ≤ i
     → texts_from before (items_view (drop i vs)) ≡ Ok before

@@ -6,5 +6,4 @@ pub mod Unknown
 pub mod Wanted
 pub mod Named
 pub mod Known
-pub mod FirstUnknown
 pub mod FirstWrong

@@ -17,10 +17,7 @@ mod unknown;
 mod wanted;
 
 pub use fault::SiteFault;
-pub use named::{
-    named_sites_are_read, no_file_says_what_an_empty_one_says, other_site_keys_are_refused,
-    site_faults_name_the_first_wrong_key, site_words_are_those_of_the_rows, sites_are_named,
-};
+pub use named::{named_sites_are_read, other_site_keys_are_refused, sites_are_named};
 pub use names::{Names, StationName, wrong_station};
 pub use site::{Flags, Places, Site, read_site};
 pub use wanted::site_values;

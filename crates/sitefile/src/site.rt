@@ -2,9 +2,7 @@
 ghost use Rattle.std.specs.Prelude.{◌≡◌, [], IfOk, MatchResult, map, option_map, string_bytes};
 ghost use Rattle.toml.specs.View.{view, items_view, table_view};
 ghost use Rattle.settings.specs.Faults.{seen};
-ghost use Rattle.settings.specs.Keys.{members_in};
 ghost use Rattle.settings.specs.Settings.{IsDocument};
-ghost use Rattle.sitefile.specs.Names.{named};
 ghost use Rattle.sitefile.specs.Site.{AreTexts, IsKnownOf, IsReadOf, IsRootFault, IsSiteRead};
 ghost use Rattle.sitefile.specs.Site.{allow_of, empty_site, flags_of, known_names, known_places};
 ghost use Rattle.sitefile.specs.Site.{known_site, names_of, places_of, site_of, texts_from};

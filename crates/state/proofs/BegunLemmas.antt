@@ -53,7 +53,7 @@ module _ {D : Type 0} {g : Ghosts D} where
       → IsTrue (g.is_clean spare)
       → HasNoNewer (g.seen newest) (g.seen spare) → AreLinesRead (g.seen newest) → ⊥))
       → (IsTrue (g.is_clean newest) → GoesOnFrom goes_on c log (g.seen newest) o.is_moved o.gap
-      o.before.entries o.gateway)
+      o.given_up.items o.before.entries o.gateway)
       → IsBegun {D = D} {g = g} c log mark (opens.Both newest spare) o
   resumed_begun c log mark newest spare o goes_on moment past is marked wins sure read reset
       goes =
@@ -67,7 +67,8 @@ module _ {D : Type 0} {g : Ghosts D} where
         read = λ on one two. read (sym is ∙ ap is_trusted on) one;
         reset = λ links. reset (sym is ∙ ap is_trusted links);
         goes_on = λ _. subst (λ (t : Bool). IsTrue (g.is_clean newest) →
-            GoesOnFrom t c log (g.seen newest) o.is_moved o.gap o.before.entries o.gateway)
+            GoesOnFrom t c log (g.seen newest) o.is_moved o.gap o.given_up.items
+            o.before.entries o.gateway)
             (sym is) goes;
       }
 
@@ -108,7 +109,7 @@ module _ {D : Type 0} {g : Ghosts D} where
       → IsTrue (g.is_clean other)
       → HasNoNewer (g.seen old) (g.seen other) → AreLinesRead (g.seen new) → ⊥))
       → (IsTrue (g.is_clean new) → GoesOnFrom goes_on c log (g.seen new) o.is_moved o.gap
-      o.before.entries o.gateway)
+      o.given_up.items o.before.entries o.gateway)
       → IsBegun {D = D} {g = g} c log mark opened o
   begun_from c log mark opened newest spare new old other o goes_on both at_newest at_spare
       seen clean moment past is

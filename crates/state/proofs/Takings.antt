@@ -154,12 +154,14 @@ module _ {D : Type 0} {g : Ghosts D} where
       (station : StationSettings) → slice_get c.stations place ≡ Some station
       → is_up (station_at o.gateway.serial.line.stations place).link ≡ true → ⊥)
   reset_down law c log mark newest other o b is =
-      let goes : GoesOnFrom false c log (g.seen newest) o.is_moved o.gap o.before.entries
-      o.gateway =
+      let goes : GoesOnFrom false c log (g.seen newest) o.is_moved o.gap o.given_up.items
+      o.before.entries o.gateway =
       subst (λ (t : Bool). GoesOnFrom t c log (g.seen newest) o.is_moved o.gap
-      o.before.entries o.gateway) (ap is_trusted is) (b.begun.goes_on (ap has_past is) b.first) in
+      o.given_up.items o.before.entries o.gateway) (ap is_trusted is)
+      (b.begun.goes_on (ap has_past is) b.first) in
       let moved : MovedOn false c goes.written log goes.lines
-      (before_zero (drop goes.begins (g.seen newest))) o.gap o.before.entries o.gateway =
+      (before_zero (drop goes.begins (g.seen newest))) o.gap o.given_up.items o.before.entries
+      o.gateway =
       goes.goes in (
         moved.wrote,
         moved.left,

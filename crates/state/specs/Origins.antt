@@ -19,6 +19,7 @@ use Rattle.state.specs.declared.start.Beginning.TheVariants as beginnings
 pub record IsNew (c : Settings) (o : Origin) : Type 0 where
   pub gateway : o.gateway ≡ first_state c
   pub gap : o.gap ≡ None
+  pub given_up : o.given_up.items ≡ []
   pub before : o.before.entries ≡ []
   pub moved : o.is_moved ≡ false
   pub follows : Follows (setup_of c) o.gateway (Some [])
@@ -71,4 +72,4 @@ module _ {D : Type 0} {g : Ghosts D} where
         ⊎ OnBoth (λ newest spare. HasNoNewer newest spare → AreLinesRead newest → ⊥) opened
     pub goes_on : has_past o.beginning ≡ true → NewestIs (λ newest. IsTrue (g.is_clean newest) →
         GoesOnFrom (is_trusted o.beginning) c log (g.seen newest) o.is_moved o.gap
-        o.before.entries o.gateway) opened
+        o.given_up.items o.before.entries o.gateway) opened

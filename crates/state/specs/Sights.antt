@@ -8,6 +8,7 @@ use Rattle.segments.specs.declared.start.Side.{Side}
 use Rattle.settings.specs.Settings.{IsReadOfText}
 use Rattle.state.specs.Beginnings.{AreLinesRead, BearsNumber, IsHeadOf, IsMoved, IsRead, SayState}
 use Rattle.state.specs.Beginnings.{has_past}
+use Rattle.state.specs.GivenUps.{given_up_by}
 use Rattle.state.specs.Replays.{ReportedGap, events_in_front, whole_lines}
 use Rattle.state.specs.Unread.{IsUnread}
 use Rattle.state.specs.declared.looking.Seen.{Seen}
@@ -22,7 +23,8 @@ pub record AreCounted (lines : List (List ℕ)) (events all : ℕ) : Type 0 wher
 
 -- A file has this log, behind what passed before: the settings at its head are a file of settings
 -- that can be read, and the gateway with these has received the events behind the state at its
--- head, as one does that goes on with the log (`WentOn`). It has given up nothing yet.
+-- head, as one does that goes on with the log (`WentOn`). It has given up nothing yet, and what a
+-- start would give up is named.
 pub record IsSeen (log : Log) (file : List ℕ) (s : Seen) : Type 0 where
   pub number : BearsNumber file s.number
   pub begins : ℕ
@@ -35,6 +37,7 @@ pub record IsSeen (log : Log) (file : List ℕ) (s : Seen) : Type 0 where
   pub gap : Option ReportedGap
   pub whole : Log
   pub read : IsRead wrote log lines (before_zero (drop begins file)) gap whole s.gateway
+  pub named : s.given_up.items ≡ given_up_by wrote.line.sizes s.gateway
 
 -- Whether the settings that the second text says are others than those of the first, under which a
 -- log was written. A text that can't be read says none.

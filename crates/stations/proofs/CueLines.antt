@@ -10,7 +10,7 @@ use Rattle.std.proofs.lemmas.List.Splits.{length-slice_split}
 use Rattle.ft12.specs.declared.frame.LinkSize.{LinkSize}
 use Rattle.sim.specs.Directives.{directive_from, directive_in}
 use Rattle.traces.specs.Fields.{parts_after}
-use Rattle.stations.specs.CueLines.{cue_from, cue_in, cue_of, delayed_by, delayed_from, time_of}
+use Rattle.stations.specs.CueLines.{cue_from, cue_in, cue_of, delayed_from, time_of}
 use Rattle.stations.specs.CueLines.{timed_by}
 use Rattle.stations.specs.declared.cue.Cue.{Cue}
 

@@ -19,12 +19,9 @@ use Rattle.stations.specs.Exchanges.{Brings, ComesBack, RequestExchange, Exchang
 use Rattle.stations.specs.Exchanges.{IsRequestAnswered}
 use Rattle.stations.specs.Exchanges.{IsFrameReceived, IsKeptRest, NoneLeft, Begun, Spoilt}
 use Rattle.stations.specs.Exchanges.{IsRestKept, StopsAtUntaken}
-use Rattle.stations.specs.Exchanges.{OutstationsState, answer_written, latest_delay, next_number}
+use Rattle.stations.specs.Exchanges.{OutstationsState, answer_written}
 use Rattle.stations.specs.Exchanges.{took}
 use Rattle.stations.specs.Exchanges.{written}
-use Rattle.stations.specs.Late.{LateAnswer, at_once, delay_of, late_behind}
-use Rattle.stations.specs.Law.{WaitsBehind}
-use Rattle.stations.specs.declared.cue.Cue.{Cue}
 
 -- what was received so far, while only whole frames were
 pub record IsReceiving (old : OutstationsState) (octets left : List ℕ) (before now : StreamHistory)
@@ -37,19 +34,6 @@ pub record IsReceiving (old : OutstationsState) (octets left : List ℕ) (before
   pub taken : list_all took exchanges ≡ are_taken
   pub stops : StopsAtUntaken exchanges
   pub new_is : new ≡ record mid { so_far = new.so_far }
-
-pub none_received : (old : OutstationsState) (octets : List ℕ) (before : StreamHistory) →
-    IsReceiving old octets octets before before old true
-none_received old octets before = record {
-  exchanges = [];
-  mid = old;
-  brought = (refl, refl);
-  answered = refl;
-  wrote = refl;
-  taken = refl;
-  stops = tt;
-  new_is = refl;
-}
 
 -- where it took all before the last
 stops_with : (xs : List RequestExchange) (x : RequestExchange) → list_all took xs ≡ true
@@ -115,68 +99,6 @@ pub answered_size : (old new : OutstationsState) (request : Frame) (answer : Opt
 answered_size old new request answer a =
     ap (λ (s : OutstationsState). s.size) a.new_is
     ∙ ap (λ (s : OutstationsState). s.size) a.comes.new_is
-
-pub answered_cues : (old new : OutstationsState) (request : Frame) (answer : Option (List ℕ)) →
-    IsRequestAnswered old request answer new → new.cues ≡ old.cues
-answered_cues old new request answer a =
-    ap (λ (s : OutstationsState). s.cues) a.new_is
-    ∙ ap (λ (s : OutstationsState). s.cues) a.comes.new_is
-
--- where no line delays it, it goes out at once, and nothing else waits
-pub goes_at_once : (old new : OutstationsState) (request : Frame) (answer : Option (List ℕ)) →
-    delay_of (next_number old) old.cues ≡ None → IsRequestAnswered old request answer new →
-    ComesBack old request answer new
-goes_at_once old new request answer none a =
-    let received : latest_delay a.received ≡ None =
-    ap (λ (s : OutstationsState). delay_of s.requests s.cues) a.comes.new_is ∙ none in
-    let back : answer ≡ a.back =
-    a.answered ∙ ap (λ (d : Option ℕ). at_once d a.back) received in
-    let same : new ≡ a.received =
-    a.new_is
-    ∙ ap (λ (d : Option ℕ). record a.received { late = late_behind d a.back a.received.late })
-    received in
-    subst (λ (s : OutstationsState). ComesBack old request answer s) (sym same)
-    (subst (λ (o : Option (List ℕ)). ComesBack old request o a.received) (sym back) a.comes)
-
-waits : (ms : ℕ) (back : Option (List ℕ)) (before : Option LateAnswer)
-    → WaitsBehind ms back before (late_behind (Some ms) back before)
-waits ms None before = refl
-waits ms (Some octets) before = refl
-
--- where one does, it waits as it came back
-pub goes_late : (old new : OutstationsState) (request : Frame) (answer : Option (List ℕ)) (ms : ℕ) →
-    delay_of (next_number old) old.cues ≡ Some ms → IsRequestAnswered old request answer new →
-    (answer ≡ None) × (back : Option (List ℕ)) × (received : OutstationsState)
-    × ComesBack old request back received × WaitsBehind ms back old.late new.late
-    × (new ≡ record received { late = new.late })
-goes_late old new request answer ms late a =
-    let received : latest_delay a.received ≡ Some ms =
-    ap (λ (s : OutstationsState). delay_of s.requests s.cues) a.comes.new_is ∙ late in
-    let whole : new ≡ record a.received {
-      late = late_behind (Some ms) a.back a.received.late;
-    } = a.new_is
-    ∙ ap (λ (d : Option ℕ). record a.received { late = late_behind d a.back a.received.late })
-    received in
-    let waiting : new.late ≡ late_behind (Some ms) a.back old.late =
-    ap (λ (s : OutstationsState). s.late) whole
-    ∙ ap (λ (s : OutstationsState). late_behind (Some ms) a.back s.late) a.comes.new_is in (
-      a.answered ∙ ap (λ (d : Option ℕ). at_once d a.back) received,
-      a.back,
-      a.received,
-      a.comes,
-      subst (λ (l : Option LateAnswer). WaitsBehind ms a.back old.late l) (sym waiting)
-          (waits ms a.back old.late),
-      whole
-          ∙ ap (λ (s : OutstationsState). record a.received { late = s.late }) (sym whole),
-    )
-
-pub answered_late : (old new : OutstationsState) (request : Frame) (answer : Option (List ℕ)) →
-    old.cues ≡ [] → IsRequestAnswered old request answer new → new.late ≡ old.late
-answered_late old new request answer none a =
-    let back : ComesBack old request answer new =
-    goes_at_once old new request answer
-    (ap (λ (cues : List Cue). delay_of (next_number old) cues) none) a in
-    ap (λ (s : OutstationsState). s.late) back.new_is
 
 pub answered_so_far : (old new : OutstationsState) (request : Frame) (answer : Option (List ℕ)) →
     IsRequestAnswered old request answer new → new.so_far ≡ old.so_far

@@ -15,12 +15,11 @@ use Rattle.stations.specs.Exchanges.{OutstationsState}
 use Rattle.stations.specs.Progress.{next_step}
 use Rattle.stations.specs.Replies.{IsReply, cause_of_reply, confirmation_of, is_command}
 use Rattle.stations.specs.Replies.{termination_of}
-use Rattle.stations.specs.Replying.{GivesReply, IsAllReplied, IsNext, IsNextTo, Replies}
+use Rattle.stations.specs.Replying.{GivesReply, IsNextTo, Replies}
 use Rattle.stations.specs.Replying.{RepliesBy, RepliesEach, RepliesFrom, RepliesTo, accepted_by}
 use Rattle.stations.specs.Replying.{advanced, command_at, manner_in, manner_of}
 use Rattle.stations.specs.Reporting.{IsReported, changed_at}
 use Rattle.stations.specs.declared.cue.Cue.{Cue}
-use Rattle.stations.specs.declared.outstations.replying.NextReply.TheVariants.{Nothing}
 use Rattle.stations.specs.declared.outstations.replying.ReplyProgress.{ReplyProgress}
 use Rattle.stations.proofs.Reporting.{set_changed}
 
@@ -129,20 +128,6 @@ advanced_here view now e i p q lt at f =
 by_manner : (i : ℕ) (old new : OutstationsState) (refuses : Bool) (m : Option Bool) →
     Some refuses ≡ m → RepliesBy i (Some refuses) old new → RepliesBy i m old new
 by_manner i old new refuses m e h = subst (λ (o : Option Bool). RepliesBy i o old new) e h
-
-pub not_replied : (i : ℕ) (old : OutstationsState) → None ≡ manner_of i old.cues → Replies i old old
-not_replied i old e = subst (λ (o : Option Bool). RepliesBy i o old old) e refl
-
-pub all_replied : (i : ℕ) (old : OutstationsState) (refuses : Bool) →
-    Some refuses ≡ manner_of i old.cues → IsNext old i refuses Nothing → Replies i old old
-all_replied i old refuses m is =
-    by_manner i old old refuses (manner_of i old.cues) m (go (slice_get old.progress i) is)
-  where
-    go : (o : Option ReplyProgress) → IsAllReplied old o i → RepliesFrom i refuses o old old
-    go None none = refl
-    go (Some p) none =
-        subst (λ (c : Option (List ℕ)). RepliesTo i refuses p.is_confirmed c old old) (sym none)
-        refl
 
 replied_to : (i : ℕ) (old new : OutstationsState) (refuses : Bool) (o : Option ReplyProgress)
     (reply : Option (List ℕ)) → IsNextTo old refuses o i reply → GivesReply i reply old new →

@@ -1,5 +1,5 @@
 -- Answers that go out late (profile). Moments are the clock's, in ms.
-use Rattle.std.specs.Prelude.{ℕ, ◌-◌, ◌==◌, nat_le, Bool, true, false, if◌then◌else◌, List, [], ◌∷◌}
+use Rattle.std.specs.Prelude.{ℕ, ◌-◌, ◌==◌, nat_le, Bool, false, if◌then◌else◌, List, [], ◌∷◌}
 use Rattle.std.specs.Prelude.{Option, Some, None}
 use Rattle.sim.specs.Losses.{or_else}
 use Rattle.stations.specs.declared.cue.Cue.{Cue}

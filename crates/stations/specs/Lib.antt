@@ -9,9 +9,4 @@ pub mod Replying
 pub mod Scenarios
 pub mod TimedServers
 pub mod Reporting
-pub mod Law
-pub mod CuesWritten
-pub mod SpokenOf
-pub mod CueTexts
 pub mod Listeners
-pub mod Given

@@ -1,9 +1,7 @@
 -- The outstations behind a listener, as behind a serial device server (profile).
-use Rattle.std.specs.Prelude.{◌≡◌, ℕ, zero, suc, Bool, true, false, if◌then◌else◌, List, [], take}
+use Rattle.std.specs.Prelude.{◌≡◌, ℕ, Bool, true, false, if◌then◌else◌, List, [], take}
 use Rattle.std.specs.Prelude.{Option, Some, None, length}
-use Rattle.std.specs.Prelude.{◌∷◌}
 use Rattle.live.specs.OctetStreams.{StreamHistory, IsNew, Attempts, Wrote, looked, noted, attempted}
-use Rattle.live.specs.OctetStreams.{WasGone}
 use Rattle.live.specs.declared.ends.Got.{Got}
 use Rattle.live.specs.declared.ends.Got.TheVariants.{Octets, Quiet, Gone}
 use Rattle.gateway.specs.Config.{Settings}
@@ -84,11 +82,6 @@ pub record LooksOnce (old new : OutstationServer) : Type 0 where
   pub is_new : IsNewStream accepted
   pub received : IsReceivedAt (after_accept old accepted).stream (after_accept old accepted) new
 
--- so many looks, one after another
-abbrev pub LooksOn : ℕ → (old new : OutstationServer) → Type 0
-LooksOn zero old new = new ≡ old
-LooksOn (suc n) old new = (mid : OutstationServer) × LooksOn n old mid × LooksOnce mid new
-
 -- Octets are written to the stream of the gateway, if one is connected. One that doesn't take them
 -- is let go.
 abbrev pub IsGiven : (octets : List ℕ) → Option StreamHistory → (old new : OutstationServer)
@@ -122,17 +115,3 @@ pub record AllLinesReport (passed : ℕ) (old new : OutstationServer) : Type 0 w
 pub record RepliesAll (old new : OutstationServer) : Type 0 where
   pub replied : RepliesEach (length old.standing.stations) old.standing new.standing
   pub new_is : new ≡ record old { standing = new.standing }
-
--- Why a gateway was let go, by what happened last at its stream, where that notes it: it was gone,
--- or didn't take octets.
-abbrev pub IsCause : StreamHistory → Type 0
-IsCause None = Unit {0}
-IsCause (Some []) = ⊥
-IsCause (Some (WasGone ∷ before)) = Unit {0}
-IsCause (Some (Wrote octets false ∷ before)) = Unit {0}
-IsCause (Some (_ ∷ before)) = ⊥
-
--- there is one that was let go, for a cause
-abbrev pub IsLetGoForCause : Option StreamHistory → Type 0
-IsLetGoForCause None = ⊥
-IsLetGoForCause (Some stream) = IsCause stream

@@ -1,10 +1,9 @@
 -- The outstations in time (profile).
 use Rattle.std.specs.Prelude.{◌≡◌, ℕ, ◌-◌, min, if◌then◌else◌, List, [], ◌∷◌, length, Option, Some}
-use Rattle.std.specs.Prelude.{None, is_some, false, ◌⊎◌}
+use Rattle.std.specs.Prelude.{None, is_some}
 use Rattle.gateway.specs.Config.{Settings}
 use Rattle.live.specs.Timing.{Moments, read_at}
 use Rattle.live.specs.OctetStreams.{Attempts}
-use Rattle.stations.specs.Late.{has_passed}
 use Rattle.stations.specs.Places.{GivesLate, LooksOnce, OutstationServer, RepliesAll}
 use Rattle.stations.specs.Places.{AllLinesReport}
 use Rattle.stations.specs.Places.{first_place}
@@ -50,19 +49,6 @@ abbrev pub RoundsAt : (moments : List ℕ) → (old new : TimedServer) → Type 
 RoundsAt [] old new = new ≡ old
 RoundsAt (now ∷ moments) old new = (mid : TimedServer) × RoundsAt moments old mid
     × IsRound now mid new
-
--- In one of these rounds, which was at this moment, a request was received whose answer has these
--- octets, and goes out so many ms late. In none of the rounds since had they passed.
-abbrev pub WasHeld : (octets : List ℕ) → (ms since : ℕ) → (moments : List ℕ)
-    → (old new : TimedServer)
-    → RoundsAt moments old new → Type 0
-WasHeld octets ms since [] old new rounds = ⊥
-WasHeld octets ms since (now ∷ moments) old new rounds =
-    ((since ≡ now)
-    × (rounds.2.looked.standing.late
-    ≡ Some (record { octets = octets; ms = ms; since = None })))
-    ⊎ ((has_passed now ms (Some since) ≡ false)
-    × WasHeld octets ms since moments old rounds.0 rounds.1)
 
 -- what a clock has given once it gave these moments, the newest first
 abbrev pub read_all : Moments → List ℕ → Moments

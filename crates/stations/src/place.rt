@@ -1,5 +1,5 @@
 //! The outstations behind a listener.
-ghost use Rattle.std.specs.Prelude.{◌≡◌, ◌≤◌, [], None, Option, is_some};
+ghost use Rattle.std.specs.Prelude.{◌≡◌, ◌≤◌, None, Option, is_some};
 ghost use Rattle.live.specs.OctetStreams.{StreamHistory};
 ghost use Rattle.stations.specs.Places.{GivesLate, IsGiven, IsReceivedAt, IsNewStream, LooksOnce};
 ghost use Rattle.stations.specs.Places.{RepliesAll, AllLinesReport, after_accept};

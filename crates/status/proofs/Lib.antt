@@ -4,8 +4,4 @@ pub mod WordLemmas
 pub mod JudgeLaws
 pub mod VisitLemmas
 pub mod ReadingLemmas
-pub mod PageLemmas
-pub mod HourLemmas
-pub mod SightLemmas
 pub mod ReplyLemmas
-pub mod TypeLemmas

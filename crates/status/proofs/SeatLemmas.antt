@@ -1,9 +1,8 @@
 -- What a visitor was written is a beginning of the answer.
 use Rattle.std.proofs.Common.{◌≡◌, ℕ, ◌+◌, ◌-◌, ◌<◌, ◌≤◌, List, [], ◌∷◌, ◌++◌, length, take, drop}
-use Rattle.std.proofs.Common.{◌^◌, Bool, true, false, not, set, suc, min, inl, inr, Some, None}
+use Rattle.std.proofs.Common.{◌^◌, Bool, true, false, not, set, suc, min, Some, None}
 use Rattle.std.proofs.Common.{refl, sym, ap, subst, ◌∙◌, arith}
 use Rattle.std.proofs.Common.{append_assoc, length-append, length-drop}
-use Rattle.std.proofs.Math.Nat.{eq-or-lt_of_le}
 use Rattle.std.proofs.Math.Seq.{take-add, take-suc-set, drop-append-add}
 use Rattle.std.proofs.lemmas.List.{take-append-le, drop-append-le, take-append-drop, append-nil}
 use Rattle.std.proofs.lemmas.List.{take_rest, take_all, length-take-le}
@@ -173,40 +172,6 @@ kept_sent given taken given' taken' stage sent count d piece k is next le more s
   whole = λ e. absurd (answering_leaving (sym is ∙ e));
 }
 
--- all of it was taken
-pub kept_left : (given taken given' taken' : Passed) (stage : VisitStage) (sent : ℕ) (d : Desk)
-    (piece : List ℕ)
-    → IsKept given taken stage sent d → IsNext (answer_on d) sent piece → length piece ≡ 0
-    → taken' ≡ taken
-    → IsKept given' taken' Leaving sent d
-kept_left given taken given' taken' stage sent d piece k (rest, cut, goes) none same = record {
-  receives = λ here. absurd (here refl);
-  unsent = λ e. absurd (leaving_receiving e);
-  begun = λ all is_all. k.begun all (sym same ∙ is_all);
-  within = k.within;
-  whole = λ e. all_sent sent (length (answer_on d)) (length piece) k.within goes none;
-}
-  where
-    all_sent : (sent len left : ℕ) → sent ≤ len → (sent < len → 0 < left) → left ≡ 0 → sent ≡ len
-    all_sent sent len left le goes none =
-        elim (eq-or-lt_of_le le) [
-          | inl same ↦ same
-          | inr less ↦
-              absurd (omega (arith, goes less, none))
-        ]
-
--- what still came was dropped
-pub kept_drained : (given taken given' taken' : Passed) (sent : ℕ) (d : Desk) (stage : VisitStage)
-    → IsKept given taken stage sent d → stage ≡ Leaving → taken' ≡ taken
-    → IsKept given' taken' stage sent d
-kept_drained given taken given' taken' sent d stage k is same = record {
-  receives = λ here. absurd (here is);
-  unsent = k.unsent;
-  begun = λ all is_all. k.begun all (sym same ∙ is_all);
-  within = k.within;
-  whole = k.whole;
-}
-
 was_new : (t : Passed) (all : List ℕ) → IsNew t → t ≡ Some all → all ≡ []
 was_new None all new is_all = absurd (none_some is_all)
 was_new (Some before) all new is_all = some_same (sym is_all) ∙ new
@@ -269,21 +234,6 @@ turn_received before after stage later stays d at (found, calls, is) = record {
   finished = looked_finished found;
   unfinished = λ _ other _. absurd (answering_receiving (sym other ∙ at));
   left = λ _ other. absurd (leaving_receiving (sym other ∙ at));
-}
-
--- a look while the visitor leaves
-pub turn_left : (before after : Calls) (stage later : VisitStage) (stays : Bool) (d : Desk)
-    → stage ≡ Leaving → later ≡ stage → Looks before after stays
-    → IsTurn before after stage later stays d
-turn_left before after stage later stays d at same (found, calls, is) = record {
-  call = Looked found;
-  fits = subst (λ (v : VisitStage). IsCallIn v (Looked found)) (sym at) tt;
-  called = calls;
-  over = not_over (is_over (Looked found)) stays is;
-  goes = λ gone here. over (is_over (Looked found)) stays is gone here;
-  finished = looked_finished found;
-  unfinished = λ _ other _. absurd (answering_leaving (sym other ∙ at));
-  left = λ _ _. same ∙ at;
 }
 
 handed_finished : {A : Type 0} (taken : Took) → Handed taken ≡ Finished → A

@@ -12,7 +12,7 @@ use Rattle.std.specs.Option.{is_none}
 use Rattle.std.specs.List.{AllByRecursion, AllZip, IsAmong}
 use Rattle.status.specs.Answer.{body_in, body_sent, has_body, head_of}
 use Rattle.status.specs.Seats.{IsAsked, IsKept, Turned, answer_on, cleared}
-use Rattle.status.specs.Streams.{Calls, IsNew, Passed, more_passed}
+use Rattle.status.specs.Streams.{Calls, IsNew, Passed}
 use Rattle.status.specs.TextPage.{Sheet, empty, put, shown}
 use Rattle.status.specs.Visits.{Came, GivesMore, HasRequest, HasSeat, IsNewcomer, IsSeated, IsSent}
 use Rattle.status.specs.Visits.{IsSentAway, IsTaken, IsVisit, Place, Stayed, answer_of, place}
@@ -26,14 +26,6 @@ use Rattle.status.specs.declared.snapshot.Snapshot.{Snapshot}
 use Rattle.status.proofs.SeatLemmas.{for_some, kept_new, some_same}
 
 -- What passed
-
--- nothing was given
-none_given : (t : Passed) → t ≡ more_passed t []
-none_given None = refl
-none_given (Some before) = ap Some (sym (append-nil before))
-
-pub gives_none : (before after : Passed) → after ≡ before → GivesMore before after
-gives_none before after same = ([], same ∙ none_given before)
 
 -- Seats one behind another
 

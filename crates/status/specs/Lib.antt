@@ -14,9 +14,7 @@ pub mod Replies
 pub mod Reply
 pub mod Request
 pub mod Seats
-pub mod Sights
 pub mod Streams
 pub mod Table
 pub mod Texts
-pub mod Typed
 pub mod Words

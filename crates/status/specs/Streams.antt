@@ -36,11 +36,6 @@ abbrev pub IsNew : Passed → Type 0
 IsNew None = Unit {0}
 IsNew (Some before) = before ≡ []
 
--- what is kept is that
-abbrev pub Holds : Passed → List ℕ → Type 0
-Holds None octets = Unit {0}
-Holds (Some before) octets = before ≡ octets
-
 -- what a stream was called for, and what it answered
 pub data StreamCall : Type 0 where
   Looked : StreamLook → StreamCall

@@ -1,7 +1,7 @@
 //! What a visitor is answered (RFC 9110, RFC 9112).
 ghost use Rattle.std.specs.Prelude.{◌≡◌};
 ghost use Rattle.status.specs.Answer as spec;
-ghost use Rattle.status.specs.TextPage.{empty, put};
+ghost use Rattle.status.specs.TextPage.{put};
 
 use crate::html::put_html;
 use crate::json::put_json;

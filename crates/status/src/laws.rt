@@ -1,7 +1,6 @@
 //! What the definitions mean.
 ghost use Rattle.std.specs.Prelude.{◌≡◌, ◌≢◌, ◌<◌, ◌≤◌, ℕ, List, [], length, Some, None};
 ghost use Rattle.status.specs.Judge.{judgement_of};
-ghost use Rattle.status.specs.LastHour.{QueueLook, IsLastHour, after};
 ghost use Rattle.status.specs.Law.{IsTrouble, IsWell};
 ghost use Rattle.status.specs.TextPage.{empty, put};
 ghost use Rattle.status.specs.Visits.{HasRequest, IsSent, IsVisit};
@@ -32,15 +31,6 @@ pub fn judgements_mean_what_they_say()
     ensures trouble { (s : Snapshot) → IsTrouble s → judgement_of s ≡ Critical }
     ensures ok { (s : Snapshot) → judgement_of s ≡ Ok → IsWell s }
     ensures well { (s : Snapshot) → IsWell s → judgement_of s ≡ Ok }
-{}
-
-/// The numbers of the last hour, after any looks at the queue, whatever their moments. The first
-/// look gives a number, and so does each that comes a minute or more after the one that gave the
-/// number before. The newest 60 of these are shown, in their order. So a number goes only once it
-/// is an hour older than the newest one. Where no two looks are further apart than a gap, none that
-/// is shown is as old as an hour and 59 such gaps.
-pub fn the_last_hour_has_a_number_a_minute()
-    ensures { (looks : List QueueLook) → IsLastHour looks (after looks).numbers }
 {}
 
 /// What a visitor is sent is the page that he asked for, whole and once, whatever others do: after

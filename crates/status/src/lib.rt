@@ -14,10 +14,10 @@
 //! it distinguishes a request that isn't whole, one that is too long, and what is none. Who comes
 //! has a seat where one is free. A visitor is sent the page that he asked for, whole and once,
 //! whatever others do ([`visitors_are_sent_what_they_asked_for`]). After a turn nobody has been
-//! there for two seconds. The last hour has a number a minute
-//! ([`the_last_hour_has_a_number_a_minute`]). A page goes out whole or not at all
-//! ([`a_text_stands_whole_or_not_at_all`]). Of escapes, ages, answers and the judgement there are
-//! literal examples ([`texts_by_example`], [`answers_by_example`]).
+//! there for two seconds. A page goes out whole or not at all
+//! ([`a_text_stands_whole_or_not_at_all`]). What stands in place of an octet that would mean
+//! something else is read back as that octet ([`texts_are_read_back`]). Pages have literal examples
+//! ([`pages_by_example`]).
 //!
 //! Tested alone: that the largest pages find room, that streams are read and written at all, and
 //! what browsers and monitors make of a page (checks/status.py).
@@ -39,7 +39,6 @@ mod reply;
 mod reply_laws;
 mod request;
 mod seat;
-mod sight_laws;
 mod snapshot;
 mod sockets;
 mod streams;
@@ -48,26 +47,16 @@ mod texts;
 mod visitors;
 mod words;
 
-pub use examples::{answers_by_example, pages_by_example, texts_by_example};
+pub use examples::pages_by_example;
 pub use hour::Hour;
 pub use judging::{Judgement, judge};
 pub use laws::{
     a_text_stands_whole_or_not_at_all, judgements_mean_what_they_say,
-    the_last_hour_has_a_number_a_minute, visitors_are_sent_what_they_asked_for,
+    visitors_are_sent_what_they_asked_for,
 };
-pub use reading_laws::{
-    each_page_says_its_version, lists_have_each_thing, numbers_stand_behind_their_types,
-    numbers_stand_under_their_names, standings_are_told_in_their_words, texts_are_read_back,
-};
+pub use reading_laws::texts_are_read_back;
 pub use reply::{UNKNOWN, body_of, exit_status};
-pub use reply_laws::{
-    ages_are_told_whole, each_path_has_its_page, each_request_has_its_answer,
-    rows_and_line_say_what_they_are_of, the_summary_says_how_all_stands,
-};
-pub use sight_laws::{
-    queue_and_state_stand_in_their_lines, stations_stand_in_their_order,
-    the_centre_stands_in_its_line, the_last_hour_is_drawn_to_scale,
-};
+pub use reply_laws::{each_path_has_its_page, each_request_has_its_answer};
 pub use snapshot::{
     CentreView, Keeping, LineView, LinkState, Queue, Setting, Snapshot, StationView,
 };

@@ -1,10 +1,9 @@
 //! A visitor's seat: what was received of who sits there, and the answer on its way.
-ghost use Rattle.std.specs.Prelude.{◌≡◌, ◌≤◌, ◌<◌, ◌^◌, length, min, take, IfOk, IfSome, None};
+ghost use Rattle.std.specs.Prelude.{◌≡◌, ◌≤◌, ◌<◌, length, min, take, IfOk, IfSome, None};
 ghost use Rattle.std.specs.Prelude.{Some};
 ghost use Rattle.std.proofs.Props.{props};
 ghost use Rattle.std.specs.Bool.{OnTrue};
 ghost use Rattle.std.specs.Option.{ForSome, is_none, is_some};
-ghost use Rattle.status.specs.TextPage.{shown};
 ghost use Rattle.status.specs.Seats.{Answers, Turned, Receives, IsAsked, IsKept, IsNext, IsTurn};
 ghost use Rattle.status.specs.Seats.{Hands, IsYoung, Looks};
 ghost use Rattle.status.specs.Seats.{answer_on, cleared, fresh_desk};

@@ -1,5 +1,5 @@
 -- Place by place, nothing is the one that is looked for.
-use Rattle.std.proofs.Common.{◌≡◌, ℕ, ◌+◌, ◌<◌, List, Option, Some, None, subst, sym, ◌∙◌}
+use Rattle.std.proofs.Common.{◌≡◌, ℕ, ◌+◌, List, Some, subst, sym, ◌∙◌}
 use borrow.Author.Count.{below_more}
 use Rattle.toml_places.specs.Changes.{IsMarked, StandsAt, StandsNowhere, edited, span_at, written}
 use Rattle.toml_places.specs.declared.changes.Sought.{Sought}
@@ -12,13 +12,6 @@ pub nowhere_more : (spot : Spot) (kind : Sought) (text : List ℕ) (i : ℕ)
     → ((span : Span) → ¬ StandsAt spot kind text i span) → StandsNowhere spot kind text (i + 1)
 nowhere_more spot kind text i none here =
     below_more (λ at. (span : Span) → ¬ StandsAt spot kind text at span) i none here
-
--- where nothing is written that may be one
-pub none_here : (spot : Spot) (kind : Sought) (text : List ℕ) (i : ℕ)
-    → span_at kind text spot.key.now i ≡ None
-    → (span : Span) → ¬ StandsAt spot kind text i span
-none_here spot kind text i none span h =
-    let e : Some span ≡ None = sym h.here ∙ none in cc
 
 -- where the mark, written there, isn't the value
 pub other_here : (spot : Spot) (kind : Sought) (text : List ℕ) (i : ℕ) (there : Span)

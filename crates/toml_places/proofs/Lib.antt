@@ -1,3 +1,1 @@
 pub mod ChangesLemmas
-pub mod PlaceLaws
-pub mod ValueLaws

@@ -1,4 +1,3 @@
 pub mod Lines
 pub mod Spans
 pub mod Changes
-pub mod Law

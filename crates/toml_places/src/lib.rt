@@ -10,13 +10,9 @@
 #![tactic(auto)]
 
 mod changes;
-mod laws;
 mod place;
 mod spans;
 
 pub use changes::{MOST_OCTETS, Spot, find_gap, find_value};
-pub use laws::{
-    places_are_of_the_key_that_is_meant, places_are_those_of_an_editor, values_are_told_whole,
-};
 pub use place::{Place, place_at};
 pub use spans::Span;

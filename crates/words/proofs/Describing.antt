@@ -23,10 +23,6 @@ module _ (IsEnd : (octets : List ℕ) → (end : ℕ) → Type 0) (IsLogged : (o
       → AreFramesDescribed IsEnd IsLogged left texts rest
       → AreFramesDescribed IsEnd IsLogged all (so_far ++ texts) (both condition rest)
 
-  pub logged_from : (all : List ℕ) (text : List ℕ) → text ≡ [] → IsLoggedUpTo all text all Good
-  logged_from all text none = λ texts rest h.
-      subst (λ (ts : List ℕ). AreFramesDescribed IsEnd IsLogged all (ts ++ texts) rest) (sym none) h
-
   -- one frame more
   pub logged_on : (all so_far left text later : List ℕ) (end : ℕ) (condition one new : Condition)
       → IsLoggedUpTo all so_far left condition → 0 < end → IsEnd left end

@@ -4,8 +4,6 @@ use Rattle.std.specs.Fmt.{digits}
 use Rattle.jiff_core.specs.Calendar.{day_count, days_from_civil, days_of_months, days_of_years}
 use Rattle.jiff_core.specs.Calendar.{weekday_number}
 use Rattle.hex.specs.Hex.{encode_with}
-use Rattle.elements.specs.Names.{report_name, other_name, cause_name}
-use Rattle.elements.specs.Types.{type_of}
 use Rattle.words.specs.Numbers.{mark, two_digits, three_digits, six_digits, pointed}
 use Rattle.words.specs.Quality.{validity, origin, point_quality, quality}
 use Rattle.words.specs.Tags.{month_text, date_text, minute_text, second_text, time_text}
@@ -50,10 +48,6 @@ unfolding digits named type_text cause_text cause_words originator_text ca_text 
     place_words header_words object_words parting reason reason_words typed_words content_by
     content_words asdu_words data_words
 units_open = tt
-
-unfoldable pub asdus_open : Unit {0}
-unfolding values_open tags_open units_open type_of report_name other_name cause_name
-asdus_open = tt
 
 unfoldable pub frames_open : Unit {0}
 unfolding units_open rest_words cut_off no_frame primary_name secondary_name fcb_text demand_text

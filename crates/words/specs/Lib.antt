@@ -9,4 +9,3 @@ pub mod Connections
 pub mod Pipes
 pub mod Described
 pub mod Told
-pub mod Firsts

@@ -1,5 +1,5 @@
 //! APDUs of the connection in words.
-ghost use Rattle.std.specs.Prelude.{◌≡◌, ◌++◌, ◌∷◌, [], IfOk, OnOk, length, string_bytes};
+ghost use Rattle.std.specs.Prelude.{◌≡◌, ◌++◌, IfOk, OnOk, length, string_bytes};
 ghost use Rattle.apci.specs.Borrowed.{owned, owned_front};
 ghost use Rattle.show.specs.Tcp.{apdu_condition, front_condition, function_text as function_words};
 ghost use Rattle.words.specs.Faults.{no_frame};

@@ -1,5 +1,5 @@
 //! What holds of the words of every element, tag and frame.
-ghost use Rattle.std.specs.Prelude.{◌≡◌, ◌≤◌, ℕ, ◌+◌, ◌-◌, ◌*◌, ◌/◌, ◌%◌, ◌^◌, ◌==◌, ◌&&◌, codes};
+ghost use Rattle.std.specs.Prelude.{◌≡◌, ℕ, ◌+◌, ◌-◌, ◌*◌, ◌/◌, ◌%◌, ◌^◌, ◌==◌, ◌&&◌, codes};
 ghost use Rattle.std.specs.Prelude.{[], ◌∷◌, ◌++◌, if◌then◌else◌, nat_le, map, unsigned_abs, List};
 ghost use Rattle.std.specs.Prelude.{slice_index, Some, None, true, false};
 ghost use Rattle.std.specs.Fmt.{decimal, signed_decimal};
@@ -184,7 +184,8 @@ pub fn frames_are_told_field_by_field()
         × (front_words s n More ≡ codes "octets of a frame (" ++ (decimal n ++ codes ")"))
         × (front_words s n (Never place why)
         ≡ codes "no frame: " ++ (fault_of why ++ (codes " at " ++ decimal place))) }
-    ensures rest { (n : ℕ) → rest_words (n + 1) ≡ codes "  rest " ++ decimal (n + 1) }
+    ensures rest { (n : ℕ) → (rest_words (n + 1) ≡ codes "  rest " ++ decimal (n + 1))
+        × (rest_words 0 ≡ []) }
 {}
 
 /// An APDU is told by its numbers, N(S) first (IEC 60870-5-104, 5.1), or by its function. What it
@@ -204,54 +205,4 @@ pub fn apdus_are_told_field_by_field()
         × (apdu_front n apci.More ≡ codes "octets of a frame (" ++ (decimal n ++ codes ")"))
         × (apdu_front n (apci.Never place why)
         ≡ codes "no frame: " ++ (apdu_fault why ++ (codes " at " ++ decimal place))) }
-{}
-
-/// The types that are carried are told by their labels (IEC 60870-5-101, 7.2.1, and IEC
-/// 60870-5-104, 8), and so are all others. Causes are told by their names (7.2.3), and those of a
-/// group with its number: no two are exchanged.
-pub fn types_and_causes_are_told_by_name()
-    ensures reports { map type_text (1 ∷ 3 ∷ 5 ∷ 7 ∷ 9 ∷ 11 ∷ 13 ∷ 15 ∷ 70 ∷ [])
-        ≡ codes "M_SP_NA_1" ∷ codes "M_DP_NA_1" ∷ codes "M_ST_NA_1" ∷ codes "M_BO_NA_1"
-        ∷ codes "M_ME_NA_1" ∷ codes "M_ME_NB_1" ∷ codes "M_ME_NC_1" ∷ codes "M_IT_NA_1"
-        ∷ codes "M_EI_NA_1" ∷ [] }
-    ensures tagged { map type_text (30 ∷ 31 ∷ 32 ∷ 33 ∷ 34 ∷ 35 ∷ 36 ∷ 37 ∷ [])
-        ≡ codes "M_SP_TB_1" ∷ codes "M_DP_TB_1" ∷ codes "M_ST_TB_1" ∷ codes "M_BO_TB_1"
-        ∷ codes "M_ME_TD_1" ∷ codes "M_ME_TE_1" ∷ codes "M_ME_TF_1" ∷ codes "M_IT_TB_1" ∷ [] }
-    ensures commands { map type_text (45 ∷ 46 ∷ 47 ∷ 48 ∷ 49 ∷ 100 ∷ [])
-        ≡ codes "C_SC_NA_1" ∷ codes "C_DC_NA_1" ∷ codes "C_RC_NA_1" ∷ codes "C_SE_NA_1"
-        ∷ codes "C_SE_NB_1" ∷ codes "C_IC_NA_1" ∷ [] }
-    ensures tagged_commands { map type_text (58 ∷ 59 ∷ 60 ∷ 61 ∷ 62 ∷ [])
-        ≡ codes "C_SC_TA_1" ∷ codes "C_DC_TA_1" ∷ codes "C_RC_TA_1" ∷ codes "C_SE_TA_1"
-        ∷ codes "C_SE_TB_1" ∷ [] }
-    ensures causes { map cause_text (1 ∷ 2 ∷ 3 ∷ 4 ∷ 5 ∷ 6 ∷ 7 ∷ 8 ∷ 9 ∷ 10 ∷ [])
-        ≡ codes "periodic" ∷ codes "background scan" ∷ codes "spontaneous" ∷ codes "initialised"
-        ∷ codes "requested" ∷ codes "activation" ∷ codes "activation con" ∷ codes "deactivation"
-        ∷ codes "deactivation con" ∷ codes "activation term" ∷ [] }
-    ensures mirrors { map cause_text (20 ∷ 44 ∷ 45 ∷ 46 ∷ 47 ∷ [])
-        ≡ codes "station interrogation" ∷ codes "unknown type" ∷ codes "unknown cause"
-        ∷ codes "unknown common address" ∷ codes "unknown object address" ∷ [] }
-    ensures returns { map cause_text (11 ∷ 12 ∷ 13 ∷ [])
-        ≡ codes "return by remote command" ∷ codes "return by local command"
-        ∷ codes "file transfer" ∷ [] }
-    ensures groups { (group : ℕ) → 1 ≤ group → group ≤ 16 → cause_text (20 + group)
-        ≡ codes "group " ++ (decimal group ++ codes " interrogation") }
-    ensures counters { (cause_text 37 ≡ codes "general counter request")
-        × ((group : ℕ) → 1 ≤ group → group ≤ 4 → cause_text (37 + group)
-        ≡ codes "group " ++ (decimal group ++ codes " counter request")) }
-    ensures not_carried { map type_text (101 ∷ 102 ∷ 103 ∷ 104 ∷ 105 ∷ 106 ∷ 107 ∷ [])
-        ≡ codes "C_CI_NA_1" ∷ codes "C_RD_NA_1" ∷ codes "C_CS_NA_1" ∷ codes "C_TS_NA_1"
-        ∷ codes "C_RP_NA_1" ∷ codes "C_CD_NA_1" ∷ codes "C_TS_TA_1" ∷ [] }
-    ensures short_tags { map type_text (2 ∷ 4 ∷ 6 ∷ 8 ∷ 10 ∷ 12 ∷ 14 ∷ 16 ∷ [])
-        ≡ codes "M_SP_TA_1" ∷ codes "M_DP_TA_1" ∷ codes "M_ST_TA_1" ∷ codes "M_BO_TA_1"
-        ∷ codes "M_ME_TA_1" ∷ codes "M_ME_TB_1" ∷ codes "M_ME_TC_1" ∷ codes "M_IT_TA_1" ∷ [] }
-    ensures protection { map type_text (17 ∷ 18 ∷ 19 ∷ 20 ∷ 21 ∷ 38 ∷ 39 ∷ 40 ∷ [])
-        ≡ codes "M_EP_TA_1" ∷ codes "M_EP_TB_1" ∷ codes "M_EP_TC_1" ∷ codes "M_PS_NA_1"
-        ∷ codes "M_ME_ND_1" ∷ codes "M_EP_TD_1" ∷ codes "M_EP_TE_1" ∷ codes "M_EP_TF_1" ∷ [] }
-    ensures other_commands { map type_text (50 ∷ 51 ∷ 63 ∷ 64 ∷ [])
-        ≡ codes "C_SE_NC_1" ∷ codes "C_BO_NA_1" ∷ codes "C_SE_TC_1" ∷ codes "C_BO_TA_1" ∷ [] }
-    ensures parameters { map type_text (110 ∷ 111 ∷ 112 ∷ 113 ∷ [])
-        ≡ codes "P_ME_NA_1" ∷ codes "P_ME_NB_1" ∷ codes "P_ME_NC_1" ∷ codes "P_AC_NA_1" ∷ [] }
-    ensures files { map type_text (120 ∷ 121 ∷ 122 ∷ 123 ∷ 124 ∷ 125 ∷ 126 ∷ 127 ∷ [])
-        ≡ codes "F_FR_NA_1" ∷ codes "F_SR_NA_1" ∷ codes "F_SC_NA_1" ∷ codes "F_LS_NA_1"
-        ∷ codes "F_AF_NA_1" ∷ codes "F_SG_NA_1" ∷ codes "F_DR_TA_1" ∷ codes "F_SC_NB_1" ∷ [] }
 {}

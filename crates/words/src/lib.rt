@@ -11,15 +11,11 @@
 //! Proved: each text is an exact function of the frame (`AreLineWords`, `AreConnectionWords`), for
 //! every type, value, quality and tag; an `Err` is want of memory alone. Laws say it bit by bit and
 //! field by field, whatever the octets are ([`values_are_told_bit_by_bit`] and its neighbours).
-//! Several frames are told one by one ([`frames_are_described_one_by_one`]). The words have worked
-//! examples (`values_by_example`, `tags_by_example`, `asdus_by_example`, `frames_by_example`).
 #![tactic(auto)]
 
 mod commands;
 mod connections;
 mod described;
-mod described_laws;
-mod examples;
 mod faults;
 mod floats;
 mod forms;
@@ -35,15 +31,10 @@ mod units;
 
 pub use connections::{push_apdu, push_apdu_refusal, words_of_connection};
 pub use described::{both, describe_apdu, describe_apdus, describe_line, describe_line_frames};
-pub use described_laws::{
-    frames_are_described_one_by_one, lines_of_octets_are_read, what_is_not_read_is_told,
-};
-pub use examples::{asdus_by_example, frames_by_example, tags_by_example, values_by_example};
 pub use faults::push_cut_off;
 pub use laws::{
     apdus_are_told_field_by_field, asdus_are_told_field_by_field, commands_are_told_bit_by_bit,
-    frames_are_told_field_by_field, tags_are_told_field_by_field,
-    types_and_causes_are_told_by_name, values_are_told_bit_by_bit,
+    frames_are_told_field_by_field, tags_are_told_field_by_field, values_are_told_bit_by_bit,
 };
 pub use lines::{push_line_frame, push_line_refusal, words_of_line};
 pub use pipes::{apdu_end, line_end, read_line_of_octets};

@@ -1,5 +1,5 @@
 //! Frames of the serial line in words.
-ghost use Rattle.std.specs.Prelude.{◌≡◌, ◌++◌, ◌∷◌, [], IfOk, OnOk, length, string_bytes};
+ghost use Rattle.std.specs.Prelude.{◌≡◌, ◌++◌, IfOk, OnOk, length, string_bytes};
 ghost use Rattle.ft12.specs.Borrowed.{owned, owned_front};
 ghost use Rattle.link.specs.Control.{primary_code, secondary_code};
 ghost use Rattle.show.specs.Line.{frame_condition, front_condition};

@@ -1,6 +1,6 @@
 //! Information objects in words.
 ghost use Rattle.std.specs.Prelude.{◌≡◌, ◌++◌, length, OnOk, string_bytes};
-ghost use Rattle.elements.specs.Types.{row, value_shown};
+ghost use Rattle.elements.specs.Types.{row};
 ghost use Rattle.asdu.specs.Objects.{info_of};
 ghost use Rattle.words.specs.Units.{object_words};
 ghost use Rattle.words.specs.Values.{form_size, value_words, words_of};

@@ -1,5 +1,5 @@
 //! Octets that come as lines of text.
-ghost use Rattle.std.specs.Prelude.{◌≡◌, ◌<◌, ◌≤◌, IfOk, OnOk, filter, length, option_map, take};
+ghost use Rattle.std.specs.Prelude.{◌≡◌, ◌<◌, ◌≤◌, IfOk, filter, length, option_map};
 ghost use Rattle.words.specs.Pipes.{is_mark, octets_in, IsApduEnd, IsLineEnd};
 
 use ft12::LinkSize;

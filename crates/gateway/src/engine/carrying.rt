@@ -9,7 +9,7 @@ ghost use Rattle.gateway.specs.Setups.{link_of, info_of};
 ghost use Rattle.gateway.specs.State.{IsBetweenSteps};
 ghost use Rattle.gateway.specs.Restored.{HasSettings};
 ghost use Rattle.gateway.specs.Carried.{place_of, station_with, start_of, link_started};
-ghost use Rattle.gateway.specs.Carried.{links_started, seats, places};
+ghost use Rattle.gateway.specs.Carried.{links_started, seats, places, newcomers_marked};
 ghost use Rattle.gateway.specs.Carried.{serial_carried, centre_carried, carried};
 
 use super::centre::CentreSide;
@@ -20,7 +20,7 @@ use crate::settings::StationSettings;
 use crate::starting_links::{LinkStart, have_same_sizes, link_start};
 use apci::Assembler;
 use command::Commands;
-use link::{Master, ResumedStation, giving_up_is_for_one_station};
+use link::{Master, ResumedStation, giving_up_is_for_one_station, seats_have_their_addresses};
 use std::alloc::Global;
 
 /// The place of the station with this link address, in the order of the turns.
@@ -71,6 +71,19 @@ fn seats(alloc: Global, before: &Config, now: &Config) -> Result<Vec<ResumedStat
     Ok(found)
 }
 
+/// Marks a gap of each station that had no place before. It may have been a station earlier, and
+/// left in the middle of a poll: what that brought may be lost.
+fn mark_newcomers(seats: &[ResumedStation], line: &mut Master)
+    requires { length seats.now ≡ length line.old.stations }
+    ensures { line.new ≡ newcomers_marked seats.now line.old }
+{
+    for station in 0..seats.len() {
+        if seats[station].before.is_none() {
+            line.mark_gap(station);
+        }
+    }
+}
+
 /// The line with these settings and stations.
 fn line_carried(
     alloc: Global,
@@ -80,10 +93,14 @@ fn line_carried(
 ) -> Result<Master, NoMemory>
     requires some { 0 < length seats.now }
     requires fit { All (λ (s : SeatOf). FitsAddress now.now.line.link s.address) seats.now }
-    ensures { IfOk result (λ m. m ≡ reseated (link_of now.now.line) seats.now line.now) }
+    ensures { IfOk result (λ m. m
+        ≡ newcomers_marked seats.now (reseated (link_of now.now.line) seats.now line.now)) }
 {
+    seats_have_their_addresses();
     let settings = link_settings(now.line());
-    line.reseated(alloc, settings, seats).map_err(|_| NoMemory)
+    let mut carried = line.reseated(alloc, settings, seats).map_err(|_| NoMemory)?;
+    mark_newcomers(seats, &mut carried);
+    Ok(carried)
 }
 
 /// Of each station the place that it had before.
@@ -211,9 +228,11 @@ impl Gateway {
     /// Each piece that is kept stays, in its order, and is unsent again: where there are more than
     /// places are set, nothing is polled until enough have gone. Stations are known by their link
     /// addresses, and [`link_start`] says what becomes of their links; a command that is held for a
-    /// station whose link doesn't go on, or that is gone, is counted as lost. There is no
-    /// connection, and no exchange: a service without an answer is held, and is sent again at its
-    /// station's turn. Counts, the moment and the wall clock stay. `Err` where there is no memory.
+    /// station whose link doesn't go on, or that is gone, is counted as lost. The first answered
+    /// reset of a station that is new reports a gap, since it may have been a station earlier. There
+    /// is no connection, and no exchange: a service without an answer is held, and is sent again at
+    /// its station's turn. Counts, the moment and the wall clock stay. `Err` where there is no
+    /// memory.
     pub fn carried(
         self,
         alloc: Global,

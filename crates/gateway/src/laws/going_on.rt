@@ -3,22 +3,25 @@ ghost use Rattle.std.specs.Prelude.{◌≡◌, ◌<◌, ℕ, [], Bool, true, fal
 ghost use Rattle.std.specs.Prelude.{slice_get};
 ghost use Rattle.link.specs.Procedure.{is_up};
 ghost use Rattle.link.specs.Turns.{station_at};
-ghost use Rattle.link.specs.Primary.{station_down};
 ghost use Rattle.link.specs.Carried.{released, station_carried};
 ghost use Rattle.gateway.specs.declared.settings.StationSettings.{StationSettings};
 ghost use Rattle.gateway.specs.Config.{Settings};
 ghost use Rattle.gateway.specs.State.{State};
-ghost use Rattle.gateway.specs.Carried.{place_of, start_of, station_started, carried};
+ghost use Rattle.gateway.specs.Carried.{place_of, start_of, station_new, station_started};
+ghost use Rattle.gateway.specs.Carried.{carried};
 ghost use Rattle.gateway.specs.Unchanged.{MayGoOn};
 
 use link::{
-    frame_count_bits_go_on, giving_up_is_for_one_station, restarts_change_no_link, sessions_go_on,
+    frame_count_bits_go_on, giving_up_is_for_one_station, restarts_change_no_link,
+    seats_have_their_addresses, sessions_go_on,
 };
 
 /// Each station of the new settings is the one that had its link address before, whatever places
 /// they have: it goes on, or its link is down, as the table says of it, and of no other. Where it
 /// goes on it has the link that it had (so its frame count bit, by `frame_count_bits_go_on`), what
-/// its latest answer showed and its session. One that wasn't there is new.
+/// its latest answer showed and its session. One that wasn't there is new, and its session has a
+/// gap, which its first answered reset reports: it may have been a station earlier, and have left
+/// in the middle of a poll, so that a report of it was lost.
 pub fn stations_go_on_by_their_addresses()
     ensures known { (goes_on : Bool) (before now : Settings) (s : State) (i k : ℕ)
         (station : StationSettings) →
@@ -34,11 +37,12 @@ pub fn stations_go_on_by_their_addresses()
         slice_get now.stations i ≡ Some station →
         place_of station.address before.stations ≡ None →
         station_at (carried goes_on before now s).serial.line.stations i
-        ≡ station_down station.address }
+        ≡ station_new station.address }
 {
     giving_up_is_for_one_station();
     restarts_change_no_link();
     frame_count_bits_go_on();
+    seats_have_their_addresses();
 }
 
 /// No link is up where a gateway goes on with other settings, but that of a station which is set as

@@ -1,8 +1,8 @@
 //! A run over ends that note what happens at them, and what the laws say of it.
 ghost use Rattle.std.specs.Prelude.{◌≡◌, ℕ, ◌+◌, ◌-◌, ◌<◌, ◌≤◌, List, [], ◌∷◌, Bool, false, All};
-ghost use Rattle.std.specs.Prelude.{Some};
+ghost use Rattle.std.specs.Prelude.{Some, true, ◌⊎◌};
 ghost use Rattle.live.specs.Walls.{is_wall};
-ghost use Rattle.live.specs.Law.{AtMoment, SomeRounds, first_of};
+ghost use Rattle.live.specs.Law.{AtMoment, SomeRounds, first_of, is_frame};
 ghost use Rattle.live.specs.Passed.{IsFreshRun, line_in, opened_in, given, handed, accepted_in};
 ghost use Rattle.live.specs.OctetStreams.{Happening};
 
@@ -42,7 +42,8 @@ fn exchange<S: OctetStream, L: Listener + Drop, C: RunClock + Drop>(
     // No event lets the exchange end before the line was looked at for its time.
     ensures unread { (written : ℕ) × AtMoment result (λ at.
         moment + port.new.timing.answer_ms ≤ at →
-        port.new.timing.answer_ms ≤ port.new.timing.looked - written) }
+        (port.new.timing.answer_ms ≤ port.new.timing.looked - written)
+        ⊎ (is_frame result buf.new ≡ true)) }
 {
     the_log_has_what_passed();
     no_exchange_ends_unread();

@@ -1,5 +1,5 @@
 //! The replies of the stations' applications to the commands that they accepted.
-ghost use Rattle.std.specs.Prelude.{◌≡◌, ◌≤◌, IfOk, length};
+ghost use Rattle.std.specs.Prelude.{◌≡◌, IfOk, length};
 ghost use Rattle.stations.specs.Progress.{next_step, none_replied};
 ghost use Rattle.stations.specs.Replying.{IsNext, Replies, RepliesEach, advanced, manner_in};
 ghost use Rattle.stations.specs.Replying.{manner_of};

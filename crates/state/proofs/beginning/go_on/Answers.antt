@@ -3,8 +3,9 @@ use Rattle.state.proofs.beginning.go_on.Goals as goal
 
 pub returns-clause-went : goal.returns-clause-went
 returns-clause-went g c clean =
-    went_on _ _ _ _ c.in_ok-resumed.resumed.gap _ c.in_ok-resumed.resumed.before.entries _
-    c.in_ok-resumed.resumed.gateway _ c.in_ok-resumed.ensures.said
-    (c.in_ok-resumed.ensures.read clean)
-    c.restarted.ensures.gap c.restarted.ensures.gateway c.restarted.ensures.before
-    c.restarted.ensures.follows
+    went_on _ _ _ _ c.in_ok-arrived.arrived.gap _ c.restarted.result.given_up.items
+    c.in_ok-arrived.arrived.before.entries _ c.in_ok-arrived.arrived.gateway _
+    c.in_ok-arrived.ensures.said (c.in_ok-arrived.ensures.read clean)
+    c.restarted.ensures.gap
+    (ap (λ (list : Vec GivenUp). list.items) c.restarted.ensures.given_up ∙ c.in_ok-given_up.ensures)
+    c.restarted.ensures.gateway c.restarted.ensures.before c.restarted.ensures.follows

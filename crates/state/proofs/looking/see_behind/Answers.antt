@@ -22,18 +22,19 @@ returns-clause-log g c =
       begins = c.args.start.now.at;
       lines = lines;
       head = c.requires.head;
-      said = c.in_ok-resumed.ensures.said;
+      said = c.in_ok-arrived.ensures.said;
       wrote = c.in_ok-wrote.wrote;
       readable = subst (λ (text : List ℕ). IsReadOfText text (Ok c.in_ok-wrote.wrote))
           c.deref.ensures.value c.in_ok-wrote.ensures.read;
       counted = subst (λ (events : List ℕ). AreCounted (whole_lines events)
           c.in_ok-count.count.logged c.in_ok-count.count.all) same c.in_ok-count.ensures.counted;
-      gap = c.in_ok-resumed.resumed.gap;
-      whole = c.in_ok-resumed.resumed.before.entries;
+      gap = c.in_ok-arrived.arrived.gap;
+      whole = c.in_ok-arrived.arrived.before.entries;
       read = subst (λ (events : List ℕ). IsRead c.in_ok-wrote.wrote g.K.Lineage.log lines events
-          c.in_ok-resumed.resumed.gap c.in_ok-resumed.resumed.before.entries
-          c.in_ok-resumed.resumed.gateway) same
-          (c.in_ok-resumed.ensures.read (c.requires.honest _));
+          c.in_ok-arrived.arrived.gap c.in_ok-arrived.arrived.before.entries
+          c.in_ok-arrived.arrived.gateway) same
+          (c.in_ok-arrived.ensures.read (c.requires.honest _));
+      named = c.in_ok-given_up.ensures;
     }
 
 pub returns-in_err-wrote-clause-wrong : goal.returns-in_err-wrote-clause-wrong

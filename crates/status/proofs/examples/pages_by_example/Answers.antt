@@ -17,6 +17,10 @@ pub returns-clause-families : goal.returns-clause-families
 unfolding digits
 returns-clause-families c s = refl
 
+pub returns-clause-info : goal.returns-clause-info
+unfolding digits
+returns-clause-info c s name = rw name
+
 pub returns-clause-row : goal.returns-clause-row
 unfolding digits
 returns-clause-row c s name = rw name

@@ -1,4 +1,4 @@
-use Rattle.std.proofs.Common.{◌≡◌, ◌<◌, Some, inr, sym, arith}
+use Rattle.std.proofs.Common.{◌≡◌, Some, inr, sym, arith}
 use Rattle.toml_places.specs.Changes.{IsMarked, edited, span_at, written}
 use Rattle.toml_places.proofs.ChangesLemmas.{nowhere_more, other_here}
 use Rattle.toml_places.proofs.changes.first.Goals as goal

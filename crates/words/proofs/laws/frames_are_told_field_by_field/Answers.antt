@@ -39,4 +39,4 @@ pub returns-clause-rest : goal.returns-clause-rest
 unfolding frames_open
 returns-clause-rest c = λ n.
     let some : (n + 1 == 0) ≡ false = grind (arith, nat_tests) in
-    ap (λ (b : Bool). if b then [] else codes "  rest " ++ decimal (n + 1)) some
+    (ap (λ (b : Bool). if b then [] else codes "  rest " ++ decimal (n + 1)) some, refl)

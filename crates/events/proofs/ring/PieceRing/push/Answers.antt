@@ -1,14 +1,13 @@
-use Rattle.std.proofs.Common.{[], ap, ◌∙◌, vec_capacity}
-use Rattle.events.specs.Ring.{appended}
+use Rattle.std.proofs.Common.{ap, ◌∙◌}
+use Rattle.events.specs.Ring.{appended, pieces_in}
 use Rattle.events.proofs.Cells.{appended_there}
 use Rattle.events.proofs.ring.PieceRing.push.Goals as goal
 
 pub returns : goal.returns
 returns c =
     let e = c.self.inside in
-    let place = c.place_of-place in
-    appended_there e.cells.items c.reach.new.cells.items e.start e.count e.capacity
-    (vec_capacity e.cells) e.cells.len place.result (record { items = [] }) c.overwrite.new.cell
-    c.args.self.now c.self.invariant c.self.view_is c.requires place.ensures.before
-    place.ensures.round e.cells.ok.0 c.reach.ensures.there c.reach.ensures.next
+    let reached = c.reach-self-inside in
+    appended_there reached.new.cells.items (pieces_in e.cells.items e.first e.count) reached.result
+    e.count reached.new.cells.capacity e.cells.capacity c.overwrite.new.cell c.args.self.now
+    reached.ensures.cell reached.ensures.pieces reached.ensures.capacity c.self.view_is
     ∙ ap (λ octets. appended octets c.args.self.now) c.overwrite.ensures

@@ -16,7 +16,9 @@ returns c =
       as_many = c.restarts_change_no_link.ensures.number;
     } in
     let bits = c.frame_count_bits_go_on.ensures in
+    let seats = c.seats_have_their_addresses.ensures in
     record {
-      known = λ goes_on before now. going.known law goes_on before now bits.seats bits.number;
-      other = λ goes_on before now. going.other law goes_on before now bits.seats;
+      known = λ goes_on before now. going.known law goes_on before now bits.seats seats.number
+          bits.number;
+      other = λ goes_on before now. going.other law goes_on before now bits.seats seats.number;
     }

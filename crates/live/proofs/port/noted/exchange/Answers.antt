@@ -1,11 +1,11 @@
 use Rattle.std.proofs.Common.{◌≡◌, ℕ, ◌+◌, ◌-◌, ◌<◌, ◌≤◌, Bool, true, List, [], ◌∷◌, ◌++◌, Some}
-use Rattle.std.proofs.Common.{None, is_some, refl, sym, ap, subst, ◌∙◌}
+use Rattle.std.proofs.Common.{None, is_some, refl, sym, ap, subst, ◌∙◌, ◌⊎◌}
 use Rattle.gateway.specs.Log.{Log, LineOut}
 use Rattle.gateway.specs.Ports.{logged_by}
 use Rattle.gateway.specs.declared.ports.Next.{Next}
 use Rattle.gateway.specs.declared.ports.Next.TheVariants as next
 use Rattle.live.specs.Ends.{LiveEnds, LogsTurn, LogsPut}
-use Rattle.live.specs.Law.{AtMoment, AtRounds, SomeRounds, first_of}
+use Rattle.live.specs.Law.{AtMoment, AtRounds, SomeRounds, first_of, is_frame}
 use Rattle.std.specs.Prelude.{All}
 use Rattle.live.specs.Timing.{Moments}
 use Rattle.live.specs.Passed.{IsFreshRun, LiveRun, Begun, Turned, Put, LogsEnds, LogsLine}
@@ -132,7 +132,7 @@ Unread = (old new : LiveEnds) (event : Next) (buf : List ℕ) (r : WrittenReques
     → LogsTurn old event buf new
     → new.timing.request ≡ Some r → 0 < new.timing.answer_ms →
     AtMoment event (λ moment. r.moment + new.timing.answer_ms ≤ moment
-    → new.timing.answer_ms ≤ new.timing.looked - r.written)
+    → (new.timing.answer_ms ≤ new.timing.looked - r.written) ⊎ (is_frame event buf ≡ true))
 
 abbrev Asks : Type 0
 Asks = (old new : LiveEnds) (event : Next) (buf : List ℕ) → LogsTurn old event buf new
@@ -141,7 +141,8 @@ Asks = (old new : LiveEnds) (event : Next) (buf : List ℕ) → LogsTurn old eve
 unread_of : (start first asked end : LiveEnds) (moment : ℕ) (request : List ℕ)
     → (r : Ran start first asked end moment request) → 0 < start.timing.answer_ms → Unread → Asks
     → (written : ℕ) × AtMoment r.answer (λ at. moment + end.timing.answer_ms ≤ at
-    → end.timing.answer_ms ≤ end.timing.looked - written)
+    → (end.timing.answer_ms ≤ end.timing.looked - written)
+    ⊎ (is_frame r.answer r.rest ≡ true))
 unread_of start first asked end moment request r some unread asks =
     let p = r.put.puts in
     let written = p.written in

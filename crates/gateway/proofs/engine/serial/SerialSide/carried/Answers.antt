@@ -8,7 +8,7 @@ use Rattle.gateway.specs.Config.{Settings}
 use Rattle.gateway.specs.Setups.{link_of, info_of}
 use Rattle.gateway.specs.Serial.{Serial}
 use Rattle.gateway.specs.declared.counts.Tally.{Tally}
-use Rattle.gateway.specs.Carried.{seats, places}
+use Rattle.gateway.specs.Carried.{seats, places, newcomers_marked}
 use Rattle.gateway.proofs.engine.serial.SerialSide.carried.Goals as goal
 
 -- the parts, put together
@@ -18,7 +18,7 @@ with_parts line commands counts =
 
 -- the line, and commands, with these settings and stations
 abbrev line_with : Settings → List ResumedStation → Primary → Primary
-line_with now seats line = reseated (link_of now.line) seats line
+line_with now seats line = newcomers_marked seats (reseated (link_of now.line) seats line)
 
 abbrev commands_with : Settings → List ResumedStation → tasks.State → tasks.State
 commands_with now seats s = commands.carried (map info_of now.stations) now.line.sizes
