@@ -46,6 +46,11 @@ def report(address):
     return data(0x08, address, bytes([0x01, 0x01, 0x03, address, 0x64, 0x00, 0x01]))
 
 
+def row(count):
+    """So many single points from address 1 on, whose addresses have one octet; 124 of them go out in three pieces."""
+    return data(0x08, 1, bytes([0x01, count, 0x03, 0x01]) + bytes(octet for point in range(count) for octet in (point + 1, 0x01)))
+
+
 def acknowledgement(count):
     """An S frame for so many I frames."""
     count %= 32768
@@ -56,8 +61,8 @@ START = bytes.fromhex("680407000000")
 TEST = bytes.fromhex("680443000000")
 
 
-def config(stations=1, queue=1000, k=12):
-    lines = ["[line]", "link = 1", "cause = 1", "ca = 1", "ioa = 2", f"queue = {queue}", "[tcp]", f"k = {k}"]
+def config(stations=1, queue=1000, k=12, ioa=2):
+    lines = ["[line]", "link = 1", "cause = 1", "ca = 1", f"ioa = {ioa}", f"queue = {queue}", "[tcp]", f"k = {k}"]
     for station in range(1, stations + 1):
         lines += ["[[station]]", f"address = {station}", f"ca = {station}"]
     return "\n".join(lines) + "\n"
@@ -155,6 +160,24 @@ def queue(t, events):
     return config(queue=65535, k=32767), "objects"
 
 
+def full(t, events):
+    """A queue of 65,535 places, all taken without a connection, and then drained by a window of 32,767 that moves on by eight, again
+    and again."""
+    t.start_stations(1)
+    while t.events < events:
+        # Polls go out until fewer than three places are free. So a last report takes three.
+        taken = min(65532, events - t.events)
+        for _ in range(taken):
+            t.add("S", row(1))
+        t.add("S", row(124))
+        t.counted += taken + 124
+        t.start_connection()
+        for sent in range(8, taken + 3 + 8, 8):
+            t.add("R", acknowledgement(min(sent, taken + 3)))
+        t.add("C")
+    return config(queue=65535, k=32767, ioa=1), "objects"
+
+
 # element sizes by type, tags left out (IEC 60870-5-101, 7.2.6)
 ELEMENTS = {1: 1, 3: 1, 5: 2, 7: 5, 9: 3, 11: 3, 13: 5, 15: 5, 30: 1, 31: 1, 32: 2, 33: 5, 34: 3, 35: 3, 36: 5, 37: 5}
 TAG = bytes.fromhex("D5DD220C9D0218")
@@ -243,6 +266,7 @@ WORKLOADS = {
     "pieces": pieces,
     "flood": flood,
     "queue": queue,
+    "full": full,
     "commands": commands,
     "long": long,
     "select": select,

@@ -84,6 +84,46 @@ STRANGE_WORDS = (
     "440 control centre > gateway  the connection is cut\n"
 )
 
+# What a connection is closed for, and a gap, which a reset of a link that was up tells of (by the texts of docs/TEXTS.md).
+ENDS = (
+    "5 O\n6 R 00\n7 O\n8 R 680407000000\n9 R 680E0200000064010600010000000014\n10 O\n11 R 680401000A00\n"
+    "12 O\n13 R 680E0000000064010600010000000014\n14 O\n15 O\n"
+)
+ENDS_WORDS = (
+    "0 gateway > outstation  link status to 1\n"
+    "5 control centre > gateway  connects\n"
+    "6 control centre > gateway  no frame: no start octet at 0\n"
+    "6 gateway > control centre  closes: octets that begin no APDU\n"
+    "7 control centre > gateway  connects\n"
+    "8 control centre > gateway  STARTDT act\n"
+    "8 gateway > control centre  STARTDT con\n"
+    "9 control centre > gateway  I 1 0  C_IC_NA_1 activation  CA 1  0 = station\n"
+    "9 gateway > control centre  closes: a wrong send number\n"
+    "10 control centre > gateway  connects\n"
+    "11 control centre > gateway  S 5\n"
+    "11 gateway > control centre  closes: a wrong receive number\n"
+    "12 control centre > gateway  connects\n"
+    "13 control centre > gateway  I 0 0  C_IC_NA_1 activation  CA 1  0 = station\n"
+    "13 gateway > control centre  closes: an I frame while stopped\n"
+    "14 control centre > gateway  connects\n"
+    "15 control centre > gateway  connects\n"
+    "15 gateway > control centre  closes: a new connection\n"
+)
+GAP = "10 S 100B010C16\n20 S E5\n400 T\n410 S 100B010C16\n420 S E5\n"
+GAP_COLOURS = (
+    "0 \x1b[36mgateway > outstation\x1b[0m  link status to 1\n"
+    "10 \x1b[36moutstation > gateway\x1b[0m  link status from 1\n"
+    "10 \x1b[36mgateway > outstation\x1b[0m  reset link to 1\n"
+    "20 \x1b[36moutstation > gateway\x1b[0m  ACK (E5)\n"
+    "20 \x1b[36mgateway > outstation\x1b[0m  poll class 2 to 1 (FCB 1)\n"
+    "400 \x1b[36mgateway > outstation\x1b[0m  link status to 1\n"
+    "410 \x1b[36moutstation > gateway\x1b[0m  link status from 1\n"
+    "410 \x1b[36mgateway > outstation\x1b[0m  reset link to 1\n"
+    "420 \x1b[36moutstation > gateway\x1b[0m  ACK (E5)\n"
+    "420 \x1b[33mgateway\x1b[0m  gap: station 1, session 1\n"
+    "420 \x1b[36mgateway > outstation\x1b[0m  poll class 2 to 1 (FCB 1)\n"
+)
+
 # The record in words: its events in their order, and nothing before them.
 RECORD_WORDS = "0 gateway  the wall clock shows 1709210100000\n" + WORDS
 
@@ -140,6 +180,8 @@ ROWS = [
     ("replay --words --color good.toml one.trace", COLOURS, "", 0),
     ("replay --color good.toml one.trace", LINES, "", 0),
     ("replay --words good.toml strange.trace", STRANGE_WORDS, "", 0),
+    ("replay --words good.toml ends.trace", ENDS_WORDS, "", 0),
+    ("replay --words --color reset.toml gap.trace", GAP_COLOURS, "", 0),
     ("replay --words good.toml none.script", "", "trace: line 1\n", 1),
     # A record is told too: its actions are passed over, and so are lines that were cut short.
     ("replay --words good.toml whole.record", RECORD_WORDS, "", 0),
@@ -293,6 +335,9 @@ FILES = {
     "-": CONFIG,
     "one.trace": TRACE,
     "strange.trace": STRANGE,
+    "ends.trace": ENDS,
+    "gap.trace": GAP,
+    "reset.toml": CONFIG.replace("[[station]]", 'retries = 0\nsilence = "reset"\n[[station]]'),
     "none.script": "turns 0\n",
     "one.script": "turns 1\n",
     "wrong.toml": CONFIG.replace("link = 1", "link = 3"),

@@ -6,21 +6,24 @@
 checks/specified_calls.txt has the calls and types that the specification names, one a line: the
 crate, the name, and its form as far as the specification gives it.
 
-- The crate has to have it under its name, in public, and in that form. Or the table of docs/CALLS.md
-  below "Calls of the specification that have another form" has to have a row for it: the crate, the name, what does it instead, and
-  why. So what both the sources and the page have lost is told.
-- What a row of that table has is on the list, and differs. Each name in its third cell is there: a
-  call or type of any crate, or a variant of one.
+- The crate has to have it in public, under its name and in that form. Or a row of docs/CALLS.md,
+  below "Calls of the specification that have another form", has to name it, and say what does it
+  and why. So the script tells what both the sources and the page have lost.
+- A row of that table names only what is on the list and differs. Each name in its third cell is
+  there: a call or type of any crate, or a variant of one.
 
-No program is needed. An allocator that a call takes is no part of its form, nor are receivers, names
-of parameters and lifetimes.
+No program is needed. An allocator that a call takes is no part of its form, nor are receivers,
+names of parameters and lifetimes.
 """
 import glob
 import os
 import re
+import sys
 
 import frame
-from calls import calls_of, exported, without_comments
+
+sys.path.append(os.path.join(frame.TOP, "tools"))
+from laws import exported, functions_of, without_comments
 
 PAGE = os.path.join(frame.TOP, "docs", "CALLS.md")
 LIST = os.path.join(frame.HERE, "specified_calls.txt")
@@ -38,6 +41,11 @@ def wanted():
     for line in read(LIST).splitlines():
         if line and not line.startswith("#"):
             yield tuple(cell.strip() for cell in line.split("|"))
+
+
+def calls_of(crate):
+    """The public calls of a crate: by name the signature."""
+    return {name: function.signature for name, function in functions_of(crate).items() if function.is_public}
 
 
 def crates():
@@ -114,7 +122,7 @@ def fault_of(name, form, calls, types):
     if name in types:
         alike = not form or fits(form, types[name].lstrip())
         return None if alike else f"the sources have {name} {bare(types[name])}"
-    return "the sources have it no more"
+    return "the crate has no such call or type"
 
 
 def rows_of(page):
@@ -146,14 +154,17 @@ def specification(count, _program, _folder):
         listed.add((crate, name))
         fault = fault_of(name, form, calls[crate], types[crate])
         is_told = (crate, name) in told
-        said = f"{fault}, and docs/CALLS.md doesn't say what does it" if fault else "it is as the specification has it, and docs/CALLS.md says otherwise"
+        said = f"{fault}, and docs/CALLS.md doesn't say what does it"
+        if not fault:
+            said = "it is as the specification has it, and docs/CALLS.md says otherwise"
         count.judge(f"{crate}: {name}", bool(fault) == is_told, said)
     for crate, name in sorted(told - listed):
         count.judge(f"{crate}: {name}", False, "docs/CALLS.md has a row for it, and the list hasn't")
     all_calls = {name for found in calls.values() for name in found}
     all_types = {name: body for found in types.values() for name, body in found.items()}
     for crate, names, does, why in rows:
-        lost = [name for name in re.findall(r"`([^`]+)`", does) if name not in types and not is_there(name, all_calls, all_types)]
+        named = [name for name in re.findall(r"`([^`]+)`", does) if name not in types]
+        lost = [name for name in named if not is_there(name, all_calls, all_types)]
         count.judge(f"the row of {crate}: {', '.join(names)}", does and why and not lost, f"not in the sources: {lost}")
 
 

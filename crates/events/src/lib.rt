@@ -123,7 +123,7 @@ impl Events {
         requires asdu { IsSendable piece.items }
         ensures { self.new ≡ pushed (piece.items ∷ []) self.old }
     {
-        self.ring.push(&piece);
+        self.ring.push(piece);
     }
 
     /// Appends the pieces of a report of at most 253 octets, unsent, each written in its place. The

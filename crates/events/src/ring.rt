@@ -14,6 +14,10 @@ use circular_buffer::HeapCircularBuffer;
 use std::alloc::{AllocError, Global};
 use std::marker::Model;
 
+/// From this cell on one is made anew before it is written over: to look at what it held would wait
+/// for memory. The cells before it stay in the processor's cache.
+const FAR: usize = 1024;
+
 /// The pieces, oldest first, in a ring of cells.
 #[derive(Drop)]
 pub(crate) struct PieceRing {
@@ -77,16 +81,16 @@ impl PieceRing {
     }
 
     /// Appends a piece. There must be a place for it.
-    pub(crate) fn push(&mut self, piece: &Piece)
+    pub(crate) fn push(&mut self, piece: Piece)
         requires { length self.old.items < self.old.capacity }
-        ensures { self.new ≡ appended piece.now.items self.old }
+        ensures { self.new ≡ appended piece.items self.old }
     {
         self.first = reach(&mut self.cells, self.first, self.count);
         prove!(self.count < self.cells.len() - self.first);
         let Some(cell) = self.cells.get_mut(self.first + self.count) else {
             unreachable!();
         };
-        overwrite(cell, piece);
+        *cell = piece;
         self.count += 1;
     }
 
@@ -100,9 +104,13 @@ impl PieceRing {
     {
         self.first = reach(&mut self.cells, self.first, self.count);
         prove!(self.count < self.cells.len() - self.first);
-        let Some(cell) = self.cells.get_mut(self.first + self.count) else {
+        let place = self.first + self.count;
+        let Some(cell) = self.cells.get_mut(place) else {
             unreachable!();
         };
+        if place >= FAR {
+            *cell = Piece::new();
+        }
         left.write_next(cell);
         self.count += 1;
     }
@@ -185,12 +193,4 @@ fn add_cell(cells: &mut HeapCircularBuffer<Piece>, first: usize, count: usize) -
     };
     let _ = cells.try_push_back(Piece::new());
     first
-}
-
-/// Writes the piece over what the cell held. Only its octets are copied.
-fn overwrite(cell: &mut Piece, piece: &Piece)
-    ensures { cell.new.items ≡ piece.now.items }
-{
-    cell.clear();
-    let _ = cell.try_extend_from_slice(piece.as_slice());
 }

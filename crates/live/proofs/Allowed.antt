@@ -213,7 +213,8 @@ kept_out_by old new event buf (inr t) =
     found in
     let given : IsKeptOut old.allow_list (peer_of old) t.given.taken new.connection =
     subst Q (sym t.given.ends) taken in
-    subst P (sym t.given.given) (given_out old new (told_at new.timing (brings_frame t.given.taken buf) t.now) t.given.taken given)
+    let n = told_at new.timing (brings_frame t.given.taken buf) t.now in
+    subst P (sym t.given.given) (given_out old new n t.given.taken given)
 
 -- the log is no matter
 logged_out : (log : Log) (old new : LiveEnds) (event : Next)

@@ -352,7 +352,8 @@ turns_reasoned old new event buf (inr t) =
     subst Q (sym t.given.ends)
     (taken_reasoned d old.why_cut n (is_behind t.found.timing t.now) buf t.f t.found found) in
     subst P (sym t.given.given)
-    (given_reasoned d old.why_cut n (told_at new.timing (brings_frame t.given.taken buf) t.now) t.given.taken new given)
+    (given_reasoned d old.why_cut n (told_at new.timing (brings_frame t.given.taken buf) t.now)
+    t.given.taken new given)
 
 -- the log is no matter
 pub reasoned : (old new : LiveEnds) (event : Next) (buf : List ℕ) → LogsTurn old event buf new

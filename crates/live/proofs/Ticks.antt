@@ -320,7 +320,8 @@ tick_by old new event buf (inr t) =
     let Holds : ℕ → List ℕ → ℕ → Type 0 = λ begun quiet now. IsTickDue old.timing new.timing
     new.walled (first_of begun quiet) quiet now in
     let P : Next → Type 0 = λ e. IfTick e (AtRounds old.clock new.clock Holds) in
-    subst P (sym t.given.given) (if_tick (told_at new.timing (brings_frame t.given.taken buf) t.now) t.given.taken
+    subst P (sym t.given.given) (if_tick
+    (told_at new.timing (brings_frame t.given.taken buf) t.now) t.given.taken
     (AtRounds old.clock new.clock Holds)
     (λ none. at_rounds old event buf new t Holds
     (λ before b. let Q : ℕ → Type 0 = λ first. IsTickDue old.timing new.timing new.walled first

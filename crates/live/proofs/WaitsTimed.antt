@@ -59,7 +59,8 @@ shown_by old new event buf (inl t) =
 shown_by old new event buf (inr t) =
     let P : Next → Type 0 = λ e. AtWall e (λ moment number. AtClock new.clock (λ now.
     AtClock new.walls (λ shown. number ≡ shown - (now - moment)))) in
-    subst P (sym t.given.given) (no_wall_at (told_at new.timing (brings_frame t.given.taken buf) t.now) t.given.taken
+    subst P (sym t.given.given) (no_wall_at
+    (told_at new.timing (brings_frame t.given.taken buf) t.now) t.given.taken
     (λ moment number. AtClock new.clock (λ now.
     AtClock new.walls (λ shown. number ≡ shown - (now - moment)))))
 

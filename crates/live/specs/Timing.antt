@@ -2,8 +2,8 @@
 -- unanswered where no answer has come for so long after its request: that is time that the line
 -- had, not time for which the gateway itself stood still. So the end of an exchange waits until the
 -- line has been looked at that long after the request was written.
-use Rattle.std.specs.Prelude.{ℕ, ◌+◌, ◌-◌, nat_le, nat_lt, Bool, false, not, List, ◌∷◌, Option}
-use Rattle.std.specs.Prelude.{Some, None, if◌then◌else◌}
+use Rattle.std.specs.Prelude.{ℕ, ◌+◌, ◌-◌, nat_le, nat_lt, Bool, true, false, not, List, ◌∷◌}
+use Rattle.std.specs.Prelude.{Option, Some, None, if◌then◌else◌}
 use Rattle.live.specs.declared.timing.Timing.{Timing}
 use Rattle.live.specs.declared.timing.WrittenRequest.{WrittenRequest}
 

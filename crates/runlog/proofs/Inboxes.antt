@@ -5,7 +5,7 @@ use Rattle.std.proofs.lemmas.List.{take_all, drop-drop}
 use Rattle.std.specs.Prelude.{Option}
 use Rattle.std.specs.declared.net.ip_addr.IpAddr.{IpAddr}
 use Rattle.gateway.specs.State.{State}
-use Rattle.runlog.specs.Inbox.{Orders, all_noted, apdu_noted, apdu_len, is_whole}
+use Rattle.runlog.specs.Inbox.{Orders, all_noted, apdu_noted, apdu_len, begins_apdu, is_whole}
 
 one_less : (n i : ℕ) → i < n → n - i ≡ suc (n - (i + 1))
 one_less n i less = omega arith
@@ -37,7 +37,8 @@ fits_of n m e = grind (arith, e)
 pub whole_fits : (xs : List ℕ) → is_whole xs ≡ true → apdu_len xs ≤ length xs
 whole_fits xs whole =
     fits_of (apdu_len xs) (length xs)
-    (second_of (nat_le 2 (length xs)) (nat_le (apdu_len xs) (length xs)) whole)
+    (second_of (begins_apdu xs) (nat_le (apdu_len xs) (length xs))
+    (second_of (nat_le 2 (length xs)) (begins_apdu xs && nat_le (apdu_len xs) (length xs)) whole))
 
 -- ---- the turns, where what is left is a slice of what came
 

@@ -20,7 +20,12 @@ use Rattle.runlog.specs.Passing.{Went, is_of_connection, passed, step_of}
 use Rattle.runlog.specs.Stations as stations
 use Rattle.runlog.specs.Stations.{again_by, counted, gap_at, is_unanswered, line_in}
 use Rattle.runlog.specs.Stations.{logged_asked, logged_down, logged_missed}
-use Rattle.runlog.specs.Stations.{logged_up, silent_by, station_asked, station_by}
+use Rattle.runlog.specs.Stations.{logged_up, silent_by, station_asked, answers_by, asked_by}
+use Rattle.runlog.specs.Stations.{first_by, reset_by, service_by, status_by, unserved_by}
+use Rattle.runlog.specs.Stations.{unserved_if}
+use Rattle.runlog.specs.Ends.{is_away}
+use Rattle.runlog.specs.declared.stations.LinkKnown.{LinkKnown}
+use Rattle.runlog.specs.declared.stations.LinkKnown.TheVariants as known
 use Rattle.runlog.specs.Stations.{station_logged, still_by, unanswered_by}
 use Rattle.runlog.specs.Watching.{Watching, at, late_noted, line_received, received, seen}
 use Rattle.runlog.specs.Watching.{unless_logged, walled, with_line, exchanged}
@@ -191,45 +196,77 @@ unanswered_apart true now w =
     silent_apart (is_minute_after w.silent.logged now) standing.Unanswered now w
 unanswered_apart false now w = tt
 
-still_apart : (b : Bool) (now : ℕ) (w : StationWatch) → IsOfOthers (still_by b now w).1
-still_apart true now w =
+still_apart : (b : Bool) (next : StationLogged) (now : ℕ) (w : StationWatch)
+    → IsOfOthers (still_by b next now w).1
+still_apart true next now w =
     kept_apart _ _ _ (changed_apart (note.StillSilent w.address) w.silent now refl)
-still_apart false now w = tt
+still_apart false next now w = tt
 
-again_apart : (b : Bool) (now : ℕ) (w : StationWatch) → IsOfOthers (again_by b now w).1
-again_apart true now w = still_apart (is_minute_after w.silent.logged now) now w
-again_apart false now w =
+answers_apart : (link : LinkKnown) (now : ℕ) (w : StationWatch)
+    → IsOfOthers (answers_by link now w).1
+answers_apart known.Nothing now w = tt
+answers_apart known.Up now w =
     kept_apart _ _ _ (changed_apart (note.Again w.address) w.again now refl)
+answers_apart known.Down now w = tt
 
-station_apart : (l : StationLogged) (a : Asking) (now : ℕ) (w : StationWatch)
-    → IsOfOthers (station_by l a now w).1
-station_apart standing.Nothing asking.Status now w = asked_apart now w
-station_apart standing.Nothing (asking.Counted bit) now w = up_apart now w
-station_apart standing.Nothing asking.Other now w = tt
-station_apart standing.Nothing asking.Missed now w = missed_apart now w
-station_apart standing.Asked asking.Status now w =
-    silent_apart (is_unanswered w) standing.Unanswered now w
-station_apart standing.Asked (asking.Counted bit) now w = up_apart now w
-station_apart standing.Asked asking.Other now w = tt
-station_apart standing.Asked asking.Missed now w = missed_apart now w
-station_apart standing.Down asking.Status now w =
-    silent_apart (is_unanswered w) standing.Unanswered now w
-station_apart standing.Down (asking.Counted bit) now w = up_apart now w
-station_apart standing.Down asking.Other now w = tt
-station_apart standing.Down asking.Missed now w = missed_apart now w
-station_apart standing.Unanswered asking.Status now w = unanswered_apart (is_unanswered w) now w
-station_apart standing.Unanswered (asking.Counted bit) now w = up_apart now w
-station_apart standing.Unanswered asking.Other now w = tt
-station_apart standing.Unanswered asking.Missed now w = missed_apart now w
-station_apart standing.Up asking.Status now w = down_apart now w
-station_apart standing.Up (asking.Counted bit) now w =
-    silent_apart (is_unanswered w) standing.Silent now w
-station_apart standing.Up asking.Other now w = tt
-station_apart standing.Up asking.Missed now w = missed_apart now w
-station_apart standing.Silent asking.Status now w = down_apart now w
-station_apart standing.Silent (asking.Counted bit) now w = again_apart (is_unanswered w) now w
-station_apart standing.Silent asking.Other now w = tt
-station_apart standing.Silent asking.Missed now w = missed_apart now w
+again_apart : (b : Bool) (link : LinkKnown) (now : ℕ) (w : StationWatch)
+    → IsOfOthers (again_by b link now w).1
+again_apart true link now w =
+    still_apart (is_minute_after w.silent.logged now) standing.Silent now w
+again_apart false link now w = answers_apart link now w
+
+unserved_apart : (l : StationLogged) (now : ℕ) (w : StationWatch)
+    → IsOfOthers (unserved_by l now w).1
+unserved_apart standing.Unanswered now w =
+    still_apart (is_minute_after w.silent.logged now) standing.Unanswered now w
+unserved_apart standing.Nothing now w = silent_apart true standing.Unanswered now w
+unserved_apart standing.Asked now w = silent_apart true standing.Unanswered now w
+unserved_apart standing.Up now w = silent_apart true standing.Unanswered now w
+unserved_apart standing.Silent now w = silent_apart true standing.Unanswered now w
+unserved_apart standing.Down now w = silent_apart true standing.Unanswered now w
+
+unserved_if_apart : (b : Bool) (now : ℕ) (w : StationWatch) → IsOfOthers (unserved_if b now w).1
+unserved_if_apart true now w = unserved_apart w.logged now w
+unserved_if_apart false now w = tt
+
+first_apart : (link : LinkKnown) (b : Bool) (now : ℕ) (w : StationWatch)
+    → IsOfOthers (first_by link b now w).1
+first_apart known.Up b now w = up_apart now w
+first_apart known.Nothing b now w = unserved_if_apart b now w
+first_apart known.Down b now w = unserved_if_apart b now w
+
+status_apart : (l : StationLogged) (now : ℕ) (w : StationWatch) → IsOfOthers (status_by l now w).1
+status_apart standing.Nothing now w = asked_apart now w
+status_apart standing.Asked now w = silent_apart (is_unanswered w) standing.Unanswered now w
+status_apart standing.Down now w = silent_apart (is_unanswered w) standing.Unanswered now w
+status_apart standing.Unanswered now w = unanswered_apart (is_unanswered w) now w
+status_apart standing.Up now w = down_apart now w
+status_apart standing.Silent now w = down_apart now w
+
+service_apart : (l : StationLogged) (now : ℕ) (w : StationWatch)
+    → IsOfOthers (service_by l now w).1
+service_apart standing.Up now w = silent_apart (is_unanswered w) standing.Silent now w
+service_apart standing.Silent now w = again_apart (is_unanswered w) w.link now w
+service_apart standing.Nothing now w = first_apart w.link (is_unanswered w) now w
+service_apart standing.Asked now w = first_apart w.link (is_unanswered w) now w
+service_apart standing.Down now w = first_apart w.link (is_unanswered w) now w
+service_apart standing.Unanswered now w = first_apart w.link (is_unanswered w) now w
+
+reset_apart : (was is : LinkKnown) (now : ℕ) (w : StationWatch)
+    → IsOfOthers (reset_by was is now w).1
+reset_apart known.Nothing known.Nothing now w = tt
+reset_apart known.Nothing known.Up now w = tt
+reset_apart known.Nothing known.Down now w = down_apart now w
+reset_apart known.Up is now w = tt
+reset_apart known.Down is now w = tt
+
+station_apart : (a : Asking) (was : LinkKnown) (now : ℕ) (w : StationWatch)
+    → IsOfOthers (asked_by a was now w).1
+station_apart asking.Status was now w = status_apart w.logged now w
+station_apart asking.Reset was now w = reset_apart was w.link now w
+station_apart (asking.Counted bit) was now w = service_apart w.logged now w
+station_apart asking.Missed was now w = missed_apart now w
+station_apart asking.Other was now w = tt
 
 line_of_two : (b : Bool) (x y : Option LogLine) → IsOfOthers x → IsOfOthers y
     → IsOfOthers (if b then x else y)
@@ -241,7 +278,7 @@ stations_apart : (address : ℕ) (a : Asking) (now : ℕ) (ws : List StationWatc
 stations_apart address a now [] = tt
 stations_apart address a now (w ∷ ws) =
     line_of_two (w.address == address) (station_asked a now w).1 (line_in address a now ws)
-    (station_apart w.logged a now (counted a now w)) (stations_apart address a now ws)
+    (station_apart a w.link now (counted a now w)) (stations_apart address a now ws)
 
 gap_apart : (w : Option StationWatch) (now : ℕ) (ws : List StationWatch)
     → IsOfOthers (gap_at w now ws).1
@@ -270,7 +307,9 @@ pub other_action : (w : Watching) (now : ℕ) (action : Output)
 other_action w now (LineOut octets) is =
     let v = exchanged (exchange.place_of (stations.address_of w.link octets) w.traffic)
     (exchange.awaited_of octets) octets now w in
-    stations_apart (stations.address_of v.link octets) (stations.asking_of octets) now v.stations
+    line_of_two (is_away w.line.presence) None
+    (stations.asked v.link octets now v.stations).1 tt
+    (stations_apart (stations.address_of v.link octets) (stations.asking_of octets) now v.stations)
 other_action w now (TcpOut octets) is =
     subst IsOfOthers (sym (line_sent octets now w.connection is)) tt
 other_action w now (Closed cause) is = cc

@@ -24,7 +24,8 @@ use Rattle.runlog.specs.Watching.{order_at}
 use Rattle.runlog.specs.Watching.{Watching, unless_logged, seen, with_line, answered_by}
 use Rattle.runlog.specs.Watching.{answer_noted_by, answer_noted_at, line_received, received}
 use Rattle.runlog.specs.Watching.{suffered_by, suffered_at, suffered_if, counts_noted, late_noted}
-use Rattle.runlog.specs.Watching.{as_late, sent_by, sent_at, asked, is_repeat, judged}
+use Rattle.runlog.specs.Ends.{is_away}
+use Rattle.runlog.specs.Watching.{as_late, sent_by, sent_at, asked, is_repeat, judged, unless_away}
 use Rattle.runlog.specs.Watching.{unless_queue, counted, looked_at, is_look_due, queue_seen}
 use Rattle.runlog.specs.Watching.{unless_inbox, gathered, unless_line}
 use Rattle.runlog.specs.declared.ends.LineWatch.{LineWatch}
@@ -34,6 +35,7 @@ use Rattle.runlog.specs.declared.fate.Mishap.{Mishap}
 use Rattle.runlog.specs.declared.fate.Mishap.TheVariants as mishap
 use Rattle.runlog.specs.declared.note.LogLine.{LogLine}
 use Rattle.runlog.specs.declared.queue.QueueWatch.{QueueWatch}
+use Rattle.runlog.specs.declared.stations.StationWatch.{StationWatch}
 use Rattle.runlog.specs.declared.traffic.Traffic.{Traffic}
 use Rattle.runlog.proofs.Counted.{answered_address, command_so, line_address, mishap_so}
 
@@ -266,14 +268,28 @@ asked_same octets now w =
 -- and those as one that goes out to its station
 pub asked_stations : (octets : List ℕ) (now : ℕ) (w : Watching)
     → ((asked octets now w).0.stations, (asked octets now w).1)
-    ≡ stations.asked w.link octets now w.stations
+    ≡ unless_away (is_away w.line.presence) (stations.asked w.link octets now w.stations) w.stations
 asked_stations octets now w =
     let place = exchange.place_of (stations.address_of w.link octets) w.traffic in
     let what = exchange.awaited_of octets in
     let v : Watching = record w { exchange = exchange.asked place what now w.exchange } in
     let x = sent_at_same place what octets v in
-    ap (λ size. stations.asked size octets now (sent_at place what octets v).stations) x.link
-    ∙ ap (λ ws. stations.asked w.link octets now ws) x.stations
+    let away = is_away w.line.presence in
+    let ws = (sent_at place what octets v).stations in
+    ap (λ size. unless_away away (stations.asked size octets now ws) ws) x.link
+    ∙ ap (λ ws. unless_away away (stations.asked w.link octets now ws) ws) x.stations
+
+away_by : (b : Bool) (x : List StationWatch × Option LogLine) (ws : List StationWatch)
+    → unless_away b x ws ≡ (if b then (ws, None) else x)
+away_by true x ws = refl
+away_by false x ws = refl
+
+pub asked_if_there : (octets : List ℕ) (now : ℕ) (w : Watching)
+    → ((asked octets now w).0.stations, (asked octets now w).1)
+    ≡ (if is_away w.line.presence then (w.stations, None)
+    else stations.asked w.link octets now w.stations)
+asked_if_there octets now w = asked_stations octets now w
+    ∙ away_by (is_away w.line.presence) (stations.asked w.link octets now w.stations) w.stations
 
 -- ---- Looks
 

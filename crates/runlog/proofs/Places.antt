@@ -8,7 +8,8 @@ use Rattle.gateway.specs.declared.ports.Next.TheVariants as next
 use Rattle.gateway.specs.declared.settings.StationSettings.{StationSettings}
 use Rattle.runlog.specs.Passing.{Passed, Came, Went, Between, passed, watched}
 use Rattle.runlog.specs.Standings.{IsNoRequest, seat, seat_of}
-use Rattle.runlog.specs.Stations.{after_request, address_of, asking_of}
+use Rattle.runlog.specs.Ends.{is_away}
+use Rattle.runlog.specs.Stations.{after_request, address_of, asked, asking_of}
 use Rattle.runlog.specs.Stations.{gap_at, station_asked}
 use Rattle.runlog.specs.Watching.{Watching, at, late_noted, line_received, new_stations}
 use Rattle.runlog.specs.Watching.{new_watching, received, walled}
@@ -79,10 +80,17 @@ new_seats : (tries : ℕ) (settings : List StationSettings)
 new_seats tries [] = refl
 new_seats tries (s ∷ settings) = ap (λ ss. (s.address, tries) ∷ ss) (new_seats tries settings)
 
+seats_if : (b : Bool) (asked ws : List StationWatch) → map seat asked ≡ map seat ws
+    → map seat (if b then ws else asked) ≡ map seat ws
+seats_if true asked ws same = refl
+seats_if false asked ws same = same
+
 passed_seats : (p : Passed) (w : Watching) → map seat (passed p w).0.stations ≡ map seat w.stations
 passed_seats (Went now (LineOut octets)) w =
     ap (λ x. map seat x.0) (asked_stations octets now w)
-    ∙ seats_kept (address_of w.link octets) (asking_of octets) now w.stations
+    ∙ seats_if (is_away w.line.presence)
+    (asked w.link octets now w.stations).0 w.stations
+    (seats_kept (address_of w.link octets) (asking_of octets) now w.stations)
 passed_seats (Went now (GapOut station session)) w =
     gap_kept (slice_get w.stations station) now w.stations
 passed_seats (Went now (TcpOut octets)) w = refl

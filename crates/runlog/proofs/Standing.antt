@@ -1,22 +1,28 @@
 -- How a station stands, by what was asked of it.
 use Rattle.std.proofs.Common.{◌≡◌, ℕ, suc, ◌+◌, ◌-◌, ◌^◌, ◌<◌, ◌≤◌, Bool, true, false, List, []}
 use Rattle.std.proofs.Common.{◌∷◌}
-use Rattle.std.proofs.Common.{length, Option, Some, None, refl, sym, ap, ◌∙◌, nat_lt, min, arith}
+use Rattle.std.proofs.Common.{length, Option, Some, None, refl, sym, ap, subst, ◌∙◌, nat_lt, min}
+use Rattle.std.proofs.Common.{arith}
 use Rattle.std.specs.Prelude.{if◌then◌else◌, is_none, is_some, ◌==◌}
 use Rattle.std.specs.Bool.{beq}
 use Rattle.std.specs.List.{AllByRecursion}
 use Rattle.runlog.specs.Ends.{changed}
 use Rattle.runlog.specs.Limits.{one_more, is_minute_after}
-use Rattle.runlog.specs.Standings.{after, answering, had_service, is_alike, missed, stands, tells}
-use Rattle.runlog.specs.Standings.{telling, times}
-use Rattle.runlog.specs.Stations.{again_by, counted, counting, is_again, is_same, is_unanswered}
-use Rattle.runlog.specs.Stations.{new_station, silent_by, standing_of, station_asked, still_by}
-use Rattle.runlog.specs.Stations.{station_by, station_logged, unanswered_by}
-use Rattle.runlog.specs.Stations.{logged_up, logged_down}
+use Rattle.runlog.specs.Standings.{IsLoggedUp, after, is_alike, latest_bit, link_so, missed, stands}
+use Rattle.runlog.specs.Standings.{stands_by, tells, telling, times}
+use Rattle.runlog.specs.Stations.{again_by, answers_by, asked_by, counted, counting, first_by}
+use Rattle.runlog.specs.Stations.{is_again, is_other, is_same, is_unanswered, link_asked}
+use Rattle.runlog.specs.Stations.{logged_asked, logged_down, logged_up, new_station, reset_by}
+use Rattle.runlog.specs.Stations.{service_by, silent_by, standing_by, standing_of, station_asked}
+use Rattle.runlog.specs.Stations.{station_logged, status_by, still_by, unanswered_by, unserved_by}
+use Rattle.runlog.specs.Stations.{unserved_if}
 use Rattle.runlog.specs.declared.note.LogLine.{LogLine}
 use Rattle.runlog.specs.declared.note.Note.TheVariants as note
 use Rattle.runlog.specs.declared.stations.Asking.{Asking}
-use Rattle.runlog.specs.declared.stations.Asking.TheVariants.{Status, Counted, Other, Missed}
+use Rattle.runlog.specs.declared.stations.Asking.TheVariants.{Status, Reset, Counted}
+use Rattle.runlog.specs.declared.stations.Asking.TheVariants.{Other, Missed}
+use Rattle.runlog.specs.declared.stations.LinkKnown.{LinkKnown}
+use Rattle.runlog.specs.declared.stations.LinkKnown.TheVariants as known
 use Rattle.runlog.specs.declared.stations.StationLogged.{StationLogged}
 use Rattle.runlog.specs.declared.stations.StationLogged.TheVariants as logged
 use Rattle.runlog.specs.declared.stations.StationStanding.{StationStanding}
@@ -31,7 +37,8 @@ record Shown : Type 0 where
   tries : ℕ
   bit : Option Bool
   sent : ℕ
-  was_up : Bool
+  served : Option Bool
+  link : LinkKnown
   since : ℕ
   gaps : ℕ
 
@@ -41,7 +48,8 @@ shown w = record {
   tries = w.tries;
   bit = w.bit;
   sent = w.sent;
-  was_up = w.was_up;
+  served = w.served;
+  link = w.link;
   since = w.since;
   gaps = w.gaps;
 }
@@ -63,15 +71,24 @@ unanswered_kept true now w =
     silent_kept (is_minute_after w.silent.logged now) logged.Unanswered now w
 unanswered_kept false now w = refl
 
-still_kept : (is_so : Bool) (now : ℕ) (w : StationWatch) → shown (still_by is_so now w).0 ≡ shown w
-still_kept false now w = refl
-still_kept true now w = let x = changed (note.StillSilent w.address) w.silent now in
-    line_kept logged.Silent x.1 (record w { silent = x.0 })
+still_kept : (is_so : Bool) (so : StationLogged) (now : ℕ) (w : StationWatch)
+    → shown (still_by is_so so now w).0 ≡ shown w
+still_kept false so now w = refl
+still_kept true so now w = let x = changed (note.StillSilent w.address) w.silent now in
+    line_kept so x.1 (record w { silent = x.0 })
 
-again_kept : (is_so : Bool) (now : ℕ) (w : StationWatch) → shown (again_by is_so now w).0 ≡ shown w
-again_kept true now w = still_kept (is_minute_after w.silent.logged now) now w
-again_kept false now w = let x = changed (note.Again w.address) w.again now in
+answers_kept : (link : LinkKnown) (now : ℕ) (w : StationWatch)
+    → shown (answers_by link now w).0 ≡ shown w
+answers_kept known.Nothing now w = refl
+answers_kept known.Up now w = let x = changed (note.Again w.address) w.again now in
     line_kept logged.Up x.1 (record w { again = x.0 })
+answers_kept known.Down now w = refl
+
+again_kept : (is_so : Bool) (link : LinkKnown) (now : ℕ) (w : StationWatch)
+    → shown (again_by is_so link now w).0 ≡ shown w
+again_kept true link now w =
+    still_kept (is_minute_after w.silent.logged now) logged.Silent now w
+again_kept false link now w = answers_kept link now w
 
 up_kept : (now : ℕ) (w : StationWatch) → shown (logged_up now w).0 ≡ shown w
 up_kept now w = let x = changed (note.Up w.address) w.up now in
@@ -81,41 +98,70 @@ down_kept : (now : ℕ) (w : StationWatch) → shown (logged_down now w).0 ≡ s
 down_kept now w = let x = changed (note.Down w.address) w.down now in
     line_kept logged.Down x.1 (record w { down = x.0 })
 
-by_kept : (so : StationLogged) (asking : Asking) (now : ℕ) (w : StationWatch)
-    → shown (station_by so asking now w).0 ≡ shown w
-by_kept logged.Nothing Status now w = let x = changed (note.Asked w.address) w.asked now in
+unserved_kept : (so : StationLogged) (now : ℕ) (w : StationWatch)
+    → shown (unserved_by so now w).0 ≡ shown w
+unserved_kept logged.Unanswered now w =
+    still_kept (is_minute_after w.silent.logged now) logged.Unanswered now w
+unserved_kept logged.Nothing now w = silent_kept true logged.Unanswered now w
+unserved_kept logged.Asked now w = silent_kept true logged.Unanswered now w
+unserved_kept logged.Up now w = silent_kept true logged.Unanswered now w
+unserved_kept logged.Silent now w = silent_kept true logged.Unanswered now w
+unserved_kept logged.Down now w = silent_kept true logged.Unanswered now w
+
+unserved_if_kept : (is_so : Bool) (now : ℕ) (w : StationWatch)
+    → shown (unserved_if is_so now w).0 ≡ shown w
+unserved_if_kept true now w = unserved_kept w.logged now w
+unserved_if_kept false now w = refl
+
+first_kept : (link : LinkKnown) (is_so : Bool) (now : ℕ) (w : StationWatch)
+    → shown (first_by link is_so now w).0 ≡ shown w
+first_kept known.Up is_so now w = up_kept now w
+first_kept known.Nothing is_so now w = unserved_if_kept is_so now w
+first_kept known.Down is_so now w = unserved_if_kept is_so now w
+
+status_kept : (so : StationLogged) (now : ℕ) (w : StationWatch)
+    → shown (status_by so now w).0 ≡ shown w
+status_kept logged.Nothing now w = let x = changed (note.Asked w.address) w.asked now in
     line_kept logged.Asked x.1 (record w { asked = x.0 })
-by_kept logged.Asked Status now w = silent_kept (is_unanswered w) logged.Unanswered now w
-by_kept logged.Down Status now w = silent_kept (is_unanswered w) logged.Unanswered now w
-by_kept logged.Unanswered Status now w = unanswered_kept (is_unanswered w) now w
-by_kept logged.Up Status now w = down_kept now w
-by_kept logged.Silent Status now w = down_kept now w
-by_kept logged.Nothing (Counted bit) now w = up_kept now w
-by_kept logged.Asked (Counted bit) now w = up_kept now w
-by_kept logged.Down (Counted bit) now w = up_kept now w
-by_kept logged.Unanswered (Counted bit) now w = up_kept now w
-by_kept logged.Up (Counted bit) now w = silent_kept (is_unanswered w) logged.Silent now w
-by_kept logged.Silent (Counted bit) now w = again_kept (is_unanswered w) now w
-by_kept logged.Nothing Missed now w = refl
-by_kept logged.Asked Missed now w = refl
-by_kept logged.Down Missed now w = refl
-by_kept logged.Unanswered Missed now w = refl
-by_kept logged.Up Missed now w = refl
-by_kept logged.Silent Missed now w = refl
-by_kept logged.Nothing Other now w = refl
-by_kept logged.Asked Other now w = refl
-by_kept logged.Down Other now w = refl
-by_kept logged.Unanswered Other now w = refl
-by_kept logged.Up Other now w = refl
-by_kept logged.Silent Other now w = refl
+status_kept logged.Asked now w = silent_kept (is_unanswered w) logged.Unanswered now w
+status_kept logged.Down now w = silent_kept (is_unanswered w) logged.Unanswered now w
+status_kept logged.Unanswered now w = unanswered_kept (is_unanswered w) now w
+status_kept logged.Up now w = down_kept now w
+status_kept logged.Silent now w = down_kept now w
+
+service_kept : (so : StationLogged) (now : ℕ) (w : StationWatch)
+    → shown (service_by so now w).0 ≡ shown w
+service_kept logged.Up now w = silent_kept (is_unanswered w) logged.Silent now w
+service_kept logged.Silent now w = again_kept (is_unanswered w) w.link now w
+service_kept logged.Nothing now w = first_kept w.link (is_unanswered w) now w
+service_kept logged.Asked now w = first_kept w.link (is_unanswered w) now w
+service_kept logged.Down now w = first_kept w.link (is_unanswered w) now w
+service_kept logged.Unanswered now w = first_kept w.link (is_unanswered w) now w
+
+reset_kept : (was is : LinkKnown) (now : ℕ) (w : StationWatch)
+    → shown (reset_by was is now w).0 ≡ shown w
+reset_kept known.Nothing known.Nothing now w = refl
+reset_kept known.Nothing known.Up now w = refl
+reset_kept known.Nothing known.Down now w = down_kept now w
+reset_kept known.Up is now w = refl
+reset_kept known.Down is now w = refl
+
+by_kept : (asking : Asking) (was : LinkKnown) (now : ℕ) (w : StationWatch)
+    → shown (asked_by asking was now w).0 ≡ shown w
+by_kept Status was now w = status_kept w.logged now w
+by_kept Reset was now w = reset_kept was w.link now w
+by_kept (Counted bit) was now w = service_kept w.logged now w
+by_kept Missed was now w = refl
+by_kept Other was now w = refl
 
 asked_kept : (asking : Asking) (now : ℕ) (w : StationWatch)
     → shown (station_asked asking now w).0 ≡ shown (counted asking now w)
-asked_kept asking now w = by_kept w.logged asking now (counted asking now w)
+asked_kept asking now w = by_kept asking w.link now (counted asking now w)
 
 counting_address : (asking : Asking) (w : StationWatch) → (counting asking w).address ≡ w.address
 counting_address Status w = refl
 counting_address (Counted bit) w = refl
+counting_address Reset w = refl
 counting_address Other w = refl
 counting_address Missed w = refl
 
@@ -127,6 +173,7 @@ address_stays asking now w =
 counting_tries : (asking : Asking) (w : StationWatch) → (counting asking w).tries ≡ w.tries
 counting_tries Status w = refl
 counting_tries (Counted bit) w = refl
+counting_tries Reset w = refl
 counting_tries Other w = refl
 counting_tries Missed w = refl
 
@@ -144,6 +191,7 @@ address_kept w (x ∷ xs) = address_stays x.1 x.0 (after w xs) ∙ address_kept 
 counting_since : (asking : Asking) (w : StationWatch) → (counting asking w).since ≡ w.since
 counting_since Status w = refl
 counting_since (Counted bit) w = refl
+counting_since Reset w = refl
 counting_since Other w = refl
 counting_since Missed w = refl
 
@@ -190,8 +238,7 @@ standing_kept asking now w = ap stand (asked_kept asking now w)
     stand s =
         if s.sent == 0 then standing.NotAsked
         else if nat_lt s.tries s.sent then standing.Silent
-        else if is_some s.bit then standing.Up
-        else if s.was_up then standing.Down else standing.Asked
+        else standing_by s.link
 
 since_by : (b : Bool) (old now since : ℕ) → b ≡ true → since ≡ old
     → (if b then since else now) ≡ old
@@ -234,7 +281,8 @@ record Counts (most : ℕ) (xs : List (ℕ × Asking)) (w : StationWatch) : Type
   tries : w.tries ≡ most
   bit : w.bit ≡ bit_of (telling xs)
   sent : w.sent ≡ times (telling xs)
-  was_up : w.was_up ≡ had_service (telling xs)
+  served : w.served ≡ latest_bit xs
+  link : w.link ≡ link_so xs
   gaps : w.gaps ≡ missed xs
 
 times_few : (rs : List Asking) → times rs ≤ length rs
@@ -251,6 +299,7 @@ tell_few : (xs : List (ℕ × Asking)) → length (telling xs) ≤ length xs
 tell_few [] = omega arith
 tell_few ((now, Status) ∷ xs) = let few = tell_few xs in omega (arith, few)
 tell_few ((now, Counted bit) ∷ xs) = let few = tell_few xs in omega (arith, few)
+tell_few ((now, Reset) ∷ xs) = let few = tell_few xs in omega (arith, few)
 tell_few ((now, Other) ∷ xs) = let few = tell_few xs in omega (arith, few)
 tell_few ((now, Missed) ∷ xs) = let few = tell_few xs in omega (arith, few)
 
@@ -258,6 +307,7 @@ missed_few : (xs : List (ℕ × Asking)) → missed xs ≤ length xs
 missed_few [] = omega arith
 missed_few ((now, Status) ∷ xs) = let few = missed_few xs in omega (arith, few)
 missed_few ((now, Counted bit) ∷ xs) = let few = missed_few xs in omega (arith, few)
+missed_few ((now, Reset) ∷ xs) = let few = missed_few xs in omega (arith, few)
 missed_few ((now, Other) ∷ xs) = let few = missed_few xs in omega (arith, few)
 missed_few ((now, Missed) ∷ xs) = let few = missed_few xs in omega (arith, few)
 
@@ -278,6 +328,7 @@ service_times bit (Counted before ∷ rs) bound few small =
     by true more = more
     by false more = refl
 service_times bit (Status ∷ rs) bound few small = refl
+service_times bit (Reset ∷ rs) bound few small = refl
 service_times bit (Other ∷ rs) bound few small = refl
 service_times bit (Missed ∷ rs) bound few small = refl
 
@@ -288,6 +339,7 @@ status_times : (rs : List Asking) (bound : ℕ) → times rs ≤ bound → suc b
 status_times [] bound few small all = refl
 status_times (Counted before ∷ rs) bound few small all = refl
 status_times (Status ∷ rs) bound few small all = one_more_is (times (Status ∷ rs)) bound few small
+status_times (Reset ∷ rs) bound few small all = absurd (cc)
 status_times (Other ∷ rs) bound few small all = absurd (cc)
 status_times (Missed ∷ rs) bound few small all = absurd (cc)
 
@@ -295,6 +347,7 @@ all_tell : (xs : List (ℕ × Asking)) → AllByRecursion (λ (a : Asking). tell
 all_tell [] = tt
 all_tell ((now, Status) ∷ xs) = (refl, all_tell xs)
 all_tell ((now, Counted bit) ∷ xs) = (refl, all_tell xs)
+all_tell ((now, Reset) ∷ xs) = all_tell xs
 all_tell ((now, Other) ∷ xs) = all_tell xs
 all_tell ((now, Missed) ∷ xs) = all_tell xs
 
@@ -309,7 +362,9 @@ next_counts tries now (Counted bit) xs w small c = record {
       ∙ ap (λ n. if is_again (bit_of (telling xs)) bit then one_more n else 1) c.sent
       ∙ service_times bit (telling xs) (length xs)
       (let a = times_few (telling xs) in let b = tell_few xs in omega (arith, a, b)) small;
-  was_up = refl;
+  served = refl;
+  link = ap (λ b. if is_other b bit then known.Up else w.link) c.served
+      ∙ ap (λ l. if is_other (latest_bit xs) bit then known.Up else l) c.link;
   gaps = c.gaps;
 }
 next_counts tries now Status xs w small c = record {
@@ -320,21 +375,33 @@ next_counts tries now Status xs w small c = record {
       ∙ status_times (telling xs) (length xs)
       (let a = times_few (telling xs) in let b = tell_few xs in omega (arith, a, b)) small
       (all_tell xs);
-  was_up = c.was_up;
+  served = c.served;
+  link = ap link_asked c.link;
+  gaps = c.gaps;
+}
+next_counts tries now Reset xs w small c = record {
+  tries = c.tries;
+  bit = c.bit;
+  sent = c.sent;
+  served = refl;
+  link = ap (λ b. if is_some b then known.Down else w.link) c.served
+      ∙ ap (λ l. if is_some (latest_bit xs) then known.Down else l) c.link;
   gaps = c.gaps;
 }
 next_counts tries now Other xs w small c = record {
   tries = c.tries;
   bit = c.bit;
   sent = c.sent;
-  was_up = c.was_up;
+  served = c.served;
+  link = c.link;
   gaps = c.gaps;
 }
 next_counts tries now Missed xs w small c = record {
   tries = c.tries;
   bit = c.bit;
   sent = c.sent;
-  was_up = c.was_up;
+  served = c.served;
+  link = c.link;
   gaps = ap one_more c.gaps ∙ one_more_is (missed xs) (length xs) (missed_few xs) small;
 }
 
@@ -344,7 +411,8 @@ all_counts tries address [] small = record {
   tries = refl;
   bit = refl;
   sent = refl;
-  was_up = refl;
+  served = refl;
+  link = refl;
   gaps = refl;
 }
 all_counts tries address ((now, asking) ∷ xs) small =
@@ -355,7 +423,8 @@ all_counts tries address ((now, asking) ∷ xs) small =
       tries = ap (λ s. s.tries) k ∙ c.tries;
       bit = ap (λ s. s.bit) k ∙ c.bit;
       sent = ap (λ s. s.sent) k ∙ c.sent;
-      was_up = ap (λ s. s.was_up) k ∙ c.was_up;
+      served = ap (λ s. s.served) k ∙ c.served;
+      link = ap (λ s. s.link) k ∙ c.link;
       gaps = ap (λ s. s.gaps) k ∙ c.gaps;
     }
 
@@ -363,11 +432,10 @@ pub gaps_counted : (tries address : ℕ) (xs : List (ℕ × Asking)) → length 
     → (after (new_station tries address) xs).gaps ≡ missed xs
 gaps_counted tries address xs small = (all_counts tries address xs small).gaps
 
-abbrev stand_by : (tries sent : ℕ) (bit : Option Bool) (was_up : Bool) → StationStanding
-stand_by tries sent bit was_up =
+abbrev stand_as : (tries sent : ℕ) (link : LinkKnown) → StationStanding
+stand_as tries sent link =
     if sent == 0 then standing.NotAsked
-    else if nat_lt tries sent then standing.Silent
-    else if is_some bit then standing.Up else if was_up then standing.Down else standing.Asked
+    else if nat_lt tries sent then standing.Silent else standing_by link
 
 times_some : (a : Asking) (rs : List Asking) → (times (a ∷ rs) == 0) ≡ false
 times_some a [] = refl
@@ -377,33 +445,240 @@ times_some a (b ∷ rs) = by (is_alike a b)
     by true = grind arith
     by false = refl
 
-stands_so : (tries : ℕ) (rs : List Asking) → AllByRecursion (λ (a : Asking). tells a ≡ true) rs
-    → stand_by tries (times rs) (bit_of rs) (had_service rs) ≡ stands tries rs
-stands_so tries [] all = refl
-stands_so tries (Counted bit ∷ rs) all =
+stands_so : (tries : ℕ) (rs : List Asking) (link : LinkKnown)
+    → stand_as tries (times rs) link ≡ stands_by tries rs link
+stands_so tries [] link = refl
+stands_so tries (a ∷ rs) link =
     ap (λ b. if b then standing.NotAsked
-    else if nat_lt tries (times (Counted bit ∷ rs)) then standing.Silent else standing.Up)
-    (times_some (Counted bit) rs)
-stands_so tries (Status ∷ rs) all =
-    ap (λ b. if b then standing.NotAsked
-    else if nat_lt tries (times (Status ∷ rs)) then standing.Silent
-    else if had_service rs then standing.Down else standing.Asked) (times_some Status rs)
-    ∙ ap (λ s. if nat_lt tries (times (Status ∷ rs)) then standing.Silent else s)
-    (by (had_service rs))
-  where
-    by : (had : Bool) → (if had then standing.Down else standing.Asked) ≡ answering Status had
-    by true = refl
-    by false = refl
-stands_so tries (Other ∷ rs) all = absurd (cc)
-stands_so tries (Missed ∷ rs) all = absurd (cc)
+    else if nat_lt tries (times (a ∷ rs)) then standing.Silent else standing_by link)
+    (times_some a rs)
 
 pub stands_by_requests : (tries address : ℕ) (xs : List (ℕ × Asking)) → length xs < 2 ^ 64
-    → standing_of (after (new_station tries address) xs) ≡ stands tries (telling xs)
+    → standing_of (after (new_station tries address) xs) ≡ stands tries xs
 stands_by_requests tries address xs small =
     let c = all_counts tries address xs small in
     let w = after (new_station tries address) xs in
-    ap (λ n. stand_by n w.sent w.bit w.was_up) c.tries
-    ∙ ap (λ n. stand_by tries n w.bit w.was_up) c.sent
-    ∙ ap (λ b. stand_by tries (times (telling xs)) b w.was_up) c.bit
-    ∙ ap (λ b. stand_by tries (times (telling xs)) (bit_of (telling xs)) b) c.was_up
-    ∙ stands_so tries (telling xs) (all_tell xs)
+    ap (λ n. stand_as n w.sent w.link) c.tries
+    ∙ ap (λ n. stand_as tries n w.link) c.sent
+    ∙ ap (λ l. stand_as tries (times (telling xs)) l) c.link
+    ∙ stands_so tries (telling xs) (link_so xs)
+
+-- ---- What is logged as up
+
+unlogged : (so : StationLogged) (line : Option LogLine) (w : StationWatch)
+    → (IsLoggedUp so → ⊥) → (IsLoggedUp w.logged → ⊥)
+    → IsLoggedUp (station_logged so line w).0.logged → ⊥
+unlogged so None w never before = before
+unlogged so (Some line) w never before = never
+
+unlogged_silent : (b : Bool) (now : ℕ) (w : StationWatch) → (IsLoggedUp w.logged → ⊥)
+    → IsLoggedUp (silent_by b logged.Unanswered now w).0.logged → ⊥
+unlogged_silent true now w before = let x = changed (note.Silent w.address) w.silent now in
+    unlogged logged.Unanswered x.1 (record w { silent = x.0 }) (λ up. up) before
+unlogged_silent false now w before = before
+
+unlogged_still : (b : Bool) (now : ℕ) (w : StationWatch) → (IsLoggedUp w.logged → ⊥)
+    → IsLoggedUp (still_by b logged.Unanswered now w).0.logged → ⊥
+unlogged_still true now w before = let x = changed (note.StillSilent w.address) w.silent now in
+    unlogged logged.Unanswered x.1 (record w { silent = x.0 }) (λ up. up) before
+unlogged_still false now w before = before
+
+unlogged_unanswered : (b : Bool) (now : ℕ) (w : StationWatch) → (IsLoggedUp w.logged → ⊥)
+    → IsLoggedUp (unanswered_by b now w).0.logged → ⊥
+unlogged_unanswered true now w before =
+    unlogged_silent (is_minute_after w.silent.logged now) now w before
+unlogged_unanswered false now w before = before
+
+unlogged_down : (now : ℕ) (w : StationWatch) → (IsLoggedUp w.logged → ⊥)
+    → IsLoggedUp (logged_down now w).0.logged → ⊥
+unlogged_down now w before = let x = changed (note.Down w.address) w.down now in
+    unlogged logged.Down x.1 (record w { down = x.0 }) (λ up. up) before
+
+unlogged_asked : (now : ℕ) (w : StationWatch) → (IsLoggedUp w.logged → ⊥)
+    → IsLoggedUp (logged_asked now w).0.logged → ⊥
+unlogged_asked now w before = let x = changed (note.Asked w.address) w.asked now in
+    unlogged logged.Asked x.1 (record w { asked = x.0 }) (λ up. up) before
+
+unlogged_status : (so : StationLogged) (now : ℕ) (w : StationWatch) → (IsLoggedUp w.logged → ⊥)
+    → IsLoggedUp (status_by so now w).0.logged → ⊥
+unlogged_status logged.Nothing now w before = unlogged_asked now w before
+unlogged_status logged.Asked now w before = unlogged_silent (is_unanswered w) now w before
+unlogged_status logged.Down now w before = unlogged_silent (is_unanswered w) now w before
+unlogged_status logged.Unanswered now w before =
+    unlogged_unanswered (is_unanswered w) now w before
+unlogged_status logged.Up now w before = unlogged_down now w before
+unlogged_status logged.Silent now w before = unlogged_down now w before
+
+unlogged_unserved : (so : StationLogged) (now : ℕ) (w : StationWatch)
+    → (IsLoggedUp w.logged → ⊥) → IsLoggedUp (unserved_by so now w).0.logged → ⊥
+unlogged_unserved logged.Unanswered now w before =
+    unlogged_still (is_minute_after w.silent.logged now) now w before
+unlogged_unserved logged.Nothing now w before = unlogged_silent true now w before
+unlogged_unserved logged.Asked now w before = unlogged_silent true now w before
+unlogged_unserved logged.Up now w before = unlogged_silent true now w before
+unlogged_unserved logged.Silent now w before = unlogged_silent true now w before
+unlogged_unserved logged.Down now w before = unlogged_silent true now w before
+
+unlogged_if : (b : Bool) (now : ℕ) (w : StationWatch) → (IsLoggedUp w.logged → ⊥)
+    → IsLoggedUp (unserved_if b now w).0.logged → ⊥
+unlogged_if true now w before = unlogged_unserved w.logged now w before
+unlogged_if false now w before = before
+
+unlogged_first : (link : LinkKnown) (b : Bool) (now : ℕ) (w : StationWatch)
+    → (link ≡ known.Up → ⊥) → (IsLoggedUp w.logged → ⊥)
+    → IsLoggedUp (first_by link b now w).0.logged → ⊥
+unlogged_first known.Up b now w never before = λ up. never refl
+unlogged_first known.Nothing b now w never before = unlogged_if b now w before
+unlogged_first known.Down b now w never before = unlogged_if b now w before
+
+unlogged_service : (so : StationLogged) (now : ℕ) (w : StationWatch)
+    → (w.link ≡ known.Up → ⊥) → (IsLoggedUp so → ⊥) → (IsLoggedUp w.logged → ⊥)
+    → IsLoggedUp (service_by so now w).0.logged → ⊥
+unlogged_service logged.Up now w never so before = absurd (so tt)
+unlogged_service logged.Silent now w never so before = absurd (so tt)
+unlogged_service logged.Nothing now w never so before =
+    unlogged_first w.link (is_unanswered w) now w never before
+unlogged_service logged.Asked now w never so before =
+    unlogged_first w.link (is_unanswered w) now w never before
+unlogged_service logged.Down now w never so before =
+    unlogged_first w.link (is_unanswered w) now w never before
+unlogged_service logged.Unanswered now w never so before =
+    unlogged_first w.link (is_unanswered w) now w never before
+
+unlogged_reset : (was is : LinkKnown) (now : ℕ) (w : StationWatch) → (IsLoggedUp w.logged → ⊥)
+    → IsLoggedUp (reset_by was is now w).0.logged → ⊥
+unlogged_reset known.Nothing known.Nothing now w before = before
+unlogged_reset known.Nothing known.Up now w before = before
+unlogged_reset known.Nothing known.Down now w before = unlogged_down now w before
+unlogged_reset known.Up is now w before = before
+unlogged_reset known.Down is now w before = before
+
+unlogged_by : (asking : Asking) (was : LinkKnown) (now : ℕ) (w : StationWatch)
+    → (w.link ≡ known.Up → ⊥) → (IsLoggedUp w.logged → ⊥)
+    → IsLoggedUp (asked_by asking was now w).0.logged → ⊥
+unlogged_by Status was now w never before = unlogged_status w.logged now w before
+unlogged_by Reset was now w never before = unlogged_reset was w.link now w before
+unlogged_by (Counted bit) was now w never before =
+    unlogged_service w.logged now w never before before
+unlogged_by Missed was now w never before = before
+unlogged_by Other was now w never before = before
+
+counted_logged : (asking : Asking) (now : ℕ) (w : StationWatch)
+    → (counted asking now w).logged ≡ w.logged
+counted_logged Status now w = refl
+counted_logged Reset now w = refl
+counted_logged (Counted bit) now w = refl
+counted_logged Missed now w = refl
+counted_logged Other now w = refl
+
+pub unlogged_so : (w : StationWatch) (asking : Asking) (now : ℕ)
+    → ((station_asked asking now w).0.link ≡ known.Up → ⊥) → (IsLoggedUp w.logged → ⊥)
+    → IsLoggedUp (station_asked asking now w).0.logged → ⊥
+unlogged_so w asking now never before =
+    unlogged_by asking w.link now (counted asking now w)
+    (λ up. never (ap (λ s. s.link) (asked_kept asking now w) ∙ up))
+    (subst (λ l. IsLoggedUp l → ⊥) (sym (counted_logged asking now w)) before)
+
+-- ---- Where nothing is logged, what was logged last stays
+
+abbrev Stays : StationLogged → StationWatch × Option LogLine → Type 0
+Stays so told = told.1 ≡ None → told.0.logged ≡ so
+
+line_stays : (next : StationLogged) (line : Option LogLine) (w : StationWatch)
+    → Stays w.logged (station_logged next line w)
+line_stays next None w none = refl
+line_stays next (Some line) w none = absurd (cc)
+
+silent_stays : (is_so : Bool) (so : StationLogged) (now : ℕ) (w : StationWatch)
+    → Stays w.logged (silent_by is_so so now w)
+silent_stays false so now w none = refl
+silent_stays true so now w none = let x = changed (note.Silent w.address) w.silent now in
+    line_stays so x.1 (record w { silent = x.0 }) none
+
+still_stays : (is_so : Bool) (so : StationLogged) (now : ℕ) (w : StationWatch)
+    → Stays w.logged (still_by is_so so now w)
+still_stays false so now w none = refl
+still_stays true so now w none = let x = changed (note.StillSilent w.address) w.silent now in
+    line_stays so x.1 (record w { silent = x.0 }) none
+
+unanswered_stays : (is_so : Bool) (now : ℕ) (w : StationWatch)
+    → Stays w.logged (unanswered_by is_so now w)
+unanswered_stays true now w none =
+    silent_stays (is_minute_after w.silent.logged now) logged.Unanswered now w none
+unanswered_stays false now w none = refl
+
+up_stays : (now : ℕ) (w : StationWatch) → Stays w.logged (logged_up now w)
+up_stays now w none = let x = changed (note.Up w.address) w.up now in
+    line_stays logged.Up x.1 (record w { up = x.0 }) none
+
+down_stays : (now : ℕ) (w : StationWatch) → Stays w.logged (logged_down now w)
+down_stays now w none = let x = changed (note.Down w.address) w.down now in
+    line_stays logged.Down x.1 (record w { down = x.0 }) none
+
+again_stays : (is_so : Bool) (link : LinkKnown) (now : ℕ) (w : StationWatch)
+    → Stays w.logged (again_by is_so link now w)
+again_stays true link now w none =
+    still_stays (is_minute_after w.silent.logged now) logged.Silent now w none
+again_stays false known.Nothing now w none = refl
+again_stays false known.Up now w none = let x = changed (note.Again w.address) w.again now in
+    line_stays logged.Up x.1 (record w { again = x.0 }) none
+again_stays false known.Down now w none = refl
+
+unserved_stays : (so : StationLogged) (now : ℕ) (w : StationWatch)
+    → Stays w.logged (unserved_by so now w)
+unserved_stays logged.Unanswered now w none =
+    still_stays (is_minute_after w.silent.logged now) logged.Unanswered now w none
+unserved_stays logged.Nothing now w none = silent_stays true logged.Unanswered now w none
+unserved_stays logged.Asked now w none = silent_stays true logged.Unanswered now w none
+unserved_stays logged.Up now w none = silent_stays true logged.Unanswered now w none
+unserved_stays logged.Silent now w none = silent_stays true logged.Unanswered now w none
+unserved_stays logged.Down now w none = silent_stays true logged.Unanswered now w none
+
+unserved_if_stays : (is_so : Bool) (now : ℕ) (w : StationWatch)
+    → Stays w.logged (unserved_if is_so now w)
+unserved_if_stays true now w none = unserved_stays w.logged now w none
+unserved_if_stays false now w none = refl
+
+first_stays : (link : LinkKnown) (is_so : Bool) (now : ℕ) (w : StationWatch)
+    → Stays w.logged (first_by link is_so now w)
+first_stays known.Up is_so now w none = up_stays now w none
+first_stays known.Nothing is_so now w none = unserved_if_stays is_so now w none
+first_stays known.Down is_so now w none = unserved_if_stays is_so now w none
+
+status_stays : (so : StationLogged) (now : ℕ) (w : StationWatch)
+    → Stays w.logged (status_by so now w)
+status_stays logged.Nothing now w none = let x = changed (note.Asked w.address) w.asked now in
+    line_stays logged.Asked x.1 (record w { asked = x.0 }) none
+status_stays logged.Asked now w none =
+    silent_stays (is_unanswered w) logged.Unanswered now w none
+status_stays logged.Down now w none = silent_stays (is_unanswered w) logged.Unanswered now w none
+status_stays logged.Unanswered now w none = unanswered_stays (is_unanswered w) now w none
+status_stays logged.Up now w none = down_stays now w none
+status_stays logged.Silent now w none = down_stays now w none
+
+service_stays : (so : StationLogged) (now : ℕ) (w : StationWatch)
+    → Stays w.logged (service_by so now w)
+service_stays logged.Up now w none = silent_stays (is_unanswered w) logged.Silent now w none
+service_stays logged.Silent now w none = again_stays (is_unanswered w) w.link now w none
+service_stays logged.Nothing now w none = first_stays w.link (is_unanswered w) now w none
+service_stays logged.Asked now w none = first_stays w.link (is_unanswered w) now w none
+service_stays logged.Down now w none = first_stays w.link (is_unanswered w) now w none
+service_stays logged.Unanswered now w none = first_stays w.link (is_unanswered w) now w none
+
+reset_stays : (was is : LinkKnown) (now : ℕ) (w : StationWatch)
+    → Stays w.logged (reset_by was is now w)
+reset_stays known.Nothing known.Nothing now w none = refl
+reset_stays known.Nothing known.Up now w none = refl
+reset_stays known.Nothing known.Down now w none = down_stays now w none
+reset_stays known.Up is now w none = refl
+reset_stays known.Down is now w none = refl
+
+pub nothing_stays : (w : StationWatch) (asking : Asking) (now : ℕ)
+    → Stays w.logged (station_asked asking now w)
+nothing_stays w Status now none = status_stays w.logged now (counted Status now w) none
+nothing_stays w Reset now none =
+    reset_stays w.link (counting Reset w).link now (counted Reset now w) none
+nothing_stays w (Counted bit) now none =
+    service_stays w.logged now (counted (Counted bit) now w) none
+nothing_stays w Missed now none = refl
+nothing_stays w Other now none = refl

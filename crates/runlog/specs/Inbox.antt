@@ -82,8 +82,15 @@ asdu_noted s is_closed peer asdu c = asdu_by (order_of tcp asdu) s is_closed pee
 abbrev pub apdu_len : List ℕ → ℕ
 apdu_len octets = octet octets 1 + 2
 
+-- It begins with 68h, and 4 to 253 octets follow (5.1).
+abbrev pub begins_apdu : List ℕ → Bool
+begins_apdu octets =
+    (octet octets 0 == 0x68) && (nat_le 4 (octet octets 1) && nat_le (octet octets 1) 253)
+
 abbrev pub is_whole : List ℕ → Bool
-is_whole octets = nat_le 2 (length octets) && nat_le (apdu_len octets) (length octets)
+is_whole octets =
+    nat_le 2 (length octets)
+    && (begins_apdu octets && nat_le (apdu_len octets) (length octets))
 
 -- An I frame, whose first control octet is even, has an ASDU behind four control octets.
 abbrev pub apdu_noted : State → (is_closed : Bool) → Option IpAddr → List ℕ → Orders → Orders

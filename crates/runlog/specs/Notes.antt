@@ -85,6 +85,18 @@ skipped_words station kind why =
     (codes "station " ++ decimal station ++ codes " report skipped, type " ++ decimal kind)
     ++ type_name kind ++ codes ": " ++ skip_words why
 
+abbrev pub remnant_words : Remnant → List ℕ
+remnant_words remnant.Unanswered = codes "command without an answer"
+remnant_words remnant.Waiting = codes "waiting command"
+remnant_words remnant.Selection = codes "selection"
+remnant_words remnant.OwnAnswer = codes "own answer"
+
+-- a start gives up this of the connection before it
+abbrev pub given_up_words : Remnant → (kind ca object : ℕ) → List ℕ
+given_up_words what kind ca object =
+    remnant_words what ++ (codes " of type " ++ decimal kind ++ codes " to " ++ decimal ca
+    ++ codes "/" ++ decimal object) ++ codes ", given up at a start"
+
 abbrev pub of_station : (address : ℕ) → (words : List ℕ) → List ℕ
 of_station address words = codes "station " ++ decimal address ++ codes " " ++ words
 
@@ -92,18 +104,6 @@ abbrev pub late_words : (address : ℕ) → List ℕ
 late_words address =
     (codes "answers of station " ++ decimal address ++ codes " come late")
     ++ codes ": answer_ms is short"
-
--- what of the connection before it a start gives up
-abbrev pub remnant_words : Remnant → List ℕ
-remnant_words remnant.Unanswered = codes "command without an answer"
-remnant_words remnant.Waiting = codes "waiting command"
-remnant_words remnant.Selection = codes "selection"
-remnant_words remnant.OwnAnswer = codes "own answer"
-
-abbrev pub given_up_words : Remnant → (kind ca object : ℕ) → List ℕ
-given_up_words what kind ca object =
-    remnant_words what ++ (codes " of type " ++ decimal kind ++ codes " to " ++ decimal ca
-    ++ codes "/" ++ decimal object ++ codes ", given up at a start")
 
 abbrev pub words : Note → List ℕ
 words note.LineReached = codes "line reached"

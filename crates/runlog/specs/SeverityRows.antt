@@ -55,8 +55,8 @@ pub data HasRow : Note → ℕ → Type 0 where
   Denied : (o : Order) (a : ℕ) → HasRow (note.Fate o a fate.Denied) 4
   NotTaken : (o : Order) (a : ℕ) → HasRow (note.Fate o a fate.Busy) 4
   GivenUp : (o : Order) (a : ℕ) → HasRow (note.Fate o a fate.GivenUp) 4
-  -- find out what became of the command
-  Remains : (what : Remnant) (kind ca object : ℕ) → HasRow (note.GivenUp what kind ca object) 4
+  -- what the control centre has to send again
+  Remnants : (what : Remnant) (kind ca object : ℕ) → HasRow (note.GivenUp what kind ca object) 4
   -- nothing: the links are reset
   Stale : HasRow note.StateStale 4
   -- what was wrong is over, or seldom happens

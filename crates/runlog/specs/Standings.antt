@@ -2,7 +2,7 @@
 -- 5.1.2; what is said of a station is this gateway's own profile, docs/STATUS.md and
 -- docs/TEXTS.md).
 use Rattle.std.specs.Prelude.{◌≡◌, ℕ, ◌+◌, ◌^◌, ◌<◌, ◌≤◌, nat_lt, Bool, true, false, List, [], ◌∷◌}
-use Rattle.std.specs.Prelude.{Option, Some, None, if◌then◌else◌}
+use Rattle.std.specs.Prelude.{Option, Some, None, is_some, if◌then◌else◌}
 use Rattle.std.specs.Bool.{beq}
 use Rattle.std.specs.List.{AllByRecursion}
 use Rattle.link.specs.declared.service.Asked.{Asked as Request}
@@ -10,22 +10,24 @@ use Rattle.link.specs.declared.service.Asked.TheVariants as request
 use Rattle.gateway.specs.Log.{LineOut, GapOut}
 use Rattle.gateway.specs.declared.settings.StationSettings.{StationSettings}
 use Rattle.runlog.specs.Passing.{Passed, Went}
-use Rattle.runlog.specs.Stations.{station_asked}
+use Rattle.runlog.specs.Stations.{is_other, link_asked, standing_by, station_asked}
 use Rattle.runlog.specs.declared.limit.Limit.{Limit}
+use Rattle.runlog.specs.declared.stations.LinkKnown.{LinkKnown}
+use Rattle.runlog.specs.declared.stations.LinkKnown.TheVariants as known
 use Rattle.runlog.specs.declared.note.LogLine.{LogLine}
 use Rattle.runlog.specs.declared.note.Note.{Note}
 use Rattle.runlog.specs.declared.stations.Asking.{Asking}
-use Rattle.runlog.specs.declared.stations.Asking.TheVariants.{Status, Counted, Other, Missed}
+use Rattle.runlog.specs.declared.stations.Asking.TheVariants.{Status, Reset, Counted, Other, Missed}
 use Rattle.runlog.specs.declared.stations.StationLogged.{StationLogged}
 use Rattle.runlog.specs.declared.stations.StationLogged.TheVariants as logged
 use Rattle.runlog.specs.declared.stations.StationStanding.{StationStanding}
 use Rattle.runlog.specs.declared.stations.StationStanding.TheVariants as standing
 use Rattle.runlog.specs.declared.stations.StationWatch.{StationWatch}
 
--- what a request asks: the status of the link, or a service with its frame count bit
+-- what a request asks: the status of the link, its reset, or a service with its frame count bit
 abbrev pub asking_for : Request → Asking
 asking_for request.Status = Status
-asking_for request.Reset = Other
+asking_for request.Reset = Reset
 asking_for (request.Counted fcb service) = Counted fcb
 
 -- none of these stations has this link address
@@ -47,11 +49,12 @@ IsNoRequest p = Unit {0}
 
 -- ---- How a station stands
 
--- What was asked of a station, the newest first, each with its moment; and what of it says how the
--- station stands.
+-- What was asked of a station, the newest first, each with its moment; and the questions for its
+-- status and the services of it.
 abbrev pub tells : Asking → Bool
 tells Status = true
 tells (Counted bit) = true
+tells Reset = false
 tells Other = false
 tells Missed = false
 
@@ -72,25 +75,35 @@ times (asking ∷ []) = 1
 times (asking ∷ (before ∷ earlier)) =
     if is_alike asking before then times (before ∷ earlier) + 1 else 1
 
--- the link was reset before: a service was asked for
-abbrev pub had_service : List Asking → Bool
-had_service [] = false
-had_service (Counted bit ∷ earlier) = true
-had_service (asking ∷ earlier) = had_service earlier
+-- the frame count bit of the latest service since the link was reset
+abbrev pub latest_bit : List (ℕ × Asking) → Option Bool
+latest_bit [] = None
+latest_bit ((now, Counted bit) ∷ earlier) = Some bit
+latest_bit ((now, Reset) ∷ earlier) = None
+latest_bit (x ∷ earlier) = latest_bit earlier
 
-abbrev pub answering : Asking → (had_service : Bool) → StationStanding
-answering (Counted bit) had = standing.Up
-answering Status true = standing.Down
-answering asking had = standing.Asked
+-- A service was answered where one with the other frame count bit follows it, before any reset:
+-- then the link is up. It went down where its status is asked while it is up, or where it is reset
+-- behind a service. A question for the status alone says nothing of a link that isn't known to be
+-- up: behind a start that may go out between two repeats of a service.
+abbrev pub link_so : List (ℕ × Asking) → LinkKnown
+link_so [] = known.Nothing
+link_so ((now, Counted bit) ∷ earlier) =
+    if is_other (latest_bit earlier) bit then known.Up else link_so earlier
+link_so ((now, Status) ∷ earlier) = link_asked (link_so earlier)
+link_so ((now, Reset) ∷ earlier) =
+    if is_some (latest_bit earlier) then known.Down else link_so earlier
+link_so (x ∷ earlier) = link_so earlier
 
--- A station doesn't answer where the latest request went out more often than that. Else it is up
--- where that asks for a service; and where it asks for the status the station is down if it was up
--- before.
-abbrev pub stands : (tries : ℕ) → List Asking → StationStanding
-stands tries [] = standing.NotAsked
-stands tries (asking ∷ earlier) =
-    if nat_lt tries (times (asking ∷ earlier)) then standing.Silent
-    else answering asking (had_service earlier)
+-- A station doesn't answer where the latest request went out more often than that. Else it stands
+-- as its link does.
+abbrev pub stands_by : (tries : ℕ) → List Asking → LinkKnown → StationStanding
+stands_by tries [] link = standing.NotAsked
+stands_by tries (asking ∷ earlier) link =
+    if nat_lt tries (times (asking ∷ earlier)) then standing.Silent else standing_by link
+
+abbrev pub stands : (tries : ℕ) → List (ℕ × Asking) → StationStanding
+stands tries requests = stands_by tries (telling requests) (link_so requests)
 
 -- how often reports may have been lost
 abbrev pub missed : List (ℕ × Asking) → ℕ
@@ -143,6 +156,11 @@ pub record IsAskedTooOften (w : StationWatch) : Type 0 where
   pub again : w.bit ≡ None
   pub often : w.tries ≤ w.sent
   pub tries : w.tries < 2 ^ 32
+
+-- The service before had another frame count bit, and no reset stands between the two: it was
+-- answered.
+abbrev pub FollowsAnswer : StationWatch → (bit : Bool) → Type 0
+FollowsAnswer w bit = is_other w.served bit ≡ true
 
 -- It is another service, or one that may go out once more.
 pub record IsOftenEnough (w : StationWatch) (bit : Bool) : Type 0 where

@@ -6,16 +6,18 @@ use Rattle.std.specs.Bool.{beq}
 use Rattle.ft12.specs.declared.frame.LinkSize.{LinkSize}
 use Rattle.ft12.specs.declared.frame.LinkSize.TheVariants.{One, Two}
 use Rattle.link.specs.Control.{is_primary, fcb_bit, fcv_bit, function_code, primary_code}
-use Rattle.link.specs.declared.control.PrimaryFunction.TheVariants.{LinkStatus}
+use Rattle.link.specs.declared.control.PrimaryFunction.TheVariants.{LinkStatus, ResetLink}
 use Rattle.runlog.specs.Ends.{changed, happened, new_limit}
 use Rattle.runlog.specs.Limits.{one_more, is_minute_after}
 use Rattle.runlog.specs.Orders.{octet}
 use Rattle.runlog.specs.declared.note.LogLine.{LogLine}
 use Rattle.runlog.specs.declared.note.Note.TheVariants as note
 use Rattle.runlog.specs.declared.stations.Asking.{Asking}
-use Rattle.runlog.specs.declared.stations.Asking.TheVariants.{Status, Counted, Other, Missed}
+use Rattle.runlog.specs.declared.stations.Asking.TheVariants.{Status, Reset, Counted, Other, Missed}
 use Rattle.runlog.specs.declared.stations.StationStanding.{StationStanding}
 use Rattle.runlog.specs.declared.stations.StationStanding.TheVariants as standing
+use Rattle.runlog.specs.declared.stations.LinkKnown.{LinkKnown}
+use Rattle.runlog.specs.declared.stations.LinkKnown.TheVariants as known
 use Rattle.runlog.specs.declared.stations.StationLogged.{StationLogged}
 use Rattle.runlog.specs.declared.stations.StationLogged.TheVariants.{Nothing, Asked, Up, Silent}
 use Rattle.runlog.specs.declared.stations.StationLogged.TheVariants.{Down, Unanswered}
@@ -32,12 +34,13 @@ address_of Two octets =
     octet octets (control_place octets + 1) + 256 * octet octets (control_place octets + 2)
 
 -- By the control octet: a request whose FCV is set is counted, by its FCB; one without it may ask
--- for the status of the link. A secondary station's octet is no request.
+-- for the status of the link, or for its reset. A secondary station's octet is no request.
 abbrev pub asking_by : (control : ℕ) → Asking
 asking_by control =
     if not (is_primary control) then Other
     else if fcv_bit control then Counted (fcb_bit control)
-    else if function_code control == primary_code LinkStatus then Status else Other
+    else if function_code control == primary_code LinkStatus then Status
+    else if function_code control == primary_code ResetLink then Reset else Other
 
 abbrev pub asking_of : List ℕ → Asking
 asking_of octets = asking_by (octet octets (control_place octets))
@@ -48,7 +51,8 @@ new_station tries address = record {
   tries = tries;
   bit = None;
   sent = 0;
-  was_up = false;
+  served = None;
+  link = known.Nothing;
   since = 0;
   gaps = 0;
   logged = Nothing;
@@ -82,9 +86,9 @@ logged_silent next now w = let logged = changed (note.Silent w.address) w.silent
     station_logged next logged.1 (record w { silent = logged.0 })
 
 -- its link is held, and it may have been restarted
-abbrev pub logged_still : ℕ → StationWatch → StationWatch × Option LogLine
-logged_still now w = let logged = changed (note.StillSilent w.address) w.silent now in
-    station_logged Silent logged.1 (record w { silent = logged.0 })
+abbrev pub logged_still : StationLogged → ℕ → StationWatch → StationWatch × Option LogLine
+logged_still next now w = let logged = changed (note.StillSilent w.address) w.silent now in
+    station_logged next logged.1 (record w { silent = logged.0 })
 
 abbrev pub logged_again : ℕ → StationWatch → StationWatch × Option LogLine
 logged_again now w = let logged = changed (note.Again w.address) w.again now in
@@ -99,23 +103,42 @@ abbrev pub is_again : Option Bool → Bool → Bool
 is_again None bit = false
 is_again (Some before) bit = beq before bit
 
+-- another bit than this
+abbrev pub is_other : Option Bool → Bool → Bool
+is_other None bit = false
+is_other (Some before) bit = not (beq before bit)
+
 -- it has gone out already: it is counted, with the bit of the one before
 abbrev pub is_repeat : Asking → StationWatch → Bool
 is_repeat (Counted bit) w = is_again w.bit bit
 is_repeat asking w = false
 
+-- A link that was up is down where its status is asked.
+abbrev pub link_asked : LinkKnown → LinkKnown
+link_asked known.Nothing = known.Nothing
+link_asked known.Up = known.Down
+link_asked known.Down = known.Down
+
 -- A counted request with the bit of the one before is that request again (IEC 60870-5-2, 5.1.2).
--- Requests for the status are counted from the last counted request on: a station that answers them
--- has its link reset, and then gets counted requests.
+-- One with the other bit follows an answer. Requests for the status are counted from the last
+-- counted request on: a station that answers them has its link reset, and then gets counted
+-- requests. A reset behind a counted request says that the link went down.
 abbrev pub counting : Asking → StationWatch → StationWatch
 counting (Counted bit) w =
     record w {
       bit = Some bit;
       sent = if is_again w.bit bit then one_more w.sent else 1;
-      was_up = true;
+      served = Some bit;
+      link = if is_other w.served bit then known.Up else w.link;
     }
 counting Status w =
-    record w { bit = None; sent = if is_none w.bit then one_more w.sent else 1 }
+    record w {
+      bit = None;
+      sent = if is_none w.bit then one_more w.sent else 1;
+      link = link_asked w.link;
+    }
+counting Reset w =
+    record w { served = None; link = if is_some w.served then known.Down else w.link }
 counting Other w = w
 counting Missed w = record w { gaps = one_more w.gaps }
 
@@ -123,13 +146,16 @@ counting Missed w = record w { gaps = one_more w.gaps }
 abbrev pub is_unanswered : StationWatch → Bool
 is_unanswered w = nat_lt w.tries w.sent
 
--- How a station stands. One whose status is asked is down where its link was reset before.
+abbrev pub standing_by : LinkKnown → StationStanding
+standing_by known.Nothing = standing.Asked
+standing_by known.Up = standing.Up
+standing_by known.Down = standing.Down
+
+-- How a station stands.
 abbrev pub standing_of : StationWatch → StationStanding
 standing_of w =
     if w.sent == 0 then standing.NotAsked
-    else if is_unanswered w then standing.Silent
-    else if is_some w.bit then standing.Up
-    else if w.was_up then standing.Down else standing.Asked
+    else if is_unanswered w then standing.Silent else standing_by w.link
 
 abbrev pub is_same : StationStanding → StationStanding → Bool
 is_same standing.NotAsked standing.NotAsked = true
@@ -161,35 +187,68 @@ abbrev pub unanswered_by : (is_unanswered : Bool) → ℕ → StationWatch → S
 unanswered_by true now w = still_silent Unanswered now w
 unanswered_by false now w = (w, None)
 
-abbrev pub still_by : (is_minute : Bool) → ℕ → StationWatch → StationWatch × Option LogLine
-still_by true now w = logged_still now w
-still_by false now w = (w, None)
+abbrev pub still_by : (is_minute : Bool) → StationLogged → ℕ → StationWatch
+    → StationWatch × Option LogLine
+still_by true next now w = logged_still next now w
+still_by false next now w = (w, None)
 
-abbrev pub again_by : (is_unanswered : Bool) → ℕ → StationWatch → StationWatch × Option LogLine
-again_by true now w = still_by (is_minute_after w.silent.logged now) now w
-again_by false now w = logged_again now w
+-- and that it answers again, once it has
+abbrev pub answers_by : LinkKnown → ℕ → StationWatch → StationWatch × Option LogLine
+answers_by known.Up now w = logged_again now w
+answers_by link now w = (w, None)
 
--- A station that is asked for its status is logged once; one that gets counted requests is up, and
--- down once it is asked again. One that doesn't answer is logged, be it up or not, again each
--- minute, and that it answers again.
-abbrev pub station_by : StationLogged → Asking → ℕ → StationWatch → StationWatch × Option LogLine
-station_by Nothing Status now w = logged_asked now w
-station_by Nothing (Counted bit) now w = logged_up now w
-station_by Asked Status now w = silent_by (is_unanswered w) Unanswered now w
-station_by Asked (Counted bit) now w = logged_up now w
-station_by Down Status now w = silent_by (is_unanswered w) Unanswered now w
-station_by Down (Counted bit) now w = logged_up now w
-station_by Unanswered Status now w = unanswered_by (is_unanswered w) now w
-station_by Unanswered (Counted bit) now w = logged_up now w
-station_by Up (Counted bit) now w = silent_by (is_unanswered w) Silent now w
-station_by Silent (Counted bit) now w = again_by (is_unanswered w) now w
-station_by Up Status now w = logged_down now w
-station_by Silent Status now w = logged_down now w
-station_by logged Missed now w = logged_missed now w
-station_by logged asking now w = (w, None)
+abbrev pub again_by : (is_unanswered : Bool) → LinkKnown → ℕ → StationWatch
+    → StationWatch × Option LogLine
+again_by true link now w = still_by (is_minute_after w.silent.logged now) Silent now w
+again_by false link now w = answers_by link now w
+
+-- it isn't up, and a service of it isn't answered
+abbrev pub unserved_by : StationLogged → ℕ → StationWatch → StationWatch × Option LogLine
+unserved_by Unanswered now w = still_by (is_minute_after w.silent.logged now) Unanswered now w
+unserved_by logged now w = logged_silent Unanswered now w
+
+abbrev pub unserved_if : (is_unanswered : Bool) → ℕ → StationWatch → StationWatch × Option LogLine
+unserved_if true now w = unserved_by w.logged now w
+unserved_if false now w = (w, None)
+
+-- a service goes out to a station that isn't logged as up: it is up once it has answered one
+abbrev pub first_by : LinkKnown → (is_unanswered : Bool) → ℕ → StationWatch
+    → StationWatch × Option LogLine
+first_by known.Up is_unanswered now w = logged_up now w
+first_by link is_unanswered now w = unserved_if is_unanswered now w
+
+-- A station that is asked for its status is logged once, and as down where it was up before. One
+-- that doesn't answer is logged, again each minute.
+abbrev pub status_by : StationLogged → ℕ → StationWatch → StationWatch × Option LogLine
+status_by Nothing now w = logged_asked now w
+status_by Asked now w = silent_by (is_unanswered w) Unanswered now w
+status_by Down now w = silent_by (is_unanswered w) Unanswered now w
+status_by Unanswered now w = unanswered_by (is_unanswered w) now w
+status_by Up now w = logged_down now w
+status_by Silent now w = logged_down now w
+
+-- One to which a service goes out is logged as up once it has answered one, where it doesn't answer
+-- any more, again each minute, and where it answers again.
+abbrev pub service_by : StationLogged → ℕ → StationWatch → StationWatch × Option LogLine
+service_by Up now w = silent_by (is_unanswered w) Silent now w
+service_by Silent now w = again_by (is_unanswered w) w.link now w
+service_by logged now w = first_by w.link (is_unanswered w) now w
+
+-- One whose link is reset behind a service, before it has answered any in the run, is down. (Of one
+-- that has answered the status is asked before.)
+abbrev pub reset_by : (was is : LinkKnown) → ℕ → StationWatch → StationWatch × Option LogLine
+reset_by known.Nothing known.Down now w = logged_down now w
+reset_by was is now w = (w, None)
+
+abbrev pub asked_by : Asking → (was : LinkKnown) → ℕ → StationWatch → StationWatch × Option LogLine
+asked_by Status was now w = status_by w.logged now w
+asked_by Reset was now w = reset_by was w.link now w
+asked_by (Counted bit) was now w = service_by w.logged now w
+asked_by Missed was now w = logged_missed now w
+asked_by Other was now w = (w, None)
 
 abbrev pub station_asked : Asking → ℕ → StationWatch → StationWatch × Option LogLine
-station_asked asking now w = station_by w.logged asking now (counted asking now w)
+station_asked asking now w = asked_by asking w.link now (counted asking now w)
 
 -- the station after a request to this link address, if it is its own
 abbrev pub after_request : ℕ → Asking → ℕ → StationWatch → StationWatch

@@ -19,7 +19,7 @@ use Rattle.live.specs.declared.watched.EndsSight.{EndsSight}
 use Rattle.live.specs.declared.ends.Presence.TheVariants.{Away}
 use Rattle.runlog.specs.Ends.{new_limit, changed, new_line, new_listener, new_connection, line_seen}
 use Rattle.runlog.specs.Ends.{listener_seen, connection_opened, connection_cut, connection_sent}
-use Rattle.runlog.specs.Ends.{connection_closed}
+use Rattle.runlog.specs.Ends.{connection_closed, is_away}
 use Rattle.runlog.specs.Inbox as inbox
 use Rattle.runlog.specs.Inbox.{Inbox, new_inbox}
 use Rattle.asdu.specs.declared.sizes.Sizes.{Sizes}
@@ -217,11 +217,18 @@ exchanged place what octets now w =
     sent_at place what octets (record w { exchange = exchange.asked place what now w.exchange })
 
 -- a request goes out
+-- While the line is away a request reaches no station: nothing is noted or logged of one.
+abbrev pub unless_away : (is_away : Bool) → List StationWatch × Option LogLine
+    → (before : List StationWatch) → List StationWatch × Option LogLine
+unless_away is_away x before =
+    (if is_away then before else x.0, if is_away then None else x.1)
+
 abbrev pub asked : List ℕ → (now : ℕ) → Watching → Watching × Option LogLine
 asked octets now w =
     let v = exchanged (place_of (stations.address_of w.link octets) w.traffic)
     (awaited_of octets) octets now w in
-    with_stations (stations.asked v.link octets now v.stations) v
+    with_stations (unless_away (is_away w.line.presence)
+    (stations.asked v.link octets now v.stations) v.stations) v
 
 abbrev pub suffered_by : Option Traffic → (place : ℕ) → Mishap → Watching → Watching
 suffered_by None place what w = w

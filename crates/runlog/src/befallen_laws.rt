@@ -1,7 +1,7 @@
 //! Laws of the station that answers, commands and mishaps are noted of, of what passes a run that
 //! is watched, of APDUs that come in a step, and of how a run ends.
 ghost use Rattle.std.specs.Prelude.{◌≡◌, ℕ, ◌+◌, ◌%◌, ◌<◌, ◌≤◌, Bool, List, ◌∷◌, ◌++◌, length};
-ghost use Rattle.std.specs.Prelude.{drop, Option, Some, None, true, false};
+ghost use Rattle.std.specs.Prelude.{drop, Option, Some, None, true, false, ◌≢◌, ◌⊎◌};
 ghost use Rattle.std.specs.declared.net.ip_addr.IpAddr.{IpAddr};
 ghost use Rattle.asdu.specs.Sizes.{tcp};
 ghost use Rattle.asdu.specs.declared.sizes.Sizes.{Sizes};
@@ -26,6 +26,7 @@ ghost use Rattle.runlog.specs.Exchange.{RequestWatch, answer_in, asked, begun, r
 ghost use Rattle.runlog.specs.Exchange.{traffic_after};
 ghost use Rattle.runlog.specs.Inbox as inbox;
 ghost use Rattle.runlog.specs.Inbox.{Inbox, Orders, apdu_noted, judged, order_noted};
+ghost use Rattle.command.specs.Refusals.{glance_of};
 ghost use Rattle.runlog.specs.Logging.{Book, Closes, LogsAction, LogsEventSeeing, LogsLook};
 ghost use Rattle.runlog.specs.Logging.{taken_in};
 ghost use Rattle.runlog.specs.Orders.{octet, order_of};
@@ -129,12 +130,12 @@ pub fn reports_are_skipped_as_the_gateway_counts_them()
 /// What comes in a step stands behind what wasn't whole before, octet by octet, as long as there is
 /// place for a whole APDU and 1,024 octets. Each whole APDU is read in its turn, however many there
 /// are, and the beginning of one waits for its rest. Each I frame's ASDU is noted as a command, and
-/// no other frame is.
+/// no other frame is. Of octets that begin no APDU nothing is noted, nor of what comes behind them.
 pub fn each_apdu_of_a_step_is_read()
     ensures kept { (octets : List ℕ) (b : Inbox) → length b.octets + length octets ≤ 1279 →
         (inbox.received octets b).octets ≡ b.octets ++ octets }
     ensures first { (s : State) (peer : Option IpAddr) (b : Inbox) (start n : ℕ)
-        (rest behind : List ℕ) → length rest ≡ n →
+        (rest behind : List ℕ) → length rest ≡ n → start ≡ 0x68 → 4 ≤ n → n ≤ 253 →
         b.octets ≡ (start ∷ n ∷ rest) ++ behind → judged s peer b ≡ judged s peer (record b {
           octets = behind;
           orders = apdu_noted s b.is_closed peer (start ∷ n ∷ rest) b.orders;
@@ -142,6 +143,12 @@ pub fn each_apdu_of_a_step_is_read()
     ensures waits { (s : State) (peer : Option IpAddr) (b : Inbox) (start n : ℕ)
         (rest : List ℕ) → length rest < n → b.octets ≡ start ∷ n ∷ rest →
         b.is_closed ≡ false → (judged s peer b).octets ≡ start ∷ n ∷ rest }
+    ensures foreign { (s : State) (peer : Option IpAddr) (b : Inbox) (start : ℕ)
+        (rest : List ℕ) → b.octets ≡ start ∷ rest → start ≢ 0x68 →
+        (judged s peer b).orders ≡ record b.orders { seen = glance_of s.serial.commands } }
+    ensures no_length { (s : State) (peer : Option IpAddr) (b : Inbox) (start n : ℕ)
+        (rest : List ℕ) → b.octets ≡ start ∷ n ∷ rest → (n < 4) ⊎ (253 < n) →
+        (judged s peer b).orders ≡ record b.orders { seen = glance_of s.serial.commands } }
     ensures commands { (s : State) (is_closed : Bool) (peer : Option IpAddr) (apdu : List ℕ)
         (o : Order) (c : Orders) → octet apdu 2 % 2 ≡ 0 →
         order_of tcp (drop 6 apdu) ≡ Some o →

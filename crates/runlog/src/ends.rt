@@ -80,6 +80,13 @@ impl LineWatch {
         self.presence
     }
 
+    /// It was seen last as away, or as silent.
+    pub(crate) fn is_away(&self) -> bool
+        ensures { result ≡ spec.is_away self.now.presence }
+    {
+        is_away(self.presence)
+    }
+
     /// Since when it is there, or isn't, in ms.
     pub(crate) fn since(&self) -> u64
         ensures { result ≡ self.now.since }

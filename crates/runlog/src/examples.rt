@@ -33,40 +33,60 @@ ghost use Rattle.runlog.specs.declared.exchange.AwaitedAnswer.TheVariants.{Poll}
 ghost use Rattle.runlog.specs.declared.fate.Mishap.TheVariants as mishap;
 ghost use Rattle.runlog.specs.declared.note.Note.TheVariants as note;
 ghost use Rattle.runlog.specs.declared.note.Trouble.TheVariants as trouble;
-ghost use Rattle.runlog.specs.declared.stations.Asking.TheVariants.{Status, Counted, Other};
+ghost use Rattle.runlog.specs.declared.stations.Asking.TheVariants.{Status, Reset, Counted, Other};
 
 /// What is logged of stations, by the octets of requests to them (IEC 60870-5-2, 5.1.2): whose they
 /// are, what they ask for, the lines of a station that is asked, reset, polled, silent, polled
-/// again and asked once more, and those of one that never answered. Another station's requests say
-/// nothing of it.
+/// again and asked once more, those of one whose run goes on behind a start, and those of one that
+/// never answered. Another station's requests say nothing of it.
 pub fn stations_by_example()
     ensures addresses { (address_of One (0x10 ∷ 0x49 ∷ 0x07 ∷ 0x50 ∷ 0x16 ∷ []) ≡ 7)
         × (address_of Two (0x10 ∷ 0x49 ∷ 0x02 ∷ 0x01 ∷ 0x4C ∷ 0x16 ∷ []) ≡ 258)
         × (address_of One (0x68 ∷ 0x03 ∷ 0x03 ∷ 0x68 ∷ 0x73 ∷ 0x07 ∷ 0x05 ∷ 0x7F ∷ 0x16 ∷ [])
         ≡ 7) }
     ensures askings { (asking_of (0x10 ∷ 0x49 ∷ 0x07 ∷ []) ≡ Status)
-        × (asking_of (0x10 ∷ 0x40 ∷ 0x07 ∷ []) ≡ Other)
+        × (asking_of (0x10 ∷ 0x40 ∷ 0x07 ∷ []) ≡ Reset)
         × (asking_of (0x10 ∷ 0x7A ∷ 0x07 ∷ []) ≡ Counted true)
         × (asking_of (0x10 ∷ 0x5B ∷ 0x07 ∷ []) ≡ Counted false)
         × (asking_of (0x68 ∷ 0x03 ∷ 0x03 ∷ 0x68 ∷ 0x73 ∷ []) ≡ Counted true)
         × (asking_of (0x10 ∷ 0x09 ∷ 0x07 ∷ []) ≡ Other) }
-    // `retries` is 1: a third sending is one too many.
+    // `retries` is 1: a third sending is one too many. It is up once another bit shows that it has
+    // answered.
     ensures life { lines_of_requests One ((0, 0x10 ∷ 0x49 ∷ 0x07 ∷ [])
         ∷ (1000, 0x10 ∷ 0x40 ∷ 0x07 ∷ []) ∷ (2000, 0x10 ∷ 0x7B ∷ 0x07 ∷ [])
-        ∷ (3000, 0x10 ∷ 0x7B ∷ 0x07 ∷ []) ∷ (4000, 0x10 ∷ 0x7B ∷ 0x07 ∷ [])
-        ∷ (63999, 0x10 ∷ 0x7B ∷ 0x07 ∷ []) ∷ (64000, 0x10 ∷ 0x7B ∷ 0x07 ∷ [])
-        ∷ (65000, 0x10 ∷ 0x5B ∷ 0x07 ∷ []) ∷ (66000, 0x10 ∷ 0x49 ∷ 0x07 ∷ []) ∷ [])
+        ∷ (2500, 0x10 ∷ 0x5B ∷ 0x07 ∷ []) ∷ (3000, 0x10 ∷ 0x5B ∷ 0x07 ∷ [])
+        ∷ (4000, 0x10 ∷ 0x5B ∷ 0x07 ∷ [])
+        ∷ (63999, 0x10 ∷ 0x5B ∷ 0x07 ∷ []) ∷ (64000, 0x10 ∷ 0x5B ∷ 0x07 ∷ [])
+        ∷ (65000, 0x10 ∷ 0x7B ∷ 0x07 ∷ []) ∷ (66000, 0x10 ∷ 0x49 ∷ 0x07 ∷ [])
+        ∷ (67000, 0x10 ∷ 0x40 ∷ 0x07 ∷ []) ∷ (68000, 0x10 ∷ 0x7B ∷ 0x07 ∷ [])
+        ∷ (69000, 0x10 ∷ 0x5B ∷ 0x07 ∷ []) ∷ [])
         (new_station 2 7 ∷ [])
-        ≡ at 0 (note.Asked 7) ∷ at 2000 (note.Up 7) ∷ at 4000 (note.Silent 7)
-        ∷ at 64000 (note.StillSilent 7) ∷ at 65000 (note.Again 7) ∷ at 66000 (note.Down 7) ∷ [] }
+        ≡ at 0 (note.Asked 7) ∷ at 2500 (note.Up 7) ∷ at 4000 (note.Silent 7)
+        ∷ at 64000 (note.StillSilent 7) ∷ at 65000 (note.Again 7) ∷ at 66000 (note.Down 7)
+        ∷ at 69000 (note.Up 7) ∷ [] }
+    // Behind a start a service is sent again, and the status asked in between: nothing is down.
+    ensures start { lines_of_requests One ((0, 0x10 ∷ 0x7B ∷ 0x07 ∷ [])
+        ∷ (200, 0x10 ∷ 0x7B ∷ 0x07 ∷ []) ∷ (400, 0x10 ∷ 0x49 ∷ 0x07 ∷ [])
+        ∷ (600, 0x10 ∷ 0x7B ∷ 0x07 ∷ []) ∷ (800, 0x10 ∷ 0x5B ∷ 0x07 ∷ []) ∷ [])
+        (new_station 2 7 ∷ [])
+        ≡ at 400 (note.Asked 7) ∷ at 800 (note.Up 7) ∷ [] }
+    // Its link is reset then, since it was restarted, too.
+    ensures restarted { lines_of_requests One ((0, 0x10 ∷ 0x7B ∷ 0x07 ∷ [])
+        ∷ (200, 0x10 ∷ 0x7B ∷ 0x07 ∷ []) ∷ (400, 0x10 ∷ 0x49 ∷ 0x07 ∷ [])
+        ∷ (600, 0x10 ∷ 0x7B ∷ 0x07 ∷ []) ∷ (800, 0x10 ∷ 0x7B ∷ 0x07 ∷ [])
+        ∷ (1000, 0x10 ∷ 0x49 ∷ 0x07 ∷ []) ∷ (1200, 0x10 ∷ 0x40 ∷ 0x07 ∷ [])
+        ∷ (1400, 0x10 ∷ 0x7B ∷ 0x07 ∷ []) ∷ (1600, 0x10 ∷ 0x5B ∷ 0x07 ∷ []) ∷ [])
+        (new_station 2 7 ∷ [])
+        ≡ at 400 (note.Asked 7) ∷ at 1200 (note.Down 7) ∷ at 1600 (note.Up 7) ∷ [] }
     // One that never answered is logged, and each minute; it may be up then.
     ensures unanswered { lines_of_requests One ((0, 0x10 ∷ 0x49 ∷ 0x07 ∷ [])
         ∷ (200, 0x10 ∷ 0x49 ∷ 0x07 ∷ []) ∷ (400, 0x10 ∷ 0x49 ∷ 0x07 ∷ [])
         ∷ (60399, 0x10 ∷ 0x49 ∷ 0x07 ∷ []) ∷ (60400, 0x10 ∷ 0x49 ∷ 0x07 ∷ [])
-        ∷ (60600, 0x10 ∷ 0x40 ∷ 0x07 ∷ []) ∷ (60700, 0x10 ∷ 0x7B ∷ 0x07 ∷ []) ∷ [])
+        ∷ (60600, 0x10 ∷ 0x40 ∷ 0x07 ∷ []) ∷ (60700, 0x10 ∷ 0x7B ∷ 0x07 ∷ [])
+        ∷ (60800, 0x10 ∷ 0x5B ∷ 0x07 ∷ []) ∷ [])
         (new_station 2 7 ∷ [])
         ≡ at 0 (note.Asked 7) ∷ at 400 (note.Silent 7) ∷ at 60400 (note.Silent 7)
-        ∷ at 60700 (note.Up 7) ∷ [] }
+        ∷ at 60800 (note.Up 7) ∷ [] }
     ensures others { (asked One (0x10 ∷ 0x49 ∷ 0x08 ∷ []) 0 (new_station 2 7 ∷ [])
         ≡ (new_station 2 7 ∷ [], None))
         × ((gap 1 5 (new_station 2 7 ∷ new_station 2 8 ∷ [])).1 ≡ Some (at 5 (note.Gap 8)))
@@ -236,7 +256,7 @@ pub fn standings_by_example()
         ∷ (3000, 0x10 ∷ 0x5B ∷ 0x07 ∷ []) ∷ (4000, 0x10 ∷ 0x5B ∷ 0x07 ∷ [])
         ∷ (5000, 0x10 ∷ 0x7B ∷ 0x07 ∷ []) ∷ (6000, 0x10 ∷ 0x49 ∷ 0x07 ∷ []) ∷ [])
         (new_station 2 7)
-        ≡ (standing.Asked, 0) ∷ (standing.Up, 1000) ∷ (standing.Up, 1000) ∷ (standing.Up, 1000)
+        ≡ (standing.Asked, 0) ∷ (standing.Asked, 0) ∷ (standing.Up, 2000) ∷ (standing.Up, 2000)
         ∷ (standing.Silent, 4000) ∷ (standing.Up, 5000) ∷ (standing.Down, 6000) ∷ [] }
     ensures unasked { standing_of (new_station 2 7) ≡ standing.NotAsked }
 {}

@@ -137,10 +137,20 @@ fn apdu_len(octets: &[u8]) -> usize
     usize::from(octet(octets, 1)) + 2
 }
 
+/// Whether they begin as an APDU does: with its start octet, and how many octets follow.
+fn begins_apdu(octets: &[u8]) -> bool
+    ensures { result ≡ spec.begins_apdu octets.now }
+{
+    let len = octet(octets, 1);
+    octet(octets, 0) == 0x68 && 4 <= len && len <= 253
+}
+
+/// A whole APDU stands at the front. Octets that begin none are read as none, nor is what comes
+/// behind them: the gateway closes the connection at them.
 fn is_whole(octets: &[u8]) -> bool
     ensures { result ≡ spec.is_whole octets.now }
 {
-    2 <= octets.len() && apdu_len(octets) <= octets.len()
+    2 <= octets.len() && begins_apdu(octets) && apdu_len(octets) <= octets.len()
 }
 
 /// What came on the connection, and what is logged of the commands in it.

@@ -42,6 +42,19 @@ pub struct RunCounts {
     pub connections: u64,
 }
 
+/// What of the connection before it a start gives up.
+#[derive(Clone, Copy, PartialEq, Eq)]
+pub enum Remnant {
+    /// A command on the line to which no answer came.
+    Unanswered,
+    /// A command that was never put on the line.
+    Waiting,
+    /// A selection.
+    Selection,
+    /// An own answer that wasn't sent.
+    OwnAnswer,
+}
+
 /// Why a run can't begin, or go on.
 #[derive(Clone, Copy, PartialEq, Eq)]
 pub enum Trouble {
@@ -63,19 +76,6 @@ pub enum Trouble {
     StateUnusable,
     /// Who wants to look at the run can't come in there.
     StatusUnusable,
-}
-
-/// What of the connection before it a start gives up.
-#[derive(Clone, Copy, PartialEq, Eq)]
-pub enum Remnant {
-    /// A command on the line to which no answer came.
-    Unanswered,
-    /// A command that was never put on the line.
-    Waiting,
-    /// A selection.
-    Selection,
-    /// An own answer that wasn't sent.
-    OwnAnswer,
 }
 
 /// What a line says.
@@ -198,6 +198,17 @@ fn cut_words(cause: CutCause) -> &'static str
     }
 }
 
+fn remnant_words(remnant: Remnant) -> &'static str
+    ensures { result.now ≡ remnant_words remnant }
+{
+    match remnant {
+        Remnant::Unanswered => "command without an answer",
+        Remnant::Waiting => "waiting command",
+        Remnant::Selection => "selection",
+        Remnant::OwnAnswer => "own answer",
+    }
+}
+
 fn trouble_words(trouble: Trouble) -> &'static str
     ensures { result.now ≡ trouble_words trouble }
 {
@@ -286,28 +297,19 @@ fn write_skipped<W: fmt::Write>(
     f.write_str(skip_words(why))
 }
 
-fn remnant_words(what: Remnant) -> &'static str
-    ensures { result.now ≡ remnant_words what }
-{
-    match what {
-        Remnant::Unanswered => "command without an answer",
-        Remnant::Waiting => "waiting command",
-        Remnant::Selection => "selection",
-        Remnant::OwnAnswer => "own answer",
-    }
-}
-
 fn write_given_up<W: fmt::Write>(
-    what: Remnant,
+    remnant: Remnant,
     kind: u8,
     ca: u16,
     object: u32,
     f: &mut fmt::Formatter<W>,
 ) -> fmt::Result
-    ensures { WritesOnOk W.write_str_gives f.old result (given_up_words what kind ca object) f.new }
+    ensures { WritesOnOk W.write_str_gives f.old result (given_up_words remnant kind ca object)
+        f.new }
 {
-    f.write_str(remnant_words(what))?;
-    write!(f, " of type {kind} to {ca}/{object}, given up at a start")
+    f.write_str(remnant_words(remnant))?;
+    write!(f, " of type {kind} to {ca}/{object}")?;
+    f.write_str(", given up at a start")
 }
 
 fn write_of_station<W: fmt::Write>(
@@ -368,8 +370,8 @@ impl fmt::Display for Note {
             Note::SettingsChanged => f.write_str("state: settings have changed"),
             Note::StateStale => f.write_str("state is stale: each link is reset"),
             Note::StatePutAside => f.write_str("state can't be read: put aside"),
-            Note::GivenUp(what, kind, ca, object) => {
-                write_given_up(*what, *kind, *ca, *object, f)
+            Note::GivenUp(remnant, kind, ca, object) => {
+                write_given_up(*remnant, *kind, *ca, *object, f)
             }
             Note::State(notice) => f.write_str(notice_words(*notice)),
             Note::Trouble(trouble) => f.write_str(trouble_words(*trouble)),

@@ -1,6 +1,6 @@
 //! Laws of what is logged of the stations, and of how each of them stands.
 ghost use Rattle.std.specs.Prelude.{◌≡◌, ℕ, ◌+◌, ◌^◌, ◌<◌, ◌≤◌, Bool, List, ◌∷◌, ◌++◌, length};
-ghost use Rattle.std.specs.Prelude.{Some, None, map};
+ghost use Rattle.std.specs.Prelude.{Some, None, map, ◌≢◌, ◌⊎◌, if◌then◌else◌};
 ghost use Rattle.gateway.specs.Config.{Settings};
 ghost use Rattle.gateway.specs.Log.{GapOut, LineOut};
 ghost use Rattle.runlog.specs.Passing.{Passed, Went, passed, watched};
@@ -9,15 +9,18 @@ ghost use Rattle.ft12.specs.declared.frame.LinkSize.{LinkSize};
 ghost use Rattle.ft12.specs.Spelling.{spelling};
 ghost use Rattle.link.specs.declared.service.Asked.{Asked as Request};
 ghost use Rattle.link.specs.Requests.{request_frame};
+ghost use Rattle.runlog.specs.Ends.{is_away};
 ghost use Rattle.runlog.specs.Limits.{IsSecondAfter};
 ghost use Rattle.runlog.specs.Standings.{AreOthers, IsAgainTooOften, IsAskedTooOften, IsLogged};
-ghost use Rattle.runlog.specs.Standings.{IsLoggedAsked, IsLoggedUp, IsNoRequest, IsOftenEnough};
-ghost use Rattle.runlog.specs.Standings.{IsQuiet};
-ghost use Rattle.runlog.specs.Standings.{after, asking_for, missed, seat, seat_of, stands, telling};
+ghost use Rattle.runlog.specs.Standings.{FollowsAnswer, IsLoggedAsked, IsLoggedUp, IsNoRequest};
+ghost use Rattle.runlog.specs.Standings.{IsOftenEnough, IsQuiet};
+ghost use Rattle.runlog.specs.Standings.{after, asking_for, missed, seat, seat_of, stands};
 ghost use Rattle.runlog.specs.Stations.{asked, gap, new_station, standing_of, station_asked};
 ghost use Rattle.runlog.specs.declared.note.Note.TheVariants as note;
 ghost use Rattle.runlog.specs.declared.stations.Asking.{Asking};
-ghost use Rattle.runlog.specs.declared.stations.Asking.TheVariants.{Status, Counted, Other, Missed};
+ghost use Rattle.runlog.specs.declared.stations.Asking.TheVariants.{Status, Reset, Counted};
+ghost use Rattle.runlog.specs.declared.stations.Asking.TheVariants.{Other, Missed};
+ghost use Rattle.runlog.specs.declared.stations.LinkKnown.TheVariants as known;
 ghost use Rattle.runlog.specs.declared.stations.StationLogged.TheVariants as logged;
 ghost use Rattle.runlog.specs.declared.stations.StationWatch.{StationWatch};
 
@@ -45,13 +48,14 @@ pub fn requests_are_noted_of_their_own_station()
 {}
 
 /// Each station has a watch, at its place in the settings, whatever passes, and counts of its own
-/// there. What goes out to the line, and a gap, are noted in these watches; nothing else changes
-/// one.
+/// there. What goes out to the line while that is there, and a gap, are noted in these watches;
+/// nothing else changes one. While the line is away nothing is logged of a station but a gap.
 pub fn each_station_has_its_own_watch()
     ensures request { (octets : List ℕ) (now : ℕ) (w : Watching) → (
       (passed (Went now (LineOut octets)) w).0.stations,
       (passed (Went now (LineOut octets)) w).1,
-    ) ≡ asked w.link octets now w.stations }
+    ) ≡ (if is_away w.line.presence then (w.stations, None)
+        else asked w.link octets now w.stations) }
     ensures gap { (station session now : ℕ) (w : Watching) → (
       (passed (Went now (GapOut station session)) w).0.stations,
       (passed (Went now (GapOut station session)) w).1,
@@ -70,14 +74,14 @@ pub fn each_station_has_its_own_watch()
 
 /// A station doesn't answer where the latest request has gone out to it more often than a station
 /// that is there lets it: a service with one frame count bit, or the question for the status. Else
-/// it is up where the latest request is for a service. Where its status is asked it is down if it
-/// had a service before, and else it is asked. Since when it stands so is the moment of the request
-/// that made it stand so. Gaps are counted one by one.
+/// it is up once it has answered a service, down where its link went down since, and asked before
+/// either. Since when it stands so is the moment of the request that made it stand so. Gaps are
+/// counted one by one.
 pub fn a_station_stands_as_its_requests_say()
     ensures standing { (tries address : ℕ) (requests : List (ℕ × Asking)) →
         length requests < 2 ^ 64 →
         standing_of (after (new_station tries address) requests)
-        ≡ stands tries (telling requests) }
+        ≡ stands tries requests }
     ensures since { (w : StationWatch) (asking : Asking) (now : ℕ) →
         (standing_of (station_asked asking now w).0 ≡ standing_of w → ⊥) →
         (station_asked asking now w).0.since ≡ now }
@@ -91,20 +95,25 @@ pub fn a_station_stands_as_its_requests_say()
         (after w requests).address ≡ w.address }
 {}
 
-/// A station is logged as up at its first service, and as down where its status is asked again.
-/// Where a request has gone out more often than a station that is there lets it, it is logged that
-/// the station doesn't answer, and each minute again while that lasts: for a service, whose link is
-/// held, with a hint. That it answers again is logged at the next service with another frame count
-/// bit. Each line names the station by its link
-/// address. A line that comes too early is left to a later request: then what was logged last
-/// stays.
+/// A station is logged as up at the first service that follows an answered one, and never before.
+/// It is logged as down where its status is asked while it is up, and where its link is reset
+/// behind a service before it has answered any: never where its status alone is asked between the
+/// repeats of a service, as behind a start. Where a request has gone out more often than a station
+/// that is there lets it, it is logged that the station doesn't answer, and each minute again while
+/// that lasts: for a service, whose link is held, with a hint. That it answers again is logged at
+/// the next service that follows an answered one. Each line names the station by its link address.
+/// A line that comes too early is left to a later request: then what was logged last stays.
 pub fn a_station_is_logged_where_it_goes_and_where_it_is_back()
     ensures asked { (w : StationWatch) (now : ℕ) → w.logged ≡ logged.Nothing →
         IsSecondAfter w.asked.logged now → IsLogged now (note.Asked w.address) logged.Asked
         w.asked (station_asked Status now w).0.asked (station_asked Status now w) }
     ensures up { (w : StationWatch) (bit : Bool) (now : ℕ) → (IsLoggedUp w.logged → ⊥) →
-        IsSecondAfter w.up.logged now → IsLogged now (note.Up w.address) logged.Up
+        FollowsAnswer w bit → IsSecondAfter w.up.logged now →
+        IsLogged now (note.Up w.address) logged.Up
         w.up (station_asked (Counted bit) now w).0.up (station_asked (Counted bit) now w) }
+    ensures not_up { (w : StationWatch) (asking : Asking) (now : ℕ) →
+        ((station_asked asking now w).0.link ≡ known.Up → ⊥) → (IsLoggedUp w.logged → ⊥) →
+        IsLoggedUp (station_asked asking now w).0.logged → ⊥ }
     ensures silent { (w : StationWatch) (bit : Bool) (now : ℕ) → w.logged ≡ logged.Up →
         IsAgainTooOften w bit → IsSecondAfter w.silent.logged now →
         IsLogged now (note.Silent w.address) logged.Silent
@@ -119,12 +128,27 @@ pub fn a_station_is_logged_where_it_goes_and_where_it_is_back()
         w.logged ≡ logged.Silent → IsAgainTooOften w bit → w.silent.logged ≡ Some before →
         now < before + 60000 → IsQuiet w (station_asked (Counted bit) now w) }
     ensures again { (w : StationWatch) (bit : Bool) (now : ℕ) → w.logged ≡ logged.Silent →
-        IsOftenEnough w bit → IsSecondAfter w.again.logged now →
+        FollowsAnswer w bit → IsOftenEnough w bit → IsSecondAfter w.again.logged now →
         IsLogged now (note.Again w.address) logged.Up
         w.again (station_asked (Counted bit) now w).0.again (station_asked (Counted bit) now w) }
     ensures down { (w : StationWatch) (now : ℕ) → IsLoggedUp w.logged →
         IsSecondAfter w.down.logged now → IsLogged now (note.Down w.address) logged.Down
         w.down (station_asked Status now w).0.down (station_asked Status now w) }
+    ensures reset { (w : StationWatch) (now : ℕ) (bit : Bool) → w.link ≡ known.Nothing →
+        w.served ≡ Some bit → IsSecondAfter w.down.logged now →
+        IsLogged now (note.Down w.address) logged.Down
+        w.down (station_asked Reset now w).0.down (station_asked Reset now w) }
+    ensures other_reset { (w : StationWatch) (now : ℕ) →
+        (w.link ≢ known.Nothing) ⊎ (w.served ≡ None) → IsQuiet w (station_asked Reset now w) }
+    ensures unserved { (w : StationWatch) (bit : Bool) (now : ℕ) → IsLoggedAsked w.logged →
+        IsAgainTooOften w bit → w.served ≡ Some bit → w.link ≢ known.Up →
+        IsSecondAfter w.silent.logged now → IsLogged now (note.Silent w.address) logged.Unanswered
+        w.silent (station_asked (Counted bit) now w).0.silent (station_asked (Counted bit) now w) }
+    ensures still_unserved { (w : StationWatch) (bit : Bool) (now before : ℕ) →
+        w.logged ≡ logged.Unanswered → IsAgainTooOften w bit → w.served ≡ Some bit →
+        w.link ≢ known.Up → w.silent.logged ≡ Some before → before + 60000 ≤ now →
+        IsLogged now (note.StillSilent w.address) logged.Unanswered
+        w.silent (station_asked (Counted bit) now w).0.silent (station_asked (Counted bit) now w) }
     ensures unanswered { (w : StationWatch) (now : ℕ) → IsLoggedAsked w.logged →
         IsAskedTooOften w → IsSecondAfter w.silent.logged now →
         IsLogged now (note.Silent w.address) logged.Unanswered

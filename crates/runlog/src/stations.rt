@@ -15,11 +15,24 @@ use link::{Control, PrimaryFunction};
 pub(crate) enum Asking {
     /// The status of its link.
     Status,
+    /// That it resets its link.
+    Reset,
     /// Something that is counted by the frame count bit: its link was reset before.
     Counted(bool),
     Other,
     /// Nothing: it is logged that reports of it may be lost.
     Missed,
+}
+
+/// What is known of a station's link, by the requests that have gone out in this run.
+#[derive(Clone, Copy, PartialEq, Eq)]
+pub(crate) enum LinkKnown {
+    /// No service was answered yet, and none was followed by a reset.
+    Nothing,
+    /// A service was answered: the next one has the other frame count bit.
+    Up,
+    /// It went down, and no service was answered since.
+    Down,
 }
 
 /// What was logged of a station last.
@@ -40,13 +53,13 @@ pub(crate) enum StationLogged {
 pub enum StationStanding {
     /// None has gone out yet.
     NotAsked,
-    /// Its status is asked, and its link was never reset.
+    /// It hasn't answered a service yet, and its link hasn't gone down in this run.
     Asked,
-    /// It gets requests that are counted, and answers them.
+    /// It gets requests that are counted, and has answered one.
     Up,
     /// The same request has gone out more often than a station that is there lets it.
     Silent,
-    /// Its link was reset, and its status is asked again.
+    /// Its link went down, and it hasn't answered a service since.
     Down,
 }
 
@@ -61,8 +74,9 @@ pub struct StationWatch {
     bit: Option<bool>,
     /// How often that request went out, or its status was asked since.
     sent: u64,
-    /// Its link was reset before.
-    was_up: bool,
+    /// The frame count bit of the latest service since its link was reset.
+    served: Option<bool>,
+    link: LinkKnown,
     /// Since when it stands so, in ms.
     since: u64,
     /// How often reports of it may have been lost.
@@ -106,7 +120,31 @@ pub(crate) fn asking_of(octets: &[u8]) -> Asking
             function: PrimaryFunction::LinkStatus,
             ..
         } => Asking::Status,
+        Control::Primary {
+            function: PrimaryFunction::ResetLink,
+            ..
+        } => Asking::Reset,
         _ => Asking::Other,
+    }
+}
+
+/// Whether this bit is the one before again.
+fn is_again(before: Option<bool>, bit: bool) -> bool
+    ensures { result ≡ spec.is_again before bit }
+{
+    match before {
+        None => false,
+        Some(before) => before == bit,
+    }
+}
+
+/// Whether this bit is another one than the one before.
+fn is_other(before: Option<bool>, bit: bool) -> bool
+    ensures { result ≡ spec.is_other before bit }
+{
+    match before {
+        None => false,
+        Some(before) => before != bit,
     }
 }
 
@@ -133,7 +171,8 @@ impl StationWatch {
             tries,
             bit: None,
             sent: 0,
-            was_up: false,
+            served: None,
+            link: LinkKnown::Nothing,
             since: 0,
             gaps: 0,
             logged: StationLogged::Nothing,
@@ -161,12 +200,12 @@ impl StationWatch {
             StationStanding::NotAsked
         } else if self.is_unanswered() {
             StationStanding::Silent
-        } else if self.bit.is_some() {
-            StationStanding::Up
-        } else if self.was_up {
-            StationStanding::Down
         } else {
-            StationStanding::Asked
+            match self.link {
+                LinkKnown::Nothing => StationStanding::Asked,
+                LinkKnown::Up => StationStanding::Up,
+                LinkKnown::Down => StationStanding::Down,
+            }
         }
     }
 
@@ -211,18 +250,28 @@ impl StationWatch {
             Asking::Counted(bit) => {
                 // The bit of the one before: it wasn't answered, and goes out again
                 // (docs/DECISIONS.md, "`run --log` is a port around the port").
-                let is_again = match self.bit {
-                    None => false,
-                    Some(before) => before == bit,
-                };
-                self.sent = self.sent_once_more(is_again);
+                self.sent = self.sent_once_more(is_again(self.bit, bit));
                 self.bit = Some(bit);
-                self.was_up = true;
+                if is_other(self.served, bit) {
+                    self.link = LinkKnown::Up;
+                }
+                self.served = Some(bit);
             }
             Asking::Status => {
                 // From the last service on: each further one says that the station is still down.
                 self.sent = self.sent_once_more(self.bit.is_none());
                 self.bit = None;
+                // Of a station whose link is up the status is asked only behind a start, before it
+                // has answered a service (docs/DECISIONS.md, "A station that was restarted, too").
+                if let LinkKnown::Up = self.link {
+                    self.link = LinkKnown::Down;
+                }
+            }
+            Asking::Reset => {
+                if self.served.is_some() {
+                    self.link = LinkKnown::Down;
+                }
+                self.served = None;
             }
             Asking::Missed => self.gaps = self.gaps.saturating_add(1),
             Asking::Other => {}
@@ -284,10 +333,14 @@ impl StationWatch {
 
     /// It didn't answer any more, and a counted request goes out to it.
     fn ask_silent(&mut self, now: u64) -> Option<LogLine>
-        ensures { (self.new, result) ≡ spec.again_by (spec.is_unanswered self.old) now self.old }
+        ensures { (self.new, result)
+            ≡ spec.again_by (spec.is_unanswered self.old) self.old.link now self.old }
     {
         if self.is_unanswered() {
-            return self.still_silence(now);
+            return self.still_silence(StationLogged::Silent, now);
+        }
+        if !matches!(self.link, LinkKnown::Up) {
+            return None;
         }
         let line = changed(Note::Again(self.address), &mut self.again, now)?;
         self.logged = StationLogged::Up;
@@ -295,9 +348,9 @@ impl StationWatch {
     }
 
     /// The same service goes out still, so its link is held; a line a minute.
-    fn still_silence(&mut self, now: u64) -> Option<LogLine>
+    fn still_silence(&mut self, logged: StationLogged, now: u64) -> Option<LogLine>
         ensures { (self.new, result)
-            ≡ spec.still_by (is_minute_after self.old.silent.logged now) now self.old }
+            ≡ spec.still_by (is_minute_after self.old.silent.logged now) logged now self.old }
     {
         if !self.silent.is_minute_after(now) {
             return None;
@@ -305,45 +358,89 @@ impl StationWatch {
         // With `silence = "reset"` its status is asked long before (docs/DECISIONS.md, "A hint
         // while a link is held").
         let line = changed(Note::StillSilent(self.address), &mut self.silent, now)?;
-        self.logged = StationLogged::Silent;
+        self.logged = logged;
         Some(line)
+    }
+
+    /// It isn't logged as up, and a counted request goes out to it.
+    fn ask_first(&mut self, now: u64) -> Option<LogLine>
+        ensures { (self.new, result)
+            ≡ spec.first_by self.old.link (spec.is_unanswered self.old) now self.old }
+    {
+        if let LinkKnown::Up = self.link {
+            let line = changed(Note::Up(self.address), &mut self.up, now)?;
+            self.logged = StationLogged::Up;
+            return Some(line);
+        }
+        if !self.is_unanswered() {
+            return None;
+        }
+        match self.logged {
+            StationLogged::Unanswered => self.still_silence(StationLogged::Unanswered, now),
+            _ => self.silence(true, StationLogged::Unanswered, now),
+        }
+    }
+
+    /// A counted request goes out to it.
+    fn ask_service(&mut self, now: u64) -> Option<LogLine>
+        ensures { (self.new, result) ≡ spec.service_by self.old.logged now self.old }
+    {
+        match self.logged {
+            StationLogged::Up => self.silence(self.is_unanswered(), StationLogged::Silent, now),
+            StationLogged::Silent => self.ask_silent(now),
+            _ => self.ask_first(now),
+        }
+    }
+
+    /// Its link is down.
+    fn go_down(&mut self, now: u64) -> Option<LogLine>
+        ensures { (self.new, result) ≡ spec.logged_down now self.old }
+    {
+        let line = changed(Note::Down(self.address), &mut self.down, now)?;
+        self.logged = StationLogged::Down;
+        Some(line)
+    }
+
+    /// Its status is asked.
+    fn ask_status(&mut self, now: u64) -> Option<LogLine>
+        ensures { (self.new, result) ≡ spec.status_by self.old.logged now self.old }
+    {
+        match self.logged {
+            StationLogged::Nothing => {
+                let line = changed(Note::Asked(self.address), &mut self.asked, now)?;
+                self.logged = StationLogged::Asked;
+                Some(line)
+            }
+            StationLogged::Up | StationLogged::Silent => self.go_down(now),
+            StationLogged::Asked | StationLogged::Down => {
+                self.silence(self.is_unanswered(), StationLogged::Unanswered, now)
+            }
+            StationLogged::Unanswered => self.ask_unanswered(now),
+        }
+    }
+
+    /// Its link is reset, of which this was known before.
+    fn ask_reset(&mut self, was: LinkKnown, now: u64) -> Option<LogLine>
+        ensures { (self.new, result) ≡ spec.reset_by was self.old.link now self.old }
+    {
+        match (was, self.link) {
+            (LinkKnown::Nothing, LinkKnown::Down) => self.go_down(now),
+            _ => None,
+        }
     }
 
     /// A request goes out to it.
     fn ask(&mut self, asking: Asking, now: u64) -> Option<LogLine>
         ensures { (self.new, result) ≡ spec.station_asked asking now self.old }
     {
+        let was = self.link;
         self.count_at(asking, now);
-        let address = self.address;
-        match (self.logged, asking) {
-            (StationLogged::Nothing, Asking::Status) => {
-                let line = changed(Note::Asked(address), &mut self.asked, now)?;
-                self.logged = StationLogged::Asked;
-                Some(line)
-            }
-            (StationLogged::Up, Asking::Status) | (StationLogged::Silent, Asking::Status) => {
-                let line = changed(Note::Down(address), &mut self.down, now)?;
-                self.logged = StationLogged::Down;
-                Some(line)
-            }
-            (StationLogged::Asked, Asking::Status) | (StationLogged::Down, Asking::Status) => {
-                self.silence(self.is_unanswered(), StationLogged::Unanswered, now)
-            }
-            (StationLogged::Unanswered, Asking::Status) => self.ask_unanswered(now),
-            (StationLogged::Up, Asking::Counted(_)) => {
-                self.silence(self.is_unanswered(), StationLogged::Silent, now)
-            }
-            (StationLogged::Silent, Asking::Counted(_)) => self.ask_silent(now),
-            (StationLogged::Nothing, Asking::Counted(_))
-            | (StationLogged::Asked, Asking::Counted(_))
-            | (StationLogged::Down, Asking::Counted(_))
-            | (StationLogged::Unanswered, Asking::Counted(_)) => {
-                let line = changed(Note::Up(address), &mut self.up, now)?;
-                self.logged = StationLogged::Up;
-                Some(line)
-            }
-            (_, Asking::Missed) => happened(Note::Gap(address), &mut self.gap, now),
-            _ => None,
+        match asking {
+            Asking::Status => self.ask_status(now),
+            Asking::Reset => self.ask_reset(was, now),
+            Asking::Counted(_) => self.ask_service(now),
+            Asking::Missed => happened(Note::Gap(self.address), &mut self.gap, now),
+            Asking::Other => None,
         }
     }
 }

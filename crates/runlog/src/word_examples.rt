@@ -14,10 +14,10 @@ ghost use Rattle.runlog.specs.declared.content.Skip.TheVariants as skip;
 ghost use Rattle.runlog.specs.declared.fate.CommandFate.TheVariants as fate;
 ghost use Rattle.runlog.specs.declared.fate.Reason.{Reason};
 ghost use Rattle.runlog.specs.declared.fate.Reason.TheVariants as reason;
-ghost use Rattle.runlog.specs.declared.note.Remnant.TheVariants as remnant;
 ghost use Rattle.runlog.specs.declared.note.Note.TheVariants as note;
 ghost use Rattle.runlog.specs.declared.note.RunCounts.{RunCounts};
 ghost use Rattle.runlog.specs.declared.note.Trouble.{Trouble};
+ghost use Rattle.runlog.specs.declared.note.Remnant.TheVariants as remnant;
 ghost use Rattle.runlog.specs.declared.note.Trouble.TheVariants as trouble;
 ghost use Rattle.runlog.specs.declared.order.Order.{Order};
 ghost use Rattle.runlog.specs.declared.order.OrderKind.TheVariants as act;
@@ -53,14 +53,8 @@ pub fn each_word_by_example()
         × (words note.SettingsChanged ≡ codes "state: settings have changed")
         × (words note.StateStale ≡ codes "state is stale: each link is reset")
         × (words note.StatePutAside ≡ codes "state can't be read: put aside")
-        × (words (note.GivenUp remnant.Unanswered 58 2 140)
-        ≡ codes "command without an answer of type 58 to 2/140, given up at a start")
-        × (words (note.GivenUp remnant.Waiting 45 1 7)
-        ≡ codes "waiting command of type 45 to 1/7, given up at a start")
-        × (words (note.GivenUp remnant.Selection 46 1 7)
-        ≡ codes "selection of type 46 to 1/7, given up at a start")
-        × (words (note.GivenUp remnant.OwnAnswer 100 1 0)
-        ≡ codes "own answer of type 100 to 1/0, given up at a start")
+        × (words (note.GivenUp remnant.Waiting 45 1 100)
+        ≡ codes "waiting command of type 45 to 1/100, given up at a start")
         × (words (note.State notices.NotKept)
         ≡ codes "state isn't kept: what is polled now is lost if the gateway stops")
         × (words (note.State notices.KeptAgain) ≡ codes "state is kept again") }

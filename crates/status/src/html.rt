@@ -32,6 +32,11 @@ meter { width: 7rem }\n\
 svg { border: 1px solid var(--line); display: block; height: 5rem; max-width: 30rem;\
  width: 100% }\n\
 path { fill: var(--soft) }\n\
+@media (max-width: 40rem) {\n\
+th, td { white-space: normal }\n\
+.scroll td:first-child { min-width: 8rem }\n\
+td.n { white-space: nowrap }\n\
+td.s, th:nth-child(4) { position: sticky; right: 0; background: Canvas } }\n\
 </style>\n</head>\n<body>\n<h1>telegate ";
 
 /// What the table of stations begins with.

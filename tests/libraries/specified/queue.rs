@@ -11,6 +11,10 @@ fn a_queue_of_three_places(rt: HostRuntime) -> Result<(), NoMemory> {
     let mut events = Events::new(rt.alloc(), 3)?;
     goes_through(&rt, &mut events);
     assert_eq!(rt; events.free(), 2);
+    // Of the ring only what is kept is left.
+    let ring = events.into_ring();
+    assert_eq!(rt; ring.len(), 1);
+    assert!(rt; ring.front().is_some_and(|piece| piece.as_slice() == POINT));
     Ok(())
 }
 

@@ -229,10 +229,9 @@ impl Gateway {
     /// places are set, nothing is polled until enough have gone. Stations are known by their link
     /// addresses, and [`link_start`] says what becomes of their links; a command that is held for a
     /// station whose link doesn't go on, or that is gone, is counted as lost. The first answered
-    /// reset of a station that is new reports a gap, since it may have been a station earlier. There
-    /// is no connection, and no exchange: a service without an answer is held, and is sent again at
-    /// its station's turn. Counts, the moment and the wall clock stay. `Err` where there is no
-    /// memory.
+    /// reset of a new station reports a gap, since it may have been a station earlier. There is no
+    /// connection, and no exchange: a service without an answer is held, and is sent again at its
+    /// station's turn. Counts, the moment and the wall clock stay. `Err` where there is no memory.
     pub fn carried(
         self,
         alloc: Global,

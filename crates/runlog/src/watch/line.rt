@@ -40,12 +40,17 @@ impl Watch {
     pub(super) fn ask(&mut self, octets: &[u8], now: u64) -> Option<LogLine>
         ensures { (self.new, result) ≡ spec.asked octets.now now self.old }
     {
+        let is_away = self.line.is_away();
         let place = place_of(&self.traffic, address_of(self.link, octets));
         let awaited = awaited_of(octets);
         self.exchange.ask(place, awaited, now);
         // Before the stations count the request: a repeat shows by the bit of the one before.
         if let (Some(place), AwaitedAnswer::Command) = (place, awaited) {
             self.send(place, octets);
+        }
+        // It reaches no station: that the line is away says it all.
+        if is_away {
+            return None;
         }
         ask(&mut self.stations, self.link, octets, now)
     }

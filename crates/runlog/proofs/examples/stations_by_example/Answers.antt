@@ -10,6 +10,12 @@ returns-clause-askings c = (refl, refl, refl, refl, refl, refl)
 pub returns-clause-life : goal.returns-clause-life
 returns-clause-life c = refl
 
+pub returns-clause-start : goal.returns-clause-start
+returns-clause-start c = refl
+
+pub returns-clause-restarted : goal.returns-clause-restarted
+returns-clause-restarted c = refl
+
 pub returns-clause-unanswered : goal.returns-clause-unanswered
 returns-clause-unanswered c = refl
 

@@ -2,10 +2,10 @@ use Rattle.std.proofs.Common.{refl}
 use Rattle.sim.proofs.examples.calls_by_example.Goals as goal
 
 pub returns-clause-events : goal.returns-clause-events
-returns-clause-events c = (refl, refl, refl, refl, refl, refl, refl, refl, refl)
+returns-clause-events c = (refl, refl, refl, refl, refl, refl, refl, refl, refl, refl)
 
 pub returns-clause-lasts : goal.returns-clause-lasts
-returns-clause-lasts c = (refl, refl, refl)
+returns-clause-lasts c = (refl, refl, refl, refl, refl)
 
 pub returns-clause-counts : goal.returns-clause-counts
 returns-clause-counts c = (refl, refl, refl, λ plan. refl)

@@ -4,7 +4,8 @@ use Rattle.sim.specs.Directives.{reporting_by, sending_by}
 use Rattle.sim.proofs.examples.scripts_by_example.Goals as goal
 
 pub returns-clause-numbers : goal.returns-clause-numbers
-returns-clause-numbers c = (refl, refl, refl, refl, refl, refl, refl, refl, refl, refl, refl, refl)
+returns-clause-numbers c =
+    (refl, refl, refl, refl, refl, refl, refl, refl, refl, refl, refl, refl, refl)
 
 pub returns-clause-losses : goal.returns-clause-losses
 returns-clause-losses c = (refl, refl, refl, refl, refl)

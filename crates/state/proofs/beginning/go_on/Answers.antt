@@ -1,3 +1,4 @@
+use Rattle.std.proofs.Common.{◌∙◌, ap}
 use Rattle.state.proofs.GoingOn.{went_on}
 use Rattle.state.proofs.beginning.go_on.Goals as goal
 
@@ -7,5 +8,5 @@ returns-clause-went g c clean =
     c.in_ok-arrived.arrived.before.entries _ c.in_ok-arrived.arrived.gateway _
     c.in_ok-arrived.ensures.said (c.in_ok-arrived.ensures.read clean)
     c.restarted.ensures.gap
-    (ap (λ (list : Vec GivenUp). list.items) c.restarted.ensures.given_up ∙ c.in_ok-given_up.ensures)
+    (ap (λ list. list.items) c.restarted.ensures.given_up ∙ c.in-Ok.ensures)
     c.restarted.ensures.gateway c.restarted.ensures.before c.restarted.ensures.follows

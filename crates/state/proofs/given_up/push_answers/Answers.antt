@@ -21,7 +21,10 @@ loop-asdu-preserved c =
           ∙ ap (λ (l : List GivenUp). old ++ l)
           (sym (all_next (λ (x : List ℕ). x) of_answer items place c.in-Some.asdu.now seen))
           ∙ c.loop-asdu.invariant.list;
-      place = omega (arith, place_within (λ (x : List ℕ). x) of_answer items place c.in-Some.asdu.now seen);
+      place = omega (
+        arith,
+        place_within (λ (x : List ℕ). x) of_answer items place c.in-Some.asdu.now seen,
+      );
     }
 
 pub returns : goal.returns
@@ -30,5 +33,6 @@ returns c =
     let old : List GivenUp = c.loop-asdu.list.items in
     sym (append-nil old)
     ∙ ap (λ (l : List GivenUp). old ++ l)
-    (sym (all_done (λ (x : List ℕ). x) of_answer items c.loop-asdu.place (c.in_default.ensures.value ∙ as_it_is (slice_get items c.loop-asdu.place))))
+    (sym (all_done (λ (x : List ℕ). x) of_answer items c.loop-asdu.place
+    (c.in_default.ensures.value ∙ as_it_is (slice_get items c.loop-asdu.place))))
     ∙ c.loop-asdu.invariant.list

@@ -16,12 +16,14 @@ loop-selected-preserved c =
     record {
       list = ap (λ (n : ℕ). c.push.new.self.items ++ selections_in (drop n items)) more
           ∙ ap (λ (t : List GivenUp). t ++ selections_in (drop (suc place) items))
-          c.in_ok-push.ensures
-          ∙ append_assoc old (of_selected c.in-Some.selected) (selections_in (drop (suc place) items))
+          c.in_ok-push.ensures.items
+          ∙ append_assoc old (of_selected c.in-Some.selected)
+          (selections_in (drop (suc place) items))
           ∙ ap (λ (l : List GivenUp). old ++ l)
           (sym (all_next selected_of of_selected items place c.in-Some.selected seen))
           ∙ c.loop-selected.invariant.list;
-      place = omega (arith, place_within selected_of of_selected items place c.in-Some.selected seen);
+      place =
+          omega (arith, place_within selected_of of_selected items place c.in-Some.selected seen);
     }
 
 pub returns : goal.returns

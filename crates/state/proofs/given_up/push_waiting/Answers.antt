@@ -17,11 +17,17 @@ loop-station-preserved c =
       list = ap (λ (n : ℕ). c.push_asdu.new.list.items ++ waiting_in (drop n items)) more
           ∙ ap (λ (t : List GivenUp). t ++ waiting_in (drop (suc place) items))
           c.in_ok-push_asdu.ensures
-          ∙ append_assoc old (of_waiting (c.in-Some._station, c.in-Some.asdu.now)) (waiting_in (drop (suc place) items))
+          ∙ append_assoc old (of_waiting (c.in-Some._station, c.in-Some.asdu.now))
+          (waiting_in (drop (suc place) items))
           ∙ ap (λ (l : List GivenUp). old ++ l)
-          (sym (all_next waiting_of of_waiting items place (c.in-Some._station, c.in-Some.asdu.now) seen))
+          (sym (all_next waiting_of of_waiting items place
+          (c.in-Some._station, c.in-Some.asdu.now) seen))
           ∙ c.loop-station.invariant.list;
-      place = omega (arith, place_within waiting_of of_waiting items place (c.in-Some._station, c.in-Some.asdu.now) seen);
+      place = omega (
+        arith,
+        place_within waiting_of of_waiting items place
+            (c.in-Some._station, c.in-Some.asdu.now) seen,
+      );
     }
 
 pub returns : goal.returns

@@ -34,7 +34,7 @@ returns-clause-log g c =
           c.in_ok-arrived.arrived.gap c.in_ok-arrived.arrived.before.entries
           c.in_ok-arrived.arrived.gateway) same
           (c.in_ok-arrived.ensures.read (c.requires.honest _));
-      named = c.in_ok-given_up.ensures;
+      named = c.in-Ok.ensures;
     }
 
 pub returns-in_err-wrote-clause-wrong : goal.returns-in_err-wrote-clause-wrong
