@@ -1,5 +1,5 @@
 -- What is logged before a run begins (profile).
-use Rattle.std.specs.Prelude.{◌≡◌, ℕ, Bool, true, false, Option, Some, None}
+use Rattle.std.specs.Prelude.{◌≡◌, ℕ, Bool, true, false, Option, Some, None, map}
 use Rattle.std.specs.declared.net.socket_addr.SocketAddr.{SocketAddr}
 use Rattle.gateway.specs.Log.{GapOut}
 use Rattle.gateway.specs.State.{State}
@@ -8,7 +8,8 @@ use Rattle.runlog.specs.declared.note.Note.{Note}
 use Rattle.runlog.specs.declared.note.Note.TheVariants as note
 use Rattle.runlog.specs.declared.note.Trouble.TheVariants as trouble
 use Rattle.state.specs.declared.beginning.Origin.{Origin}
-use Rattle.state_words.specs.Notes.{note_of, note_of_queue, note_of_settings}
+use Rattle.state_words.specs.Notes.{note_of, note_of_given_up, note_of_queue, note_of_settings}
+use Rattle.telegate.specs.Law.{LogsAll}
 use Rattle.telegate.specs.declared.fault.Fault.{Fault}
 use Rattle.telegate.specs.declared.fault.Fault.TheVariants.{EndUnusable, NoMemory, StateInUse}
 use Rattle.telegate.specs.declared.fault.Fault.TheVariants.{StateUnusable}
@@ -42,7 +43,9 @@ pub record LogsBeginning (o : Origin) (old new : Book) : Type 0 where
   pub settings : LogsNoteIf (note_of_settings o.is_moved) begun moved
   pub noted : Book
   pub goes_on : LogsNoteIf (note_if_on o.moment o.gateway) moved noted
-  pub gap : LogsGap o.moment o.gap noted new
+  pub named : Book
+  pub gives_up : LogsAll (map note_of_given_up o.given_up.items) noted named
+  pub gap : LogsGap o.moment o.gap named new
 
 -- The state can't be had, which is logged, unless memory is refused.
 abbrev pub IsUnkept : Fault → (old new : Book) → Type 0

@@ -1,6 +1,6 @@
 //! The command that runs the gateway between a line and a control centre.
-ghost use Rattle.std.specs.Prelude.{◌≡◌, ◌+◌, IfOk, IfErr, Some, None, Option, is_some, []};
-ghost use Rattle.std.specs.Prelude.{false, not, true, ◌∷◌};
+ghost use Rattle.std.specs.Prelude.{◌≡◌, ◌⊎◌, ◌+◌, IfOk, IfErr, Some, None, Option, is_some, []};
+ghost use Rattle.std.specs.Prelude.{false, map, not, true, ◌∷◌};
 ghost use Rattle.std.specs.declared.net.socket_addr.SocketAddr.{SocketAddr};
 ghost use Rattle.gateway.specs.Agrees.{Follows};
 ghost use Rattle.gateway.specs.Setups.{setup_of};
@@ -15,10 +15,12 @@ ghost use Rattle.state.specs.declared.beginning.Origin.{Origin};
 ghost use Rattle.telegate.specs.AsWished.{IsAsWished};
 ghost use Rattle.telegate.specs.Asked.{RecordAt, StateIn, StatusAt, UnclockedIfErr, asked_for};
 ghost use Rattle.telegate.specs.Asked.{call_if, ends_asked, listen_asked, scribes_asked};
+ghost use Rattle.state_words.specs.Notes.{note_of_given_up};
 ghost use Rattle.telegate.specs.Kept.{HasLivedFrom, HasLivedOn, IsEndFault, IsKeptFault};
 ghost use Rattle.telegate.specs.Kept.{first_moment};
+ghost use Rattle.telegate.specs.Law.{LogsAll};
 ghost use Rattle.telegate.specs.Living.{HasLived, IsPortOf};
-ghost use Rattle.telegate.specs.Ran.{HasLivedAs, IfOver};
+ghost use Rattle.telegate.specs.Ran.{HasCome, HasLivedAs, HasNotBegun, IfOver, answer_to};
 ghost use Rattle.telegate.specs.Running.{IsReadLiveConfig};
 ghost use Rattle.telegate.specs.Served.{HasServedAnew, HasServedOn};
 ghost use Rattle.telegate.specs.Turns.{in_life, shown_to};
@@ -28,7 +30,7 @@ ghost use Rattle.telegate.specs.Logged.{note_if_on, note_of_address};
 use crate::fault::Fault;
 use crate::help::VERSION;
 use crate::host::Wishes;
-use crate::running::{Lived, Scribes, live};
+use crate::running::{DeviceFailed, Lived, Scribes, live};
 use crate::site::{EndRefusal, RunSite};
 use gateway::{Action, Config, Gateway, History};
 use live::{AllowList, Listener, Live, OctetStream, RunPort};
@@ -36,8 +38,8 @@ use lookout::Lookout;
 use record::{Pen, RecordSheet};
 use runlog::{LogSink, Logger, Note, Trouble, Watch};
 use settings::{ConfigFault, LiveSettings, read_live_config};
-use state::{Begun, DiskStore, FolderFault, Keeper, Origin, Pair, ReportedGap, begin};
-use state_words::{note_of, note_of_queue, note_of_settings};
+use state::{Begun, DiskStore, FolderFault, GivenUp, Keeper, Origin, Pair, ReportedGap, begin};
+use state_words::{note_of, note_of_given_up, note_of_queue, note_of_settings};
 use std::alloc::Global;
 use std::net::SocketAddr;
 
@@ -312,6 +314,45 @@ pub(crate) fn run_at<T: RunSite>(
     }
 }
 
+/// How a run ended that is over.
+fn ended_of<T: RunSite>(over: &RunOver<T>) -> Result<(), DeviceFailed>
+    ensures { IfOver over.now (λ anew. result ≡ anew.ended) (λ kept. result ≡ kept.ended) }
+{
+    match over {
+        Over::Anew(run) => run.ended,
+        Over::Kept(run) => run.ended,
+    }
+}
+
+/// What is answered of a run that has ended so.
+fn answer_to(ended: Result<(), DeviceFailed>) -> Result<(), Fault>
+    ensures { result ≡ answer_to ended }
+{
+    match ended {
+        Ok(()) => Ok(()),
+        Err(DeviceFailed) => Err(Fault::Device),
+    }
+}
+
+/// Runs the gateway live with these settings, which were read from this text, until it ends, and
+/// lets its ends go.
+pub(crate) fn run_out<T: RunSite>(
+    site: &mut T,
+    config: &Config,
+    text: &[u8],
+    wishes: Wishes<'_>,
+) -> Result<(), Fault>
+    requires severity { T.severe site.old ≡ wishes.log_severity }
+    ensures { HasNotBegun result ⊎ HasCome (BeginsIn T.Folder.File.Disk config.now
+        (T.asked site.old).lineage) config.now wishes.entry (T.asked site.old)
+        (T.asked site.new) result }
+{
+    match run_at(site, config, text, wishes) {
+        Ok(over) => answer_to(ended_of::<T>(&over)),
+        Err(fault) => Err(fault),
+    }
+}
+
 /// Runs the gateway anew, without a state on the disk.
 #[tactic(auto, using(crate::proofs::KeptLemmas::memory_is_end, crate::proofs::KeptLemmas::still_unclocked))]
 fn run_anew<T: RunSite>(
@@ -552,7 +593,19 @@ fn log_gap<S: LogSink + Drop>(moment: Option<u64>, gap: Option<ReportedGap>, log
     logger.put(moment, &Action::Gap { station, session });
 }
 
-/// Logs how a run begins, and the gap that may not have been seen.
+/// Logs what a start gives up of the connection before it, one line for each.
+fn log_given_up<S: LogSink + Drop>(given_up: &[GivenUp], logger: &mut Logger<S>)
+    ensures logs { LogsAll (map note_of_given_up given_up.now) logger.old logger.new }
+    ensures fixed { book_fixture logger.new ≡ book_fixture logger.old }
+{
+    let mut left = given_up;
+    while let [first, more @ ..] = left {
+        logger.note(note_of_given_up(first));
+        left = more;
+    }
+}
+
+/// Logs how a run begins, what is given up for it, and the gap that may not have been seen.
 fn log_beginning<S: LogSink + Drop>(origin: &Origin, logger: &mut Logger<S>)
     ensures logs { LogsBeginning origin.now logger.old logger.new }
     ensures fixed { book_fixture logger.new ≡ book_fixture logger.old }
@@ -560,5 +613,6 @@ fn log_beginning<S: LogSink + Drop>(origin: &Origin, logger: &mut Logger<S>)
     log(note_of(origin.beginning), logger);
     log(note_of_settings(origin.is_moved), logger);
     log(note_if_on(origin.moment, &origin.gateway), logger);
+    log_given_up(origin.given_up.as_slice(), logger);
     log_gap(origin.moment, origin.gap, logger);
 }

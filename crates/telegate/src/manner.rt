@@ -8,7 +8,7 @@ use show::LineSizes;
 use std::env::VarError;
 
 /// How what passes in a run is printed.
-#[derive(Clone, Copy, PartialEq, Eq)]
+#[derive(Clone, Copy)]
 pub enum Manner {
     /// A line for each action, as a trace has them.
     Lines,

@@ -22,7 +22,7 @@ use traces::{Blocks, cut};
 use words::{both, describe_apdus, describe_line_frames, read_line_of_octets};
 
 /// What frames come by a pipe.
-#[derive(Clone, Copy, PartialEq, Eq)]
+#[derive(Clone, Copy)]
 pub(crate) enum Piped {
     /// Those of a line whose addresses have these sizes.
     Line(LineSizes),

@@ -1,6 +1,6 @@
 //! How a live run begins and ends.
 ghost use Rattle.std.specs.Prelude.{◌≡◌, ◌⊎◌, ◌+◌, ◌++◌, ℕ, List, [], ◌∷◌, length, true, false};
-ghost use Rattle.std.specs.Prelude.{None, Some, Result, Ok, Err};
+ghost use Rattle.std.specs.Prelude.{None, Some, Result, Ok, Err, map};
 ghost use Rattle.std.specs.Borrow.{Bor};
 ghost use Rattle.clap.specs.Words.{Text};
 ghost use Rattle.gateway.specs.Agrees.{Follows, Rests};
@@ -17,6 +17,7 @@ ghost use Rattle.runlog.specs.declared.note.Trouble.TheVariants as trouble;
 ghost use Rattle.state.specs.Directories.{BeginsIn};
 ghost use Rattle.state.specs.declared.beginning.Origin.{Origin};
 ghost use Rattle.state.specs.declared.start.Beginning.TheVariants as beginning;
+ghost use Rattle.state_words.specs.Notes.{note_of_given_up};
 ghost use Rattle.telegate.specs.Asked.{Asked};
 ghost use Rattle.telegate.specs.Law.{LogsAll};
 ghost use Rattle.telegate.specs.Lives.{all_passed};
@@ -90,31 +91,37 @@ pub fn a_run_that_goes_on_cuts_the_old_connection<T: RunSite>()
 {}
 
 /// What a start logs of the state in its directory, in this order and nothing else: what was made
-/// of it, that it was kept under other settings, and with how many pieces the run goes on. If the
-/// last step before reported a gap, that is logged again behind these, with its own station and
-/// session, at the moment at which the run goes on.
+/// of it, that it was kept under other settings, with how many pieces the run goes on, and each
+/// command, selection and own answer that is given up for it. If the last step before reported a
+/// gap, that is logged again behind these, with its own station and session, at the moment at which
+/// the run goes on.
 pub fn a_start_logs_how_the_run_begins()
     ensures anew { (o : Origin) (old new : Book) → LogsBeginning o old new →
         o.beginning ≡ beginning.Anew → o.is_moved ≡ false → o.moment ≡ None → o.gap ≡ None →
-        LogsAll (note.StateBegins ∷ []) old new }
+        LogsAll (note.StateBegins ∷ map note_of_given_up o.given_up.items) old new }
     ensures aside { (o : Origin) (old new : Book) → LogsBeginning o old new →
         o.beginning ≡ beginning.PutAside → o.is_moved ≡ false → o.moment ≡ None →
-        o.gap ≡ None → LogsAll (note.StatePutAside ∷ []) old new }
+        o.gap ≡ None →
+        LogsAll (note.StatePutAside ∷ map note_of_given_up o.given_up.items) old new }
     ensures goes_on { (o : Origin) (old new : Book) (m : ℕ) → LogsBeginning o old new →
         o.beginning ≡ beginning.GoesOn → o.is_moved ≡ false → o.moment ≡ Some m →
-        o.gap ≡ None → LogsAll (note.StateGoesOn (taken_in o.gateway) ∷ []) old new }
+        o.gap ≡ None → LogsAll (note.StateGoesOn (taken_in o.gateway)
+        ∷ map note_of_given_up o.given_up.items) old new }
     ensures stale { (o : Origin) (old new : Book) (m : ℕ) → LogsBeginning o old new →
         o.beginning ≡ beginning.LinksReset → o.is_moved ≡ false → o.moment ≡ Some m →
         o.gap ≡ None →
-        LogsAll (note.StateStale ∷ note.StateGoesOn (taken_in o.gateway) ∷ []) old new }
+        LogsAll (note.StateStale ∷ note.StateGoesOn (taken_in o.gateway)
+        ∷ map note_of_given_up o.given_up.items) old new }
     ensures moved { (o : Origin) (old new : Book) (m : ℕ) → LogsBeginning o old new →
         o.beginning ≡ beginning.GoesOn → o.is_moved ≡ true → o.moment ≡ Some m →
         o.gap ≡ None →
-        LogsAll (note.SettingsChanged ∷ note.StateGoesOn (taken_in o.gateway) ∷ []) old new }
+        LogsAll (note.SettingsChanged ∷ note.StateGoesOn (taken_in o.gateway)
+        ∷ map note_of_given_up o.given_up.items) old new }
     ensures stale_moved { (o : Origin) (old new : Book) (m : ℕ) → LogsBeginning o old new →
         o.beginning ≡ beginning.LinksReset → o.is_moved ≡ true → o.moment ≡ Some m →
         o.gap ≡ None → LogsAll (note.StateStale ∷ note.SettingsChanged
-        ∷ note.StateGoesOn (taken_in o.gateway) ∷ []) old new }
+        ∷ note.StateGoesOn (taken_in o.gateway)
+        ∷ map note_of_given_up o.given_up.items) old new }
     ensures gap { (o : Origin) (old new : Book) (m station session : ℕ) →
         LogsBeginning o old new → o.moment ≡ Some m → o.gap ≡ Some (station, session) →
         (before : Book) × LogsAction before m (GapOut station session) new }

@@ -24,7 +24,7 @@ use std::net::{Net, SocketAddr, TcpStream};
 use std::rt::Clock;
 
 /// Why an end can't be had.
-#[derive(Clone, Copy, PartialEq, Eq)]
+#[derive(Clone, Copy)]
 pub(crate) struct EndRefusal {
     pub(crate) trouble: Trouble,
     /// For want of memory.

@@ -24,7 +24,7 @@ returns-clause-stale_moved c o old new m = logs_start o beginnings.LinksReset tr
 
 pub returns-clause-gap : goal.returns-clause-gap
 returns-clause-gap c o old new m station session logs is_at is = (
-  logs.noted,
-  subst (λ (g : Option (ℕ × ℕ)). LogsGap (Some m) g logs.noted new) is
-      (subst (λ (t : Option ℕ). LogsGap t o.gap logs.noted new) is_at logs.gap),
+  logs.named,
+  subst (λ (g : Option (ℕ × ℕ)). LogsGap (Some m) g logs.named new) is
+      (subst (λ (t : Option ℕ). LogsGap t o.gap logs.named new) is_at logs.gap),
 )
