@@ -7,7 +7,7 @@ use Rattle.gateway.specs.Log.{Log}
 use Rattle.segments.specs.Starts.{ArePlaced, HasNoNewer, IsBacked, IsFoundIn, IsNewest}
 use Rattle.segments.specs.declared.start.FoundHead.{FoundHead}
 use Rattle.segments.specs.declared.start.Side.{Side}
-use Rattle.state.specs.Beginnings.{AreLinesRead, has_past, is_trusted}
+use Rattle.state.specs.Beginnings.{IsReadWhole, has_past, is_trusted}
 use Rattle.state.specs.Sights.{BeginsSo, IsDistrusted, IsSeen, IsSight}
 use Rattle.state.specs.Unread.{HasState, IsUnread}
 use Rattle.state.specs.declared.looking.Seen.{Seen}
@@ -19,7 +19,7 @@ use Rattle.state.proofs.UnreadLemmas.{unread_found}
 begins_so : (b : Beginning) (goes_on is_stale : Bool) (newest other : List ℕ) → has_past b ≡ true
     → is_trusted b ≡ goes_on
     → IsNewest newest other → (goes_on ≡ true → HasNoNewer newest other)
-    → (goes_on ≡ true → AreLinesRead newest) → (goes_on ≡ true → is_stale ≡ false)
+    → (goes_on ≡ true → IsReadWhole newest) → (goes_on ≡ true → is_stale ≡ false)
     → (goes_on ≡ false → IsDistrusted is_stale newest other)
     → BeginsSo b is_stale newest other
 begins_so beginnings.Anew goes_on is_stale newest other past is wins sure read fresh reset =
@@ -35,7 +35,7 @@ pub sight_of : (log : Log) (is_stale goes_on : Bool) (first second newest other 
     (side : Side) (b : Beginning) (s : Seen) → ArePlaced side first second newest other
     → s.side ≡ side → IsSeen log newest s → has_past b ≡ true → is_trusted b ≡ goes_on
     → IsNewest newest other → (goes_on ≡ true → HasNoNewer newest other)
-    → (goes_on ≡ true → AreLinesRead newest) → (goes_on ≡ true → is_stale ≡ false)
+    → (goes_on ≡ true → IsReadWhole newest) → (goes_on ≡ true → is_stale ≡ false)
     → (goes_on ≡ false → IsDistrusted is_stale newest other)
     → IsSight log is_stale first second (record { beginning = b; seen = Some s })
 sight_of log is_stale goes_on first second newest other side b s placed same seen past is wins sure

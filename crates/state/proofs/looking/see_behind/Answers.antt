@@ -1,8 +1,10 @@
-use Rattle.std.proofs.Common.{◌≡◌, List, ℕ, Ok, ap₂, drop, subst, sym}
+use Rattle.std.proofs.Common.{◌≡◌, ◌∙◌, List, ℕ, Ok, ap, ap₂, drop, subst, sym}
 use Rattle.segments.specs.Starts.{before_zero}
+use Rattle.gateway.specs.declared.settings.LineSettings.{LineSettings}
 use Rattle.settings.specs.Settings.{IsReadOfText}
 use Rattle.statetext.specs.Text.{lines_in}
 use Rattle.state.specs.Beginnings.{IsRead}
+use Rattle.state.specs.GivenUps.{given_up_by}
 use Rattle.state.specs.Replays.{whole_lines}
 use Rattle.state.specs.Sights.{AreCounted}
 use Rattle.state.proofs.UnreadLemmas.{err_of}
@@ -22,18 +24,21 @@ returns-clause-log g c =
       begins = c.args.start.now.at;
       lines = lines;
       head = c.requires.head;
-      said = c.in_ok-resumed.ensures.said;
+      said = c.in_ok-arrived.ensures.said;
       wrote = c.in_ok-wrote.wrote;
       readable = subst (λ (text : List ℕ). IsReadOfText text (Ok c.in_ok-wrote.wrote))
           c.deref.ensures.value c.in_ok-wrote.ensures.read;
       counted = subst (λ (events : List ℕ). AreCounted (whole_lines events)
           c.in_ok-count.count.logged c.in_ok-count.count.all) same c.in_ok-count.ensures.counted;
-      gap = c.in_ok-resumed.resumed.gap;
-      whole = c.in_ok-resumed.resumed.before.entries;
+      gap = c.in_ok-arrived.arrived.gap;
+      whole = c.in_ok-arrived.arrived.before.entries;
       read = subst (λ (events : List ℕ). IsRead c.in_ok-wrote.wrote g.K.Lineage.log lines events
-          c.in_ok-resumed.resumed.gap c.in_ok-resumed.resumed.before.entries
-          c.in_ok-resumed.resumed.gateway) same
-          (c.in_ok-resumed.ensures.read (c.requires.honest _));
+          c.in_ok-arrived.arrived.gap c.in_ok-arrived.arrived.before.entries
+          c.in_ok-arrived.arrived.gateway) same
+          (c.in_ok-arrived.ensures.read (c.requires.honest _));
+      named = c.in-Ok.ensures
+          ∙ ap (λ (l : LineSettings). given_up_by l.sizes c.in_ok-arrived.arrived.gateway)
+          c.line.ensures;
     }
 
 pub returns-in_err-wrote-clause-wrong : goal.returns-in_err-wrote-clause-wrong
