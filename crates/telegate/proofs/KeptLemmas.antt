@@ -1,29 +1,43 @@
--- The faults with which a live run doesn't begin.
-use Rattle.std.proofs.Common.{◌≡◌, Bool, true, false, refl, sym, subst}
-use Rattle.std.proofs.Common.{Result, Ok, Err}
+-- The faults with which a live run doesn't begin, and with what it begins.
+use Rattle.std.proofs.Common.{◌≡◌, ◌∙◌, Bool, true, false, ap, refl, sym, subst}
+use Rattle.std.proofs.Common.{None, Option, Result, Ok, Err}
+use Rattle.gateway.specs.Config.{Settings}
+use Rattle.gateway.specs.Log.{Log}
 use Rattle.runlog.specs.Logging.{Book}
+use Rattle.sqlite_disk.specs.declared.Disk.{Ghosts}
+use Rattle.state.specs.Beginnings.{moment_at}
+use Rattle.state.specs.Origins.{IsBegun, IsNew}
+use Rattle.state.specs.declared.beginning.Origin.{Origin}
+use Rattle.state.specs.declared.opened.Opened.{Opened}
+use Rattle.state.specs.declared.start.Beginning.{Beginning}
+use Rattle.state.specs.declared.start.Beginning.TheVariants.{Anew}
 use Rattle.telegate.specs.Asked.{Asked, UnclockedIfErr}
 use Rattle.telegate.specs.Kept.{IsEndFault, IsKeptFault}
 use Rattle.telegate.specs.Logged.{IsUnkept, fault_of}
+use Rattle.telegate.specs.Starts.{Found, StartsIn, Without}
 use Rattle.telegate.specs.declared.fault.Fault.{Fault}
 use Rattle.telegate.specs.declared.fault.Fault.TheVariants.{NoMemory, StateInUse, StateUnusable}
+use Rattle.telegate.specs.declared.host.Wishes.{Wishes}
 
-pub end_is_kept : (fault : Fault) → IsEndFault fault → IsKeptFault fault
-end_is_kept StateInUse is = tt
-end_is_kept StateUnusable is = tt
-end_is_kept fault is = is
+pub end_is_kept : (bears : Bool) (fault : Fault) → IsEndFault fault → IsKeptFault bears fault
+end_is_kept bears StateInUse is = tt
+end_is_kept bears StateUnusable is = absurd is
+end_is_kept bears fault is = is
 
-pub unkept_is_kept : (fault : Fault) (old new : Book) → IsUnkept fault old new → IsKeptFault fault
-unkept_is_kept StateInUse old new is = tt
-unkept_is_kept StateUnusable old new is = tt
-unkept_is_kept NoMemory old new is = tt
-unkept_is_kept fault old new is = absurd is
+pub unkept_is_kept : (bears : Bool) (fault : Fault) (old new : Book) → IsUnkept bears fault old new
+    → IsKeptFault bears fault
+unkept_is_kept bears StateInUse old new is = tt
+unkept_is_kept bears StateUnusable old new is = is.0
+unkept_is_kept bears NoMemory old new is = tt
+unkept_is_kept bears fault old new is = absurd is
 
 pub memory_is_end : (fault : Fault) → fault ≡ NoMemory → IsEndFault fault
 memory_is_end fault is = subst IsEndFault (sym is) tt
 
-pub memory_is_unkept : (fault : Fault) (book : Book) → fault ≡ NoMemory → IsUnkept fault book book
-memory_is_unkept fault book is = subst (λ (f : Fault). IsUnkept f book book) (sym is) refl
+pub memory_is_unkept : (bears : Bool) (fault : Fault) (book : Book) → fault ≡ NoMemory
+    → IsUnkept bears fault book book
+memory_is_unkept bears fault book is =
+    subst (λ (f : Fault). IsUnkept bears f book book) (sym is) refl
 
 by_memory : (is_memory : Bool) → IsEndFault (fault_of is_memory)
 by_memory true = tt
@@ -38,3 +52,24 @@ pub still_unclocked : {A E : Type 0} (result : Result A E) (old new : Asked)
     → new.clocks ≡ old.clocks → UnclockedIfErr result old new
 still_unclocked (Ok value) old new is = tt
 still_unclocked (Err fault) old new is = is
+
+-- with what a directory has
+pub found_in : {D : Type 0} (g : Ghosts D) (wishes : Wishes) (c : Settings) (log : Log)
+    (mark : Option Bool) (opened : Opened D g) (o : Origin) → IsBegun c log mark opened o
+    → StartsIn g wishes c log o
+found_in g wishes c log mark opened o begun =
+    Found (record { mark = mark; opened = opened; begun = begun })
+
+-- or without that, where it is borne
+pub without_in : {D : Type 0} (g : Ghosts D) (wishes : Wishes) (c : Settings) (log : Log)
+    (o : Origin) → wishes.bears_loss ≡ true → IsNew c o → o.beginning ≡ Anew → o.moment ≡ None
+    → StartsIn g wishes c log o
+without_in g wishes c log o borne new anew moment =
+    Without (record { borne = borne; new = new; anew = anew; moment = moment })
+
+-- the clock goes on where the gateway does
+pub moment_in : {D : Type 0} (g : Ghosts D) (wishes : Wishes) (c : Settings) (log : Log)
+    (o : Origin) → StartsIn g wishes c log o → o.moment ≡ moment_at o.beginning o.gateway.moment
+moment_in g wishes c log o (Found begins) = begins.begun.moment
+moment_in g wishes c log o (Without none) =
+    none.moment ∙ sym (ap (λ (b : Beginning). moment_at b o.gateway.moment) none.anew)

@@ -10,7 +10,6 @@ use Rattle.live.specs.Ends.{Fixture}
 use Rattle.settings.specs.Live.{Places, places_of}
 use Rattle.settings.specs.declared.live.LiveSettings.{LiveSettings}
 use Rattle.sqlite_disk.specs.declared.Disk.{Ghosts}
-use Rattle.state.specs.Directories.{BeginsIn}
 use Rattle.state.specs.declared.beginning.Origin.{Origin}
 use Rattle.telegate.specs.AsWished.{IsAsWished}
 use Rattle.telegate.specs.Asked.{Asked, StateIn, asked_for, call_if, ends_asked, run_asked}
@@ -20,6 +19,7 @@ use Rattle.telegate.specs.Kept.{HasLivedFrom, first_moment}
 use Rattle.telegate.specs.Living.{HasLived}
 use Rattle.telegate.specs.Ran.{HasCome, HasLivedAnew, HasLivedAs, HasLivedKept, HasNotBegun}
 use Rattle.telegate.specs.Ran.{IfOver, IsOver, RunLeft}
+use Rattle.telegate.specs.Starts.{StartsIn}
 use Rattle.telegate.specs.declared.fault.Fault.{Fault}
 use Rattle.telegate.specs.declared.host.Wishes.{Wishes}
 use Rattle.telegate.specs.declared.living.Over.{Over}
@@ -73,9 +73,9 @@ by_over (Anew run) P R Q S p r anew kept = anew run p r
 by_over (Kept run) P R Q S q s anew kept = kept run q s
 
 -- the log so far under another name
-pub begins_by : {D : Type 0} (g : Ghosts D) (c : Settings) (one other : Log)
-    (o : Origin) → one ≡ other → BeginsIn g c one o → BeginsIn g c other o
-begins_by g c one other o same begun = subst (λ log. BeginsIn g c log o) same begun
+pub starts_by : {D : Type 0} (g : Ghosts D) (wishes : Wishes) (c : Settings) (one other : Log)
+    (o : Origin) → one ≡ other → StartsIn g wishes c one o → StartsIn g wishes c other o
+starts_by g wishes c one other o same starts = subst (λ log. StartsIn g wishes c log o) same starts
 
 -- a run that began so began in a way that follows from that
 pub begins_weaker : {E : Type 0} (strong weak : Origin → Type 0) (settings : Settings)
@@ -104,9 +104,9 @@ begins_weaker {E} strong weak settings wishes old new left ended h implies = by 
 -- a run at a site with these places
 pub over_at : (strong weak : Origin → Type 0) (settings : Settings) (places : LiveSettings)
     (wishes : Wishes) (old new : Asked) (answer : Result (Unit {0}) Fault)
-    → HasNotBegun answer ⊎ HasCome strong settings wishes old new answer
+    → HasNotBegun wishes.bears_loss answer ⊎ HasCome strong settings wishes old new answer
     → old.places ≡ places_of places → ((o : Origin) → strong o → weak o)
-    → HasNotBegun answer ⊎ IsOver weak settings places wishes answer
+    → HasNotBegun wishes.bears_loss answer ⊎ IsOver weak settings places wishes answer
 over_at strong weak settings places wishes old new answer (inl none) at implies = inl none
 over_at strong weak settings places wishes old new answer (inr come) at implies =
     inr (record {

@@ -1,11 +1,11 @@
 //! What the program needs of the system that it runs on.
 ghost use Rattle.std.specs.Prelude.{◌≡◌, ◌⊎◌, ℕ, Bool, List, Result, IfOk, IfErr};
-ghost use Rattle.state.specs.Directories.{BeginsIn};
 ghost use Rattle.stations.specs.Scenarios.{FitsScenario};
 ghost use Rattle.telegate.specs.Playing.{ArePlayed};
 ghost use Rattle.telegate.specs.Ran.{HasNotBegun, IsOver};
 ghost use Rattle.state_files.specs.declared.looking.Stood.{Stood};
 ghost use Rattle.telegate.specs.Source.{Gives};
+ghost use Rattle.telegate.specs.Starts.{StartsIn};
 ghost use Rattle.telegate.specs.declared.fault.Fault.{Fault};
 ghost use Rattle.telegate.specs.declared.host.Unread.TheVariants as unread;
 ghost use Rattle.telegate.specs.declared.host.Wishes.{Wishes};
@@ -162,8 +162,8 @@ impl Host for System<'_> {
 
     ghost use Rattle.telegate.specs.Ran.{HasRunBy};
 
-    ghost ran = { λ old _ text wishes ended. HasRunBy (λ settings. BeginsIn
-        ⟦<DiskFile as Disk>⟧ settings old.lineage.entries) text wishes ended };
+    ghost ran = { λ old _ text wishes ended. HasRunBy (λ settings. StartsIn
+        ⟦<DiskFile as Disk>⟧ wishes settings old.lineage.entries) text wishes ended };
 
     ghost use Rattle.telegate.specs.Playing.{ArePlayedBy};
 
@@ -272,7 +272,8 @@ fn run_process(
     wishes: Wishes<'_>,
     lineage: &History,
 ) -> Result<(), Fault>
-    ensures { HasNotBegun result ⊎ IsOver (BeginsIn ⟦<DiskFile as Disk>⟧ settings.now
+    ensures { HasNotBegun wishes.entry.bears_loss result
+        ⊎ IsOver (StartsIn ⟦<DiskFile as Disk>⟧ wishes.entry settings.now
         lineage.now.entries) settings.now places.now wishes.entry result }
 {
     let Ok(stations) = names_of(rt.alloc(), wishes.names) else {

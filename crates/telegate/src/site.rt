@@ -15,7 +15,7 @@ use record::{RecordSheet, StandardOutput};
 use runlog::{LogNames, LogSink, StandardError, Trouble};
 use settings::LiveSettings;
 use state::Folder;
-use state_files::Directory;
+use state_files::{Directory, mark_beside};
 use status::VisitorListener;
 use std::alloc::{AllocError, Global};
 use std::io;
@@ -126,6 +126,11 @@ pub(crate) trait RunSite {
             Self.Folder.lineage folder ≡ (asked self.old).lineage) }
         ensures asked { asked self.new
             ≡ asked_for (StateIn name.now (is_ok result) ∷ []) (asked self.old) };
+
+    /// A run goes on without what its directory has. The mark that tells a later start is made
+    /// elsewhere, as far as that can be done.
+    fn mark_beside(&mut self)
+        ensures asked { asked self.new ≡ asked self.old };
 }
 
 /// The ends that a process has at these places.
@@ -287,6 +292,10 @@ impl<'r> RunSite for Process<'r> {
     fn folder(&mut self, name: &str) -> Result<Directory, AllocError> {
         let path = String::from_str(self.rt.alloc(), name)?;
         Ok(Directory::new(*self.rt, path, self.lineage.again()))
+    }
+
+    fn mark_beside(&mut self) {
+        let _is_marked = mark_beside(*self.rt);
     }
 }
 
