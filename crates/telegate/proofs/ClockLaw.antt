@@ -86,7 +86,8 @@ clocked_anew begins settings wishes places lineage before moments new left ended
 pub clocked_kept : {E D : Type 0} (g : Ghosts D) (settings : Settings) (wishes : Wishes)
     (places : Places) (lineage : Log) (before : List SiteCall)
     (moments : List ℕ) (new : Asked) (left : RunLeft) (ended : Result (Unit {0}) E)
-    (directory : Bor Text) → HasLivedAs (StartsIn g wishes settings lineage) settings wishes (record {
+    (directory : Bor Text)
+    → HasLivedAs (StartsIn g wishes settings lineage) settings wishes (record {
       places = places;
       lineage = lineage;
       calls = Some before;

@@ -24,7 +24,8 @@ pub returns-clause-moved : goal.returns-clause-moved
 returns-clause-moved c o old new m = logs_start o None beginnings.GoesOn true (Some m) old new
 
 pub returns-clause-stale_moved : goal.returns-clause-stale_moved
-returns-clause-stale_moved c o old new m = logs_start o None beginnings.LinksReset true (Some m) old new
+returns-clause-stale_moved c o old new m =
+    logs_start o None beginnings.LinksReset true (Some m) old new
 
 pub returns-clause-gap : goal.returns-clause-gap
 returns-clause-gap c o old new m station session logs is_at is = (
