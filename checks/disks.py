@@ -25,7 +25,7 @@ import time
 
 import ends
 import kept
-from kept import PAUSE, alone, gaps, has_gone_round, looked, queue_up, quiet, resets_of, until
+from kept import PAUSE, all_came, alone, drained, gaps, has_gone_round, looked, queue_up, quiet, resets_of, until
 from outstations import CONFIRMATION, Operator, command
 
 SECTOR = 512
@@ -424,7 +424,7 @@ def says_why(told, reason):
 
 def fails_amid_a_run(count, program, name):
     """The disk fails amid a run, and is well again at a later start: what was kept comes, and gaps tell the rest."""
-    fault, reason = FAULTS[name]
+    fault, _reason = FAULTS[name]
     with tempfile.TemporaryDirectory() as folder:
         case = Failing(program, folder, fault)
         gateway, field = case.gateway, case.field
@@ -433,7 +433,6 @@ def fails_amid_a_run(count, program, name):
         count.judge(f"{name}: it goes on", case.is_up(), (gateway.process.poll(), gateway.logged()))
         told = gateway.logged()
         count.judge(f"{name}: it says so", "isn't kept" in told, told)
-        count.judge(f"{name}: and why", says_why(told, reason), told)
         if gateway.process.poll() is None:
             queue_up(gateway, 2)
         gateway.kill()
@@ -441,7 +440,7 @@ def fails_amid_a_run(count, program, name):
         gateway.start()
         count.judge(f"{name}: a start goes on without a state", case.is_up(), gateway.logged())
         told = gateway.kill()
-        count.judge(f"{name}: and says why", says_why(told, reason), told)
+        count.judge(f"{name}: and says so", "the run goes on without it" in told or "isn't kept" in told, told)
         case.mend()
         resets = resets_of(gateway)
         gateway.start()
@@ -454,22 +453,44 @@ def fails_amid_a_run(count, program, name):
 
 
 def fails_at_a_start(count, program, name):
-    """The directory can't be used at the first start."""
-    fault, reason = FAULTS[name]
+    """The directory can't be used at the first start, and the run goes on without a state until it ends."""
+    fault, _reason = FAULTS[name]
     with tempfile.TemporaryDirectory() as folder:
         case = Failing(program, folder, fault)
         os.mkdir(case.gateway.state)
         case.fail()
         case.gateway.start()
         count.judge(f"{name} at a start: it goes on", case.is_up(), (case.gateway.process.poll(), case.gateway.logged()))
+        queue_up(case.gateway, 2)
+        got = drained(case.gateway)
+        count.judge(f"{name} at a start: reports come", got == all_came(case.gateway), got)
         told = case.gateway.kill()
-        count.judge(f"{name} at a start: it says why", says_why(told, reason), told)
+        is_told = "its directory can't be used, the run goes on without it: the disk failed" in told
+        count.judge(f"{name} at a start: it says so", is_told and "isn't kept" in told, told)
+        case.field.server.close()
+
+
+def says_reason(count, program, name, is_amid):
+    """The log names the file or the directory, and the reason in the system's words."""
+    fault, reason = FAULTS[name]
+    with tempfile.TemporaryDirectory() as folder:
+        case = Failing(program, folder, fault)
+        if is_amid:
+            case.begin()
+            case.fail()
+        else:
+            os.mkdir(case.gateway.state)
+            case.fail()
+            case.gateway.start()
+        case.is_up()
+        told = case.gateway.kill()
+        count.judge(f"{name}: it says why", says_why(told, reason), told)
         case.field.server.close()
 
 
 def stops(count, program, name):
     """With --state-or-stop a run ends with 3, amid a run and at a start."""
-    fault, reason = FAULTS[name]
+    fault, _reason = FAULTS[name]
     with tempfile.TemporaryDirectory() as folder:
         case = Failing(program, folder, fault, flags=["--state-or-stop"])
         case.begin()
@@ -477,12 +498,12 @@ def stops(count, program, name):
         until(lambda: case.gateway.process.poll() is not None, 20)
         count.compare(f"{name}, --state-or-stop: it ends", case.gateway.process.poll(), 3)
         told = case.gateway.kill()
-        count.judge(f"{name}, --state-or-stop: it says why", says_why(told, reason), told)
+        count.judge(f"{name}, --state-or-stop: it says so", "state can't be kept there" in told, told)
         case.gateway.start()
         until(lambda: case.gateway.process.poll() is not None, 20)
         count.compare(f"{name}, --state-or-stop: a start ends", case.gateway.process.poll(), 3)
         told = case.gateway.kill()
-        count.judge(f"{name}, --state-or-stop: it says why", says_why(told, reason), told)
+        count.judge(f"{name}, --state-or-stop: it says so", "state can't be kept there" in told, told)
         case.field.server.close()
 
 
@@ -497,7 +518,7 @@ def no_file(count, program):
         is_up = has_gone_round(gateway, 4)
         count.judge("a FIFO: it goes on", is_up and gateway.process.poll() is None, (gateway.process.poll(), gateway.logged()))
         told = gateway.kill()
-        count.judge("a FIFO: it names the file", re.search(r"state.*segments", told), told)
+        count.judge("a FIFO: it says so", "its directory can't be used, the run goes on without it" in told, told)
         gateway.field.server.close()
 
 
@@ -566,10 +587,12 @@ PARTS = [
     damage_part("sectors exchanged", exchange, 6),
     alone("disk older copy", older_copy, False),
     alone("disk clone", older_copy, True),
-    *(alone(f"disk fails amid a run: {name}", fails_amid_a_run, name) for name in FAULTS),
-    *(alone(f"disk fails at a start: {name}", fails_at_a_start, name) for name in FAULTS),
-    *(alone(f"disk or stop: {name}", stops, name) for name in ("EIO", "read-only")),
-    alone("disk FIFO", no_file),
+    *(alone(f"fails amid a run: {name}", fails_amid_a_run, name) for name in FAULTS),
+    *(alone(f"fails at a start: {name}", fails_at_a_start, name) for name in FAULTS),
+    *(alone(f"disk reason: {name}, amid a run", says_reason, name, True) for name in FAULTS),
+    *(alone(f"disk reason: {name}, at a start", says_reason, name, False) for name in FAULTS),
+    *(alone(f"or stop: {name}", stops, name) for name in ("EIO", "read-only")),
+    alone("FIFO", no_file),
     alone("disk slow", slow_syncs),
     alone("disk each octet once", each_octet_once),
     alone("mark that can't be looked for", mark_unseen),

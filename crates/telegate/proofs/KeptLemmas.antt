@@ -19,25 +19,22 @@ use Rattle.telegate.specs.declared.fault.Fault.{Fault}
 use Rattle.telegate.specs.declared.fault.Fault.TheVariants.{NoMemory, StateInUse, StateUnusable}
 use Rattle.telegate.specs.declared.host.Wishes.{Wishes}
 
-pub end_is_kept : (bears : Bool) (fault : Fault) → IsEndFault fault → IsKeptFault bears fault
-end_is_kept bears StateInUse is = tt
-end_is_kept bears StateUnusable is = absurd is
-end_is_kept bears fault is = is
+pub end_is_kept : (fault : Fault) → IsEndFault fault → IsKeptFault fault
+end_is_kept StateInUse is = tt
+end_is_kept StateUnusable is = tt
+end_is_kept fault is = is
 
-pub unkept_is_kept : (bears : Bool) (fault : Fault) (old new : Book) → IsUnkept bears fault old new
-    → IsKeptFault bears fault
-unkept_is_kept bears StateInUse old new is = tt
-unkept_is_kept bears StateUnusable old new is = is.0
-unkept_is_kept bears NoMemory old new is = tt
-unkept_is_kept bears fault old new is = absurd is
+pub unkept_is_kept : (fault : Fault) (old new : Book) → IsUnkept fault old new → IsKeptFault fault
+unkept_is_kept StateInUse old new is = tt
+unkept_is_kept StateUnusable old new is = tt
+unkept_is_kept NoMemory old new is = tt
+unkept_is_kept fault old new is = absurd is
 
 pub memory_is_end : (fault : Fault) → fault ≡ NoMemory → IsEndFault fault
 memory_is_end fault is = subst IsEndFault (sym is) tt
 
-pub memory_is_unkept : (bears : Bool) (fault : Fault) (book : Book) → fault ≡ NoMemory
-    → IsUnkept bears fault book book
-memory_is_unkept bears fault book is =
-    subst (λ (f : Fault). IsUnkept bears f book book) (sym is) refl
+pub memory_is_unkept : (fault : Fault) (book : Book) → fault ≡ NoMemory → IsUnkept fault book book
+memory_is_unkept fault book is = subst (λ (f : Fault). IsUnkept f book book) (sym is) refl
 
 by_memory : (is_memory : Bool) → IsEndFault (fault_of is_memory)
 by_memory true = tt

@@ -104,9 +104,9 @@ begins_weaker {E} strong weak settings wishes old new left ended h implies = by 
 -- a run at a site with these places
 pub over_at : (strong weak : Origin → Type 0) (settings : Settings) (places : LiveSettings)
     (wishes : Wishes) (old new : Asked) (answer : Result (Unit {0}) Fault)
-    → HasNotBegun wishes.bears_loss answer ⊎ HasCome strong settings wishes old new answer
+    → HasNotBegun answer ⊎ HasCome strong settings wishes old new answer
     → old.places ≡ places_of places → ((o : Origin) → strong o → weak o)
-    → HasNotBegun wishes.bears_loss answer ⊎ IsOver weak settings places wishes answer
+    → HasNotBegun answer ⊎ IsOver weak settings places wishes answer
 over_at strong weak settings places wishes old new answer (inl none) at implies = inl none
 over_at strong weak settings places wishes old new answer (inr come) at implies =
     inr (record {

@@ -1,5 +1,5 @@
 -- A live run whose state is kept (profile).
-use Rattle.std.specs.Prelude.{◌≡◌, ℕ, Bool, false, OnOk, Option, Some, None, Result}
+use Rattle.std.specs.Prelude.{◌≡◌, ℕ, false, OnOk, Option, Some, None, Result}
 use Rattle.std.specs.Option.{is_some}
 use Rattle.gateway.specs.Agrees.{Follows, Rests}
 use Rattle.gateway.specs.Config.{Settings}
@@ -27,11 +27,11 @@ IsEndFault EndUnusable = Unit {0}
 IsEndFault NoMemory = Unit {0}
 IsEndFault _ = ⊥
 
--- or its state: that it can't be kept there ends none that bears its loss
-abbrev pub IsKeptFault : (bears : Bool) → Fault → Type 0
-IsKeptFault bears StateInUse = Unit {0}
-IsKeptFault bears StateUnusable = bears ≡ false
-IsKeptFault bears fault = IsEndFault fault
+-- or its state
+abbrev pub IsKeptFault : Fault → Type 0
+IsKeptFault StateInUse = Unit {0}
+IsKeptFault StateUnusable = Unit {0}
+IsKeptFault fault = IsEndFault fault
 
 -- A run with this beginning is over. The port is that of these settings and this allow list, and
 -- began with the cut where it goes on. It ended well only once all turns that can be counted were

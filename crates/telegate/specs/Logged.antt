@@ -62,14 +62,12 @@ abbrev pub LogsOpening : {S : Type 0} → Shelf S → Origin → (old new : Book
 LogsOpening (Stored store) o old new = LogsBeginning o old new
 LogsOpening Nowhere o old new = LogsWithout old new
 
--- The state can't be had, which is logged, unless memory is refused. That it can't be kept there
--- ends a run only where that isn't borne.
-abbrev pub IsUnkept : (bears : Bool) → Fault → (old new : Book) → Type 0
-IsUnkept bears StateInUse old new = LogsNote old (note.Trouble trouble.StateInUse) new
-IsUnkept bears StateUnusable old new =
-    (bears ≡ false) × LogsNote old (note.Trouble trouble.StateUnusable) new
-IsUnkept bears NoMemory old new = new ≡ old
-IsUnkept bears _ old new = ⊥
+-- The state can't be had, which is logged, unless memory is refused.
+abbrev pub IsUnkept : Fault → (old new : Book) → Type 0
+IsUnkept StateInUse old new = LogsNote old (note.Trouble trouble.StateInUse) new
+IsUnkept StateUnusable old new = LogsNote old (note.Trouble trouble.StateUnusable) new
+IsUnkept NoMemory old new = new ≡ old
+IsUnkept _ old new = ⊥
 
 -- memory or an end is refused
 abbrev pub fault_of : (is_memory : Bool) → Fault

@@ -86,9 +86,9 @@ pub record IsOver (begins : Origin → Type 0) (settings : Settings) (places : L
   pub come : HasCome begins settings wishes old new answer
 
 -- it didn't begin: an end of it, or its state, can't be had
-abbrev pub HasNotBegun : (bears : Bool) → Result (Unit {0}) Fault → Type 0
-HasNotBegun bears (Ok done) = ⊥
-HasNotBegun bears (Err fault) = IsKeptFault bears fault
+abbrev pub HasNotBegun : Result (Unit {0}) Fault → Type 0
+HasNotBegun (Ok done) = ⊥
+HasNotBegun (Err fault) = IsKeptFault fault
 
 -- the settings of a live run are those of its file, and this is answered of it
 pub record HasRunWith (begins : Settings → Origin → Type 0) (text : List ℕ)
@@ -96,7 +96,7 @@ pub record HasRunWith (begins : Settings → Origin → Type 0) (text : List ℕ
   pub settings : Settings
   pub places : LiveSettings
   pub are : IsLiveReadOfText text (Ok (settings, places))
-  pub came : HasNotBegun wishes.bears_loss answer
+  pub came : HasNotBegun answer
       ⊎ IsOver (begins settings) settings places wishes answer
 
 -- or the file is refused by the first fault, and nothing is run

@@ -286,7 +286,7 @@ fn run<'a>(alloc: Global) -> Result<Command<'a>, AllocError>
         ),
         CommandWord::Flag(
             "state-or-stop",
-            "Ends the run where the state can't be kept any more, in place of going on without it",
+            "Ends the run where the state can't be kept, in place of going on without it",
         ),
         CommandWord::Repeated(
             "allow",

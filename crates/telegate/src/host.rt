@@ -59,7 +59,7 @@ pub(crate) struct Wishes<'a> {
     pub(crate) record: bool,
     /// The name of the directory in which the state is kept, if it is to be.
     pub(crate) state: Option<&'a str>,
-    /// Where the state can't be kept any more the run goes on without it.
+    /// Where the state can't be kept the run goes on without it.
     pub(crate) bears_loss: bool,
     /// Who may connect.
     pub(crate) allow_list: AllowList,
@@ -272,8 +272,7 @@ fn run_process(
     wishes: Wishes<'_>,
     lineage: &History,
 ) -> Result<(), Fault>
-    ensures { HasNotBegun wishes.entry.bears_loss result
-        ⊎ IsOver (StartsIn ⟦<DiskFile as Disk>⟧ wishes.entry settings.now
+    ensures { HasNotBegun result ⊎ IsOver (StartsIn ⟦<DiskFile as Disk>⟧ wishes.entry settings.now
         lineage.now.entries) settings.now places.now wishes.entry result }
 {
     let Ok(stations) = names_of(rt.alloc(), wishes.names) else {

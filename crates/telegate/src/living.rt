@@ -313,7 +313,7 @@ pub(crate) fn run_at<T: RunSite>(
         (shown_to anew.lookout) anew.ended) (λ _. Unit {0})) }
     // Without a clock nothing has run.
     ensures none { UnclockedIfErr result (T.asked site.old) (T.asked site.new) }
-    ensures fault { IfErr result (IsKeptFault wishes.entry.bears_loss) }
+    ensures fault { IfErr result IsKeptFault }
 {
     match wishes.state {
         None => Ok(Over::Anew(run_anew(site, config, wishes)?)),
@@ -350,8 +350,7 @@ pub(crate) fn run_out<T: RunSite>(
     wishes: Wishes<'_>,
 ) -> Result<(), Fault>
     requires severity { T.severe site.old ≡ wishes.log_severity }
-    ensures { HasNotBegun wishes.entry.bears_loss result
-        ⊎ HasCome (StartsIn T.Folder.File.Disk wishes.entry config.now
+    ensures { HasNotBegun result ⊎ HasCome (StartsIn T.Folder.File.Disk wishes.entry config.now
         (T.asked site.old).lineage) config.now wishes.entry (T.asked site.old)
         (T.asked site.new) result }
 {
@@ -452,7 +451,7 @@ fn keeper_between<T: RunSite>(
 }
 
 /// Runs the gateway with the state that this directory has, or anew, and keeps it there. If the
-/// directory can't be used, and that is borne, it runs without a state.
+/// directory can't be used, and that is borne, it may run without a state.
 #[tactic(auto, using(crate::proofs::KeptLemmas::end_is_kept, crate::proofs::KeptLemmas::unkept_is_kept, crate::proofs::KeptLemmas::still_unclocked))]
 fn run_kept<T: RunSite>(
     site: &mut T,
@@ -478,7 +477,7 @@ fn run_kept<T: RunSite>(
     ensures bears { IfOk result (λ lived.
         lived.run_log.port.port.port.bears_loss ≡ wishes.entry.bears_loss) }
     ensures none { UnclockedIfErr result (T.asked site.old) (T.asked site.new) }
-    ensures fault { IfErr result (IsKeptFault wishes.entry.bears_loss) }
+    ensures fault { IfErr result IsKeptFault }
 {
     let mut scribes = scribes_of(site, config, &wishes)?;
     let opening = opening_in(site, config, text, directory, &wishes, &mut scribes.logger)?;
@@ -556,11 +555,13 @@ fn opening_in<T: RunSite>(
         opening.shelf) }
     ensures settings { IfOk result (λ opening.
         IfStored (λ store. store.settings.items ≡ text.now) opening.shelf) }
+    // Without a store a later start finds the mark, and is told by it.
+    ensures marked { IfOk result (λ opening.
+        opening.shelf ≡ Nowhere → T.is_marked site.new) }
     ensures logged { IfOk result (λ opening.
         LogsOpening opening.shelf opening.origin logger.old logger.new) }
     ensures fixed { IfOk result (λ _. book_fixture logger.new ≡ book_fixture logger.old) }
-    ensures unkept { IfErr result (λ fault.
-        IsUnkept wishes.now.bears_loss fault logger.old logger.new) }
+    ensures unkept { IfErr result (λ fault. IsUnkept fault logger.old logger.new) }
     ensures asked { IfOk result (λ _. T.asked site.new
         ≡ asked_for (StateIn directory.now true ∷ []) (T.asked site.old)) }
     ensures none { UnclockedIfErr result (T.asked site.old) (T.asked site.new) }
@@ -578,8 +579,8 @@ fn opening_in<T: RunSite>(
     }
 }
 
-/// The directory of the state can't be used: the run begins without it, if that is borne, which is
-/// logged either way.
+/// The directory of the state can't be used. If that is borne, and what stands there is marked as
+/// stale beside it, the run begins without it. Either is logged.
 #[tactic(auto, using(crate::proofs::KeptLemmas::without_in, crate::proofs::KeptLemmas::memory_is_unkept))]
 fn opening_without<T: RunSite>(
     site: &mut T,
@@ -591,10 +592,10 @@ fn opening_without<T: RunSite>(
     ensures starts { (log : Log) → IfOk result (λ opening.
         StartsIn T.Folder.File.Disk wishes.now config.now log opening.origin) }
     ensures nowhere { IfOk result (λ opening. opening.shelf ≡ Nowhere) }
+    ensures marked { IfOk result (λ _. T.is_marked site.new) }
     ensures logged { IfOk result (λ _. LogsWithout logger.old logger.new) }
     ensures fixed { IfOk result (λ _. book_fixture logger.new ≡ book_fixture logger.old) }
-    ensures unkept { IfErr result (λ fault.
-        IsUnkept wishes.now.bears_loss fault logger.old logger.new) }
+    ensures unkept { IfErr result (λ fault. IsUnkept fault logger.old logger.new) }
     ensures asked { T.asked site.new ≡ T.asked site.old }
 {
     let obstacle = match fault {
@@ -606,14 +607,13 @@ fn opening_without<T: RunSite>(
         }
         FolderFault::NoMemory => return Err(Fault::NoMemory),
     };
-    if !wishes.bears_loss {
+    // Else a later start would take what stands there for what came last (docs/DECISIONS.md, "A
+    // disk that fails").
+    if !wishes.bears_loss || !site.mark_beside() {
         logger.note(Note::Trouble(Trouble::StateUnusable));
         return Err(Fault::StateUnusable);
     }
     let origin = new_origin(site.alloc(), config)?;
-    // A later start must not take what stands there for what came last (docs/DECISIONS.md, "A disk
-    // that fails").
-    site.mark_beside();
     logger.note(Note::StateUnused(obstacle));
     Ok(Opening {
         origin,

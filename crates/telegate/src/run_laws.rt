@@ -1,6 +1,5 @@
 //! How a live run begins and ends.
-ghost use Rattle.std.specs.Prelude.{◌≡◌, ◌⊎◌, ◌+◌, ◌++◌, ℕ, Bool, List, [], ◌∷◌, length, true};
-ghost use Rattle.std.specs.Prelude.{false};
+ghost use Rattle.std.specs.Prelude.{◌≡◌, ◌⊎◌, ◌+◌, ◌++◌, ℕ, List, [], ◌∷◌, length, true, false};
 ghost use Rattle.std.specs.Prelude.{None, Some, Result, Ok, Err, map};
 ghost use Rattle.std.specs.Borrow.{Bor};
 ghost use Rattle.clap.specs.Words.{Text};
@@ -22,7 +21,6 @@ ghost use Rattle.state_words.specs.Notes.{note_of_given_up};
 ghost use Rattle.telegate.specs.Asked.{Asked};
 ghost use Rattle.telegate.specs.Law.{LogsAll};
 ghost use Rattle.telegate.specs.Lives.{all_passed};
-ghost use Rattle.telegate.specs.Kept.{IsKeptFault};
 ghost use Rattle.telegate.specs.Logged.{IsRefused, IsUnkept, LogsBeginning, LogsWithout};
 ghost use Rattle.telegate.specs.Ran.{HasLivedAs, RunLeft};
 ghost use Rattle.telegate.specs.Running.{HasRun};
@@ -141,15 +139,12 @@ pub fn a_start_logs_how_the_run_begins()
 
 /// A start that can't have what it needs logs why, once: that another process has the state, that
 /// it can't be kept there, or what is wrong with an end. It then ends by that very fault: want of
-/// memory is told as such, and any other end as one that can't be had. That the state can't be kept
-/// ends no run that bears the loss of it.
+/// memory is told as such, and any other end as one that can't be had.
 pub fn a_start_logs_why_it_ends()
-    ensures in_use { (bears : Bool) (old new : Book) → IsUnkept bears fault.StateInUse old new →
+    ensures in_use { (old new : Book) → IsUnkept fault.StateInUse old new →
         LogsAll (note.Trouble trouble.StateInUse ∷ []) old new }
-    ensures unusable { (bears : Bool) (old new : Book) →
-        IsUnkept bears fault.StateUnusable old new →
+    ensures unusable { (old new : Book) → IsUnkept fault.StateUnusable old new →
         LogsAll (note.Trouble trouble.StateUnusable ∷ []) old new }
-    ensures borne { (why : Fault) → IsKeptFault true why → why ≡ fault.StateUnusable → ⊥ }
     ensures ends { (why : Fault) (old new : Book) → IsRefused why old new →
         (refusal : EndRefusal) × LogsAll (note.Trouble refusal.trouble ∷ []) old new
         × (refusal.is_memory ≡ true → why ≡ fault.NoMemory)

@@ -9,19 +9,19 @@ use state::{Loss, Store, StoreFault};
 pub(crate) enum Shelf<S: Store + Drop> {
     /// This one.
     Stored(S),
-    /// None: no log is ever begun.
+    /// None: no log is ever begun. What stands in the directory is marked as stale.
     Nowhere,
 }
 
 impl<S: Store + Drop> Store for Shelf<S> {
-    ghost use Rattle.std.specs.Prelude.{None, []};
+    ghost use Rattle.std.specs.Prelude.{Some, true, []};
     ghost use Rattle.telegate.specs.Shelves.{IfStored, nothing_stored, on_shelf};
 
     ghost stored = { λ s. on_shelf S.stored nothing_stored s };
 
     ghost settings = { λ s. on_shelf S.settings [] s };
 
-    ghost mark = { λ s. on_shelf S.mark None s };
+    ghost mark = { λ s. on_shelf S.mark (Some true) s };
 
     ghost refused = { λ s. IfStored S.refused s };
 
@@ -60,7 +60,7 @@ impl<S: Store + Drop> Store for Shelf<S> {
     fn give_up(&mut self) -> Loss {
         match self {
             Shelf::Stored(store) => store.give_up(),
-            Shelf::Nowhere => Loss::Unmarked,
+            Shelf::Nowhere => Loss::Marked,
         }
     }
 }

@@ -47,7 +47,7 @@ impl From<EndRefusal> for Fault {
 /// for. Nothing runs without a clock, and who has none but of a site can have no other.
 pub(crate) trait RunSite {
     ghost use Rattle.std.specs.Result.{is_ok};
-    ghost use Rattle.std.specs.Prelude.{◌∷◌, []};
+    ghost use Rattle.std.specs.Prelude.{◌∷◌, [], true};
     ghost use Rattle.telegate.specs.Asked.{Asked, LogAt, RecordAt, StateIn, StatusAt, asked_for};
     ghost use Rattle.telegate.specs.Asked.{clock_asked, line_asked, listen_asked};
     ghost use Rattle.telegate.specs.Sites as sites;
@@ -79,6 +79,9 @@ pub(crate) trait RunSite {
 
     // So it is to be with each log here.
     ghost severe: { Self → Bool };
+
+    // The state of its directory is marked as stale beside that.
+    ghost is_marked: { Self → Type 0 } = { λ _. Unit {0} };
 
     // Its places, and what it was asked for so far, the newest first.
     ghost asked: { Self → Asked };
@@ -127,9 +130,10 @@ pub(crate) trait RunSite {
         ensures asked { asked self.new
             ≡ asked_for (StateIn name.now (is_ok result) ∷ []) (asked self.old) };
 
-    /// A run goes on without what its directory has. The mark that tells a later start is made
-    /// elsewhere, as far as that can be done.
-    fn mark_beside(&mut self)
+    /// Marks the state of its directory as stale beside that, for a run without it. `false`: it
+    /// couldn't be done.
+    fn mark_beside(&mut self) -> bool
+        ensures marked { result ≡ true → is_marked self.new }
         ensures asked { asked self.new ≡ asked self.old };
 }
 
@@ -294,8 +298,8 @@ impl<'r> RunSite for Process<'r> {
         Ok(Directory::new(*self.rt, path, self.lineage.again()))
     }
 
-    fn mark_beside(&mut self) {
-        let _is_marked = mark_beside(*self.rt);
+    fn mark_beside(&mut self) -> bool {
+        mark_beside(*self.rt)
     }
 }
 

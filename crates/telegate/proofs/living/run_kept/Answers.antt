@@ -6,7 +6,6 @@ use Rattle.telegate.proofs.living.run_kept.Goals as goal
 
 pub returns-in_err-ends-clause-fault : goal.returns-in_err-ends-clause-fault
 returns-in_err-ends-clause-fault g c =
-    as_err (λ r. IfErr r (IsKeptFault c.args.wishes.bears_loss))
-    c.from_residual-in_err-ends.result c.in_err-ends.field-0.0
+    as_err (λ r. IfErr r IsKeptFault) c.from_residual-in_err-ends.result c.in_err-ends.field-0.0
     c.from_residual-in_err-ends.ensures.1
-    (end_is_kept c.args.wishes.bears_loss c.in_err-ends.field-0.0 c.in_err-ends.ensures.fault)
+    (end_is_kept c.in_err-ends.field-0.0 c.in_err-ends.ensures.fault)

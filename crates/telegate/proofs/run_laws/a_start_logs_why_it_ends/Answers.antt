@@ -1,17 +1,12 @@
-use Rattle.std.proofs.Common.{◌≡◌, ◌∙◌, ap, false, refl, subst, true}
-use Rattle.telegate.specs.Kept.{IsKeptFault}
+use Rattle.std.proofs.Common.{◌∙◌, ap, refl}
 use Rattle.telegate.specs.Logged.{fault_of}
 use Rattle.telegate.proofs.run_laws.a_start_logs_why_it_ends.Goals as goal
 
 pub returns-clause-in_use : goal.returns-clause-in_use
-returns-clause-in_use c bears old new logs = (new, logs, refl)
+returns-clause-in_use c old new logs = (new, logs, refl)
 
 pub returns-clause-unusable : goal.returns-clause-unusable
-returns-clause-unusable c bears old new logs = (new, logs.1, refl)
-
-pub returns-clause-borne : goal.returns-clause-borne
-returns-clause-borne c why kept is =
-    let never : true ≡ false = subst (IsKeptFault true) is kept in absurd (cc)
+returns-clause-unusable c old new logs = (new, logs, refl)
 
 pub returns-clause-ends : goal.returns-clause-ends
 returns-clause-ends c why old new refused = (
