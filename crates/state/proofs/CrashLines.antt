@@ -8,7 +8,7 @@ use Rattle.std.proofs.lemmas.List.Splits.{length-slice_split, slice_split_none}
 use Rattle.gateway.specs.Log.{Log, LogEntry}
 use Rattle.segments.specs.Crashes.{damage_behind, lines_behind}
 use Rattle.segments.specs.Head.{head_for}
-use Rattle.segments.proofs.Crashes.{no_damage_left, nothing_else_left, one_segment, whole_left}
+use Rattle.segments.proofs.Crashes.{nothing_else_left, one_segment, undamaged_left, whole_left}
 use Rattle.traces.specs.Event.{Event}
 use Rattle.traces.specs.Printed.{IsFirstOf, line_of_entry, lines_of_log}
 use Rattle.traces.specs.Progress.{came}
@@ -70,7 +70,7 @@ all_ahead (event ∷ log) text all =
     })
 
 -- all of them log their events, and nothing stands behind them
-nothing_read : whole_lines [] ≡ []
+pub nothing_read : whole_lines [] ≡ []
 unfolding whole_lines
 nothing_read = ap whole_parts (slice_split_none (λ b. b == 10) [] nothing_in)
   where
@@ -133,8 +133,9 @@ module _ (outcomes : List ℕ → Type 0) (number : ℕ) (body : List ℕ) (wait
 
   pub lines_left : AreLeft waiting synced (whole_lines (lines_behind body c))
   lines_left =
-      by_left (nothing_else_left outcomes number body has.writes (lines_of_log waiting) c
-      has.survives (log_lines waiting (front_writable waiting synced has.writable)) has.mixed is)
+      by_left (nothing_else_left outcomes number body has.writes c has.survives is
+      (lines_of_log waiting) (log_lines waiting (front_writable waiting synced has.writable))
+      has.mixed)
 
   pub all_read : IsReadWhole c
   all_read head text fits found =
@@ -143,6 +144,6 @@ module _ (outcomes : List ℕ → Type 0) (number : ℕ) (body : List ℕ) (wait
       (whole_left outcomes number body has.writes c has.survives is) in
       subst (λ (text : List ℕ). IsWhole (lines_behind text c) (damage_behind text c)) (sym same) (
         lines_left.with_news.each,
-        no_damage_left outcomes number body has.writes (lines_of_log waiting) c has.survives
-            (log_lines waiting (front_writable waiting synced has.writable)) has.mixed is,
+        undamaged_left outcomes number body has.writes c has.survives is (lines_of_log waiting)
+            (log_lines waiting (front_writable waiting synced has.writable)) has.mixed,
       )

@@ -1,10 +1,11 @@
 -- What the lines of events are made of.
 use Rattle.std.proofs.Common.{◌≡◌, ◌∙◌, ℕ, ◌<◌, ◌==◌, ◌≤◌, ◌^◌, true, false, List, [], ◌∷◌, ◌++◌, length}
-use Rattle.std.proofs.Common.{slice_index, sym, ap, subst, arith}
-use Rattle.std.specs.List.{AllByRecursion}
+use Rattle.std.proofs.Common.{slice_index, sym, ap, subst, arith, ◌≢◌, ◌+◌, length-append}
+use Rattle.std.specs.List.{AllByRecursion, concat}
+use Rattle.std.proofs.lemmas.List.{get_or_append_left, get_or-append-add}
 use Rattle.std.proofs.lemmas.List.Folds.{list_any_at}
 use Rattle.gateway.specs.Log.{Log}
-use Rattle.statetext.specs.Sealed.{AreLines}
+use Rattle.statetext.specs.Sealed.{AreLines, AreWrites}
 use Rattle.traces.specs.Event as events
 use Rattle.traces.specs.Event.{Event}
 use Rattle.traces.specs.Printed.{FitsTrace, IsPrintable, lines_of_log}
@@ -49,3 +50,22 @@ pub behind_writable : (later earlier : Log) → AllByRecursion IsWritable (later
     → AllByRecursion IsWritable earlier
 behind_writable [] earlier all = all
 behind_writable (event ∷ later) earlier all = behind_writable later earlier all.1
+
+-- lines that can be sealed together can be sealed one write by one
+
+front_lines : (front behind : List ℕ) → AreLines (front ++ behind) → AreLines front
+front_lines front behind all i lt =
+    subst (λ (c : ℕ). (c ≢ 0) × (c ≢ 33)) (get_or_append_left front behind 0 i lt)
+    (all i (omega (arith, lt, length-append front behind)))
+
+behind_lines : (front behind : List ℕ) → AreLines (front ++ behind) → AreLines behind
+behind_lines front behind all i lt =
+    subst (λ (c : ℕ). (c ≢ 0) × (c ≢ 33)) (get_or-append-add front behind i 0)
+    (all (length front + i) (omega (arith, lt, length-append front behind)))
+
+pub from_lines : (writes : List (List ℕ)) → AreLines (concat writes) → AreWrites writes
+from_lines [] all = tt
+from_lines (lines ∷ writes) all = (
+  front_lines lines (concat writes) all,
+  from_lines writes (behind_lines lines (concat writes) all),
+)

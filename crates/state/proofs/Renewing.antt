@@ -6,6 +6,7 @@ use Rattle.segments.specs.Crashes.{AreShutOr, HasWhole}
 use Rattle.statetext.specs.Text.{lines_in}
 use Rattle.state.specs.Logs.{AreAmid, AreFilesOf, IsAmid, IsReadWell}
 use Rattle.state.specs.Logs.{leaves_amid, leaves_behind}
+use Rattle.state.proofs.Fresh.{fresh_whole}
 use Rattle.state.specs.declared.opened.Opened.{Opened}
 use Rattle.state.specs.declared.opened.Opened.TheVariants as opens
 
@@ -29,7 +30,7 @@ pub whole_amid : (before outcomes : List ℕ → Type 0) (number : ℕ) (setting
 whole_amid before outcomes number settings lines body says kept file left =
     elim (kept file left) [
       | inl shut ↦ inl shut
-      | inr whole ↦ inr (inr (record { body = body; whole = whole; says = says }))
+      | inr whole ↦ inr (inr (fresh_whole number body file whole settings lines says))
     ]
 
 -- Both files

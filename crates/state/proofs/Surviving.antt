@@ -16,20 +16,22 @@ use Rattle.gateway.specs.State.{State}
 use Rattle.gateway.specs.declared.ports.Next.{Next}
 use Rattle.gateway.specs.declared.ports.Next.TheVariants as answers
 use Rattle.segments.specs.Crash.{AreMixing, HasNoOther, IsShut}
-use Rattle.segments.specs.Crashes.{AreOlder, StandsIn, Survives, log_text}
+use Rattle.segments.specs.Crashes.{AreOlder, StandsIn, Survives, damage_behind, lines_behind}
+use Rattle.segments.specs.Crashes.{log_text}
 use Rattle.segments.specs.Head.{Fits, head_for}
 use Rattle.segments.specs.Segment.{body_of, open_of, outcomes_of, own_number, writes_of}
 use Rattle.segments.specs.Starts as starts
 use Rattle.segments.specs.Starts.{IsFoundIn, IsSound}
 use Rattle.segments.specs.declared.head.SegmentHead.{SegmentHead}
-use Rattle.segments.proofs.Crashes.{found_front, same_first, whole_left, whole_mixed, whole_survives}
+use Rattle.segments.proofs.Crashes.{one_segment, same_first, whole_left}
 use Rattle.segments.proofs.Fronts.{not_shut}
 use Rattle.statetext.specs.Sealed.{AreLines, AreWrites}
-use Rattle.statetext.proofs.Sealing.{from_lines}
 use Rattle.traces.specs.Event as events
 use Rattle.traces.specs.Event.{Event}
 use Rattle.traces.specs.Printed.{IsPrintable, lines_of_log}
-use Rattle.state.specs.Crashed.{HasLog, IsKeptIn}
+use Rattle.state.specs.Beginnings.{IsReadWhole, IsWhole}
+use Rattle.state.specs.Crashed.{AreLeft, HasLog, IsKeptIn}
+use Rattle.state.specs.Replays.{AreRead, whole_lines}
 use Rattle.state.specs.Deeds.{Deeds, Received, Appended, Synced, Begun, GivenUp, PutOut, is_kept}
 use Rattle.state.specs.Deeds.{waiting, written}
 use Rattle.state.specs.Lines.{FitsLine, IsWritable}
@@ -41,9 +43,9 @@ use Rattle.state.specs.Stores.{IsStored, Stored, head, lines_of_head, safe}
 use Rattle.state.specs.declared.opened.Current.{Current}
 use Rattle.state.specs.declared.opened.Opened.{Opened}
 use Rattle.state.specs.declared.opened.Opened.TheVariants as opens
-use Rattle.state.proofs.CrashLines.{all_read, lines_left}
+use Rattle.state.proofs.CrashLines.{all_read, lines_left, nothing_read}
 use Rattle.state.proofs.Histories.{all_written}
-use Rattle.state.proofs.LogLines.{behind_writable, log_lines}
+use Rattle.state.proofs.LogLines.{behind_writable, from_lines, log_lines}
 
 -- Events that a line can hold
 
@@ -151,11 +153,6 @@ shut_beside file other shut = record {
       absurd (not_shut other head found'.first shut);
 }
 
-fresh_found : (number : ℕ) (settings : List ℕ) (lines : List (List ℕ)) (file : List ℕ)
-    → (new : HasFreshLog number settings lines file)
-    → IsFoundIn file (head_for number new.body) new.body
-fresh_found number settings lines file new = found_front file number new.body new.whole.text.0
-
 behind_fresh : (outcomes : List ℕ → Type 0) (own : ℕ) → StandsIn outcomes own → (number : ℕ)
     (settings : List ℕ) (lines : List (List ℕ)) (file other : List ℕ) → outcomes file
     → own < number → HasFreshLog number settings lines other → IsOlderBeside other file
@@ -164,8 +161,8 @@ behind_fresh outcomes own stands number settings lines file other left less new 
   older = λ mine head text others fits fits' found found'.
       let (body, whole, there) = stands file left in
       let above : mine.number ≡ number = ap (λ (h : SegmentHead). h.number)
-      (same_first other mine (head_for number new.body) fits new.whole.fits found.first
-      (fresh_found number settings lines other new).first) in
+      (same_first other mine (head_for number new.body) fits new.fits found.first
+      new.found.first) in
       let below : head.number ≡ own = ap (λ (h : SegmentHead). h.number)
       (same_first file head (head_for own body) fits' whole found'.first there.first) in
       omega (arith, above, below, less);
@@ -173,15 +170,19 @@ behind_fresh outcomes own stands number settings lines file other left less new 
 
 -- The next log, which has no events yet
 
-pub fresh_log : (number : ℕ) (settings : List ℕ) (lines : List (List ℕ)) (file : List ℕ)
-    → (new : HasFreshLog number settings lines file) → HasLog (λ c. c ≡ file) number new.body [] []
-fresh_log number settings lines file new = record {
-  writable = tt;
-  writes = [];
-  lines = refl;
-  survives = whole_survives number new.body file new.whole;
-  mixed = whole_mixed number new.body file new.whole;
-}
+fresh_lines : (number : ℕ) (settings : List ℕ) (lines : List (List ℕ)) (file : List ℕ)
+    → (new : HasFreshLog number settings lines file) → whole_lines (lines_behind new.body file) ≡ []
+fresh_lines number settings lines file new = ap whole_lines new.empty ∙ nothing_read
+
+fresh_read : (number : ℕ) (settings : List ℕ) (lines : List (List ℕ)) (file : List ℕ)
+    → HasFreshLog number settings lines file → IsReadWhole file
+fresh_read number settings lines file new head text fits found =
+    let same : text ≡ new.body =
+    one_segment file head (head_for number new.body) text new.body fits new.fits found new.found in
+    subst (λ (t : List ℕ). IsWhole (lines_behind t file) (damage_behind t file)) (sym same) (
+      subst AreRead (sym (fresh_lines number settings lines file new)) refl,
+      new.sound,
+    )
 
 pub fresh_kept : (number : ℕ) (settings : List ℕ) (state : State) (deeds : Deeds) (file : List ℕ)
     → HasFreshLog number settings (state_lines state) file
@@ -193,15 +194,20 @@ fresh_kept number settings state deeds file new = record {
   opening = record {
     head = head_for number new.body;
     body = new.body;
-    fits = new.whole.fits;
-    found = fresh_found number settings (state_lines state) file new;
+    fits = new.fits;
+    found = new.found;
     says = new.says;
     behind = refl;
   };
-  left = lines_left (λ c. c ≡ file) number new.body [] [] file
-      (fresh_log number settings (state_lines state) file new) refl;
-  read = all_read (λ c. c ≡ file) number new.body [] [] file
-      (fresh_log number settings (state_lines state) file new) refl;
+  left = subst (AreLeft [] []) (sym (fresh_lines number settings (state_lines state) file new))
+      (record {
+        lost = [];
+        left = [];
+        split = refl;
+        together = inl refl;
+        with_news = record { logged = refl; each = refl };
+      });
+  read = fresh_read number settings (state_lines state) file new;
 }
 
 module _ {D : Type 0} {g : Ghosts D} where

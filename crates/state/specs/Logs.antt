@@ -1,11 +1,11 @@
 -- What a log in two files has (profile).
 use Rattle.std.specs.Prelude.{◌≡◌, ◌⊎◌, ℕ, ◌<◌, List, [], ◌∷◌, ◌++◌, length, take, drop, IsTrue}
-use Rattle.std.specs.Prelude.{Bool, true}
+use Rattle.std.specs.Prelude.{Bool, true, None}
 use Rattle.std.specs.List.{concat}
 use Rattle.sqlite_disk.specs.declared.Disk.{Ghosts}
 use Rattle.segments.specs.Crash.{AreMixing, HasNoOther}
-use Rattle.segments.specs.Crashes.{HasWhole, Survives, log_text}
-use Rattle.segments.specs.Head.{Fits}
+use Rattle.segments.specs.Crashes.{Survives, damage_behind, lines_behind, log_text}
+use Rattle.segments.specs.Head.{Fits, head_for}
 use Rattle.segments.specs.Segment.{body_of, file_of, open_of, outcomes_of, own_number, writes_of}
 use Rattle.segments.specs.Starts.{IsFoundIn, IsShut, IsSound}
 use Rattle.segments.specs.declared.head.SegmentHead.{SegmentHead}
@@ -25,12 +25,15 @@ pub record IsOlderBeside (file other : List ℕ) : Type 0 where
   pub sound : IsUndoubted other
   pub older : HasOlder file other
 
--- a file has the log with this number, which begins with these settings and these lines, and has no
--- events yet, but zeros for them
+-- a file has the log with this number, which begins with these settings and these lines: a start
+-- reads no events behind them yet, and no damage
 pub record HasFreshLog (number : ℕ) (settings : List ℕ) (lines : List (List ℕ)) (file : List ℕ) :
     Type 0 where
   pub body : List ℕ
-  pub whole : HasWhole number body file
+  pub fits : Fits (head_for number body)
+  pub found : IsFoundIn file (head_for number body) body
+  pub empty : lines_behind body file ≡ []
+  pub sound : damage_behind body file ≡ None
   pub says : lines_in body ≡ settings ∷ lines
 
 -- What a file has where the next log, with this number and this head, is begun in it: it is shut,

@@ -90,6 +90,15 @@ fn second_place(rt: HostRuntime) -> Option<Beside<SystemNames>> {
     }
 }
 
+/// Makes the mark in the second place alone, for a run that goes on without its directory: a later
+/// start with that resets each link. `false`: it couldn't be done, or there is no such place.
+pub fn mark_beside(rt: HostRuntime) -> bool {
+    match second_place(rt) {
+        Some(mut beside) => beside.mark().is_ok(),
+        None => false,
+    }
+}
+
 impl Directory {
     /// The directory at a path, to whose state this history has led. Nothing is asked of the system
     /// yet but for the second place of its mark.

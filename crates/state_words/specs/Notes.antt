@@ -1,5 +1,5 @@
 -- What is said of a state that was kept, where a run begins with it or would (profile).
-use Rattle.std.specs.Prelude.{Bool, true, false, Option, Some, None}
+use Rattle.std.specs.Prelude.{ℕ, Bool, true, false, Option, Some, None}
 use Rattle.gateway.specs.State.{State}
 use Rattle.runlog.specs.Logging.{taken_in}
 use Rattle.runlog.specs.declared.note.Note.{Note}
@@ -18,6 +18,11 @@ note_of beginnings.Anew = Some note.StateBegins
 note_of beginnings.PutAside = Some note.StatePutAside
 note_of beginnings.LinksReset = Some note.StateStale
 note_of beginnings.GoesOn = None
+
+-- from this octet of its file on nothing is read of the log, for damage
+abbrev pub note_of_damage : Option ℕ → Option Note
+note_of_damage None = None
+note_of_damage (Some octet) = Some (note.StateDamaged octet)
 
 abbrev pub note_of_settings : (is_moved : Bool) → Option Note
 note_of_settings false = None

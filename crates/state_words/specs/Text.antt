@@ -16,7 +16,8 @@ use Rattle.state.specs.declared.given_up.GivenUp.{GivenUp}
 use Rattle.state.specs.declared.looking.Seen.{Seen}
 use Rattle.state.specs.declared.looking.Sight.{Sight}
 use Rattle.state.specs.declared.start.Beginning.{Beginning}
-use Rattle.state_words.specs.Notes.{note_of, note_of_given_up, note_of_queue, note_of_settings}
+use Rattle.state_words.specs.Notes.{note_of, note_of_damage, note_of_given_up, note_of_queue}
+use Rattle.state_words.specs.Notes.{note_of_settings}
 use Rattle.state_words.specs.Stations.{station_lines}
 
 -- the words of the log, if there is anything to say
@@ -88,6 +89,7 @@ notes_lines is_moved s =
 -- where it stands, and how far it can be read
 abbrev pub place_lines : Seen → List ℕ
 place_lines s = segment_line s ++ unread_line (nat_lt s.events s.lines) s.events s.lines
+    ++ note_line (note_of_damage s.damage)
 
 -- the log that a run would go on with
 abbrev pub log_lines : (is_moved : Bool) → Seen → List ℕ

@@ -18,6 +18,17 @@ pub fn note_of(beginning: Beginning) -> Option<Note>
     }
 }
 
+/// The note that says from which octet of its file on nothing is read of the log, if that is for
+/// damage.
+pub fn note_of_damage(damage: Option<usize>) -> Option<Note>
+    ensures { result ≡ spec.note_of_damage damage }
+{
+    match damage {
+        Some(octet) => Some(Note::StateDamaged(octet as u64)),
+        None => None,
+    }
+}
+
 /// The note that says that the state was kept under other settings, if it was.
 pub fn note_of_settings(is_moved: bool) -> Option<Note>
     ensures { result ≡ spec.note_of_settings is_moved }

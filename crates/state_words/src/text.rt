@@ -3,7 +3,7 @@ ghost use Rattle.std.specs.Prelude.{◌≡◌, ◌++◌, IfOk, OnOk, Some, false
 ghost use Rattle.std.specs.Prelude.{true};
 ghost use Rattle.state_words.specs.Text as spec;
 
-use crate::notes::{note_of, note_of_given_up, note_of_queue, note_of_settings};
+use crate::notes::{note_of, note_of_damage, note_of_given_up, note_of_queue, note_of_settings};
 use crate::stations::push_stations;
 use gateway::{Gateway, Wall};
 use runlog::{Note, Trouble};
@@ -173,7 +173,8 @@ fn push_place(text: &mut String, seen: &Seen) -> Result<(), AllocError>
         ++ spec.place_lines seen.now) }
 {
     push_segment(text, seen)?;
-    push_unread(text, seen.events < seen.lines, seen.events, seen.lines)
+    push_unread(text, seen.events < seen.lines, seen.events, seen.lines)?;
+    push_note(text, note_of_damage(seen.damage))
 }
 
 /// The lines of a log that counts, before the settings.
