@@ -38,7 +38,6 @@ use crate::shelf::Shelf;
 use crate::site::{EndRefusal, RunSite};
 use gateway::{Action, Config, Gateway, History, NoMemory};
 use live::{AllowList, Listener, Live, OctetStream, RunPort};
-use lookout::Lookout;
 use record::{Pen, RecordSheet};
 use runlog::{LogSink, Logger, Note, Obstacle, Trouble, Watch};
 use settings::{ConfigFault, LiveSettings, read_live_config};
@@ -47,6 +46,7 @@ use state::{
     begin,
 };
 use state_words::{note_of, note_of_damage, note_of_given_up, note_of_queue, note_of_settings};
+use status::Lookout;
 use std::alloc::Global;
 use std::net::SocketAddr;
 
