@@ -94,6 +94,37 @@ by_moved false is_same other = refl
 by_moved true false other = refl
 by_moved true true other = other refl
 
+-- it goes on with its links, under the same settings
+pub stays_from : (trusted is_moved : Bool) (damage : Option ℕ) (c : Settings) (log : Log)
+    (file : List ℕ) (begins : ℕ) (written : List ℕ) (lines : List (List ℕ))
+    (gap : Option ReportedGap) (given_up : List GivenUp) (whole : Log) (s : State)
+    → IsHeadOf file begins written lines → IsReadOfText written (Ok c) → trusted ≡ true
+    → is_moved ≡ false → WentOn c log lines (log_in begins file) gap given_up whole s
+    → damage ≡ damage_in begins file
+    → GoesOnFrom trusted c log file is_moved damage gap given_up whole s
+stays_from true false damage c log file begins written lines gap given_up whole s head says on same
+    went damaged = record {
+      begins = begins;
+      written = written;
+      lines = lines;
+      head = head;
+      moved = says;
+      goes = went;
+      damaged = damaged;
+    }
+stays_from true true damage c log file begins written lines gap given_up whole s head says on same
+    went damaged = absurd (cc)
+stays_from false is_moved damage c log file begins written lines gap given_up whole s head says on
+    same went damaged = absurd (cc)
+
+-- the head of a log whose file and place are the same
+pub head_kept : (before after : List ℕ) (from at : ℕ) (written : List ℕ) (lines : List (List ℕ))
+    → at ≡ from → after ≡ before → IsHeadOf before from written lines
+    → IsHeadOf after at written lines
+head_kept before after from at written lines place same head =
+    subst (λ (n : ℕ). IsHeadOf after n written lines) (sym place)
+    (subst (λ (file : List ℕ). IsHeadOf file from written lines) (sym same) head)
+
 -- it was moved
 pub moved_from : (trusted is_same is_moved : Bool) (damage : Option ℕ) (c : Settings) (log : Log)
     (file : List ℕ) (begins : ℕ)

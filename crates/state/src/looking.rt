@@ -123,6 +123,21 @@ fn without_log(beginning: Beginning) -> Sight
     }
 }
 
+/// Whether links would go on with a log: it is trusted, each line of it logs an event, and no
+/// damage ends it.
+fn would_go_on(is_trusted: bool, seen: &Seen) -> bool
+    ensures trusted { result ≡ true → is_trusted ≡ true }
+    ensures whole { result ≡ true →
+        (seen.now.events ≡ seen.now.lines) × (seen.now.damage ≡ None) }
+    ensures others { result ≡ false → is_trusted ≡ true → seen.now.events ≡ seen.now.lines →
+        seen.now.damage ≡ None → ⊥ }
+{
+    match seen.damage {
+        None => is_trusted && seen.events == seen.lines,
+        Some(_) => false,
+    }
+}
+
 /// The log that counts, and how a run would begin with it.
 fn look_behind<K: Lineage, D: Disk + Drop>(
     alloc: Global,
@@ -145,7 +160,7 @@ fn look_behind<K: Lineage, D: Disk + Drop>(
     let mut start = start;
     match see::<K, D>(alloc, &mut start) {
         Ok(seen) => {
-            let goes_on = is_trusted && seen.events == seen.lines && seen.damage.is_none();
+            let goes_on = would_go_on(is_trusted, &seen);
             Ok(with_log(with_past(goes_on), seen))
         }
         Err(StateFault::Wrong) => Ok(without_log(Beginning::PutAside)),

@@ -1,5 +1,5 @@
 use Rattle.std.proofs.Common.{◌≡◌, ◌∙◌, List, ℕ, Ok, ap, ap₂, drop, subst, sym}
-use Rattle.segments.specs.Starts.{before_zero}
+use Rattle.segments.specs.Room.{damage_in, log_in}
 use Rattle.gateway.specs.declared.settings.LineSettings.{LineSettings}
 use Rattle.settings.specs.Settings.{IsReadOfText}
 use Rattle.statetext.specs.Text.{lines_in}
@@ -14,11 +14,12 @@ pub returns-clause-log : goal.returns-clause-log
 returns-clause-log g c =
     let lines : List (List ℕ) =
     lines_in (drop c.args.opening.lines.at c.args.opening.lines.text.items) in
-    let same : before_zero (drop c.replayed.new.start.at
-    (g.D.Disk.seen c.replayed.new.start.newest))
-    ≡ before_zero (drop c.args.start.now.at (g.D.Disk.seen c.args.start.now.newest)) =
-    ap₂ (λ (at : ℕ) (file : List ℕ). before_zero (drop at file)) c.replayed.ensures.same
-    c.replayed.ensures.seen in
+    let same : log_in c.replayed.new.start.at (g.D.Disk.seen c.replayed.new.start.newest)
+    ≡ log_in c.args.start.now.at (g.D.Disk.seen c.args.start.now.newest) =
+    ap₂ log_in c.replayed.ensures.same c.replayed.ensures.seen in
+    let damage : damage_in c.replayed.new.start.at (g.D.Disk.seen c.replayed.new.start.newest)
+    ≡ damage_in c.args.start.now.at (g.D.Disk.seen c.args.start.now.newest) =
+    ap₂ damage_in c.replayed.ensures.same c.replayed.ensures.seen in
     record {
       number = c.requires.number;
       begins = c.args.start.now.at;
@@ -36,6 +37,7 @@ returns-clause-log g c =
           c.in_ok-arrived.arrived.gap c.in_ok-arrived.arrived.before.entries
           c.in_ok-arrived.arrived.gateway) same
           (c.in_ok-arrived.ensures.read (c.requires.honest _));
+      damaged = c.in_ok-arrived.ensures.damage (c.requires.honest _) ∙ damage;
       named = c.in-Ok.ensures
           ∙ ap (λ (l : LineSettings). given_up_by l.sizes c.in_ok-arrived.arrived.gateway)
           c.line.ensures;
