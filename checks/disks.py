@@ -9,8 +9,8 @@ without a gap, nothing is operated twice, and the line is polled on.
   loss, or says what is wrong with the state and tells a gap of each station that lost a report.
 - A library in front of the C library's lets each call for a file of the state fail, from a moment
   on: with an error of the disk, because the file system is read-only, for want of space or of
-  permission. Or a file of the state is none. The run goes on, and names file and reason. With
-  `--state-or-stop` it ends with status 3.
+  permission. Or a file of the state is none. The run goes on as long as the mark can be made, on that
+  disk or in RUNTIME_DIRECTORY, and names file and reason. With `--state-or-stop` it ends with status 3.
 - The library lets each sync last for 150 ms: the log says so.
 
 The damage is drawn by a fixed seed. All of it is on the loopback.
@@ -25,7 +25,7 @@ import time
 
 import ends
 import kept
-from kept import PAUSE, all_came, alone, drained, gaps, has_gone_round, looked, queue_up, quiet, resets_of, until
+from kept import PAUSE, alone, drained, gaps, has_gone_round, numbered, queue_up, quiet, resets_of, until
 from outstations import CONFIRMATION, Operator, command
 
 SECTOR = 512
@@ -453,20 +453,37 @@ def fails_amid_a_run(count, program, name):
 
 
 def fails_at_a_start(count, program, name):
-    """The directory can't be used at the first start, and the run goes on without a state until it ends."""
+    """The directory can't be used at a start: the run goes on without it, and the next start knows that."""
     fault, _reason = FAULTS[name]
     with tempfile.TemporaryDirectory() as folder:
         case = Failing(program, folder, fault)
-        os.mkdir(case.gateway.state)
+        gateway = case.gateway
+        case.begin()
+        gateway.kill()
         case.fail()
-        case.gateway.start()
-        count.judge(f"{name} at a start: it goes on", case.is_up(), (case.gateway.process.poll(), case.gateway.logged()))
-        queue_up(case.gateway, 2)
-        got = drained(case.gateway)
-        count.judge(f"{name} at a start: reports come", got == all_came(case.gateway), got)
-        told = case.gateway.kill()
+        gateway.start()
+        count.judge(f"{name} at a start: it goes on", case.is_up(), (gateway.process.poll(), gateway.logged()))
+        queue_up(gateway, 2)
+        got = drained(gateway, numbered(gateway, 3, 4))
+        count.judge(f"{name} at a start: reports come", all(numbers == [3, 4] for numbers in got.values()), got)
+        told = gateway.kill()
         is_told = "its directory can't be used, the run goes on without it: the disk failed" in told
         count.judge(f"{name} at a start: it says so", is_told and "isn't kept" in told, told)
+        case.mend()
+        gateway.start()
+        is_known = gateway.waits("stale")
+        got = drained(gateway, numbered(gateway, 1, 2))
+        told = gateway.kill()
+        count.judge(f"{name} at a start: the next one knows it", is_known and gaps(told) == [1, 2], told)
+        count.judge(f"{name} at a start: what was kept comes", all(numbers[:2] == [1, 2] for numbers in got.values()), got)
+        # Where no mark can be made a later start would take the old state for the newest.
+        gateway.environment = {**gateway.environment, "RUNTIME_DIRECTORY": ""}
+        case.fail()
+        gateway.start()
+        until(lambda: gateway.process.poll() is not None, 20)
+        count.compare(f"{name} at a start: without a second place it ends", gateway.process.poll(), 3)
+        told = gateway.kill()
+        count.judge(f"{name} at a start: and says so", "state can't be kept there" in told, told)
         case.field.server.close()
 
 
@@ -510,7 +527,9 @@ def stops(count, program, name):
 def no_file(count, program):
     """A FIFO stands in the place of a file of the state."""
     with tempfile.TemporaryDirectory() as folder:
-        gateway = quiet(program, folder, **SHORT)
+        runtime = os.path.join(folder, "runtime")
+        os.mkdir(runtime)
+        gateway = quiet(program, folder, environment={**os.environ, "RUNTIME_DIRECTORY": runtime}, **SHORT)
         gateway.field.pause = PAUSE
         os.mkdir(gateway.state)
         os.mkfifo(os.path.join(gateway.state, "segments"))
@@ -588,7 +607,8 @@ PARTS = [
     alone("disk older copy", older_copy, False),
     alone("disk clone", older_copy, True),
     *(alone(f"fails amid a run: {name}", fails_amid_a_run, name) for name in FAULTS),
-    *(alone(f"fails at a start: {name}", fails_at_a_start, name) for name in FAULTS),
+    # A full disk can be read: checks/state.py has a start on one.
+    *(alone(f"fails at a start: {name}", fails_at_a_start, name) for name in FAULTS if name != "no space"),
     *(alone(f"disk reason: {name}, amid a run", says_reason, name, True) for name in FAULTS),
     *(alone(f"disk reason: {name}, at a start", says_reason, name, False) for name in FAULTS),
     *(alone(f"or stop: {name}", stops, name) for name in ("EIO", "read-only")),
