@@ -6,15 +6,14 @@ use Rattle.gateway.specs.Log.{Log}
 use Rattle.runlog.specs.Logging.{Book}
 use Rattle.sqlite_disk.specs.declared.Disk.{Ghosts}
 use Rattle.state.specs.Beginnings.{moment_at}
-use Rattle.state.specs.Origins.{IsBegun, IsNew}
+use Rattle.state.specs.Origins.{IsBegun}
 use Rattle.state.specs.declared.beginning.Origin.{Origin}
 use Rattle.state.specs.declared.opened.Opened.{Opened}
 use Rattle.state.specs.declared.start.Beginning.{Beginning}
-use Rattle.state.specs.declared.start.Beginning.TheVariants.{Anew}
 use Rattle.telegate.specs.Asked.{Asked, UnclockedIfErr}
 use Rattle.telegate.specs.Kept.{IsEndFault, IsKeptFault}
 use Rattle.telegate.specs.Logged.{IsUnkept, fault_of}
-use Rattle.telegate.specs.Starts.{Found, StartsIn, Without}
+use Rattle.telegate.specs.Starts.{Found, IsWithout, StartsIn, Without}
 use Rattle.telegate.specs.declared.fault.Fault.{Fault}
 use Rattle.telegate.specs.declared.fault.Fault.TheVariants.{NoMemory, StateInUse, StateUnusable}
 use Rattle.telegate.specs.declared.host.Wishes.{Wishes}
@@ -50,19 +49,21 @@ pub still_unclocked : {A E : Type 0} (result : Result A E) (old new : Asked)
 still_unclocked (Ok value) old new is = tt
 still_unclocked (Err fault) old new is = is
 
--- with what a directory has
-pub found_in : {D : Type 0} (g : Ghosts D) (wishes : Wishes) (c : Settings) (log : Log)
-    (mark : Option Bool) (opened : Opened D g) (o : Origin) → IsBegun c log mark opened o
-    → StartsIn g wishes c log o
-found_in g wishes c log mark opened o begun =
-    Found (record { mark = mark; opened = opened; begun = begun })
+-- with what a directory has, whose log so far goes by another name
+pub found_in : {D : Type 0} (g : Ghosts D) (wishes : Wishes) (c : Settings) (one log : Log)
+    (mark : Option Bool) (opened : Opened D g) (o : Origin) → one ≡ log
+    → IsBegun c one mark opened o → StartsIn g wishes c log o
+found_in g wishes c one log mark opened o same begun =
+    Found (record {
+      mark = mark;
+      opened = opened;
+      begun = subst (λ (l : Log). IsBegun c l mark opened o) same begun;
+    })
 
--- or without that, where it is borne
+-- or without that
 pub without_in : {D : Type 0} (g : Ghosts D) (wishes : Wishes) (c : Settings) (log : Log)
-    (o : Origin) → wishes.bears_loss ≡ true → IsNew c o → o.beginning ≡ Anew → o.moment ≡ None
-    → StartsIn g wishes c log o
-without_in g wishes c log o borne new anew moment =
-    Without (record { borne = borne; new = new; anew = anew; moment = moment })
+    (o : Origin) → IsWithout wishes c o → StartsIn g wishes c log o
+without_in g wishes c log o none = Without none
 
 -- the clock goes on where the gateway does
 pub moment_in : {D : Type 0} (g : Ghosts D) (wishes : Wishes) (c : Settings) (log : Log)

@@ -14,5 +14,10 @@ abbrev pub IfStored : {S : Type 0} → (S → Type 0) → Shelf S → Type 0
 IfStored P (Stored store) = P store
 IfStored P Nowhere = Unit {0}
 
+-- this holds where there is none
+abbrev pub IfNowhere : {S : Type 0} → Type 0 → Shelf S → Type 0
+IfNowhere P (Stored store) = Unit {0}
+IfNowhere P Nowhere = P
+
 abbrev pub nothing_stored : Held
 nothing_stored = record { head = []; safe = []; held = []; octets = 0 }

@@ -23,12 +23,11 @@ ghost use Rattle.telegate.specs.Living.{HasLived, IsPortOf};
 ghost use Rattle.telegate.specs.Ran.{HasCome, HasLivedAs, HasNotBegun, IfOver, answer_to};
 ghost use Rattle.telegate.specs.Running.{IsReadLiveConfig};
 ghost use Rattle.telegate.specs.Served.{HasServedAnew, HasServedOn};
-ghost use Rattle.telegate.specs.Shelves.{IfStored};
+ghost use Rattle.telegate.specs.Shelves.{IfNowhere, IfStored};
 ghost use Rattle.telegate.specs.Starts.{IsWithout, StartsIn};
 ghost use Rattle.telegate.specs.Turns.{in_life, shown_to};
 ghost use Rattle.telegate.specs.Logged.{IsRefused, IsUnkept, LogsNoteIf, LogsBeginning, LogsGap};
 ghost use Rattle.telegate.specs.Logged.{LogsOpening, LogsWithout, note_if_on, note_of_address};
-ghost use Rattle.telegate.specs.declared.shelf.Shelf.TheVariants.{Nowhere};
 
 use crate::fault::Fault;
 use crate::help::VERSION;
@@ -539,7 +538,7 @@ fn run_from<T: RunSite>(
 }
 
 /// What this directory has, or a new state, which is logged, and where the state is kept.
-#[tactic(auto, using(crate::proofs::KeptLemmas::found_in, crate::proofs::KeptLemmas::memory_is_unkept, crate::proofs::KeptLemmas::still_unclocked))]
+#[tactic(auto, using(crate::proofs::KeptLemmas::found_in, crate::proofs::KeptLemmas::without_in, crate::proofs::KeptLemmas::memory_is_unkept, crate::proofs::KeptLemmas::still_unclocked))]
 fn opening_in<T: RunSite>(
     site: &mut T,
     config: &Config,
@@ -555,9 +554,9 @@ fn opening_in<T: RunSite>(
         opening.shelf) }
     ensures settings { IfOk result (λ opening.
         IfStored (λ store. store.settings.items ≡ text.now) opening.shelf) }
-    // Without a store a later start finds the mark, and is told by it.
+    // Without a store a later start finds the mark.
     ensures marked { IfOk result (λ opening.
-        opening.shelf ≡ Nowhere → T.is_marked site.new) }
+        IfNowhere (T.is_marked site.new) opening.shelf) }
     ensures logged { IfOk result (λ opening.
         LogsOpening opening.shelf opening.origin logger.old logger.new) }
     ensures fixed { IfOk result (λ _. book_fixture logger.new ≡ book_fixture logger.old) }
@@ -575,23 +574,27 @@ fn opening_in<T: RunSite>(
                 shelf: Shelf::Stored(store),
             })
         }
-        Err(fault) => opening_without(site, config, fault, wishes, logger),
+        Err(fault) => match origin_without(site, config, fault, wishes, logger) {
+            Ok(origin) => Ok(Opening {
+                origin,
+                shelf: Shelf::Nowhere,
+            }),
+            Err(fault) => Err(fault),
+        },
     }
 }
 
 /// The directory of the state can't be used. If that is borne, and what stands there is marked as
 /// stale beside it, the run begins without it. Either is logged.
-#[tactic(auto, using(crate::proofs::KeptLemmas::without_in, crate::proofs::KeptLemmas::memory_is_unkept))]
-fn opening_without<T: RunSite>(
+#[tactic(auto, using(crate::proofs::KeptLemmas::memory_is_unkept))]
+fn origin_without<T: RunSite>(
     site: &mut T,
     config: &Config,
     fault: FolderFault,
     wishes: &Wishes<'_>,
     logger: &mut Logger<T::Sink>,
-) -> Result<Opening<T::Folder>, Fault>
-    ensures starts { (log : Log) → IfOk result (λ opening.
-        StartsIn T.Folder.File.Disk wishes.now config.now log opening.origin) }
-    ensures nowhere { IfOk result (λ opening. opening.shelf ≡ Nowhere) }
+) -> Result<Origin, Fault>
+    ensures without { IfOk result (IsWithout wishes.now config.now) }
     ensures marked { IfOk result (λ _. T.is_marked site.new) }
     ensures logged { IfOk result (λ _. LogsWithout logger.old logger.new) }
     ensures fixed { IfOk result (λ _. book_fixture logger.new ≡ book_fixture logger.old) }
@@ -615,10 +618,7 @@ fn opening_without<T: RunSite>(
     }
     let origin = new_origin(site.alloc(), config)?;
     logger.note(Note::StateUnused(obstacle));
-    Ok(Opening {
-        origin,
-        shelf: Shelf::Nowhere,
-    })
+    Ok(origin)
 }
 
 /// With what a run begins that has no state.
