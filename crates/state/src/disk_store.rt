@@ -536,6 +536,7 @@ fn append_to<D: Disk + Drop>(current: &mut Current<D>, lines: &[u8]) -> Result<(
         return Err(StoreFault::Full);
     };
     current.octets = octets;
+    current.segment.survives();
     match current.segment.append(lines) {
         Ok(()) => Ok(()),
         Err(fault) => Err(refusal(fault)),
