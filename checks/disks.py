@@ -599,9 +599,9 @@ def damage_part(name, damage, cases):
 
 
 PARTS = [
-    damage_part("disk bits", turn_a_bit, 12),
+    damage_part("damaged bits", turn_a_bit, 12),
     damage_part("disk sectors", zero_a_sector, 8),
-    damage_part("disk short files", cut_short, 8),
+    damage_part("short files", cut_short, 8),
     damage_part("shortened behind its last line", cut_to_used, 2),
     damage_part("sectors exchanged", exchange, 6),
     alone("disk older copy", older_copy, False),
@@ -614,7 +614,7 @@ PARTS = [
     *(alone(f"or stop: {name}", stops, name) for name in ("EIO", "read-only")),
     alone("FIFO", no_file),
     alone("disk slow", slow_syncs),
-    alone("disk each octet once", each_octet_once),
+    alone("each octet once", each_octet_once),
     alone("mark that can't be looked for", mark_unseen),
 ]
 
