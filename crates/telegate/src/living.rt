@@ -8,7 +8,7 @@ ghost use Rattle.live.specs.OctetStreams.{IsNew};
 ghost use Rattle.live.specs.Passed.{HasNoAttempts};
 ghost use Rattle.record.specs.Recording.{log_of, logged_first};
 ghost use Rattle.runlog.specs.Logging.{book_fixture};
-ghost use Rattle.state.specs.Origins.{IsBegun, IsNew};
+ghost use Rattle.state.specs.Origins as origins;
 ghost use Rattle.state.specs.Standings.{Renews};
 ghost use Rattle.state.specs.declared.beginning.Origin.{Origin};
 ghost use Rattle.state.specs.declared.start.Beginning.TheVariants as beginning;
@@ -632,7 +632,7 @@ fn origin_without<T: RunSite>(
 
 /// With what a run begins that has no state.
 fn new_origin(alloc: Global, config: &Config) -> Result<Origin, NoMemory>
-    ensures new { IfOk result (IsNew config.now) }
+    ensures new { IfOk result (origins.IsNew config.now) }
     ensures anew { IfOk result (λ origin. origin.beginning ≡ beginning.Anew) }
     ensures moment { IfOk result (λ origin. origin.moment ≡ None) }
 {
