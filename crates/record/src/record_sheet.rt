@@ -38,8 +38,7 @@ pub trait RecordSheet {
     fn preface(&mut self, _line: &[u8])
         ensures text { taken self.new ≡ taken self.old }
         ensures missed { missed self.new ≡ missed self.old }
-    {
-    }
+    {}
 
     /// The record is over: nothing is given to it any more.
     fn end(&mut self)

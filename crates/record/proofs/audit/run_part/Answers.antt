@@ -52,8 +52,8 @@ returns-in-Finished-clause-ran c = λ settings said lines stands.
           (c.in_ok-standing-in-Finished.ensures lines (whole_lines (lines_of_log h.log))
           stands.compared counted),
       (λ begins.
-      let b = subst (BeginsBehind settings said) same begins in
-      c.drive_on.ensures.faithful p (at b).0 (at b).1),
+          let b = subst (BeginsBehind settings said) same begins in
+          c.drive_on.ensures.faithful p (at b).0 (at b).1),
       c.page.ensures.holds.halted,
       same,
     )
