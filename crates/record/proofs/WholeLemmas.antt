@@ -14,8 +14,8 @@ use Rattle.record.proofs.LineLemmas.{whole_joined}
 use Rattle.traces.specs.Blocks.{Gives, IsGiven, Reading}
 use Rattle.ft12.specs.declared.frame.LinkSize.{LinkSize}
 use Rattle.gateway.specs.Log.{LogEntry}
-use Rattle.pages.specs.Pouring.{IsBegun}
-use Rattle.pages.proofs.Poured.{appends_more, begun_behind, begun_longer}
+use Rattle.traces.specs.Pouring.{IsBegun}
+use Rattle.traces.proofs.Poured.{appends_more, begun_behind, begun_longer}
 use Rattle.traces.specs.Fields.{parts_after}
 use Rattle.traces.proofs.BlockLemmas.{gives_last, gives_on, gives_some, more_behind}
 use Rattle.traces.specs.Trace.{is_skipped, lines_of}

@@ -6,7 +6,7 @@ use Rattle.std.specs.Io.KnownBytes.{Appends}
 use Rattle.record.specs.Lines.{is_cut, whole_lines}
 use Rattle.ft12.specs.declared.frame.LinkSize.{LinkSize}
 use Rattle.gateway.specs.Log.{LogEntry}
-use Rattle.pages.specs.Pouring.{IsBegun}
+use Rattle.traces.specs.Pouring.{IsBegun}
 use Rattle.record.specs.Blocks.{file_header}
 use Rattle.record.specs.Captures.{Captured, after_lines, blocks_of, blocks_of_lines, last_packets}
 use Rattle.record.specs.Captures.{whole_capture}

@@ -7,7 +7,7 @@ use Rattle.clap.specs.Words.{Text, HasKind, fault_of, kind_of, subcommand_of}
 use Rattle.clap.specs.declared.error.Error.{Error}
 use Rattle.clap.specs.declared.error.kind.ErrorKind.{ErrorKind}
 use Rattle.clap.specs.declared.error.kind.ErrorKind.TheVariants as kind
-use Rattle.sitefile.specs.declared.site.Site.{Site as SiteFile}
+use Rattle.settings.specs.declared.site.Site.{Site as SiteFile}
 use Rattle.state_files.specs.declared.looking.Stood.{Stood}
 use Rattle.telegate.specs.Answers.{IsReplayed, Performs, Runs}
 use Rattle.telegate.specs.Given.{GivesAnswer}

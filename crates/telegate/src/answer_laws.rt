@@ -15,7 +15,7 @@ ghost use Rattle.record.specs.Lines.{record_lines};
 ghost use Rattle.record.specs.declared.audit.RecordFault.{RecordFault};
 ghost use Rattle.record.specs.declared.audit.RecordFault.TheVariants as records;
 ghost use Rattle.settings.specs.declared.fault.ConfigFault.{ConfigFault};
-ghost use Rattle.sitefile.specs.declared.fault.SiteFault.{SiteFault};
+ghost use Rattle.settings.specs.declared.site.fault.SiteFault.{SiteFault};
 ghost use Rattle.traces.specs.Trace.{lines_of};
 ghost use Rattle.telegate.specs.Audits.{IsAuditedBy, TellsOther, TellsSame, fault_of_lem};
 ghost use Rattle.telegate.specs.Captures.{fault_of_capture};

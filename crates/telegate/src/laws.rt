@@ -11,7 +11,7 @@ ghost use Rattle.gateway.specs.Restored.{IsSavable};
 ghost use Rattle.gateway.specs.Setups.{setup_of};
 ghost use Rattle.gateway.specs.State.{State, IsBetweenSteps};
 ghost use Rattle.settings.specs.Live.{Places};
-ghost use Rattle.sitefile.specs.Site.{SiteNames, SiteValues, names_of};
+ghost use Rattle.settings.specs.Site.{SiteNames, SiteValues, names_of};
 ghost use Rattle.state.specs.Both.{Both};
 ghost use Rattle.state.specs.Deeds.{AreRight, Deeds, heads};
 ghost use Rattle.state.specs.Directories.{BeginsIn};

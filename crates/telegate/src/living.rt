@@ -32,12 +32,12 @@ use crate::running::{Lived, Scribes, live};
 use crate::site::{EndRefusal, RunSite};
 use gateway::{Action, Config, Gateway, History};
 use live::{AllowList, Listener, Live, OctetStream, RunPort};
-use lookout::Lookout;
 use record::{Pen, RecordSheet};
 use runlog::{LogSink, Logger, Note, Trouble, Watch};
 use settings::{ConfigFault, LiveSettings, read_live_config};
 use state::{Begun, DiskStore, FolderFault, Keeper, Origin, Pair, ReportedGap, begin};
 use state_words::{note_of, note_of_queue, note_of_settings};
+use status::Lookout;
 use std::alloc::Global;
 use std::net::SocketAddr;
 

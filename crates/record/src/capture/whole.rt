@@ -3,7 +3,7 @@ ghost use Rattle.std.specs.Prelude.{◌≡◌, [], false, map, IfErr, IfOk, IfSo
 ghost use Rattle.std.specs.Io.KnownBytes.{Appends};
 ghost use Rattle.std.specs.Option.{option_copied};
 ghost use Rattle.traces.specs.Blocks.{Gives, IsGiven};
-ghost use Rattle.pages.specs.Pouring.{IsBegun};
+ghost use Rattle.traces.specs.Pouring.{IsBegun};
 ghost use Rattle.traces.specs.Fields.{parts_after};
 ghost use Rattle.record.specs.Captures.{blocks_of, last_packets};
 ghost use Rattle.record.specs.Texts.{AreWritten, IsCaptured, IsEndFault, IsPartFault};
@@ -14,11 +14,11 @@ use super::capturing::Capture;
 use super::passing::{Passed, put_lines};
 use crate::audit::passing::part_of;
 use ft12::LinkSize;
-use pages::print;
+use traces::print;
 use std::alloc::{AllocError, Global};
 use std::io::{Read, Write};
 use thiserror::Error;
-use traces::{BlockFault, Blocks, Page};
+use traces::{BlockFault, Blocks, Page, print};
 
 /// Why there is no capture of a whole record.
 #[derive(Clone, Copy, Debug, PartialEq, Eq, Error)]
