@@ -14,7 +14,6 @@ use super::capturing::Capture;
 use super::passing::{Passed, put_lines};
 use crate::audit::passing::part_of;
 use ft12::LinkSize;
-use traces::print;
 use std::alloc::{AllocError, Global};
 use std::io::{Read, Write};
 use thiserror::Error;
