@@ -146,7 +146,7 @@ impl<W: RecordSheet + Drop> Pen<W> {
             row.clear();
             row.extend_from_slice(b"# state: ")?;
             row.extend_from_slice(line)?;
-            row.push(b'\n')?;
+            row.extend_from_slice(b"\n")?;
             self.sheet.preface(row.as_slice());
             left = behind;
         }
