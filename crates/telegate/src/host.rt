@@ -1,6 +1,6 @@
 //! What the program needs of the system that it runs on.
 ghost use Rattle.std.specs.Prelude.{◌≡◌, ℕ, Bool, List, Result, IfOk, IfErr};
-ghost use Rattle.stations.specs.Scenarios.{FitsScenario};
+ghost use Rattle.sim.specs.Scenarios.{FitsScenario};
 ghost use Rattle.telegate.specs.Playing.{ArePlayed};
 ghost use Rattle.telegate.specs.Ran.{answer_to};
 ghost use Rattle.state_files.specs.declared.looking.Stood.{Stood};
@@ -20,11 +20,11 @@ use gateway::{Config, History};
 use live::{AllowList, SystemClock};
 use runlog::{LogNames, NamedStation};
 use settings::{LiveSettings, Names as SiteNames};
+use sim::{LineListener, Scenario};
 use sqlite_disk::Disk;
 use sqlite_std_file::File as DiskFile;
 use state::Folder;
 use state_files::{Directory, Stood, stood_in};
-use stations::{LineListener, Scenario};
 use std::alloc::{AllocError, Global};
 use std::fs::File;
 use std::io;
