@@ -63,7 +63,7 @@ pub enum RecordFault {
     #[error("line {0}")]
     Line(u64),
     /// So many first lines say a state, and no gateway with these settings has it.
-    #[error("the first {0} lines are no state under these settings")]
+    #[error("lines 1 to {0} are no state under these settings")]
     Unfit(u64),
     /// The record can't be read on.
     #[error("the record cannot be read")]

@@ -41,7 +41,7 @@ pub(crate) enum Fault {
     #[error("record: line {0}")]
     Record(u64),
     /// So many first lines of the record say a state, and no gateway with these settings has it.
-    #[error("record: the first {0} lines are no state under these settings")]
+    #[error("record: lines 1 to {0} are no state under these settings")]
     Unfit(u64),
     /// The sizes of a line's addresses are no such four digits.
     #[error("bad sizes")]
