@@ -481,7 +481,17 @@ fn run_kept<T: RunSite>(
     let begun = begun_in(site, config, text, directory, &wishes, &mut scribes.logger)?;
     let moment = first_moment(begun.origin.moment);
     let ends = opened(site, &wishes, moment, &mut scribes.logger)?;
+    begin_record(&begun.origin, &mut scribes.pen);
     Ok(run_from(site, config, begun, ends, wishes, scribes))
+}
+
+/// The record of a run that goes on says first with which state it does, for its audit.
+fn begin_record<W: RecordSheet + Drop>(origin: &Origin, pen: &mut Pen<W>)
+    ensures { pen.new ≡ pen.old }
+{
+    if origin.moment.is_some() {
+        pen.begin_with(&origin.gateway);
+    }
 }
 
 /// Where the clock begins, in ms.
