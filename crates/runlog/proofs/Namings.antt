@@ -94,13 +94,9 @@ says_so link what (Spoilt _ by) = says_first link what _
     (append_assoc (station ++ decimal link) (codes " answer spoilt: ") (spoiling_words by))
 says_so link what (Late _ ms) =
     let told = codes " come late, " in
-    let behind = codes " ms behind their request" in
-    let short = codes ": answer_ms is short" in
-    says_within link what [] (codes "answers of ")
-    (told ++ (decimal ms ++ (behind ++ short)))
-    (in_a_row (codes "answers of station ") (decimal link) told (decimal ms) behind short
-    ∙ sym (append_assoc (codes "answers of station ") (decimal link)
-    (told ++ (decimal ms ++ (behind ++ short)))))
+    let behind = decimal ms ++ codes " ms behind their request: answer_ms is short" in
+    says_within link what [] (codes "answers of ") (told ++ behind)
+    (append_assoc (codes "answers of station " ++ decimal link) told behind)
 
 -- ---- The name
 

@@ -120,8 +120,8 @@ spoilt_words address what =
 
 abbrev pub late_words : (address ms : ℕ) → List ℕ
 late_words address ms =
-    (codes "answers of station " ++ decimal address ++ codes " come late, " ++ decimal ms
-    ++ codes " ms behind their request") ++ codes ": answer_ms is short"
+    (codes "answers of station " ++ decimal address ++ codes " come late, ")
+    ++ (decimal ms ++ codes " ms behind their request: answer_ms is short")
 
 abbrev pub words : Note → List ℕ
 words note.LineReached = codes "line reached"

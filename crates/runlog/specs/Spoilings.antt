@@ -44,8 +44,8 @@ octets_words octets = codes "octets " ++ hex_text octets ++ letters_words (lette
 
 abbrev pub late_answer : (station ms : ℕ) → List ℕ
 late_answer station ms =
-    (codes "an answer of station " ++ decimal station ++ codes ", " ++ decimal ms
-    ++ codes " ms behind its request") ++ codes ": answer_ms is short"
+    (codes "an answer of station " ++ decimal station ++ codes ", ")
+    ++ (decimal ms ++ codes " ms behind its request: answer_ms is short")
 
 abbrev pub spoiling_words : Spoiling → List ℕ
 spoiling_words Echo = codes "its request came back"

@@ -371,11 +371,8 @@ fn write_spoilt<W: fmt::Write>(
 fn write_late<W: fmt::Write>(address: u16, ms: u64, f: &mut fmt::Formatter<W>) -> fmt::Result
     ensures { WritesOnOk W.write_str_gives f.old result (late_words address ms) f.new }
 {
-    write!(
-        f,
-        "answers of station {address} come late, {ms} ms behind their request"
-    )?;
-    f.write_str(": answer_ms is short")
+    write!(f, "answers of station {address} come late, ")?;
+    write!(f, "{ms} ms behind their request: answer_ms is short")
 }
 
 impl fmt::Display for Note {

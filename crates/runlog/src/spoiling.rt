@@ -113,11 +113,8 @@ fn write_octets<W: fmt::Write>(octets: &[u8], f: &mut fmt::Formatter<W>) -> fmt:
 fn write_late<W: fmt::Write>(station: u16, ms: u64, f: &mut fmt::Formatter<W>) -> fmt::Result
     ensures { WritesOnOk W.write_str_gives f.old result (spec.late_answer station ms) f.new }
 {
-    write!(
-        f,
-        "an answer of station {station}, {ms} ms behind its request"
-    )?;
-    f.write_str(": answer_ms is short")
+    write!(f, "an answer of station {station}, ")?;
+    write!(f, "{ms} ms behind its request: answer_ms is short")
 }
 
 /// Writes what is said of it behind whose answer it was.
