@@ -5,13 +5,14 @@ use Rattle.std.proofs.Common.{length, take, drop, min, Some, None, refl, sym, ap
 use Rattle.std.proofs.Common.{nat_lt, ◌%◌, ◌/◌}
 use Rattle.std.proofs.lemmas.List.{append_assoc, length-append, length-take, take_all}
 use Rattle.std.proofs.Math.Seq.{take-append_seam}
-use Rattle.std.specs.Prelude.{Option, option_and_then, sum, if◌then◌else◌}
-use Rattle.std.specs.List.{slice_range}
+use Rattle.std.specs.Prelude.{◌==◌, Option, option_and_then, sum, if◌then◌else◌}
+use Rattle.std.specs.List.{slice_range, starts_with}
 use Rattle.ft12.specs.Fronts.{front_of}
 use Rattle.ft12.specs.Spelling.{address, user}
 use Rattle.ft12.specs.declared.frame.Frame.{Frame}
 use Rattle.ft12.specs.declared.frame.Frame.TheVariants.{Single, Fixed, Data}
 use Rattle.ft12.specs.declared.frame.Why.{Why}
+use Rattle.ft12.specs.declared.frame.Front.{Front}
 use Rattle.ft12.specs.declared.frame.Front.TheVariants as front
 use Rattle.ft12.specs.declared.frame.LinkSize.{LinkSize}
 use Rattle.ft12.specs.declared.frame.LinkSize.TheVariants.{One, Two}
@@ -22,10 +23,13 @@ use Rattle.link.specs.declared.service.Service.{Service}
 use Rattle.link.specs.declared.service.Service.TheVariants.{Class1, Class2, Command}
 use Rattle.runlog.specs.Answering.{awaited_for}
 use Rattle.runlog.specs.Exchange.{RequestWatch, answer_in, answer_by, answered_by, awaited_by}
-use Rattle.runlog.specs.Exchange.{awaited_of, received, request_for, spoiling_at, user_data}
+use Rattle.runlog.specs.Exchange.{awaited_of, received, request_for, spoiling_at, spoiling_of}
+use Rattle.runlog.specs.Exchange.{user_data}
 use Rattle.runlog.specs.Orders.{octet}
 use Rattle.runlog.specs.declared.exchange.AwaitedAnswer.{AwaitedAnswer}
 use Rattle.runlog.specs.declared.exchange.AwaitedAnswer.TheVariants as awaited
+use Rattle.runlog.specs.declared.spoiling.Spoiling.{Spoiling}
+use Rattle.runlog.specs.declared.spoiling.Spoiling.TheVariants.{Echo}
 use Rattle.runlog.proofs.Addressed.{behind_lengths, begins, command_control, fifth, length_of}
 use Rattle.runlog.proofs.Addressed.{octets_of, tail_of}
 
@@ -101,11 +105,25 @@ with_octets size now e octets =
     let v : RequestWatch = record e { octets = octets } in
     record v { spoiling = spoiling_at size now v }
 
+-- what was told before of what came makes no difference
+told_anew : (is_echo : Bool) (f : Front) (now : ℕ) (e : RequestWatch) (told : Spoiling)
+    → (if is_echo then Echo else spoiling_of f now (record e { spoiling = told }))
+    ≡ (if is_echo then Echo else spoiling_of f now e)
+told_anew true f now e told = refl
+told_anew false (front.Whole frame n) now e told = refl
+told_anew false front.More now e told = refl
+told_anew false (front.Never place why) now e told = refl
+
 pub pieces_so : (size : LinkSize) (now before : ℕ) (e : RequestWatch) (first second : List ℕ)
     → received size second now (received size first before e)
     ≡ received size (first ++ second) now e
 pieces_so size now before e first second =
-    ap (with_octets size now e) (two_pieces 261 e.octets first second)
+    let w : RequestWatch = received size first before e in
+    let both = w.octets ++ take (261 - length w.octets) second in
+    ap (λ (s : Spoiling). record e { octets = both; spoiling = s })
+    (told_anew (starts_with (λ a b. a == b) both e.request) (front_of size both) now
+    (record e { octets = both }) w.spoiling)
+    ∙ ap (with_octets size now e) (two_pieces 261 e.octets first second)
 
 pub joined_so : (size : LinkSize) (now : ℕ) (e : RequestWatch) (octets : List ℕ)
     → length e.octets + length octets ≤ 261
