@@ -221,7 +221,6 @@ other_subject note.StateStale station line = refl
 other_subject note.StatePutAside station line = refl
 other_subject (note.StateDamaged place) station line = refl
 other_subject (note.StateUnused why) station line = refl
-other_subject (note.SlowSync ms) station line = refl
 other_subject (note.GivenUp a b c d) station line = refl
 other_subject (note.State a) station line = refl
 other_subject (note.Trouble a) station line = refl

@@ -157,7 +157,6 @@ words note.StatePutAside = codes "state can't be read: put aside"
 words (note.StateDamaged place) = damaged_words place
 words (note.StateUnused why) =
     codes "state: its directory can't be used, the run goes on without it: " ++ obstacle_words why
-words (note.SlowSync ms) = codes "state: a sync took " ++ decimal ms ++ codes " ms"
 words (note.GivenUp what kind ca object) = given_up_words what kind ca object
 words (note.State notice) = notice_words notice
 words (note.Trouble why) = trouble_words why

@@ -61,7 +61,6 @@ severity_of note.StateStale = Warning
 severity_of note.StatePutAside = Error
 severity_of (note.StateDamaged place) = Warning
 severity_of (note.StateUnused why) = Error
-severity_of (note.SlowSync ms) = Warning
 severity_of (note.GivenUp what kind ca object) = Warning
 severity_of (note.State notice) = notice_severity notice
 severity_of (note.Trouble why) = Error

@@ -30,7 +30,6 @@ pub data HasRow : Note → ℕ → Type 0 where
   QueueFull : HasRow note.QueueFull 3
   -- look at the disk
   NotKept : HasRow (note.State notices.NotKept) 3
-  SlowSync : (ms : ℕ) → HasRow (note.SlowSync ms) 4
   PutAside : HasRow note.StatePutAside 3
   Unused : (why : Obstacle) → HasRow (note.StateUnused why) 3
   -- why a run can't begin, or go on

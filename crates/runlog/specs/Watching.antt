@@ -99,8 +99,6 @@ pub record Watching : Type 0 where
   pub seen : Counts
   -- how many octets of the line were dropped before requests, as far as that was seen
   pub late : ℕ
-  -- when a slow sync of the state was logged last, and how many were left out since
-  pub syncs : Limit
   -- when a line was sought among what is gathered
   pub sought : ℕ
   -- what the wall clock showed last
@@ -127,7 +125,6 @@ new_watching c = record {
   exchange = new_exchange c.line.answer_ms;
   seen = record { skipped = 0; mirrors = 0; lost = 0; spoilt = 0 };
   late = 0;
-  syncs = new_limit;
   sought = 0;
   wall = None;
   traffic = new_traffics c.stations;
@@ -346,16 +343,6 @@ abbrev pub failed : Option Failure → Watching → Watching × Option LogLine
 failed None w = (w, None)
 failed (Some failure.Line) w = with_line (line_seen Away w.moment w.line) w
 failed (Some failure.State) w = (w, Some (line_of (note.Trouble StateUnusable) w))
-
-abbrev pub with_syncs : Limit × Option LogLine → Watching → Watching × Option LogLine
-with_syncs logged w = (record w { syncs = logged.0 }, logged.1)
-
--- a sync of the state took so many ms: a line a minute says so, and how many were left out
-abbrev pub sync_noted : (ms : ℕ) → Watching → Watching × Option LogLine
-sync_noted ms w =
-    with_syncs (if is_minute_after w.syncs.logged w.moment
-    then happened (note.SlowSync ms) w.syncs w.moment
-    else (record w.syncs { left_out = one_more w.syncs.left_out }, None)) w
 
 abbrev pub sum_line : Counts → (taken : ℕ) → Watching → LogLine
 sum_line counts taken w = line_of (note.Counts (tally counts taken w)) w

@@ -145,8 +145,6 @@ pub enum Note {
     StateDamaged(u64),
     /// The run begins without the directory that was to have its state.
     StateUnused(Obstacle),
-    /// A sync of it took so many ms.
-    SlowSync(u64),
     /// A start gives up this of the connection before it: its type octet, its common address and
     /// the address of its object.
     GivenUp(Remnant, u8, u16, u32),
@@ -421,7 +419,6 @@ impl fmt::Display for Note {
                 f.write_str(UNUSED)?;
                 f.write_str(obstacle_words(*obstacle))
             }
-            Note::SlowSync(ms) => write!(f, "state: a sync took {ms} ms"),
             Note::GivenUp(remnant, kind, ca, object) => {
                 write_given_up(*remnant, *kind, *ca, *object, f)
             }

@@ -64,7 +64,7 @@ impl Note {
             Note::Silent(_) | Note::Down(_) | Note::StateStale => Severity::Warning,
             Note::StillSilent(_) | Note::LeftOut(_) => Severity::Warning,
             Note::GivenUp(_, _, _, _) => Severity::Warning,
-            Note::StateDamaged(_) | Note::SlowSync(_) => Severity::Warning,
+            Note::StateDamaged(_) => Severity::Warning,
             Note::Refused(_, _, _) | Note::Skipped(_, _, _) => Severity::Warning,
             Note::MirrorDropped(_) | Note::Spoilt(_, _) | Note::Late(_, _) => Severity::Warning,
             Note::LineReached | Note::LineReachedAgain | Note::QueueFree => Severity::Notice,
