@@ -98,7 +98,7 @@ returns-then-is_same-clause-goes_on g c =
     let m = c.move_on.result in
     if_ok_map m (if_ok_both _ _ m e.gateway (if_ok_both _ _ m e.gap (if_ok_both _ _ m e.given_up
     (if_ok_both _ _ m e.damage (if_ok_both _ _ m e.before (if_ok_both _ _ m e.moved e.goes_on))))))
-    (λ r (gateway, gap, given_up, damage, before, moved, on) clean.
+    (λ r (gateway, (gap, (given_up, (damage, (before, (moved, on)))))) clean.
     moved_from r.goes_on c.are_same-is_same.result r.is_moved r.damage c.args.config.now
     g.K.Lineage.log (g.D.Disk.seen c.go_on.new.start.newest) c.go_on.new.start.at written lines r.gap
     r.given_up.items r.before.entries r.gateway
@@ -110,7 +110,7 @@ returns-then-is_same-clause-goes_on g c =
     (c.are_same-is_same.ensures.same same))
     (λ differ. says_others written c.in_ok-wrote.wrote c.args.config.now read
     (c.are_same-is_same.ensures.others differ))
-    (λ yes. let no : true ≡ false = sym yes ∙ on ∙ c.if-resumed.false in absurd (cc)) (moved ∙ sym (ap not c.if-is_same.true))
+    (λ goes. let none : true ≡ false = sym goes ∙ on ∙ c.if-resumed.false in absurd (cc)) (moved ∙ sym (ap not c.if-is_same.true))
     (moved_so r.goes_on was.goes_on c.args.config.now c.args.config.now written g.K.Lineage.log lines _
     was.gap r.gap was.given_up.items r.given_up.items was.before.entries r.before.entries
     was.gateway r.gateway (says_same written c.in_ok-wrote.wrote c.args.config.now read
@@ -164,7 +164,7 @@ returns-clause-goes_on g c =
     let m = c.move_on-2.result in
     if_ok_map m (if_ok_both _ _ m e.gateway (if_ok_both _ _ m e.gap (if_ok_both _ _ m e.given_up
     (if_ok_both _ _ m e.damage (if_ok_both _ _ m e.before (if_ok_both _ _ m e.moved e.goes_on))))))
-    (λ r (gateway, gap, given_up, damage, before, moved, on) clean.
+    (λ r (gateway, (gap, (given_up, (damage, (before, (moved, on)))))) clean.
     moved_from r.goes_on c.are_same-is_same.result r.is_moved r.damage c.args.config.now
     g.K.Lineage.log (g.D.Disk.seen c.go_on-2.new.start.newest) c.go_on-2.new.start.at written lines r.gap
     r.given_up.items r.before.entries r.gateway
