@@ -1,4 +1,5 @@
 use Rattle.std.proofs.Common.{◌≡◌, ◌+◌, ◌++◌, ◌∷◌, [], List, ℕ, ap, refl, sym, ◌∙◌}
+use Rattle.std.proofs.lemmas.List.{take_rest}
 use Rattle.std.specs.Option.{option_copied}
 use Rattle.traces.specs.Fields.{parts_after}
 use Rattle.record.proofs.OpeningLemmas.{takes_next}
@@ -13,4 +14,5 @@ taking-preserved c =
     (ap (λ l. parts_after 10 (option_copied l)) c.in-Some.is ∙ c.cut.ensures)
     (sym c.says_state.ensures ∙ c.if-not-says_state.false)
     (c.in_ok-push.ensures.items
-    ∙ ap (λ (s : List ℕ). s ++ 10 ∷ []) c.in_ok-extend_from_slice.ensures.items) refl
+    ∙ ap (λ (s : List ℕ). s ++ 10 ∷ []) (c.in_ok-extend_from_slice.ensures.items
+    ∙ ap (λ (s : List ℕ). c.taking.self.said.items ++ s) (take_rest c.cut.result.0.now 9))) refl
