@@ -10,10 +10,14 @@ use Rattle.live.specs.declared.ends.CutCause.TheVariants as cut
 use Rattle.live.specs.declared.watched.Notice.{Notice}
 use Rattle.live.specs.declared.watched.Notice.TheVariants as notices
 use Rattle.runlog.specs.OrderWords.{order_words, reason_words, fate_words, type_name}
+use Rattle.runlog.specs.Spoilings.{spoiling_words}
 use Rattle.runlog.specs.declared.content.Skip.{Skip}
 use Rattle.runlog.specs.declared.content.Skip.TheVariants as skip
+use Rattle.runlog.specs.declared.spoiling.Spoiling.{Spoiling}
 use Rattle.runlog.specs.declared.note.LogLine.{LogLine}
 use Rattle.runlog.specs.declared.note.RunCounts.{RunCounts}
+use Rattle.runlog.specs.declared.note.Obstacle.{Obstacle}
+use Rattle.runlog.specs.declared.note.Obstacle.TheVariants as obstacle
 use Rattle.runlog.specs.declared.note.Remnant.{Remnant}
 use Rattle.runlog.specs.declared.note.Remnant.TheVariants as remnant
 use Rattle.runlog.specs.declared.note.Trouble.{Trouble}
@@ -85,6 +89,16 @@ skipped_words station kind why =
     (codes "station " ++ decimal station ++ codes " report skipped, type " ++ decimal kind)
     ++ type_name kind ++ codes ": " ++ skip_words why
 
+-- why a start can't use the directory of its state
+abbrev pub obstacle_words : Obstacle → List ℕ
+obstacle_words obstacle.Foreign = codes "there are files of something else"
+obstacle_words obstacle.Device = codes "the disk failed"
+
+abbrev pub damaged_words : (place : ℕ) → List ℕ
+damaged_words place =
+    codes "state: damaged, nothing is read from octet "
+    ++ (decimal place ++ codes " of its log on")
+
 abbrev pub remnant_words : Remnant → List ℕ
 remnant_words remnant.Unanswered = codes "command without an answer"
 remnant_words remnant.Waiting = codes "waiting command"
@@ -100,10 +114,14 @@ given_up_words what kind ca object =
 abbrev pub of_station : (address : ℕ) → (words : List ℕ) → List ℕ
 of_station address words = codes "station " ++ decimal address ++ codes " " ++ words
 
-abbrev pub late_words : (address : ℕ) → List ℕ
-late_words address =
-    (codes "answers of station " ++ decimal address ++ codes " come late")
-    ++ codes ": answer_ms is short"
+abbrev pub spoilt_words : (address : ℕ) → Spoiling → List ℕ
+spoilt_words address what =
+    (codes "station " ++ decimal address ++ codes " answer spoilt: ") ++ spoiling_words what
+
+abbrev pub late_words : (address ms : ℕ) → List ℕ
+late_words address ms =
+    (codes "answers of station " ++ decimal address ++ codes " come late, ")
+    ++ (decimal ms ++ codes " ms behind their request: answer_ms is short")
 
 abbrev pub words : Note → List ℕ
 words note.LineReached = codes "line reached"
@@ -136,6 +154,9 @@ words (note.StateGoesOn queued) = codes "state: goes on, " ++ decimal queued ++ 
 words note.SettingsChanged = codes "state: settings have changed"
 words note.StateStale = codes "state is stale: each link is reset"
 words note.StatePutAside = codes "state can't be read: put aside"
+words (note.StateDamaged place) = damaged_words place
+words (note.StateUnused why) =
+    codes "state: its directory can't be used, the run goes on without it: " ++ obstacle_words why
 words (note.GivenUp what kind ca object) = given_up_words what kind ca object
 words (note.State notice) = notice_words notice
 words (note.Trouble why) = trouble_words why
@@ -146,9 +167,8 @@ words (note.Fate order station fate) = order_words order ++ fate_words fate stat
 words (note.Skipped station kind why) = skipped_words station kind why
 words (note.MirrorDropped address) =
     of_station address (codes "answer to a command dropped: data transfer isn't running")
-words (note.Spoilt address) =
-    of_station address (codes "answer spoilt: octets came, but no answer")
-words (note.Late address) = late_words address
+words (note.Spoilt address what) = spoilt_words address what
+words (note.Late address ms) = late_words address ms
 words (note.LeftOut count) = decimal count ++ codes " lines left out: nobody read them in time"
 
 abbrev pub left_out_words : ℕ → List ℕ

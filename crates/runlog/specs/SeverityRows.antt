@@ -11,10 +11,12 @@ use Rattle.runlog.specs.declared.fate.CommandFate.TheVariants as fate
 use Rattle.runlog.specs.declared.fate.Reason.{Reason}
 use Rattle.runlog.specs.declared.note.Note.{Note}
 use Rattle.runlog.specs.declared.note.Note.TheVariants as note
+use Rattle.runlog.specs.declared.note.Obstacle.{Obstacle}
 use Rattle.runlog.specs.declared.note.Remnant.{Remnant}
 use Rattle.runlog.specs.declared.note.RunCounts.{RunCounts}
 use Rattle.runlog.specs.declared.note.Trouble.{Trouble}
 use Rattle.runlog.specs.declared.order.Order.{Order}
+use Rattle.runlog.specs.declared.spoiling.Spoiling.{Spoiling}
 
 -- a line, and the number that stands before it
 pub data HasRow : Note → ℕ → Type 0 where
@@ -29,6 +31,7 @@ pub data HasRow : Note → ℕ → Type 0 where
   -- look at the disk
   NotKept : HasRow (note.State notices.NotKept) 3
   PutAside : HasRow note.StatePutAside 3
+  Unused : (why : Obstacle) → HasRow (note.StateUnused why) 3
   -- why a run can't begin, or go on
   CannotRun : (why : Trouble) → HasRow (note.Trouble why) 3
   -- look at the control centre
@@ -44,10 +47,10 @@ pub data HasRow : Note → ℕ → Type 0 where
   Skipped : (a kind : ℕ) (why : Skip) → HasRow (note.Skipped a kind why) 4
   -- the centre stopped: let it start again
   MirrorDropped : (a : ℕ) → HasRow (note.MirrorDropped a) 4
-  -- look at parity, noise and echo
-  Spoilt : (a : ℕ) → HasRow (note.Spoilt a) 4
+  -- look at what came: an echo, a late answer, another device or noise
+  Spoilt : (a : ℕ) (what : Spoiling) → HasRow (note.Spoilt a what) 4
   -- give stations longer to answer
-  Late : (a : ℕ) → HasRow (note.Late a) 4
+  Late : (a ms : ℕ) → HasRow (note.Late a ms) 4
   -- find out why nobody reads the log
   LeftOut : (n : ℕ) → HasRow (note.LeftOut n) 4
   -- a command that comes to nothing
@@ -59,6 +62,7 @@ pub data HasRow : Note → ℕ → Type 0 where
   Remnants : (what : Remnant) (kind ca object : ℕ) → HasRow (note.GivenUp what kind ca object) 4
   -- nothing: the links are reset
   Stale : HasRow note.StateStale 4
+  Damaged : (place : ℕ) → HasRow (note.StateDamaged place) 4
   -- what was wrong is over, or seldom happens
   Reached : HasRow note.LineReached 5
   ReachedAgain : HasRow note.LineReachedAgain 5

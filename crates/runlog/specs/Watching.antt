@@ -17,7 +17,8 @@ use Rattle.live.specs.declared.watched.Failure.{Failure}
 use Rattle.live.specs.declared.watched.Failure.TheVariants as failure
 use Rattle.live.specs.declared.watched.EndsSight.{EndsSight}
 use Rattle.live.specs.declared.ends.Presence.TheVariants.{Away}
-use Rattle.runlog.specs.Ends.{new_limit, changed, new_line, new_listener, new_connection, line_seen}
+use Rattle.runlog.specs.Ends.{new_limit, changed, happened, new_line, new_listener, new_connection}
+use Rattle.runlog.specs.Ends.{line_seen}
 use Rattle.runlog.specs.Ends.{listener_seen, connection_opened, connection_cut, connection_sent}
 use Rattle.runlog.specs.Ends.{connection_closed, is_away}
 use Rattle.runlog.specs.Inbox as inbox
@@ -27,6 +28,7 @@ use Rattle.link.specs.declared.answer.Answer.{Answer}
 use Rattle.runlog.specs.Exchange as exchange
 use Rattle.runlog.specs.Exchange.{RequestWatch, new_exchange, begun, over, awaited_of, place_of}
 use Rattle.runlog.specs.Exchange.{user_data, answer_in, traffic_after}
+use Rattle.runlog.specs.Limits.{is_minute_after, one_more}
 use Rattle.runlog.specs.Orders.{order_of}
 use Rattle.runlog.specs.Traffic as traffic
 use Rattle.runlog.specs.Traffic.{new_traffics, first_line}
@@ -42,6 +44,7 @@ use Rattle.runlog.specs.Stations.{new_station}
 use Rattle.runlog.specs.declared.ends.LineWatch.{LineWatch}
 use Rattle.runlog.specs.declared.ends.ListenerWatch.{ListenerWatch}
 use Rattle.runlog.specs.declared.ends.ConnectionWatch.{ConnectionWatch}
+use Rattle.runlog.specs.declared.limit.Limit.{Limit}
 use Rattle.runlog.specs.declared.note.LogLine.{LogLine}
 use Rattle.runlog.specs.declared.note.Note.{Note}
 use Rattle.runlog.specs.declared.note.Note.TheVariants as note
@@ -186,7 +189,8 @@ answer_noted_at (Some place) w = answer_noted place w
 -- octets came from the line
 abbrev pub line_received : List ℕ → Watching → Watching
 line_received octets w =
-    answer_noted_at w.exchange.place (record w { exchange = exchange.received octets w.exchange })
+    answer_noted_at w.exchange.place
+    (record w { exchange = exchange.received w.link octets w.moment w.exchange })
 
 abbrev pub is_repeat_by : Option StationWatch → List ℕ → Bool
 is_repeat_by None octets = false
@@ -214,7 +218,8 @@ sent_at place what octets w = w
 
 abbrev pub exchanged : Option ℕ → AwaitedAnswer → List ℕ → (now : ℕ) → Watching → Watching
 exchanged place what octets now w =
-    sent_at place what octets (record w { exchange = exchange.asked place what now w.exchange })
+    sent_at place what octets
+    (record w { exchange = exchange.asked w.link octets place what now w.exchange })
 
 -- a request goes out
 -- While the line is away a request reaches no station: nothing is noted or logged of one.
@@ -254,7 +259,8 @@ as_seen counts w = record w { seen = counts }
 -- event.
 unfoldable pub counts_noted : Counts → Watching → Watching
 counts_noted counts w =
-    as_seen counts (suffered_if (nat_lt w.seen.spoilt counts.spoilt) mishap.Spoilt
+    as_seen counts (suffered_if (nat_lt w.seen.spoilt counts.spoilt)
+    (mishap.Spoilt w.exchange.spoiling)
     (suffered_if (nat_lt w.seen.mirrors counts.mirrors) mishap.MirrorDropped
     (suffered_if (nat_lt w.seen.lost counts.lost) mishap.GivenUp w)))
 
@@ -266,7 +272,8 @@ as_late late w = record w { late = late }
 abbrev pub late_noted : (late : ℕ) → Watching → Watching
 late_noted late w =
     as_late late
-    (if nat_lt w.late late then suffered_at w.exchange.overdue mishap.Late w else w)
+    (if nat_lt w.late late
+    then suffered_at w.exchange.overdue (mishap.Late (exchange.lag w.exchange)) w else w)
 
 -- the wall clock shows this at that moment
 abbrev pub walled : (now shown : ℕ) → Watching → Watching

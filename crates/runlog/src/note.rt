@@ -4,13 +4,15 @@ ghost use Rattle.std.specs.Fmt.{WritesOnOk};
 ghost use Rattle.runlog.specs.Notes.{close_words, counts_words, cut_words, late_words};
 ghost use Rattle.runlog.specs.Notes.{left_out_words, line_text, notice_words, of_station};
 ghost use Rattle.runlog.specs.Notes.{given_up_words, peer_words, refused_peers_words};
-ghost use Rattle.runlog.specs.Notes.{remnant_words};
-ghost use Rattle.runlog.specs.Notes.{skip_words, skipped_words, trouble_words, words};
+ghost use Rattle.runlog.specs.Notes.{damaged_words, obstacle_words, remnant_words};
+ghost use Rattle.runlog.specs.Notes.{skip_words, skipped_words, spoilt_words, trouble_words};
+ghost use Rattle.runlog.specs.Notes.{words};
 
 use crate::content::Skip;
 use crate::fate::{CommandFate, Reason};
 use crate::order::Order;
 use crate::order_words::{write_fate, write_order, write_reason, write_type_name};
+use crate::spoiling::{Spoiling, write_spoiling};
 use gateway::Counts;
 use live::{CutCause, Notice};
 use session::Close;
@@ -26,8 +28,8 @@ const MIRROR_DROPPED: &str = "answer to a command dropped: data transfer isn't r
 /// What stands behind a station whose link is held though it doesn't answer.
 const STILL_SILENT: &str = "still doesn't answer: if it was restarted, restart telegate too";
 
-/// What stands behind a station whose answer is spoilt.
-const SPOILT: &str = "answer spoilt: octets came, but no answer";
+/// What stands before the reason why a start can't use the directory of its state.
+const UNUSED: &str = "state: its directory can't be used, the run goes on without it: ";
 
 /// What was counted since the run began.
 #[derive(Clone, Copy, PartialEq, Eq)]
@@ -40,6 +42,15 @@ pub struct RunCounts {
     pub places: u64,
     /// How many connections were opened.
     pub connections: u64,
+}
+
+/// Why a start can't use the directory that is to have its state.
+#[derive(Clone, Copy, PartialEq, Eq)]
+pub enum Obstacle {
+    /// What stands there isn't a state's.
+    Foreign,
+    /// The disk failed, or the system refused.
+    Device,
 }
 
 /// What of the connection before it a start gives up.
@@ -130,6 +141,10 @@ pub enum Note {
     StateStale,
     /// What is kept can't be read, and stands under another name now.
     StatePutAside,
+    /// The file of its log is damaged from this octet on, and nothing behind it is read.
+    StateDamaged(u64),
+    /// The run begins without the directory that was to have its state.
+    StateUnused(Obstacle),
     /// A start gives up this of the connection before it: its type octet, its common address and
     /// the address of its object.
     GivenUp(Remnant, u8, u16, u32),
@@ -147,10 +162,11 @@ pub enum Note {
     Skipped(u16, u8, Skip),
     /// An answer of it to a command is dropped, since data transfer isn't running.
     MirrorDropped(u16),
-    /// Octets came in answer to a request to it, but no answer.
-    Spoilt(u16),
-    /// Octets came from it when its exchange was over, before the next request went out.
-    Late(u16),
+    /// This came in answer to a request to it, and no answer.
+    Spoilt(u16, Spoiling),
+    /// Octets came from it when its exchange was over, before the next request went out, so many ms
+    /// behind the request.
+    Late(u16, u64),
     /// So many lines of the log were left out, since there was no room for them.
     LeftOut(u64),
 }
@@ -206,6 +222,15 @@ fn remnant_words(remnant: Remnant) -> &'static str
         Remnant::Waiting => "waiting command",
         Remnant::Selection => "selection",
         Remnant::OwnAnswer => "own answer",
+    }
+}
+
+fn obstacle_words(obstacle: Obstacle) -> &'static str
+    ensures { result.now ≡ obstacle_words obstacle }
+{
+    match obstacle {
+        Obstacle::Foreign => "there are files of something else",
+        Obstacle::Device => "the disk failed",
     }
 }
 
@@ -312,6 +337,13 @@ fn write_given_up<W: fmt::Write>(
     f.write_str(", given up at a start")
 }
 
+fn write_damaged<W: fmt::Write>(place: u64, f: &mut fmt::Formatter<W>) -> fmt::Result
+    ensures { WritesOnOk W.write_str_gives f.old result (damaged_words place) f.new }
+{
+    f.write_str("state: damaged, nothing is read from octet ")?;
+    write!(f, "{place} of its log on")
+}
+
 fn write_of_station<W: fmt::Write>(
     address: u16,
     words: &str,
@@ -322,11 +354,23 @@ fn write_of_station<W: fmt::Write>(
     write!(f, "station {address} {words}")
 }
 
-fn write_late<W: fmt::Write>(address: u16, f: &mut fmt::Formatter<W>) -> fmt::Result
-    ensures { WritesOnOk W.write_str_gives f.old result (late_words address) f.new }
+fn write_spoilt<W: fmt::Write>(
+    address: u16,
+    spoiling: &Spoiling,
+    f: &mut fmt::Formatter<W>,
+) -> fmt::Result
+    ensures { WritesOnOk W.write_str_gives f.old result (spoilt_words address spoiling.now)
+        f.new }
 {
-    write!(f, "answers of station {address} come late")?;
-    f.write_str(": answer_ms is short")
+    write!(f, "station {address} answer spoilt: ")?;
+    write_spoiling(spoiling, f)
+}
+
+fn write_late<W: fmt::Write>(address: u16, ms: u64, f: &mut fmt::Formatter<W>) -> fmt::Result
+    ensures { WritesOnOk W.write_str_gives f.old result (late_words address ms) f.new }
+{
+    write!(f, "answers of station {address} come late, ")?;
+    write!(f, "{ms} ms behind their request: answer_ms is short")
 }
 
 impl fmt::Display for Note {
@@ -370,6 +414,11 @@ impl fmt::Display for Note {
             Note::SettingsChanged => f.write_str("state: settings have changed"),
             Note::StateStale => f.write_str("state is stale: each link is reset"),
             Note::StatePutAside => f.write_str("state can't be read: put aside"),
+            Note::StateDamaged(place) => write_damaged(*place, f),
+            Note::StateUnused(obstacle) => {
+                f.write_str(UNUSED)?;
+                f.write_str(obstacle_words(*obstacle))
+            }
             Note::GivenUp(remnant, kind, ca, object) => {
                 write_given_up(*remnant, *kind, *ca, *object, f)
             }
@@ -391,8 +440,8 @@ impl fmt::Display for Note {
             }
             Note::Skipped(station, kind, why) => write_skipped(*station, *kind, *why, f),
             Note::MirrorDropped(address) => write_of_station(*address, MIRROR_DROPPED, f),
-            Note::Spoilt(address) => write_of_station(*address, SPOILT, f),
-            Note::Late(address) => write_late(*address, f),
+            Note::Spoilt(address, spoiling) => write_spoilt(*address, spoiling, f),
+            Note::Late(address, ms) => write_late(*address, *ms, f),
             Note::LeftOut(count) => write!(f, "{count} lines left out: nobody read them in time"),
         }
     }

@@ -3,7 +3,8 @@ ghost use Rattle.std.specs.Prelude.{◌≡◌, ◌+◌, ◌<◌, ◌∷◌, [], 
 ghost use Rattle.gateway.specs.Log.{Went, with_news};
 ghost use Rattle.gateway.specs.Ports.{FitsBuffer, faults_of, output_of, logged_by};
 ghost use Rattle.gateway.specs.declared.ports.Next.TheVariants.{Done};
-ghost use Rattle.runlog.specs.Logging.{LogsEvent, PutsGone, Tends, Closes, logged_fixture};
+ghost use Rattle.runlog.specs.Logging.{LogsEvent, PutsGone, Tends, Closes};
+ghost use Rattle.runlog.specs.Logging.{logged_fixture};
 
 use crate::logger::Logger;
 use crate::sink::LogSink;

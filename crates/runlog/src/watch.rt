@@ -4,9 +4,10 @@ ghost use Rattle.gateway.specs.Ports.{FitsBuffer, output_of};
 ghost use Rattle.runlog.specs.Traffic.{new_traffics};
 ghost use Rattle.runlog.specs.Watching as spec;
 
-use crate::ends::{ConnectionWatch, LineWatch, ListenerWatch, OpenConnection};
+use crate::ends::{ConnectionWatch, LineWatch, ListenerWatch, OpenConnection, happened};
 use crate::exchange::RequestWatch;
 use crate::inbox::Inbox;
+use crate::limit::Limit;
 use crate::note::{LogLine, Note, RunCounts, Trouble};
 use crate::queue::QueueWatch;
 use crate::stations::{StationWatch, gap};

@@ -206,18 +206,18 @@ begun_room state old new is = ap (λ (deeds : Deeds). is_renewal_due (grown deed
 
 stored_grown : (settings : List ℕ) (deeds : Deeds) (stored : Stored)
     → IsStored settings deeds stored
-    → is_kept deeds ≡ true → length stored.text ≡ grown deeds
-stored_grown settings deeds stored are kept = ap (λ (s : Stored). length s.text) (are kept)
+    → is_kept deeds ≡ true → stored.octets ≡ grown deeds
+stored_grown settings deeds stored are kept = ap (λ (s : Stored). s.octets) (are kept)
 
 pub due_by : (settings : List ℕ) (deeds : Deeds) (stored : Stored) (octets : ℕ) (is : Bool)
-    → IsStored settings deeds stored → octets ≡ length stored.text → is ≡ is_renewal_due octets
+    → IsStored settings deeds stored → octets ≡ stored.octets → is ≡ is_renewal_due octets
     → is_kept deeds ≡ true → is ≡ is_renewal_due (grown deeds)
 due_by settings deeds stored octets is are count due kept =
     due ∙ ap is_renewal_due (count ∙ stored_grown settings deeds stored are kept)
 
 pub has_failed : (settings : List ℕ) (stored : Stored) (fault : StoreFault) (events : Log)
     (loss : Loss) (old new : Deeds) → IsStored settings old stored → is_kept old ≡ true
-    → new ≡ GivenUp fault loss ∷ old → IsRefusedBy fault events (length stored.text)
+    → new ≡ GivenUp fault loss ∷ old → IsRefusedBy fault events stored.octets
     → HasFailed events loss old new
 has_failed settings stored fault events loss old new are kept failed refused = record {
   fault = fault;

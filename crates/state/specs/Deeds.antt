@@ -1,15 +1,16 @@
 -- What is done where the events of a run are kept on a disk, in one history: the gateway receives
 -- an event, its line goes to the log on the disk, the log is synced, an action is handed out
 -- (profile).
-use Rattle.std.specs.Prelude.{◌≡◌, ℕ, ◌-◌, ◌<◌, ◌⊎◌, Bool, true, false, List, [], ◌∷◌, map, Option}
+use Rattle.std.specs.Prelude.{◌≡◌, ℕ, ◌+◌, ◌-◌, ◌<◌, ◌⊎◌, Bool, true, false, List, [], ◌∷◌, map}
+use Rattle.std.specs.Prelude.{Option}
 use Rattle.std.specs.Prelude.{Some, None, IfSome, length}
 use Rattle.std.specs.Option.{is_some}
 use Rattle.gateway.specs.Log.{Log, LogEntry, Came, Went}
 use Rattle.gateway.specs.Ports.{logged_by, output_of}
 use Rattle.gateway.specs.Restored.{IsSavable}
 use Rattle.gateway.specs.State.{State, IsBetweenSteps}
-use Rattle.traces.specs.Printed.{lines_of_log}
-use Rattle.state.specs.Lines.{IsRefusedBy}
+use Rattle.traces.specs.Printed.{line_of_entry}
+use Rattle.state.specs.Lines.{IsRefusedBy, seal_octets}
 use Rattle.state.specs.declared.loss.Loss.{Loss}
 use Rattle.state.specs.declared.loss.Loss.TheVariants.{Marked}
 use Rattle.state.specs.declared.loss.StoreFault.{StoreFault}
@@ -109,9 +110,15 @@ written (Begun state ∷ deeds) = []
 written (GivenUp fault loss ∷ deeds) = written deeds
 written (PutOut action ∷ deeds) = written deeds
 
--- how many octets their lines have
+-- how many octets the log has behind its head: their lines, and a seal of 27 octets for each sync
 abbrev pub grown : Deeds → ℕ
-grown deeds = length (lines_of_log (written deeds))
+grown [] = 0
+grown (Received event ∷ deeds) = grown deeds
+grown (Appended event ∷ deeds) = grown deeds + length (line_of_entry event)
+grown (Synced ∷ deeds) = grown deeds + seal_octets
+grown (Begun state ∷ deeds) = 0
+grown (GivenUp fault loss ∷ deeds) = grown deeds
+grown (PutOut action ∷ deeds) = grown deeds
 
 -- a log was begun, and the store hasn't failed since
 abbrev pub is_kept : Deeds → Bool

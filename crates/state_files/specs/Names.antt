@@ -12,6 +12,8 @@ pub data NameStep : Type 0 where
   Made : (name : List ℕ) → (is_made : Bool) → NameStep
   Synced : (is_done : Bool) → NameStep
   Locked : (is_taken : Option Bool) → NameStep
+  Compared : (is_copy : Option Bool) → NameStep
+  Recorded : (is_done : Bool) → NameStep
 
 -- the calls so far, the newest first, where they are kept
 abbrev pub Steps : Type 0
@@ -42,6 +44,24 @@ IsMarkedAs from to before after =
     (was_there : Bool)
     × (after ≡ noted (noted (noted before (Renamed from to (Some was_there)))
     (Sought to (Some true))) (Synced true))
+
+-- The mark is made in the second place: a file of its name is there, and then the names are synced.
+abbrev pub IsMarkedBeside : (before after : Steps) → Type 0
+IsMarkedBeside before after =
+    after ≡ noted (noted before (Made (codes "stale") true)) (Synced true)
+
+-- The mark is taken away behind a note of which files stand here: that is on the disk before.
+abbrev pub IsMadeGood : (before after : Steps) → Type 0
+IsMadeGood before after =
+    IsMarkedAs (codes "stale") (codes "kept") (noted before (Recorded true)) after
+
+-- No mark stands there: there was none, or it got another name, and then the names were synced.
+pub data HasNoneBeside (before after : Steps) : Type 0 where
+  Absent : after ≡ noted before (Sought (codes "stale") (Some false)) → HasNoneBeside before after
+  Taken : (was_there : Bool) → after ≡ noted (noted (noted before
+      (Sought (codes "stale") (Some true)))
+      (Renamed (codes "stale") (codes "kept") (Some was_there))) (Synced true)
+      → HasNoneBeside before after
 
 -- A file that says that the state is good stands there, or one that says that it isn't. Where none
 -- stood there, the first is made, and the names are synced.

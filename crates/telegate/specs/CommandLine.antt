@@ -8,6 +8,9 @@ use Rattle.clap.specs.declared.builder.arg.Arg.{Arg}
 use Rattle.clap.specs.declared.builder.command.Command.{Command}
 use Rattle.clap.specs.declared.builder.command.Command.TheViews.{out-Command}
 use Rattle.clap.specs.declared.builder.action.ArgAction.TheVariants.{Append, Set, SetTrue}
+use Rattle.telegate.specs.declared.command_line.CommandWord.{CommandWord}
+use Rattle.telegate.specs.declared.command_line.CommandWord.TheVariants.{Needed, Further, Flag}
+use Rattle.telegate.specs.declared.command_line.CommandWord.TheVariants.{Single, Repeated}
 use Rattle.telegate.specs.declared.run_words.RunWords.{RunWords}
 use Rattle.telegate.specs.declared.command_line.CommandRequest.{CommandRequest}
 use Rattle.telegate.specs.declared.command_line.CommandRequest.TheVariants.{Show101, Show104, Check}
@@ -36,6 +39,13 @@ single name = record (new_rule name) { long = Some name; action = Some Set }
 -- `--name WORD`, anywhere behind the command, any number of times
 abbrev pub option : Text → Rule
 option name = record (new_rule name) { long = Some name; action = Some Append }
+
+abbrev pub rule_in : CommandWord → Rule
+rule_in (Needed name help) = word name.now
+rule_in (Further name help) = further_word name.now
+rule_in (Flag name help) = flag name.now
+rule_in (Single name help) = single name.now
+rule_in (Repeated name help) = option name.now
 
 -- a command with these words and flags, in this order
 abbrev pub with_all : List Rule → App → App

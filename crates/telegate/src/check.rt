@@ -16,7 +16,7 @@ use std::io::Write;
 use traces::print;
 
 /// How settings are judged.
-#[derive(Clone, Copy, PartialEq, Eq)]
+#[derive(Clone, Copy)]
 pub struct Checking {
     /// As for a live run, which needs the keys of `live`.
     pub live: bool,

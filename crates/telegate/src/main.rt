@@ -43,6 +43,7 @@ mod living;
 mod manner;
 mod performing;
 mod piping;
+mod place;
 mod play_laws;
 mod playing;
 mod printed;

@@ -7,7 +7,7 @@ use std::env::VarError;
 use words::{LineSizes, Style};
 
 /// How what passes in a run is printed.
-#[derive(Clone, Copy, PartialEq, Eq)]
+#[derive(Clone, Copy)]
 pub enum Manner {
     /// A line for each action, as a trace has them.
     Lines,

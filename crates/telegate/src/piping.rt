@@ -22,7 +22,7 @@ use words::{
 };
 
 /// What frames come by a pipe.
-#[derive(Clone, Copy, PartialEq, Eq)]
+#[derive(Clone, Copy)]
 pub(crate) enum Piped {
     /// Those of a line whose addresses have these sizes.
     Line(LineSizes),

@@ -19,7 +19,7 @@ use runlog::{LogSink, Logger, RunLog};
 use status::{Lookout, StreamSource};
 
 /// A run has stopped: its line has ended, or its state can't be kept where that isn't borne.
-#[derive(Clone, Copy, PartialEq, Eq)]
+#[derive(Clone, Copy)]
 pub(crate) struct DeviceFailed;
 
 /// What comes of a run beside its work: the log, the record, and how it stands, for who looks.
