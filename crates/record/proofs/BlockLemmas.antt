@@ -21,7 +21,7 @@ use Rattle.record.proofs.LineLemmas.{whole_joined}
 use Rattle.record.proofs.OpeningLemmas.{Opened, first_of, lines_of_record, masked_length}
 use Rattle.record.proofs.OpeningLemmas.{masked_right, other_ends, stays_on}
 use Rattle.record.proofs.RunLemmas.{lines_behind}
-use Rattle.record.specs.Audit.{IsAudit, IsAuditFault, IsComparison, IsUnfit, IsWrongLine, OfGiven}
+use Rattle.record.specs.Audit.{IsAudit, IsAuditFault, IsComparison, OfGiven}
 use Rattle.record.specs.Lines.{event_line, event_lines, first_state, record_lines, whole_lines}
 use Rattle.record.specs.Opening.{AreState, BeginsBehind, IsOpeningFault, IsOther}
 use Rattle.record.specs.Rerunning.{Halted, IsHalted, IsPartFault, Stands, whole_log}

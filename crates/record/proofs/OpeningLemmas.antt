@@ -3,7 +3,7 @@ use Rattle.std.proofs.Common.{◌≡◌, ℕ, ◌+◌, Bool, true, false, length
 use Rattle.std.proofs.Common.{Some, None, codes, refl, ap, sym, ◌∙◌, subst, append_assoc, arith}
 use Rattle.std.proofs.Common.{Bor, if◌then◌else◌, inl, inr}
 use Rattle.std.proofs.lemmas.List.{append-nil, length-append, length-map}
-use Rattle.std.specs.List.{AllByRecursion, count_by}
+use Rattle.std.specs.List.{count_by}
 use Rattle.std.specs.Option.{is_some, option_copied}
 use Rattle.std.specs.Prelude.{Vec, drop, ◌⊎◌}
 use Rattle.std.specs.declared.alloc.Global.{Global}
@@ -19,7 +19,7 @@ use Rattle.traces.specs.Trace.{first_wrong, lines_of}
 use Rattle.statetext.proofs.TextLemmas.{no_text}
 use Rattle.statetext.specs.Text.{lines_in}
 use Rattle.record.proofs.LineLemmas.{lines_some, none_whole}
-use Rattle.record.specs.Comparing.{AreWhole, GoesOn}
+use Rattle.record.specs.Comparing.{AreWhole}
 use Rattle.record.specs.Lines.{event_lines, first_difference, first_state, is_action, record_lines}
 use Rattle.record.specs.Lines.{says_state, whole_lines, without_state}
 use Rattle.record.specs.Opening.{AreState, BeginsBehind, IsOther, Takes}

@@ -1,13 +1,12 @@
 -- The lines of a record, passed one after another.
 use Rattle.std.proofs.Common.{◌≡◌, ℕ, ◌+◌, ◌≤◌, ◌==◌, ◌&&◌, not, cond, Bool, true, false}
 use Rattle.std.proofs.Common.{if◌then◌else◌, length, map, take, List, [], ◌∷◌, ◌++◌, Option, Some}
-use Rattle.std.proofs.Common.{None, refl, ap, sym, ◌∙◌, subst, append_assoc, arith}
-use Rattle.std.proofs.lemmas.List.{append-nil, length-append}
+use Rattle.std.proofs.Common.{None, refl, ap, sym, ◌∙◌, subst, arith}
 use Rattle.std.proofs.lemmas.List.Sums.{sum_by-cons}
 use Rattle.std.specs.List.{AllByRecursion, count_by, slice_split, cons_option}
 use Rattle.std.specs.Option.{is_none}
 use Rattle.gateway.specs.Log.{LogEntry, Came, LineIn, Opened, TcpIn, CutOff, Ticked, WallIs}
-use Rattle.gateway.specs.Ports.{logged_by, FitsBuffer}
+use Rattle.gateway.specs.Ports.{logged_by}
 use Rattle.gateway.specs.declared.ports.Next.{Next}
 use Rattle.gateway.specs.declared.ports.Next.TheVariants as answers
 use Rattle.traces.specs.Event.{Event, event_in}
@@ -15,9 +14,8 @@ use Rattle.traces.specs.Fields.{parts_after}
 use Rattle.traces.specs.Progress.{IsFirst, IsRight, came, events_in, logs_event}
 use Rattle.traces.specs.Trace.{is_skipped, is_wrong, lines_of, logged}
 use Rattle.traces.proofs.JoinedLemmas.{events_joined}
-use Rattle.record.specs.Passing.{IsKind, IsNext, IsOneLine, IsTally, Passes}
+use Rattle.record.specs.Passing.{IsKind, IsNext, IsOneLine, Passes}
 use Rattle.record.specs.Lines.{event_line, event_lines, is_action, is_cut, is_marked}
-use Rattle.record.specs.declared.audit.passing.LineKind.{LineKind}
 use Rattle.record.specs.declared.audit.passing.LineKind.TheVariants as kinds
 use Rattle.record.specs.declared.audit.passing.LineCounts.{LineCounts}
 

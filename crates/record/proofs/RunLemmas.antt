@@ -1,13 +1,13 @@
 -- A record that is run part by part.
 use Rattle.std.proofs.Common.{◌≡◌, ℕ, ◌+◌, true, cond, length, List, [], ◌∷◌, ◌++◌, Option, Some}
 use Rattle.std.proofs.Common.{None, refl, ap, sym, ◌∙◌, subst, append_assoc, arith}
-use Rattle.std.proofs.lemmas.List.{append-nil, length-append, length-map, map-append}
+use Rattle.std.proofs.lemmas.List.{append-nil, length-append, map-append}
 use Rattle.std.proofs.lemmas.List.Sums.{sum_by-append}
 use Rattle.std.specs.List.{AllByRecursion, count_by}
 use Rattle.std.specs.Option.{is_none}
 use Rattle.gateway.specs.Agrees.{Follows, Rests}
 use Rattle.gateway.specs.Config.{Settings}
-use Rattle.gateway.specs.Log.{Log, LogEntry, Came, Went, Output, events_of}
+use Rattle.gateway.specs.Log.{Log, Went, Output, events_of}
 use Rattle.gateway.specs.Ports.{logged_by}
 use Rattle.gateway.specs.Setups.{setup_of}
 use Rattle.gateway.specs.State.{State}

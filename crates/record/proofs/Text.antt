@@ -4,7 +4,7 @@ use Rattle.std.proofs.Common.{None, IfSome, refl, sym, ap, subst, ◌∙◌, app
 use Rattle.std.proofs.lemmas.List.{append-nil, reverse-reverse}
 use Rattle.std.specs.List.{AllByRecursion}
 use Rattle.std.specs.Prelude.{is_err, Result, Ok, Err, OnOk}
-use Rattle.gateway.specs.Log.{Log, LogEntry, with_news}
+use Rattle.gateway.specs.Log.{Log, with_news}
 use Rattle.gateway.specs.Ports.{logged_by}
 use Rattle.gateway.specs.declared.ports.Next.{Next}
 use Rattle.traces.specs.Printed.{IsPrintable, entries_in, line_of_entry, lines_of_log}
@@ -12,7 +12,7 @@ use Rattle.traces.specs.Progress.{all_logged}
 use Rattle.record.specs.Law.{grows_by}
 use Rattle.record.specs.Recording.{Recording, IsKept, Gives, Receives, Notes, added, text_of}
 use Rattle.record.specs.Recording.{log_of}
-use Rattle.record.specs.Recording.{logged_behind, unless_over, passed, given, held_by, held_or_over}
+use Rattle.record.specs.Recording.{logged_behind, passed, given, held_by, held_or_over}
 use Rattle.record.specs.Written.{log_in, IsText, IsWritten, AreLines}
 
 -- two texts behind one another

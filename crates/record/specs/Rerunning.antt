@@ -1,13 +1,13 @@
 -- How a record is run, part by part (this gateway's own profile). The run's log is stored nowhere:
 -- only proofs know it.
-use Rattle.std.specs.Prelude.{◌≡◌, ℕ, ◌+◌, List, [], ◌++◌, length, count_by, Option, Some, None}
+use Rattle.std.specs.Prelude.{◌≡◌, ℕ, ◌+◌, List, ◌++◌, length, count_by, Option, Some, None}
 use Rattle.std.specs.List.{AllByRecursion}
-use Rattle.gateway.specs.Agrees.{Follows, Rests}
+use Rattle.gateway.specs.Agrees.{Follows}
 use Rattle.gateway.specs.Config.{Settings}
 use Rattle.gateway.specs.Log.{Log, events_of}
 use Rattle.gateway.specs.Setups.{setup_of}
 use Rattle.gateway.specs.State.{State}
-use Rattle.gateway.specs.Traffic.{IsFaithful, HasRested}
+use Rattle.gateway.specs.Traffic.{HasRested}
 use Rattle.traces.specs.Fields.{parts_after}
 use Rattle.traces.specs.Printed.{IsPrintable, lines_of_log}
 use Rattle.traces.specs.Progress.{events_in, IsRight}

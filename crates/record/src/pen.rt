@@ -75,6 +75,33 @@ fn state_text(alloc: Global, gateway: &Gateway) -> Result<Vec<u8>, StateFault> {
     Ok(text)
 }
 
+/// Gives a sheet the state of a gateway, line by line.
+fn put_state<W: RecordSheet>(
+    alloc: Global,
+    sheet: &mut W,
+    gateway: &Gateway,
+) -> Result<(), StateFault>
+    ensures taken { W.taken sheet.new ≡ W.taken sheet.old }
+    ensures missed { W.missed sheet.new ≡ W.missed sheet.old }
+{
+    let text = state_text(alloc, gateway)?;
+    let mut row = Vec::new(alloc);
+    let mut left = text.as_slice();
+    'putting: for _ in 0..text.len() {
+        let (line, rest) = cut(left, b'\n');
+        let Some(behind) = rest else {
+            return Ok(());
+        };
+        row.clear();
+        row.extend_from_slice(b"# state: ")?;
+        row.extend_from_slice(line)?;
+        row.extend_from_slice(b"\n")?;
+        sheet.preface(row.as_slice());
+        left = behind;
+    }
+    Ok(())
+}
+
 impl<W: RecordSheet + Drop> Pen<W> {
     /// One that writes to this sheet, which hasn't missed anything, at first these lines.
     pub fn new(alloc: Global, sheet: W, first: Vec<u8>) -> Pen<W>
@@ -124,33 +151,11 @@ impl<W: RecordSheet + Drop> Pen<W> {
         if self.is_over {
             return;
         }
-        if self.put_state(gateway).is_err() {
+        if put_state(self.alloc, &mut self.sheet, gateway).is_err() {
             // Without memory an audit is told so (docs/DECISIONS.md, "A record begins with its
             // state").
             self.sheet.preface(b"# left out: the state\n");
         }
-    }
-
-    /// Writes a state down, line by line.
-    fn put_state(&mut self, gateway: &Gateway) -> Result<(), StateFault>
-        ensures { self.new ≡ self.old }
-    {
-        let text = state_text(self.alloc, gateway)?;
-        let mut row = Vec::new(self.alloc);
-        let mut left = text.as_slice();
-        'putting: for _ in 0..text.len() {
-            let (line, rest) = cut(left, b'\n');
-            let Some(behind) = rest else {
-                return Ok(());
-            };
-            row.clear();
-            row.extend_from_slice(b"# state: ")?;
-            row.extend_from_slice(line)?;
-            row.extend_from_slice(b"\n")?;
-            self.sheet.preface(row.as_slice());
-            left = behind;
-        }
-        Ok(())
     }
 
     /// The record is over: nothing is written down any more.

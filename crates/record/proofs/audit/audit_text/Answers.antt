@@ -1,4 +1,4 @@
-use Rattle.std.proofs.Common.{◌≡◌, ◌++◌, Bool, false, List, ℕ, Option, sym, subst, ◌∙◌}
+use Rattle.std.proofs.Common.{◌++◌, Bool, false, sym, subst, ◌∙◌}
 use Rattle.std.specs.Option.{option_copied}
 use Rattle.gateway.specs.Setups.{setup_of}
 use Rattle.traces.specs.Fields.{parts_after}

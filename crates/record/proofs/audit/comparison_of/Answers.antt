@@ -1,6 +1,5 @@
-use Rattle.std.proofs.Common.{◌≡◌, ℕ, List, ap, sym, ◌∙◌, subst}
+use Rattle.std.proofs.Common.{◌≡◌, ap, sym, ◌∙◌, subst}
 use Rattle.record.specs.Audit.{IsComparison, comparison_at}
-use Rattle.record.specs.declared.audit.Comparison.{Comparison}
 use Rattle.record.proofs.CompareLemmas.{logged_behind, logged_level, logged_off}
 use Rattle.record.proofs.audit.comparison_of.Goals as goal
 

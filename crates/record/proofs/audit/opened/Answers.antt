@@ -1,10 +1,10 @@
-use Rattle.std.proofs.Common.{◌≡◌, ◌++◌, [], List, ℕ, None, Option, IfErr, ap, inl, inr, sym, ◌∙◌}
+use Rattle.std.proofs.Common.{◌++◌, [], List, ℕ, IfErr, ap, inl, inr, sym, ◌∙◌}
 use Rattle.std.proofs.Common.{subst}
-use Rattle.std.specs.Option.{is_some, option_copied}
+use Rattle.std.specs.Option.{option_copied}
 use Rattle.traces.specs.Fields.{parts_after}
 use Rattle.record.proofs.BlockLemmas.{AreOf, as_err, opened_audits, opened_stops, opened_unfit}
 use Rattle.record.proofs.BlockLemmas.{reads_on}
-use Rattle.record.proofs.OpeningLemmas.{Opened, opened_first, opened_goes, opened_on, other_stays}
+use Rattle.record.proofs.OpeningLemmas.{opened_first, opened_goes, opened_on, other_stays}
 use Rattle.record.proofs.OpeningLemmas.{none_left, stands_first}
 use Rattle.record.specs.Audit.{IsAuditFault}
 use Rattle.record.specs.Lines.{first_state}

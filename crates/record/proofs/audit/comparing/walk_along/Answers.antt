@@ -1,7 +1,7 @@
-use Rattle.std.proofs.Common.{◌≡◌, ◌∷◌, ℕ, List, [], false, true, ap, sym, ◌∙◌}
+use Rattle.std.proofs.Common.{◌≡◌, ◌∷◌, [], ap, sym, ◌∙◌}
 use Rattle.std.specs.Option.{option_copied}
 use Rattle.traces.specs.Fields.{parts_after}
-use Rattle.record.specs.Lines.{is_cut, whole_lines}
+use Rattle.record.specs.Lines.{whole_lines}
 use Rattle.record.proofs.CompareLemmas.{counted_on, goes_behind, goes_cut, goes_off, goes_over}
 use Rattle.record.proofs.CompareLemmas.{goes_same, left_next}
 use Rattle.record.proofs.LineLemmas.{later_whole, whole_first, whole_none}

@@ -1,5 +1,4 @@
-use Rattle.std.proofs.Common.{sym, ap, ◌∙◌}
-use Rattle.traces.specs.Trace.{lines_of}
+use Rattle.std.proofs.Common.{sym}
 use Rattle.record.proofs.LineLemmas.{last_part, no_part}
 use Rattle.record.proofs.audit.passing.part_of.Goals as goal
 
