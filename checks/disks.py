@@ -27,7 +27,7 @@ import time
 
 import ends
 import kept
-from kept import PAUSE, alone, drained, gaps, has_gone_round, numbered, queue_up, quiet, resets_of, until
+from kept import PAUSE, alone, drained, gaps, has_gone_round, looked, numbered, queue_up, quiet, resets_of, until
 from outstations import CONFIRMATION, Operator, command
 
 SECTOR = 512
@@ -521,6 +521,7 @@ def fails_at_a_start(count, program, name):
         gateway.start()
         is_known = gateway.waits("stale")
         got = drained(gateway, numbered(gateway, 1, 2))
+        has_gone_round(gateway)
         told = gateway.kill()
         count.judge(f"{name} at a start: the next one knows it", is_known and gaps(told) == [1, 2], told)
         count.judge(f"{name} at a start: what was kept comes", all(numbers[:2] == [1, 2] for numbers in got.values()), got)
@@ -618,7 +619,7 @@ def mark_unseen(count, program):
         until(lambda: case.gateway.process.poll() is not None or "listening" in case.gateway.logged(), 20)
         has_gone_round(case.gateway, 1)
         told = case.gateway.kill()
-        count.judge("a mark that can't be looked for", "goes on" not in told or "stale" in told, told)
+        count.judge("a mark that can't be looked for", "state: goes on" not in told or "stale" in told, told)
         count.judge("something is said of it", "state" in told, told)
         case.field.server.close()
 
