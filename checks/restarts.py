@@ -140,7 +140,8 @@ def what_is_shown(count, program, **more):
         shown, _, _ = looked(case.gateway, case.gateway.state)
         found = [re.match(r"(.*) of type \d+ to (\d+)/(\d+), given up at a start$", line) for line in shown]
         seen = sorted((it[1], int(it[2]), int(it[3])) for it in found if it)
-        count.compare("what is given up", seen, sorted((what, *target) for what, target in case.waiting()))
+        wanted = [*(("command without an answer", target) for target in case.on_the_line()), *case.waiting()]
+        count.compare("what is given up", seen, sorted((what, *target) for what, target in wanted))
         for station, _ in case.on_the_line():
             row = row_of(shown, station)
             count.judge(f"the command on the line to {station}", "command without an answer, given up at a start" in row, shown)

@@ -18,30 +18,24 @@ use Rattle.traces.specs.Trace.{first_wrong}
 use Rattle.traces.proofs.BlockLemmas.{gives_last, gives_on, gives_some, more_behind}
 use Rattle.traces.proofs.JoinedLemmas.{wrong_before, wrong_behind}
 use Rattle.record.proofs.LineLemmas.{whole_joined}
-use Rattle.record.proofs.OpeningLemmas.{first_of, lines_of_record, other_ends, stays_on}
+use Rattle.record.proofs.OpeningLemmas.{Opened, first_of, lines_of_record, masked_length}
+use Rattle.record.proofs.OpeningLemmas.{masked_right, other_ends, stays_on}
 use Rattle.record.proofs.RunLemmas.{lines_behind}
 use Rattle.record.specs.Audit.{IsAudit, IsAuditFault, IsComparison, IsUnfit, IsWrongLine, OfGiven}
 use Rattle.record.specs.Lines.{event_line, event_lines, first_state, record_lines, whole_lines}
 use Rattle.record.specs.Opening.{AreState, BeginsBehind, IsOpeningFault, IsOther}
-use Rattle.record.specs.Rerunning.{Halted, IsHalted, IsPartFault, Stands, passed}
+use Rattle.record.specs.Rerunning.{Halted, IsHalted, IsPartFault, Stands, whole_log}
 use Rattle.record.specs.Steps.{AuditsTo, Reads, StaysOther, masked}
 use Rattle.record.specs.declared.audit.RecordFault.{RecordFault}
 use Rattle.record.specs.declared.audit.RecordFault.TheVariants as faults
 use Rattle.record.specs.declared.audit.Comparison.{Comparison}
 use Rattle.record.specs.declared.audit.comparing.Agreement.{Agreement}
+use Rattle.record.specs.declared.audit.opening.FirstLines.{FirstLines}
 
 -- the lines of a block
 pub record AreOf (block : List ℕ) (over : Bool) (part : Option (List ℕ)) : Type 0 where
   pub last : over ≡ true → parts_after 10 part ≡ whole_lines block
   pub other : over ≡ false → part ≡ Some block
-
--- nothing was read yet
-pub reads_none : (known coming : Option (List ℕ)) → coming ≡ known → Reads known coming false []
-reads_none known coming same = record {
-  octets = [];
-  are = λ rest gives. subst (λ (k : Option (List ℕ)). Gives k rest) same gives;
-  whole = λ rest. refl;
-}
 
 -- a block more was read
 module _ (known coming : Option (List ℕ)) (all : List (List ℕ)) (so : Reads known coming false all)
@@ -110,7 +104,7 @@ pub audit_on : (settings : Settings) (past : Log) (known coming : Option (List �
     → Stands settings (first_state so.first) ((masked so.first ++ so.rest) ++ part) ended after
     stood
     → (BeginsBehind settings (first_state so.first) after.past
-    → IsFaithful (setup_of settings) (passed after))
+    → IsFaithful (setup_of settings) (whole_log after))
     → IsHalted after → after.past ≡ h.past
     → AuditsTo settings past known later over ended after stood
 audit_on settings past known coming state h standing over later so part reads ended after stood
@@ -135,13 +129,13 @@ pub audit_ends : (settings : Settings) (past : Log) (known coming : Option (List
     → AuditsTo settings past known coming over state h standing → (found : Comparison)
     → ((said : List ℕ) (lines : List (List ℕ))
     → Stands settings said lines state h standing → IsComparison lines h.log found)
-    → (IsFaithful (setup_of settings) (passed h) → KeepsOrder (passed h))
-    → (IsFaithful (setup_of settings) (passed h) → Delivers (setup_of settings) (passed h))
+    → (IsFaithful (setup_of settings) (whole_log h) → KeepsOrder (whole_log h))
+    → (IsFaithful (setup_of settings) (whole_log h) → Delivers (setup_of settings) (whole_log h))
     → OfGiven known (λ text. IsAudit settings past text found)
-audit_ends settings past known coming state h standing false is so found comparison ordered
-    delivers = cc
-audit_ends settings past known coming state h standing true is so found comparison ordered
+audit_ends settings past known coming state h standing over is audited found comparison ordered
     delivers =
+    let so : AuditsTo settings past known coming true state h standing =
+    subst (λ (b : Bool). AuditsTo settings past known coming b state h standing) is audited in
     let text = so.reads.octets in
     let whole : whole_lines text ≡ so.first ++ so.rest = so.reads.whole in
     let said : first_state so.first ≡ first_state (whole_lines text) =
@@ -155,9 +149,9 @@ audit_ends settings past known coming state h standing true is so found comparis
     (subst (λ (s : List ℕ). Stands settings s (masked so.first ++ so.rest) state h standing) said
     so.stands) in
     let faithful : BeginsBehind settings (first_state (whole_lines text)) h.past
-    → IsFaithful (setup_of settings) (passed h) =
+    → IsFaithful (setup_of settings) (whole_log h) =
     subst (λ (s : List ℕ). BeginsBehind settings s h.past
-    → IsFaithful (setup_of settings) (passed h)) said so.faithful in
+    → IsFaithful (setup_of settings) (whole_log h)) said so.faithful in
     record {
       text = text;
       given = so.reads.are;
@@ -244,6 +238,56 @@ audit_unfit settings known coming over first rest reads says other count counted
     faults.Unread wrong = tt
 audit_unfit settings known coming over first rest reads says other count counted said same
     faults.NoMemory wrong = tt
+
+-- ---- The first block of lines that say no state
+
+-- what was said is no state
+pub opened_unfit : (settings : Settings) (known later : Option (List ℕ)) (over : Bool)
+    (f : FirstLines) (left : List (List ℕ)) → Opened known later over f left
+    → StaysOther over left → (fault : RecordFault)
+    → IsOpeningFault settings f.said.items f.count fault → IsAuditFault settings known fault
+opened_unfit settings known later over f left o other fault wrong =
+    audit_unfit settings known later over o.first left o.reads o.says other f.count o.counted
+    f.said.items o.said fault wrong
+
+-- a line of the rest is wrong
+pub opened_stops : (settings : Settings) (known later : Option (List ℕ)) (over : Bool)
+    (f : FirstLines) (left : List (List ℕ)) → Opened known later over f left
+    → StaysOther over left → (count : ℕ) → count ≡ f.count
+    → (fault : RecordFault) → IsPartFault count left fault → IsAuditFault settings known fault
+opened_stops settings known later over f left o other count same fault wrong =
+    audit_stops settings known later over o.first [] left
+    (subst (λ (ls : List (List ℕ)). Reads known later over (ls ++ left))
+    (sym (append-nil o.first)) o.reads)
+    o.says other count
+    (ap (λ ls. first_wrong 1 (event_lines ls)) (append-nil (masked o.first))
+    ∙ masked_right 1 o.first)
+    (same ∙ o.counted ∙ sym (masked_length o.first)
+    ∙ ap length (sym (append-nil (masked o.first))))
+    fault wrong
+
+-- the rest was run
+pub opened_audits : (settings : Settings) (past : Log) (known later : Option (List ℕ))
+    (over : Bool) (f : FirstLines) (left : List (List ℕ)) (o : Opened known later over f left)
+    → StaysOther over left → (ended : State) (after : Halted) (stood : Agreement)
+    → Stands settings (first_state o.first) (masked o.first ++ left) ended after stood
+    → (BeginsBehind settings (first_state o.first) after.past
+    → IsFaithful (setup_of settings) (whole_log after))
+    → IsHalted after → after.past ≡ past
+    → AuditsTo settings past known later over ended after stood
+opened_audits settings past known later over f left o other ended after stood stands faithful
+    halted same =
+    record {
+      first = o.first;
+      rest = left;
+      reads = o.reads;
+      says = o.says;
+      other = other;
+      stands = stands;
+      faithful = faithful;
+      halted = halted;
+      came = same;
+    }
 
 -- what is promised of a fault that is passed on
 pub as_err : {T : Type 0} (P : Result T RecordFault → Type 0) (r : Result T RecordFault)

@@ -1,10 +1,11 @@
 -- The first lines of a record, which say state.
 use Rattle.std.proofs.Common.{◌≡◌, ℕ, ◌+◌, Bool, true, false, length, List, [], ◌∷◌, ◌++◌, Option}
 use Rattle.std.proofs.Common.{Some, None, codes, refl, ap, sym, ◌∙◌, subst, append_assoc, arith}
-use Rattle.std.proofs.Common.{if◌then◌else◌}
+use Rattle.std.proofs.Common.{Bor, if◌then◌else◌, inl, inr}
 use Rattle.std.proofs.lemmas.List.{append-nil, length-append, length-map}
 use Rattle.std.specs.List.{AllByRecursion, count_by}
-use Rattle.std.specs.Prelude.{Vec, drop}
+use Rattle.std.specs.Option.{is_some, option_copied}
+use Rattle.std.specs.Prelude.{Vec, drop, ◌⊎◌}
 use Rattle.std.specs.declared.alloc.Global.{Global}
 use Rattle.gateway.specs.Agrees.{Follows}
 use Rattle.gateway.specs.Config.{Settings}
@@ -15,11 +16,13 @@ use Rattle.gateway.specs.Traffic.{HasRested}
 use Rattle.traces.specs.Fields.{parts_after}
 use Rattle.traces.specs.Progress.{events_in}
 use Rattle.traces.specs.Trace.{first_wrong, lines_of}
+use Rattle.statetext.proofs.TextLemmas.{no_text}
+use Rattle.statetext.specs.Text.{lines_in}
 use Rattle.record.proofs.LineLemmas.{lines_some, none_whole}
 use Rattle.record.specs.Comparing.{AreWhole, GoesOn}
 use Rattle.record.specs.Lines.{event_lines, first_difference, first_state, is_action, record_lines}
 use Rattle.record.specs.Lines.{says_state, whole_lines, without_state}
-use Rattle.record.specs.Opening.{AreState, BeginsBehind, IsOther, IsStateBehind, Takes}
+use Rattle.record.specs.Opening.{AreState, BeginsBehind, IsOther, Takes}
 use Rattle.record.specs.Rerunning.{Halted, Stands}
 use Rattle.record.specs.Steps.{Reads, StaysOther, masked}
 use Rattle.record.specs.declared.audit.comparing.Agreement.TheVariants.{Level}
@@ -65,14 +68,23 @@ stays_on true rest part other = other part
 stays_on false rest part other = λ more.
     subst IsOther (sym (append_assoc rest part more)) (other (part ++ more))
 
+-- a part without lines
+pub none_left : (left : Option (Bor (List ℕ))) → is_some left ≡ false
+    → parts_after 10 (option_copied left) ≡ []
+none_left None is = refl
+none_left (Some text) is = cc
+
 -- the lines that are left say no state, and are some unless no line is to come
-pub other_stays : (over : Bool) (left : Option (List ℕ)) → (over ≡ false → left ≡ None → ⊥)
-    → IsOther (parts_after 10 left) → StaysOther over (parts_after 10 left)
+pub other_stays : (over : Bool) (left : Option (Bor (List ℕ)))
+    → (is_some left ≡ true) ⊎ (over ≡ true)
+    → IsOther (parts_after 10 (option_copied left))
+    → StaysOther over (parts_after 10 (option_copied left))
 other_stays true left some other = other
-other_stays false None some other = absurd (some refl refl)
+other_stays false None (inl some) other = cc
+other_stays false None (inr over) other = cc
 other_stays false (Some text) some other = λ more.
-    let some_lines = lines_some text in
-    some_other (lines_of text) more
+    let some_lines = lines_some text.now in
+    some_other (lines_of text.now) more
     (λ none. let two : [] ≡ some_lines.0 ∷ some_lines.1.0 = sym none ∙ some_lines.1.1 in cc) other
   where
     some_other : (lines more : List (List ℕ)) → (lines ≡ [] → ⊥) → IsOther lines
@@ -132,6 +144,21 @@ pub record Opened (known coming : Option (List ℕ)) (over : Bool) (f : FirstLin
   pub said : f.said.items ≡ first_state first
   pub counted : f.count ≡ length first
 
+-- nothing was read yet
+pub opened_first : (known : Option (List ℕ)) (f : FirstLines) → f.said.items ≡ []
+    → f.count ≡ 0 → Opened known known false f []
+opened_first known f none zero = record {
+  first = [];
+  reads = record {
+    octets = [];
+    are = λ rest gives. gives;
+    whole = λ rest. refl;
+  };
+  says = tt;
+  said = none;
+  counted = zero;
+}
+
 pub opened_on : (known coming later : Option (List ℕ)) (over : Bool) (f new : FirstLines)
     (part left : List (List ℕ)) (so : Opened known coming false f [])
     → Reads known later over ((so.first ++ []) ++ part) → Takes f part new left
@@ -147,12 +174,23 @@ opened_on known coming later over f new part left so reads takes = record {
   counted = omega (arith, takes.counted, so.counted, length-append so.first takes.front);
 }
 
+-- no line is left, and others are to come
+pub opened_goes : (known later : Option (List ℕ)) (over : Bool) (f : FirstLines)
+    (left : List (List ℕ)) → Opened known later over f left → over ≡ false → left ≡ []
+    → Opened known later false f []
+opened_goes known later over f left o goes none =
+    subst (λ (b : Bool). Opened known later b f []) goes
+    (subst (λ (ls : List (List ℕ)). Opened known later over f ls) none o)
+
 -- ---- How the run begins
 
 -- what stands for lines of state says nothing
-masked_right : (n : ℕ) (first : List (List ℕ)) → first_wrong n (event_lines (masked first)) ≡ None
+pub masked_right : (n : ℕ) (first : List (List ℕ)) → first_wrong n (event_lines (masked first)) ≡ None
 masked_right n [] = refl
 masked_right n (line ∷ first) = masked_right (n + 1) first
+
+pub masked_length : (first : List (List ℕ)) → length (masked first) ≡ length first
+masked_length first = length-map first (λ _. codes "!")
 
 masked_events : (first : List (List ℕ)) → events_in (event_lines (masked first)) ≡ []
 masked_events [] = refl
@@ -200,14 +238,8 @@ stands_first settings first count past state h ahead is counted none begins =
       );
     })
 
--- nothing was said: the run begins anew
-pub begins_anew : (settings : Settings) (said : List ℕ) (past : Log) → said ≡ []
-    → BeginsBehind settings said past → past ≡ []
-begins_anew settings [] past none begins = begins
-begins_anew settings (octet ∷ said) past none begins = cc
-
--- else with the state that was
-pub begins_with : (settings : Settings) (said : List ℕ) (past : Log) → (said ≡ [] → ⊥)
-    → BeginsBehind settings said past → IsStateBehind settings said past
-begins_with settings [] past some begins = absurd (some refl)
-begins_with settings (octet ∷ said) past some begins = begins
+-- what says lines isn't empty
+pub said_some : (said line : List ℕ) (lines : List (List ℕ)) → lines_in said ≡ line ∷ lines
+    → said ≡ [] → ⊥
+said_some said line lines some none =
+    let wrong : [] ≡ line ∷ lines = sym no_text ∙ sym (ap lines_in none) ∙ some in cc

@@ -27,7 +27,7 @@ use Rattle.record.specs.Passing.{IsNext}
 use Rattle.record.specs.Lines.{event_line, event_lines, is_action, whole_lines}
 use Rattle.record.specs.Opening.{BeginsBehind}
 use Rattle.record.specs.Rerunning.{Halted, IsHalted, Rerunning, IsRerunning, RunsSoFar, Stands}
-use Rattle.record.specs.Rerunning.{passed}
+use Rattle.record.specs.Rerunning.{whole_log}
 use Rattle.record.specs.declared.audit.comparing.Agreement.{Agreement}
 use Rattle.record.specs.declared.audit.passing.LineCounts.{LineCounts}
 
@@ -202,8 +202,8 @@ pub part_run : (settings : Settings) (said : List ℕ) (lines : List (List ℕ))
     }
     → RunsSoFar settings said lines began h → IsRerunning r → fixed_of r ≡ fixed_of start
     → is_none r.left ≡ true
-    → (BeginsBehind settings said h.past → Follows (setup_of settings) ended (Some (passed r.now)))
-    → (BeginsBehind settings said h.past → HasRested (setup_of settings) (passed r.now))
+    → (BeginsBehind settings said h.past → Follows (setup_of settings) ended (Some (whole_log r.now)))
+    → (BeginsBehind settings said h.past → HasRested (setup_of settings) (whole_log r.now))
     → RunsSoFar settings said (lines ++ parts_after 10 part) ended r.now
 part_run settings said lines began ended h start r part fresh so holds fixed over follows rests =
     let none : r.left ≡ None = none_left r.left over in
@@ -267,8 +267,8 @@ pub part_stands : (settings : Settings) (said : List ℕ) (lines : List (List �
     → start ≡ record { part = part; start = h; left = part; now = h; page = []; failed = 0 }
     → Stands settings said lines began h standing → IsRerunning r → fixed_of r ≡ fixed_of start
     → is_none r.left ≡ true
-    → (BeginsBehind settings said h.past → Follows (setup_of settings) ended (Some (passed r.now)))
-    → (BeginsBehind settings said h.past → HasRested (setup_of settings) (passed r.now))
+    → (BeginsBehind settings said h.past → Follows (setup_of settings) ended (Some (whole_log r.now)))
+    → (BeginsBehind settings said h.past → HasRested (setup_of settings) (whole_log r.now))
     → page ≡ r.page
     → IsCompared (lines ++ parts_after 10 part) (whole_lines (lines_of_log h.log)
     ++ whole_lines page) stood
@@ -290,11 +290,11 @@ pub goes_on : (settings : Settings) (said : List ℕ) (lines : List (List ℕ)) 
     (h : Halted) (start : Rerunning) (part : Option (List ℕ))
     → start ≡ record { part = part; start = h; left = part; now = h; page = []; failed = 0 }
     → RunsSoFar settings said lines state h → BeginsBehind settings said h.past
-    → Follows (setup_of settings) state (Some (passed start.now))
-    × Rests (setup_of settings) (Some (passed start.now))
+    → Follows (setup_of settings) state (Some (whole_log start.now))
+    × Rests (setup_of settings) (Some (whole_log start.now))
 goes_on settings said lines state h start part fresh so begins = (
-  subst (λ (r : Rerunning). Follows (setup_of settings) state (Some (passed r.now))) (sym fresh)
+  subst (λ (r : Rerunning). Follows (setup_of settings) state (Some (whole_log r.now))) (sym fresh)
       (so.follows begins),
-  subst (λ (r : Rerunning). Rests (setup_of settings) (Some (passed r.now))) (sym fresh)
+  subst (λ (r : Rerunning). Rests (setup_of settings) (Some (whole_log r.now))) (sym fresh)
       (so.rests begins),
 )

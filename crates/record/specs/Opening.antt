@@ -26,9 +26,9 @@ pub record IsStateBehind (settings : Settings) (said : List ℕ) (past : Log) : 
   pub rests : HasRested (setup_of settings) past
 
 -- A run begins behind this log: with the state that was said, or anew where none was.
-abbrev pub BeginsBehind : Settings → (said : List ℕ) → (past : Log) → Type 0
-BeginsBehind settings [] past = past ≡ []
-BeginsBehind settings (octet ∷ said) past = IsStateBehind settings (octet ∷ said) past
+pub record BeginsBehind (settings : Settings) (said : List ℕ) (past : Log) : Type 0 where
+  pub anew : said ≡ [] → past ≡ []
+  pub goes_on : (said ≡ [] → ⊥) → IsStateBehind settings said past
 
 -- no gateway with these settings has the state that was said
 abbrev pub IsNoState : Settings → (said : List ℕ) → Type 0

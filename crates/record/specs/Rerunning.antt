@@ -28,8 +28,8 @@ pub record Halted : Type 0 where
   pub past : Log
 
 -- all that has passed
-abbrev pub passed : Halted → Log
-passed h = h.log ++ h.past
+abbrev pub whole_log : Halted → Log
+whole_log h = h.log ++ h.past
 
 pub record IsHalted (h : Halted) : Type 0 where
   pub few : IsTally h.tally
@@ -72,8 +72,8 @@ pub record RunsSoFar (settings : Settings) (said : List ℕ) (lines : List (List
   pub passed : h.tally.lines ≡ length lines
   pub actions : h.tally.actions ≡ count_by is_action lines
   pub follows : BeginsBehind settings said h.past
-      → Follows (setup_of settings) state (Some (passed h))
-  pub rests : BeginsBehind settings said h.past → HasRested (setup_of settings) (passed h)
+      → Follows (setup_of settings) state (Some (whole_log h))
+  pub rests : BeginsBehind settings said h.past → HasRested (setup_of settings) (whole_log h)
 
 -- the same, and the lines were compared with those of the run
 pub record Stands (settings : Settings) (said : List ℕ) (lines : List (List ℕ)) (state : State)

@@ -8,7 +8,7 @@ use Rattle.gateway.specs.Traffic.{IsFaithful}
 use Rattle.traces.specs.Blocks.{Gives}
 use Rattle.record.specs.Lines.{first_state, whole_lines}
 use Rattle.record.specs.Opening.{AreState, BeginsBehind, IsOther}
-use Rattle.record.specs.Rerunning.{Halted, IsHalted, Stands, passed}
+use Rattle.record.specs.Rerunning.{Halted, IsHalted, Stands, whole_log}
 use Rattle.record.specs.declared.audit.comparing.Agreement.{Agreement}
 
 -- these octets were read, and are the record, or the rest is still to come
@@ -49,6 +49,6 @@ pub record AuditsTo (settings : Settings) (past : Log) (known coming : Option (L
   pub other : StaysOther is_over rest
   pub stands : Stands settings (first_state first) (masked first ++ rest) state h standing
   pub faithful : BeginsBehind settings (first_state first) h.past
-      → IsFaithful (setup_of settings) (passed h)
+      → IsFaithful (setup_of settings) (whole_log h)
   pub halted : IsHalted h
   pub came : h.past ≡ past

@@ -26,7 +26,7 @@ ghost use Rattle.traces.specs.Fields.{parts_after};
 ghost use Rattle.gateway.specs.State.{State};
 ghost use Rattle.record.specs.Audit.{IsAudited, IsAuditFault, IsComparison, comparison_at};
 ghost use Rattle.record.specs.Opening.{BeginsBehind};
-ghost use Rattle.record.specs.Rerunning.{IsHalted, IsPartFault, IsReadFault, Stands, passed};
+ghost use Rattle.record.specs.Rerunning.{IsHalted, IsPartFault, IsReadFault, Stands, whole_log};
 ghost use Rattle.record.specs.Steps.{AuditsTo};
 
 use self::comparing::{Agreement, compare};
@@ -118,7 +118,7 @@ fn run_part(
         (lines ++ parts_after 10 (option_copied part.entry))
         gateway.new after.halt after.standing
         × (BeginsBehind settings said after.halt.past →
-        IsFaithful (setup_of settings) (passed after.halt))
+        IsFaithful (setup_of settings) (whole_log after.halt))
         × IsHalted after.halt × (after.halt.past ≡ course.halt.past)) }
     ensures fault { IfErr result (IsPartFault course.halt.tally.lines
         (parts_after 10 (option_copied part.entry))) }

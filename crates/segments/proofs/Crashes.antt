@@ -461,10 +461,10 @@ whole_or_shut : (outcomes : List ℕ → Type 0) (number : ℕ) (body : List ℕ
 whole_or_shut outcomes number body size fits blocks kept c left = elim (kept c left) [
   | inl shut ↦ inl shut
   | inr text ↦ inr (record {
-      fits = fits;
-      text = text.0;
-      blocks = ap (λ (n : ℕ). are_blocks (n - (87 + length body))) text.1 ∙ blocks;
-    })
+    fits = fits;
+    text = text.0;
+    blocks = ap (λ (n : ℕ). are_blocks (n - (87 + length body))) text.1 ∙ blocks;
+  })
 ]
 
 pub few_or_shut : (outcomes : List ℕ → Type 0) (number octets sum remainder : ℕ) (body : List ℕ)

@@ -109,7 +109,8 @@ moved_is false c written moved = (λ is. absurd (cc), λ _. moved)
 -- the head of the log is that which stands in the file
 head_is : (c : Settings) (log : Log) (o : Origin) (trusted : Bool)
     (file : List ℕ) (head : SegmentHead) (body written : List ℕ) (lines : List (List ℕ))
-    (goes : GoesOnFrom trusted c log file o.is_moved o.damage o.gap o.given_up.items o.before.entries
+    (goes : GoesOnFrom trusted c log file o.is_moved o.damage o.gap o.given_up.items
+    o.before.entries
     o.gateway)
     → Fits head → IsFoundIn file head body → lines_in body ≡ written ∷ lines
     → AreSame goes.begins (87 + length body) goes.written written goes.lines lines
@@ -119,7 +120,8 @@ head_is c log o trusted file head body written lines goes fits found says =
 
 gone_from : (c : Settings) (log : Log) (o : Origin) (trusted : Bool)
     (file : List ℕ)
-    (goes : GoesOnFrom trusted c log file o.is_moved o.damage o.gap o.given_up.items o.before.entries
+    (goes : GoesOnFrom trusted c log file o.is_moved o.damage o.gap o.given_up.items
+    o.before.entries
     o.gateway)
     → Gone trusted c goes.written log goes.lines (log_in goes.begins file) o.gap
     o.given_up.items o.before.entries o.gateway

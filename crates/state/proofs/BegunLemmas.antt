@@ -52,7 +52,8 @@ module _ {D : Type 0} {g : Ghosts D} where
       → (goes_on ≡ false → (mark ≡ Some true) ⊎ (IsTrue (g.is_clean newest)
       → IsTrue (g.is_clean spare)
       → HasNoNewer (g.seen newest) (g.seen spare) → IsReadWhole (g.seen newest) → ⊥))
-      → (IsTrue (g.is_clean newest) → GoesOnFrom goes_on c log (g.seen newest) o.is_moved o.damage o.gap
+      → (IsTrue (g.is_clean newest) → GoesOnFrom goes_on c log (g.seen newest) o.is_moved o.damage
+      o.gap
       o.given_up.items o.before.entries o.gateway)
       → IsBegun {D = D} {g = g} c log mark (opens.Both newest spare) o
   resumed_begun c log mark newest spare o goes_on moment past is marked wins sure read reset

@@ -122,7 +122,8 @@ synced_stored settings deeds before after stored synced kept =
       held = [];
       octets = s.octets + seal_octets;
     }) (stored kept)
-    ∙ ap stored_by (sym (ap lines_of_log (all_written deeds) ∙ lines_joined (waiting deeds) (safe deeds)))
+    ∙ ap stored_by (sym (ap lines_of_log (all_written deeds)
+    ∙ lines_joined (waiting deeds) (safe deeds)))
   where
     stored_by : List ℕ → Stored
     stored_by lines = record {

@@ -158,7 +158,8 @@ pub moved_from : (trusted is_same is_moved : Bool) (damage : Option ℕ) (c : Se
     → MovedOn trusted c written log lines (log_in begins file) gap given_up whole s
     → damage ≡ damage_in begins file
     → GoesOnFrom trusted c log file is_moved damage gap given_up whole s
-moved_from trusted is_same is_moved damage c log file begins written lines gap given_up whole s head same
+moved_from trusted is_same is_moved damage c log file begins written lines gap given_up whole s head
+    same
     others other is moved damaged =
     subst (λ (m : Bool). GoesOnFrom trusted c log file m damage gap given_up whole s) (sym is)
     (record {

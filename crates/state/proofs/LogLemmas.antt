@@ -86,7 +86,8 @@ synced_counted (Ok x) first last writes late old new before octets wrote none ke
     let sealed = sealed_counted first.0 first.1 writes old before within in
     let no_more : length new ≡ 0 = ap (λ (l : List ℕ). length l) none in
     omega (arith, text, body, sealed, no_more, is)
-synced_counted (Err e) first last writes late old new before octets wrote none kept fixed is within =
+synced_counted (Err e) first last writes late old new before octets wrote none kept fixed is
+    within =
     let text : length (log_text last.0 last.1 late) ≡ length (log_text first.0 first.1 writes) =
     ap (λ (f : FixedParts). length (log_text f.0 f.1 late)) fixed
     ∙ ap (λ (ws : List (List ℕ)). length (log_text first.0 first.1 ws)) kept.0 in

@@ -1,5 +1,6 @@
 -- What is received again, line by line.
-use Rattle.std.proofs.Common.{◌≡◌, ◌∙◌, ℕ, suc, ◌≤◌, Bool, true, false, List, [], ◌∷◌, ◌++◌, length, map}
+use Rattle.std.proofs.Common.{◌≡◌, ◌∙◌, ℕ, suc, ◌≤◌, Bool, true, false, List, [], ◌∷◌, ◌++◌, length}
+use Rattle.std.proofs.Common.{map}
 use Rattle.std.proofs.Common.{Option, Some, None, ap, sym, subst, refl, append_assoc, arith}
 use Rattle.std.proofs.Common.{if◌then◌else◌}
 use Rattle.std.proofs.lemmas.List.{append-nil}
@@ -19,7 +20,8 @@ use Rattle.gateway.specs.declared.ports.Next.{Next}
 use Rattle.traces.specs.Event.{Event, event_of, event_in, line, opening, received, cut, tick, wall}
 use Rattle.traces.specs.Progress.{came}
 use Rattle.traces.specs.Trace.{lines_of, logged, is_skipped, is_wrong, first_wrong}
-use Rattle.state.specs.Replays.{AreRead, IsFirst, IsRepeating, IsReplayed, IsLogged, IsRow, Replaying}
+use Rattle.state.specs.Replays.{AreRead, IsFirst, IsRepeating, IsReplayed, IsLogged, IsRow}
+use Rattle.state.specs.Replays.{Replaying}
 use Rattle.state.specs.Replays.{ReportedGap, before_those, events_in_front, events_left, last_gap}
 use Rattle.state.specs.Replays.{lines_left, log_of}
 use Rattle.state.specs.declared.replaying.Row.TheVariants as rows

@@ -58,7 +58,8 @@ abbrev pub IsFirst : (lines others : List (List ℕ)) → Option Next → (buf :
 IsFirst [] others found buf = found ≡ None
 IsFirst (line ∷ lines) others found buf = IsLogged (logged line) found buf × (others ≡ lines)
 
--- what the first of these lines is: it logs an event that a port's answer gives, or none; or no line
+-- what the first of these lines is: it logs an event that a port's answer gives, or none; or no
+-- line
 -- is left
 abbrev pub IsRow : (lines others : List (List ℕ)) → Row → (buf : List ℕ) → Type 0
 IsRow lines others (rows.Event next) buf = IsFirst lines others (Some next) buf
@@ -118,7 +119,8 @@ last_gap (Came now event ∷ log) = None
 last_gap (Went now action ∷ log) = or_gap (gap_of action) (last_gap log)
 
 -- Unless a line couldn't be read, the events of the log, with those that are still to come, are
--- those of the log before and then those of these lines. Each of these logs an event exactly if each
+-- those of the log before and then those of these lines. Each of these logs an event exactly if
+-- each
 -- that is still to come does, and no line was broken. The gap is that of the latest step.
 pub record IsRepeating (lines : List (List ℕ)) (r : Replaying) : Type 0 where
   pub whole : r.failed ≡ 0 → events_of (log_of r) ++ events_left r.is_over r.coming

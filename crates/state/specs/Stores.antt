@@ -38,7 +38,8 @@ safe (Begun state ∷ deeds) = []
 safe (GivenUp fault loss ∷ deeds) = safe deeds
 safe (PutOut action ∷ deeds) = safe deeds
 
--- what a store says: the lines at the head of its log, those behind them that are on the disk, those
+-- what a store says: the lines at the head of its log, those behind them that are on the disk,
+-- those
 -- that wait for it, and how many octets all that is behind the head has
 pub record Stored : Type 0 where
   pub head : List (List ℕ)

@@ -35,10 +35,10 @@ use std::mem;
 const SEAL: usize = 27;
 
 /// A log in two files of a directory, which are written in turn: a segment begins with the settings
-/// and the state of a gateway, and then has lines, of which those of a sync are sealed together. The next one goes into the other file, and
-/// stands there whole before the one before is touched. A file whose write or sync failed is used
-/// no more: both are opened anew where the next segment begins, and what they have says into which
-/// one it goes.
+/// and the state of a gateway, and then has lines, of which those of a sync are sealed together. The
+/// next one goes into the other file, and stands there whole before the one before is touched. A
+/// file whose write or sync failed is used no more: both are opened anew where the next segment
+/// begins, and what they have says into which one it goes.
 #[derive(Drop)]
 pub struct DiskStore<F: Folder + Drop> {
     alloc: Global,
@@ -233,8 +233,8 @@ impl<F: Folder + Drop> DiskStore<F> {
     }
 
     /// Whatever a crash leaves now of the file of a log that was begun has what the store says of
-    /// it: the head, the lines that are synced, and nothing else but those that wait, all of them or
-    /// none. No octet of a line may be 0 or begin a seal.
+    /// it: the head, the lines that are synced, and nothing else but those that wait, all of them
+    /// or none. No octet of a line may be 0 or begin a seal.
     #[tactic(auto, using(crate::proofs::Surviving::none_survives))]
     pub fn survives(&self)
         ensures { ((stored_in self.now.opened).head ≡ [] → ⊥) →

@@ -45,8 +45,8 @@ pub trait Store {
         ensures next { next self.new ≡ next self.old }
         ensures settings { settings self.new ≡ settings self.old };
 
-    /// Seals what was appended, and syncs it. `false` says that it failed: what is on the disk isn't
-    /// known then.
+    /// Seals what was appended, and syncs it. `false` says that it failed: what is on the disk
+    /// isn't known then.
     fn sync(&mut self) -> bool
         ensures synced { result ≡ true → stored self.new ≡ record (stored self.old) {
           safe = (stored self.old).safe ++ (stored self.old).held;
@@ -63,11 +63,11 @@ pub trait Store {
     fn begin(&mut self, gateway: &Gateway) -> bool
         ensures begun { result ≡ true → stored self.new
             ≡ record {
-          head = settings self.old ∷ state_lines gateway.now;
-          safe = [];
-          held = [];
-          octets = 0;
-        } }
+              head = settings self.old ∷ state_lines gateway.now;
+              safe = [];
+              held = [];
+              octets = 0;
+            } }
         // A start can read the state there again, if the gateway is between two steps.
         ensures savable { result ≡ true → IsBetweenSteps gateway.now → IsSavable gateway.now }
         ensures mark { result ≡ true → mark self.new ≡ Some false }

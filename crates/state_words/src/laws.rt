@@ -48,8 +48,8 @@ pub fn the_first_lines_say_how_a_run_begins()
 /// What is said of a log, of every one. If no log counts, nothing stands behind the first lines.
 /// Else come a line where the given settings aren't those of the log, value by value, and how many
 /// places of the queue are taken. The number of the segment, its file and its events follow, a line
-/// if not all lines can be read, and one if damage ends the log. Then come the gateway, what a start gives up of the
-/// connection, and last the settings as they are.
+/// if not all lines can be read, and one if damage ends the log. Then come the gateway, what a
+/// start gives up of the connection, and last the settings as they are.
 pub fn a_log_is_told_whole()
     ensures none { (is_held is_stale : Bool) (given : Option (List ℕ)) (o : Sight)
         (text : List ℕ) → o.seen ≡ None → IsStateText is_held is_stale given o text →

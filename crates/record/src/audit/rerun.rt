@@ -198,10 +198,10 @@ impl<'a> Rerun<'a> {
 
 impl<'a> Port for Rerun<'a> {
     ghost use Rattle.std.specs.Prelude.{ℕ, List, Option, Some, is_none};
-    ghost use Rattle.record.specs.Rerunning.{Halted, passed};
+    ghost use Rattle.record.specs.Rerunning.{Halted, whole_log};
 
     /// All that has passed, before the record too.
-    ghost log = { λ r. Some (passed r.now) };
+    ghost log = { λ r. Some (whole_log r.now) };
 
     ghost failed = { λ r. r.failed };
 

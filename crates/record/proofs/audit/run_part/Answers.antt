@@ -7,7 +7,7 @@ use Rattle.traces.specs.Printed.{lines_of_log}
 use Rattle.record.specs.Comparing.{AreWhole}
 use Rattle.record.specs.Lines.{whole_lines}
 use Rattle.record.specs.Opening.{BeginsBehind}
-use Rattle.record.specs.Rerunning.{Halted, IsHalted, Stands, passed}
+use Rattle.record.specs.Rerunning.{Halted, IsHalted, Stands, whole_log}
 use Rattle.record.specs.declared.audit.passing.LineCounts.{LineCounts}
 use Rattle.record.proofs.LineLemmas.{page_whole}
 use Rattle.record.proofs.RunLemmas.{goes_on, part_stands, same_past}
@@ -39,7 +39,7 @@ returns-in-Finished-clause-ran c = λ settings said lines stands.
     let same : r.now.past ≡ h.past =
     same_past h start r part c.over-port.ensures c.page.ensures.holds c.drive_on.ensures.script in
     subst (λ (x : Halted). Stands settings said (lines ++ parts_after 10 part) state x stood
-    × (BeginsBehind settings said x.past → IsFaithful p (passed x)) × IsHalted x
+    × (BeginsBehind settings said x.past → IsFaithful p (whole_log x)) × IsHalted x
     × (x.past ≡ h.past))
     (sym c.halt-in-Finished.ensures) (
       part_stands settings said lines c.args.gateway.now state h start r part

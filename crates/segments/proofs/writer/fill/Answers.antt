@@ -1,4 +1,5 @@
-use Rattle.std.proofs.Common.{◌≡◌, ◌∙◌, ◌≤◌, ◌+◌, ◌*◌, refl, ap, List, ℕ, ◌++◌, drop, arith, length, subst}
+use Rattle.std.proofs.Common.{◌≡◌, ◌∙◌, ◌≤◌, ◌+◌, ◌*◌, refl, ap, List, ℕ, ◌++◌, drop, arith, length}
+use Rattle.std.proofs.Common.{subst}
 use Rattle.segments.specs.Crashes.{AreShutOr}
 use Rattle.segments.proofs.SegmentLemmas.{has_text, text_or_shut, whole_open}
 use Rattle.segments.proofs.HeldLemmas.{published_length, published_text}
@@ -63,8 +64,7 @@ returns-clause-mixed g c mixing =
     let within : c.in_ok-end.end ≤ length (g.D.Disk.seen c.prepare.new.file) =
     omega (arith, p.size, p.sized) in
     text_or_shut (g.D.Disk.may_leave c.publish.new.file) _
-    (c.in_ok-end.head.items ++ drop 87 (g.D.Disk.seen c.prepare.new.file)) _
-    (
+    (c.in_ok-end.head.items ++ drop 87 (g.D.Disk.seen c.prepare.new.file)) _ (
       has_text c.in_ok-end.end c.in_ok-end.head.items (g.D.Disk.seen c.prepare.new.file) _
           p.head some within p.blank p.text,
       published_length c.in_ok-end.head.items _ _ c.in_ok-end.size c.in_ok-end.end p.head some

@@ -16,17 +16,17 @@ returns-clause-went g c clean =
     c.restarted.ensures.gateway c.restarted.ensures.before c.restarted.ensures.follows
 
 pub returns-clause-trusted : goal.returns-clause-trusted
-returns-clause-trusted g c yes =
-    (c.links_go_on-goes_on.ensures.on (sym c.restarted.ensures.goes_on ∙ yes)).0
+returns-clause-trusted g c on =
+    (c.links_go_on-goes_on.ensures.on (sym c.restarted.ensures.goes_on ∙ on)).0
 
 pub returns-clause-whole : goal.returns-clause-whole
-returns-clause-whole g c yes =
+returns-clause-whole g c on =
     c.in_ok-arrived.ensures.whole
-    (c.links_go_on-goes_on.ensures.on (sym c.restarted.ensures.goes_on ∙ yes)).1
+    (c.links_go_on-goes_on.ensures.on (sym c.restarted.ensures.goes_on ∙ on)).1
 
 pub returns-clause-reset : goal.returns-clause-reset
-returns-clause-reset g c no =
-    elim (c.links_go_on-goes_on.ensures.off (sym c.restarted.ensures.goes_on ∙ no)) [
+returns-clause-reset g c off =
+    elim (c.links_go_on-goes_on.ensures.off (sym c.restarted.ensures.goes_on ∙ off)) [
       | inl untrusted ↦ inl untrusted
       | inr broken ↦ inr (c.in_ok-arrived.ensures.broken broken)
     ]

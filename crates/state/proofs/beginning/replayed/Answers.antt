@@ -16,8 +16,8 @@ pub returns-clause-said : goal.returns-clause-said
 returns-clause-said g c = c.in_ok-gateway.ensures.said
 
 pub returns-clause-whole : goal.returns-clause-whole
-returns-clause-whole g c yes clean =
-    let both = c.is_read_whole-is_read.ensures.whole yes in (
+returns-clause-whole g c all clean =
+    let both = c.is_read_whole-is_read.ensures.whole all in (
       subst AreRead (c.in_ok-lines.ensures.lines clean) (c.in_ok-gap.ensures.whole both.0),
       sym (c.in_ok-lines.ensures.damage clean) ∙ both.1,
     )
@@ -27,8 +27,8 @@ so_or true never = refl
 so_or false never = absurd (never refl)
 
 pub returns-clause-broken : goal.returns-clause-broken
-returns-clause-broken g c no clean whole =
-    c.is_read_whole-is_read.ensures.others no
+returns-clause-broken g c rotten clean whole =
+    c.is_read_whole-is_read.ensures.others rotten
     (so_or c.in_ok-gap.field-0.is_whole (λ broken. c.in_ok-gap.ensures.broken broken
     (subst AreRead (sym (c.in_ok-lines.ensures.lines clean)) whole.0)))
     (c.in_ok-lines.ensures.damage clean ∙ whole.1)

@@ -29,9 +29,11 @@ returns-in_err-resumed-clause-wrong g c =
     c.deref.ensures.value c.in_ok-wrote.ensures.read in
     err_of _ c.from_residual-in_err-resumed.result c.in_err-resumed.field-0.0
     c.from_residual-in_err-resumed.ensures.1 (λ wrong some clean state.
-    same_wrong c.args.config.now (g.D.Disk.seen c.go_on.new.start.newest) c.go_on.new.start.at written lines
+    same_wrong c.args.config.now (g.D.Disk.seen c.go_on.new.start.newest) c.go_on.new.start.at
+    written lines
     (head_kept (g.D.Disk.seen c.read_opening.new.start.newest)
-    (g.D.Disk.seen c.go_on.new.start.newest) c.read_opening.new.start.at c.go_on.new.start.at written
+    (g.D.Disk.seen c.go_on.new.start.newest) c.read_opening.new.start.at c.go_on.new.start.at
+    written
     lines c.go_on.ensures.same c.go_on.ensures.seen
     (c.in_ok-opening.ensures.head (c.go_on.ensures.clean clean)))
     (says_same written c.in_ok-wrote.wrote c.args.config.now read
@@ -47,9 +49,11 @@ returns-in_err-resumed-2-clause-wrong g c =
     c.deref.ensures.value c.in_ok-wrote.ensures.read in
     err_of _ c.from_residual-in_err-resumed-2.result c.in_err-resumed-2.field-0.0
     c.from_residual-in_err-resumed-2.ensures.1 (λ wrong some clean state.
-    same_wrong c.in_ok-wrote.wrote (g.D.Disk.seen c.go_on-2.new.start.newest) c.go_on-2.new.start.at written lines
+    same_wrong c.in_ok-wrote.wrote (g.D.Disk.seen c.go_on-2.new.start.newest) c.go_on-2.new.start.at
+    written lines
     (head_kept (g.D.Disk.seen c.read_opening.new.start.newest)
-    (g.D.Disk.seen c.go_on-2.new.start.newest) c.read_opening.new.start.at c.go_on-2.new.start.at written
+    (g.D.Disk.seen c.go_on-2.new.start.newest) c.read_opening.new.start.at c.go_on-2.new.start.at
+    written
     lines c.go_on-2.ensures.same c.go_on-2.ensures.seen
     (c.in_ok-opening.ensures.head (c.go_on-2.ensures.clean clean)))
     read
@@ -64,10 +68,12 @@ returns-then-resumed-clause-goes_on g c clean =
     c.deref.ensures.value c.in_ok-wrote.ensures.read in
     let r = c.in_ok-resumed.resumed in
     let e = c.in_ok-resumed.ensures in
-    stays_from r.goes_on r.is_moved r.damage c.args.config.now g.K.Lineage.log (g.D.Disk.seen c.go_on.new.start.newest) c.go_on.new.start.at written lines
+    stays_from r.goes_on r.is_moved r.damage c.args.config.now g.K.Lineage.log
+    (g.D.Disk.seen c.go_on.new.start.newest) c.go_on.new.start.at written lines
     r.gap r.given_up.items r.before.entries r.gateway
     (head_kept (g.D.Disk.seen c.read_opening.new.start.newest)
-    (g.D.Disk.seen c.go_on.new.start.newest) c.read_opening.new.start.at c.go_on.new.start.at written
+    (g.D.Disk.seen c.go_on.new.start.newest) c.read_opening.new.start.at c.go_on.new.start.at
+    written
     lines c.go_on.ensures.same c.go_on.ensures.seen
     (c.in_ok-opening.ensures.head (c.go_on.ensures.clean clean)))
     (says_same written c.in_ok-wrote.wrote c.args.config.now read
@@ -81,7 +87,8 @@ returns-then-resumed-clause-read g c on clean =
     lines_in (drop c.in_ok-opening.opening.lines.at c.in_ok-opening.opening.lines.text.items) in
     lines_read (g.D.Disk.seen c.go_on.new.start.newest) c.go_on.new.start.at written lines
     (head_kept (g.D.Disk.seen c.read_opening.new.start.newest)
-    (g.D.Disk.seen c.go_on.new.start.newest) c.read_opening.new.start.at c.go_on.new.start.at written
+    (g.D.Disk.seen c.go_on.new.start.newest) c.read_opening.new.start.at c.go_on.new.start.at
+    written
     lines c.go_on.ensures.same c.go_on.ensures.seen
     (c.in_ok-opening.ensures.head (c.go_on.ensures.clean clean)))
     (c.in_ok-resumed.ensures.whole on clean)
@@ -98,20 +105,24 @@ returns-then-is_same-clause-goes_on g c =
     let m = c.move_on.result in
     if_ok_map m (if_ok_both _ _ m e.gateway (if_ok_both _ _ m e.gap (if_ok_both _ _ m e.given_up
     (if_ok_both _ _ m e.damage (if_ok_both _ _ m e.before (if_ok_both _ _ m e.moved e.goes_on))))))
-    (λ r (gateway, gap, given_up, damage, before, moved, on) clean.
+    (λ r (gateway, (gap, (given_up, (damage, (before, (moved, on)))))) clean.
     moved_from r.goes_on c.are_same-is_same.result r.is_moved r.damage c.args.config.now
-    g.K.Lineage.log (g.D.Disk.seen c.go_on.new.start.newest) c.go_on.new.start.at written lines r.gap
+    g.K.Lineage.log (g.D.Disk.seen c.go_on.new.start.newest) c.go_on.new.start.at written lines
+    r.gap
     r.given_up.items r.before.entries r.gateway
     (head_kept (g.D.Disk.seen c.read_opening.new.start.newest)
-    (g.D.Disk.seen c.go_on.new.start.newest) c.read_opening.new.start.at c.go_on.new.start.at written
+    (g.D.Disk.seen c.go_on.new.start.newest) c.read_opening.new.start.at c.go_on.new.start.at
+    written
     lines c.go_on.ensures.same c.go_on.ensures.seen
     (c.in_ok-opening.ensures.head (c.go_on.ensures.clean clean)))
     (λ same. says_same written c.in_ok-wrote.wrote c.args.config.now read
     (c.are_same-is_same.ensures.same same))
     (λ differ. says_others written c.in_ok-wrote.wrote c.args.config.now read
     (c.are_same-is_same.ensures.others differ))
-    (λ yes. let no : true ≡ false = sym yes ∙ on ∙ c.if-resumed.false in absurd (cc)) (moved ∙ sym (ap not c.if-is_same.true))
-    (moved_so r.goes_on was.goes_on c.args.config.now c.args.config.now written g.K.Lineage.log lines _
+    (λ goes. let none : true ≡ false = sym goes ∙ on ∙ c.if-resumed.false in absurd (cc)) (moved
+    ∙ sym (ap not c.if-is_same.true))
+    (moved_so r.goes_on was.goes_on c.args.config.now c.args.config.now written g.K.Lineage.log
+    lines _
     was.gap r.gap was.given_up.items r.given_up.items was.before.entries r.before.entries
     was.gateway r.gateway (says_same written c.in_ok-wrote.wrote c.args.config.now read
     (c.are_same-is_same.ensures.same c.if-is_same.true)) (c.in_ok-resumed.ensures.went clean)
@@ -131,7 +142,8 @@ returns-then-is_same-clause-read g c =
     if_ok_map c.move_on.result c.move_on.ensures.goes_on (λ r is on clean.
     lines_read (g.D.Disk.seen c.go_on.new.start.newest) c.go_on.new.start.at written lines
     (head_kept (g.D.Disk.seen c.read_opening.new.start.newest)
-    (g.D.Disk.seen c.go_on.new.start.newest) c.read_opening.new.start.at c.go_on.new.start.at written
+    (g.D.Disk.seen c.go_on.new.start.newest) c.read_opening.new.start.at c.go_on.new.start.at
+    written
     lines c.go_on.ensures.same c.go_on.ensures.seen
     (c.in_ok-opening.ensures.head (c.go_on.ensures.clean clean)))
     (c.in_ok-resumed.ensures.whole (sym is ∙ on) clean))
@@ -144,11 +156,14 @@ returns-then-is_same-clause-reset g c =
     if_ok_map c.move_on.result c.move_on.ensures.goes_on (λ r is off.
     elim (c.in_ok-resumed.ensures.reset (sym is ∙ off)) [
       | inl untrusted ↦ inl untrusted
-      | inr rotten ↦ inr (λ clean. lines_rotten (g.D.Disk.seen c.go_on.new.start.newest) c.go_on.new.start.at written lines
+      | inr rotten ↦
+          inr (λ clean. lines_rotten (g.D.Disk.seen c.go_on.new.start.newest) c.go_on.new.start.at
+          written lines
           (head_kept (g.D.Disk.seen c.read_opening.new.start.newest)
-    (g.D.Disk.seen c.go_on.new.start.newest) c.read_opening.new.start.at c.go_on.new.start.at written
-    lines c.go_on.ensures.same c.go_on.ensures.seen
-    (c.in_ok-opening.ensures.head (c.go_on.ensures.clean clean)))
+          (g.D.Disk.seen c.go_on.new.start.newest) c.read_opening.new.start.at c.go_on.new.start.at
+          written
+          lines c.go_on.ensures.same c.go_on.ensures.seen
+          (c.in_ok-opening.ensures.head (c.go_on.ensures.clean clean)))
           (rotten clean))
     ])
 
@@ -164,12 +179,14 @@ returns-clause-goes_on g c =
     let m = c.move_on-2.result in
     if_ok_map m (if_ok_both _ _ m e.gateway (if_ok_both _ _ m e.gap (if_ok_both _ _ m e.given_up
     (if_ok_both _ _ m e.damage (if_ok_both _ _ m e.before (if_ok_both _ _ m e.moved e.goes_on))))))
-    (λ r (gateway, gap, given_up, damage, before, moved, on) clean.
+    (λ r (gateway, (gap, (given_up, (damage, (before, (moved, on)))))) clean.
     moved_from r.goes_on c.are_same-is_same.result r.is_moved r.damage c.args.config.now
-    g.K.Lineage.log (g.D.Disk.seen c.go_on-2.new.start.newest) c.go_on-2.new.start.at written lines r.gap
+    g.K.Lineage.log (g.D.Disk.seen c.go_on-2.new.start.newest) c.go_on-2.new.start.at written lines
+    r.gap
     r.given_up.items r.before.entries r.gateway
     (head_kept (g.D.Disk.seen c.read_opening.new.start.newest)
-    (g.D.Disk.seen c.go_on-2.new.start.newest) c.read_opening.new.start.at c.go_on-2.new.start.at written
+    (g.D.Disk.seen c.go_on-2.new.start.newest) c.read_opening.new.start.at c.go_on-2.new.start.at
+    written
     lines c.go_on-2.ensures.same c.go_on-2.ensures.seen
     (c.in_ok-opening.ensures.head (c.go_on-2.ensures.clean clean)))
     (λ same. says_same written c.in_ok-wrote.wrote c.args.config.now read
@@ -177,7 +194,8 @@ returns-clause-goes_on g c =
     (λ differ. says_others written c.in_ok-wrote.wrote c.args.config.now read
     (c.are_same-is_same.ensures.others differ))
     (λ _. c.if-is_same.false) (moved ∙ sym (ap not c.if-is_same.false))
-    (moved_so r.goes_on was.goes_on c.args.config.now c.in_ok-wrote.wrote written g.K.Lineage.log lines _
+    (moved_so r.goes_on was.goes_on c.args.config.now c.in_ok-wrote.wrote written g.K.Lineage.log
+    lines _
     was.gap r.gap was.given_up.items r.given_up.items was.before.entries r.before.entries
     was.gateway r.gateway read (c.in_ok-resumed-2.ensures.went clean)
     (ap (λ list. list.items) given_up) (ap (λ log. log.entries) before) gap gateway on)
@@ -196,7 +214,8 @@ returns-clause-read g c =
     if_ok_map c.move_on-2.result c.move_on-2.ensures.goes_on (λ r is on clean.
     lines_read (g.D.Disk.seen c.go_on-2.new.start.newest) c.go_on-2.new.start.at written lines
     (head_kept (g.D.Disk.seen c.read_opening.new.start.newest)
-    (g.D.Disk.seen c.go_on-2.new.start.newest) c.read_opening.new.start.at c.go_on-2.new.start.at written
+    (g.D.Disk.seen c.go_on-2.new.start.newest) c.read_opening.new.start.at c.go_on-2.new.start.at
+    written
     lines c.go_on-2.ensures.same c.go_on-2.ensures.seen
     (c.in_ok-opening.ensures.head (c.go_on-2.ensures.clean clean)))
     (c.in_ok-resumed-2.ensures.whole (sym is ∙ on) clean))
@@ -209,11 +228,13 @@ returns-clause-reset g c =
     if_ok_map c.move_on-2.result c.move_on-2.ensures.goes_on (λ r is off.
     elim (c.in_ok-resumed-2.ensures.reset (sym is ∙ off)) [
       | inl untrusted ↦ inl untrusted
-      | inr rotten ↦ inr (λ clean. lines_rotten (g.D.Disk.seen c.go_on-2.new.start.newest) c.go_on-2.new.start.at written lines
+      | inr rotten ↦
+          inr (λ clean. lines_rotten (g.D.Disk.seen c.go_on-2.new.start.newest)
+          c.go_on-2.new.start.at written lines
           (head_kept (g.D.Disk.seen c.read_opening.new.start.newest)
-    (g.D.Disk.seen c.go_on-2.new.start.newest) c.read_opening.new.start.at c.go_on-2.new.start.at written
-    lines c.go_on-2.ensures.same c.go_on-2.ensures.seen
-    (c.in_ok-opening.ensures.head (c.go_on-2.ensures.clean clean)))
+          (g.D.Disk.seen c.go_on-2.new.start.newest) c.read_opening.new.start.at c.go_on-2.new.start.at
+          written
+          lines c.go_on-2.ensures.same c.go_on-2.ensures.seen
+          (c.in_ok-opening.ensures.head (c.go_on-2.ensures.clean clean)))
           (rotten clean))
     ])
-

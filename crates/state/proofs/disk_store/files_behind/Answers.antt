@@ -26,4 +26,4 @@ returns-then-may_be_used-clause-sound g c _ _ =
 pub returns-then-may_be_used-clause-backed : goal.returns-then-may_be_used-clause-backed
 returns-then-may_be_used-clause-backed g c _ clean =
     subst (λ file. StaysBacked (g.D.Disk.may_leave file) (g.D.Disk.seen c.backs.new.other))
-    (sym c.into_file-newest.ensures) (c.in-Ok.ensures.backed c.in-Ok.zzz clean)
+    (sym c.into_file-newest.ensures) (c.in-Ok-true.ensures.backed c.in-Ok-true.field-0-test clean)

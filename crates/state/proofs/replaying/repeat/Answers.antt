@@ -37,7 +37,8 @@ returns-in-Finished-clause-whole g c is =
     let none : c.over-port.result.failed ≡ 0 =
     ap (λ (r : Replaying). r.failed) c.over-port.ensures in
     read_to_end g.K.ReplayScript.lines c.drive_on-end.new.port c.is_whole.ensures.whole
-    (omega arith) (c.in-Finished.ensures.finished refl) (not_broken _ (sym c.is_whole.ensures.is ∙ is))
+    (omega arith) (c.in-Finished.ensures.finished refl) (not_broken _ (sym c.is_whole.ensures.is
+    ∙ is))
 
 pub returns-in-Finished-clause-broken : goal.returns-in-Finished-clause-broken
 returns-in-Finished-clause-broken g c isnt all =

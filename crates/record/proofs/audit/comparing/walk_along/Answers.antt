@@ -45,8 +45,8 @@ returns-then-not-is_same c =
     goes_off c.args.first (parts_after 10 (option_copied c.args.lines)) (whole_lines c.args.run.now)
     c.walking.number
     c.cut.result.0.now left rest (whole_lines c.walking.ahead.now) is c.walking.invariant.goes other
-    (whole_lines c.in-Some-behind.later.now) next c.walking.invariant.left (sym c.is_cut.ensures ∙ c.if-is_cut.false)
-    (sym c.is_same.ensures ∙ c.if-not-is_same.true)
+    (whole_lines c.in-Some-behind.later.now) next c.walking.invariant.left
+    (sym c.is_cut.ensures ∙ c.if-is_cut.false) (sym c.is_same.ensures ∙ c.if-not-is_same.true)
 
 pub walking-preserved : goal.walking-preserved
 walking-preserved c =
@@ -72,4 +72,22 @@ walking-preserved c =
           c.cut.result.0.now left rest is c.walking.invariant.left;
       whole = λ all. later_whole c.walking.ahead.now other c.in-Some-behind.later.now lines_are
           (c.walking.invariant.whole all);
+    }
+
+pub walking-preserved-then-is_cut : goal.walking-preserved-then-is_cut
+walking-preserved-then-is_cut c =
+    let lines = parts_after 10 (option_copied c.args.lines) in
+    let left = parts_after 10 (option_copied c.walking.left) in
+    let rest = parts_after 10 (option_copied c.cut.result.1) in
+    let is : left ≡ c.cut.result.0.now ∷ rest =
+    ap (λ l. parts_after 10 (option_copied l)) c.in-Some.is ∙ c.cut.ensures in
+    record {
+      goes = goes_cut c.args.first lines (whole_lines c.args.run.now) c.walking.number
+          c.cut.result.0.now left rest (whole_lines c.walking.ahead.now) is c.walking.invariant.goes
+          (sym c.is_cut.ensures ∙ c.if-is_cut.true);
+      counted = counted_on c.walking.number _ c.cut.result.0.now left rest is
+          c.walking.invariant.counted;
+      left = left_next c.args.first lines c.walking.number c.cut.result.0.now left rest is
+          c.walking.invariant.left;
+      whole = c.walking.invariant.whole;
     }

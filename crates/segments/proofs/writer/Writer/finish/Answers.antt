@@ -57,7 +57,8 @@ returns-clause-mixed g c mixing =
     (blocks_so c.args.blocks (87 + length body)
     (s.stored + length s.page.items + c.args.blocks * 4096) c.requires
     (ap (λ (n : ℕ). n + c.args.blocks * 4096)
-    (page_length s.stored (g.D.Disk.seen s.file) s.page.items (s.sized c.if-not-is_open.false) s.behind)))
+    (page_length s.stored (g.D.Disk.seen s.file) s.page.items (s.sized c.if-not-is_open.false)
+    s.behind)))
     (subst (λ (h : List ℕ). AreShutOr (g.D.Disk.may_leave c.fill.new.file)
     (IsTextTo (s.stored + length h + c.args.blocks * 4096)
     (whole_text c.args.number (drop 87 (text_in s.stored (g.D.Disk.seen s.file) h)))))
