@@ -521,11 +521,7 @@ def fails_at_a_start(count, program, name):
         gateway.start()
         is_known = gateway.waits("stale")
         got = drained(gateway, numbered(gateway, 1, 2))
-        has_gone_round(gateway)
-<<<<<<< HEAD
-=======
         until(lambda: gaps(gateway.logged()) == [1, 2])
->>>>>>> int
         told = gateway.kill()
         count.judge(f"{name} at a start: the next one knows it", is_known and gaps(told) == [1, 2], told)
         count.judge(f"{name} at a start: what was kept comes", all(numbers[:2] == [1, 2] for numbers in got.values()), got)
