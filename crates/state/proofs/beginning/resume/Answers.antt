@@ -4,7 +4,7 @@ use Rattle.settings.specs.Settings.{IsReadOfText}
 use Rattle.statetext.specs.Text.{lines_in}
 use Rattle.state.proofs.GoingOn.{head_kept, moved_from, moved_so, says_others, says_same}
 use Rattle.state.proofs.GoingOn.{stays_from}
-use Rattle.state.proofs.UnreadLemmas.{err_of, if_err_map, if_ok_both, if_ok_map, lines_read}
+use Rattle.state.proofs.UnreadLemmas.{err_of, if_ok_both, if_ok_map, lines_read}
 use Rattle.state.proofs.UnreadLemmas.{lines_rotten, same_wrong, unsaid_wrong}
 use Rattle.state.proofs.beginning.resume.Goals as goal
 
