@@ -232,9 +232,8 @@ returns-clause-reset g c =
           inr (λ clean. lines_rotten (g.D.Disk.seen c.go_on-2.new.start.newest)
           c.go_on-2.new.start.at written lines
           (head_kept (g.D.Disk.seen c.read_opening.new.start.newest)
-          (g.D.Disk.seen c.go_on-2.new.start.newest) c.read_opening.new.start.at c.go_on-2.new.start.at
-          written
-          lines c.go_on-2.ensures.same c.go_on-2.ensures.seen
+          (g.D.Disk.seen c.go_on-2.new.start.newest) c.read_opening.new.start.at
+          c.go_on-2.new.start.at written lines c.go_on-2.ensures.same c.go_on-2.ensures.seen
           (c.in_ok-opening.ensures.head (c.go_on-2.ensures.clean clean)))
           (rotten clean))
     ])
