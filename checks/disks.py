@@ -521,7 +521,6 @@ def fails_at_a_start(count, program, name):
         gateway.start()
         is_known = gateway.waits("stale")
         got = drained(gateway, numbered(gateway, 1, 2))
-        has_gone_round(gateway)
         until(lambda: gaps(gateway.logged()) == [1, 2])
         told = gateway.kill()
         count.judge(f"{name} at a start: the next one knows it", is_known and gaps(told) == [1, 2], told)

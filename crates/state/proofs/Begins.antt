@@ -1,13 +1,13 @@
 -- What a start makes of a log, and what is shown of it.
 use Rattle.std.proofs.Common.{◌≡◌, ◌∙◌, ◌⊎◌, inl, inr, ℕ, ◌+◌, ◌<◌, Bool, true, false, List}
 use Rattle.std.proofs.Common.{◌∷◌}
-use Rattle.std.proofs.Common.{◌++◌, drop, length, Option, Some, None, Ok, refl, sym, ap, subst}
-use Rattle.std.proofs.Common.{arith, zero, suc}
-use Rattle.std.specs.Prelude.{not, ◌&&◌, if◌then◌else◌, MatchOption}
+use Rattle.std.proofs.Common.{◌++◌, length, Option, Some, None, Ok, refl, sym, ap, subst}
+use Rattle.std.proofs.Common.{arith}
+use Rattle.std.specs.Prelude.{not, ◌&&◌, MatchOption}
 use Rattle.sqlite_disk.specs.declared.Disk.{Ghosts}
 use Rattle.gateway.specs.Agrees.{Follows, Rests}
-use Rattle.gateway.specs.Carried.{carried, command_given_up, commands_given_up_upto}
-use Rattle.gateway.specs.Carried.{link_given_up, restarted, without_commands}
+use Rattle.gateway.specs.Carried.{carried}
+use Rattle.gateway.specs.Carried.{restarted, without_commands}
 use Rattle.gateway.specs.Config.{Settings}
 use Rattle.gateway.specs.Log.{Came, Log, Restarted, events_of}
 use Rattle.gateway.specs.Restored.{IsSaid, IsSavable, state_lines}

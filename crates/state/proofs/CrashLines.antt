@@ -18,7 +18,7 @@ use Rattle.state.specs.Beginnings.{IsReadWhole, IsWhole}
 use Rattle.state.specs.Crashed.{AreLeft, HasLog, LogAll}
 use Rattle.state.specs.Deeds.{Deeds, Synced, grown, waiting}
 use Rattle.state.specs.Lines.{IsWritable, seal_octets}
-use Rattle.state.specs.Replays.{AreRead, before_those, events_in_front, whole_lines, whole_parts}
+use Rattle.state.specs.Replays.{before_those, events_in_front, whole_lines, whole_parts}
 use Rattle.state.specs.Stores.{IsStored, Stored, head, lines_of_head, safe}
 use Rattle.state.proofs.EventTexts.{parts_read}
 use Rattle.state.proofs.Histories.{all_written}

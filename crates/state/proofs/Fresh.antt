@@ -1,15 +1,14 @@
 -- A log that was begun and has no events yet.
-use Rattle.std.proofs.Common.{◌≡◌, ◌∙◌, inl, inr, ℕ, ◌+◌, ◌<◌, ◌≤◌, List, [], ◌∷◌, ◌++◌}
-use Rattle.std.proofs.Common.{length, take, drop, slice_index, get_or, refl, sym, ap, subst, arith}
+use Rattle.std.proofs.Common.{◌≡◌, ◌∙◌, inl, inr, ℕ, ◌<◌, ◌≤◌, List, [], ◌∷◌, ◌++◌}
+use Rattle.std.proofs.Common.{length, slice_index, refl, sym, ap, subst, arith}
 use Rattle.std.specs.Prelude.{◌⊎◌}
-use Rattle.std.specs.List.{concat}
 use Rattle.std.proofs.lemmas.Bool.{cases_lt}
 use Rattle.std.proofs.lemmas.List.{append-nil, get_or_append_left, get_or-take, length-take}
 use Rattle.segments.specs.Crash.{HasNoOther}
 use Rattle.segments.specs.Crashes.{HasWhole, Survives, lines_behind}
 use Rattle.segments.specs.Crashes.{log_text}
 use Rattle.segments.specs.Head.{head_for, head_of, whole_text}
-use Rattle.segments.proofs.Crashes.{nothing_else_left, undamaged_left, whole_left, whole_length}
+use Rattle.segments.proofs.Crashes.{nothing_else_left, undamaged_left, whole_left}
 use Rattle.statetext.specs.Sealed.{AreLines, AreWrites, seal_of}
 use Rattle.statetext.specs.Text.{lines_in}
 use Rattle.state.specs.Logs.{HasFreshLog}

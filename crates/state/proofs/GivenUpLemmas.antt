@@ -2,7 +2,7 @@
 use Rattle.std.specs.Prelude.{option_map, slice_get}
 use Rattle.std.specs.List.{flat_map}
 use Rattle.std.proofs.Common.{◌≡◌, ℕ, zero, suc, ◌<◌, List, [], ◌∷◌, ◌++◌, drop, length, Option}
-use Rattle.std.proofs.Common.{Some, None, refl, ap, sym, ◌∙◌, arith}
+use Rattle.std.proofs.Common.{Some, None, refl, ap, arith}
 
 module _ {A B C : Type 0} (see : A → B) (each : B → List C) where
   abbrev all : List A → List C

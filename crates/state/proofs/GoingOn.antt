@@ -1,5 +1,5 @@
 -- A gateway that goes on with what a log has.
-use Rattle.std.proofs.Common.{◌≡◌, ◌∷◌, ℕ, Bool, true, false, List, drop, Option, Some, refl, sym}
+use Rattle.std.proofs.Common.{◌≡◌, ◌∷◌, ℕ, Bool, true, false, List, Option, Some, refl, sym}
 use Rattle.std.proofs.Common.{subst, Result, Ok, ap, ◌∙◌}
 use Rattle.std.specs.Prelude.{not, ◌&&◌}
 use Rattle.gateway.specs.Agrees.{Follows, Rests}

@@ -1,6 +1,6 @@
 -- What keeping an event does to the history.
 use Rattle.std.proofs.Common.{◌≡◌, ◌∙◌, ℕ, ◌+◌, ◌<◌, ◌≤◌, ◌^◌, Bool, true, false, [], ◌∷◌, ◌++◌}
-use Rattle.std.proofs.Common.{map, length, List, Option, Some, None, ap, sym, subst, refl, inl, inr}
+use Rattle.std.proofs.Common.{map, List, Option, Some, None, ap, sym, subst, refl, inl, inr}
 use Rattle.std.proofs.Common.{arith}
 use Rattle.std.proofs.Common.{if◌then◌else◌, ◌⊎◌}
 use Rattle.std.specs.Option.{is_some}

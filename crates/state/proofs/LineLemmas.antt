@@ -1,12 +1,12 @@
 -- How long the line of an event is, and which event a line can't hold.
 use Rattle.std.proofs.Common.{◌≡◌, ◌∙◌, ℕ, ◌+◌, ◌*◌, ◌<◌, ◌≤◌, true, false, List, []}
-use Rattle.std.proofs.Common.{◌∷◌, ◌++◌, length, take, drop, codes, Result, Ok, Err, IfErr, OnOk}
+use Rattle.std.proofs.Common.{◌∷◌, ◌++◌, length, take, codes, Result, Ok, Err, IfErr, OnOk}
 use Rattle.std.proofs.Common.{is_err, refl, sym, ap, subst, arith}
 use Rattle.std.specs.Fmt.{decimal, digits}
 use Rattle.std.specs.List.{AllByRecursion}
 use Rattle.std.proofs.lemmas.Bool.{lt-ltb}
 use Rattle.std.proofs.lemmas.Fmt.{length-decimal-le_wide}
-use Rattle.std.proofs.lemmas.List.{length-append, length-drop, length-take}
+use Rattle.std.proofs.lemmas.List.{length-append, length-take}
 use Rattle.hex.specs.Hex.{encode_upper, upper_digits}
 use Rattle.hex.proofs.HexLemmas.{length-encode_with}
 use Rattle.gateway.specs.Log.{Log, LogEntry, Came, Went, Input, LineIn, Opened, TcpIn, CutOff}

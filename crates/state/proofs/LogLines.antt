@@ -1,7 +1,7 @@
 -- What the lines of events are made of.
 use Rattle.std.proofs.Common.{◌≡◌, ◌∙◌, ℕ, ◌<◌, ◌==◌, ◌≤◌, ◌^◌, true, false, List, [], ◌∷◌, ◌++◌}
 use Rattle.std.proofs.Common.{length}
-use Rattle.std.proofs.Common.{slice_index, sym, ap, subst, arith, ◌≢◌, ◌+◌, length-append}
+use Rattle.std.proofs.Common.{sym, ap, subst, arith, ◌≢◌, ◌+◌, length-append}
 use Rattle.std.specs.List.{AllByRecursion, concat}
 use Rattle.std.proofs.lemmas.List.{get_or_append_left, get_or-append-add}
 use Rattle.std.proofs.lemmas.List.Folds.{list_any_at}

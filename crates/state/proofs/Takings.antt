@@ -21,7 +21,7 @@ use Rattle.segments.specs.Crashes.{damage_behind, lines_behind}
 use Rattle.segments.specs.Head.{Fits, head_of}
 use Rattle.segments.specs.Room.{log_in}
 use Rattle.segments.specs.Starts.{HasNoNewer, IsFoundIn, IsShut}
-use Rattle.std.specs.Prelude.{drop, slice_get}
+use Rattle.std.specs.Prelude.{slice_get}
 use Rattle.segments.specs.declared.head.SegmentHead.{SegmentHead}
 use Rattle.segments.proofs.Crashes.{same_first}
 use Rattle.segments.proofs.Fronts.{not_shut}

@@ -1,5 +1,5 @@
 -- When a log is begun between two steps.
-use Rattle.std.proofs.Common.{◌≡◌, ◌∙◌, ◌⊎◌, ◌<◌, ◌≤◌, Bool, true, false, List, ◌∷◌, length}
+use Rattle.std.proofs.Common.{◌≡◌, ◌∙◌, ◌⊎◌, ◌<◌, ◌≤◌, Bool, true, false, List, ◌∷◌}
 use Rattle.std.proofs.Common.{Option}
 use Rattle.std.proofs.Common.{sym, ap, subst, inl, inr}
 use Rattle.std.proofs.lemmas.Bool.{le-ltb, lt-ltb}

@@ -1,7 +1,7 @@
 -- What a start can't read.
 use Rattle.std.proofs.Common.{◌≡◌, ◌∙◌, ℕ, ◌+◌, ◌<◌, true, false, IsTrue, List, [], ◌∷◌}
-use Rattle.std.proofs.Common.{drop, length, Option, Some, None, Result, Ok, Err, IfErr, IfOk}
-use Rattle.std.proofs.Common.{IfSome, refl, sym}
+use Rattle.std.proofs.Common.{length, Option, Some, None, Result, Ok, Err, IfErr, IfOk}
+use Rattle.std.proofs.Common.{refl, sym}
 use Rattle.std.proofs.Common.{ap, subst, arith}
 use Rattle.std.specs.Option.{ForSome, is_some}
 use Rattle.std.specs.Result.{IsErrAnd}

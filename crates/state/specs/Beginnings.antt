@@ -1,5 +1,5 @@
 -- What a run begins with (profile).
-use Rattle.std.specs.Prelude.{◌≡◌, ℕ, ◌+◌, Bool, true, false, not, ◌&&◌, List, ◌∷◌, ◌++◌, drop}
+use Rattle.std.specs.Prelude.{◌≡◌, ℕ, ◌+◌, Bool, true, false, not, ◌&&◌, List, ◌∷◌, ◌++◌}
 use Rattle.std.specs.Prelude.{length, Option, Some, None, Ok, if◌then◌else◌, option_and_then}
 use Rattle.std.specs.Prelude.{option_map, slice_get}
 use Rattle.gateway.specs.Agrees.{Follows, Rests}

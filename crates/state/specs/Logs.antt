@@ -1,5 +1,5 @@
 -- What a log in two files has (profile).
-use Rattle.std.specs.Prelude.{◌≡◌, ◌⊎◌, ℕ, ◌<◌, List, [], ◌∷◌, ◌++◌, length, take, drop, IsTrue}
+use Rattle.std.specs.Prelude.{◌≡◌, ◌⊎◌, ℕ, ◌<◌, List, [], ◌∷◌, ◌++◌, IsTrue}
 use Rattle.std.specs.Prelude.{Bool, true, None}
 use Rattle.std.specs.List.{concat}
 use Rattle.sqlite_disk.specs.declared.Disk.{Ghosts}

@@ -1,5 +1,5 @@
 -- What a start would find in a directory, for who looks at it (profile).
-use Rattle.std.specs.Prelude.{◌≡◌, ◌⊎◌, Bool, true, false, ℕ, List, drop, length, MatchOption}
+use Rattle.std.specs.Prelude.{◌≡◌, ◌⊎◌, Bool, true, false, ℕ, List, length, MatchOption}
 use Rattle.std.specs.Prelude.{Option, Ok}
 use Rattle.gateway.specs.Config.{Settings}
 use Rattle.gateway.specs.Log.{Log}

@@ -35,9 +35,9 @@ use std::mem;
 const SEAL: usize = 27;
 
 /// A log in two files of a directory, which are written in turn: a segment begins with the settings
-/// and the state of a gateway, and then has lines, of which those of a sync are sealed together. The
-/// next one goes into the other file, and stands there whole before the one before is touched. A
-/// file whose write or sync failed is used no more: both are opened anew where the next segment
+/// and the state of a gateway, and then has lines, of which those of a sync are sealed together.
+/// The next one goes into the other file, and stands there whole before the one before is touched.
+/// A file whose write or sync failed is used no more: both are opened anew where the next segment
 /// begins, and what they have says into which one it goes.
 #[derive(Drop)]
 pub struct DiskStore<F: Folder + Drop> {

@@ -1,6 +1,5 @@
 use Rattle.std.proofs.Common.{inl, inr, Some, ◌∙◌, ap, sym, subst}
-use Rattle.std.specs.Option.{is_some}
-use Rattle.state.specs.Beginnings.{IsReadWhole, GoesOnFrom, has_past, is_trusted}
+use Rattle.state.specs.Beginnings.{GoesOnFrom, has_past, is_trusted}
 use Rattle.state.specs.declared.beginning.Origin.{Origin}
 use Rattle.state.proofs.BegunLemmas.{begun_from, numbered_from}
 use Rattle.state.proofs.UnreadLemmas.{unread_from}

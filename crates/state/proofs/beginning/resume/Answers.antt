@@ -4,7 +4,7 @@ use Rattle.settings.specs.Settings.{IsReadOfText}
 use Rattle.statetext.specs.Text.{lines_in}
 use Rattle.state.proofs.GoingOn.{head_kept, moved_from, moved_so, says_others, says_same}
 use Rattle.state.proofs.GoingOn.{stays_from}
-use Rattle.state.proofs.UnreadLemmas.{err_of, if_err_map, if_ok_both, if_ok_map, lines_read}
+use Rattle.state.proofs.UnreadLemmas.{err_of, if_ok_both, if_ok_map, lines_read}
 use Rattle.state.proofs.UnreadLemmas.{lines_rotten, same_wrong, unsaid_wrong}
 use Rattle.state.proofs.beginning.resume.Goals as goal
 
@@ -232,9 +232,8 @@ returns-clause-reset g c =
           inr (λ clean. lines_rotten (g.D.Disk.seen c.go_on-2.new.start.newest)
           c.go_on-2.new.start.at written lines
           (head_kept (g.D.Disk.seen c.read_opening.new.start.newest)
-          (g.D.Disk.seen c.go_on-2.new.start.newest) c.read_opening.new.start.at c.go_on-2.new.start.at
-          written
-          lines c.go_on-2.ensures.same c.go_on-2.ensures.seen
+          (g.D.Disk.seen c.go_on-2.new.start.newest) c.read_opening.new.start.at
+          c.go_on-2.new.start.at written lines c.go_on-2.ensures.same c.go_on-2.ensures.seen
           (c.in_ok-opening.ensures.head (c.go_on-2.ensures.clean clean)))
           (rotten clean))
     ])

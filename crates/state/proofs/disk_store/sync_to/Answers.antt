@@ -1,4 +1,4 @@
-use Rattle.std.proofs.Common.{◌≡◌, ◌∙◌, ℕ, List, ap, arith, length}
+use Rattle.std.proofs.Common.{◌∙◌, ℕ, List, ap, arith, length}
 use Rattle.segments.specs.Segment.{fixed_of, open_of, writes_of}
 use Rattle.state.proofs.LogLemmas.{synced_counted}
 use Rattle.state.proofs.disk_store.sync_to.Goals as goal

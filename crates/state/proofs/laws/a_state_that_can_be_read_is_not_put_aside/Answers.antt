@@ -1,7 +1,6 @@
 use Rattle.std.proofs.Common.{subst}
 use Rattle.state.specs.Sights.{BeginsSo}
 use Rattle.state.specs.declared.start.Beginning.{Beginning}
-use Rattle.state.specs.declared.start.Beginning.TheVariants as beginnings
 use Rattle.state.specs.Unread.{IsUnread}
 use Rattle.state.proofs.Takings.{not_aside, shut_not_aside}
 use Rattle.state.proofs.laws.a_state_that_can_be_read_is_not_put_aside.Goals as goal

@@ -100,7 +100,7 @@ segment_is number events file whole is =
     (codes ", events behind its head: ") (decimal events) (10 ∷ []))
   where
     spread : (a n i f e m end : List ℕ)
-        → (a ++ n ++ i) ++ f ++ e ++ m ++ end ≡ (a ++ n ++ (i ++ f ++ e) ++ m) ++ end
+        → a ++ n ++ i ++ f ++ (e ++ m ++ end) ≡ a ++ n ++ (i ++ f ++ e) ++ m ++ end
     spread a n i f e m end = simp append_assoc refl
 
 in_log : (s : Seen) → file_name s.side ≡ codes "segments-wal"
@@ -130,21 +130,10 @@ place_by s is_cut damage cut is =
 all_read : (events lines : ℕ) → lines ≤ events → nat_lt events lines ≡ false
 all_read events lines le = grind (arith, le)
 
-unread_is : (events lines : ℕ) → unread_line true events lines ++ []
-    ≡ line (codes "lines there that can be read: " ++ decimal events ++ codes " of "
-    ++ decimal lines)
-unread_is events lines =
-    append-nil (unread_line true events lines)
-    ∙ spread (codes "lines there that can be read: ") (decimal events) (codes " of ")
-    (decimal lines) (10 ∷ [])
-  where
-    spread : (a n i m end : List ℕ) → a ++ n ++ i ++ m ++ end ≡ (a ++ n ++ i ++ m) ++ end
-    spread a n i m end = simp append_assoc refl
-
 pub returns-clause-files : goal.returns-clause-files
 returns-clause-files c s le none =
     let place = place_by s false None (all_read s.events s.lines le) none
-    ∙ append-nil (segment_line s) in (
+    ∙ append-nil (segment_line s ++ []) ∙ append-nil (segment_line s) in (
       λ side. place ∙ in_log s (ap file_name side),
       λ side. place ∙ in_db s (ap file_name side),
     )
@@ -152,11 +141,16 @@ returns-clause-files c s le none =
 pub returns-clause-unread : goal.returns-clause-unread
 returns-clause-unread c s lt none side =
     place_by s true None (lt-ltb s.events s.lines lt) none
-    ∙ ap₂ (λ (first second : List ℕ). first ++ second) (in_log s (ap file_name side))
-    (unread_is s.events s.lines)
+    ∙ append-nil (segment_line s ++ unread_line true s.events s.lines)
+    ∙ ap (λ (first : List ℕ). first ++ unread_line true s.events s.lines)
+    (in_log s (ap file_name side))
 
 pub returns-clause-damaged : goal.returns-clause-damaged
 returns-clause-damaged c s octet le some side =
     place_by s false (Some octet) (all_read s.events s.lines le) some
     ∙ ap (λ (first : List ℕ). first ++ note_line (note_of_damage (Some octet)))
-    (in_log s (ap file_name side))
+    (append-nil (segment_line s) ∙ in_log s (ap file_name side))
+    ∙ ap (λ (last : List ℕ). line (codes "segment " ++ decimal s.number
+    ++ codes " in segments-wal, events behind its head: " ++ decimal s.events) ++ line last)
+    (sym (append_assoc (codes "state: damaged, nothing is read from octet ") (decimal octet)
+    (codes " of its log on")))
