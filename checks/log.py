@@ -563,7 +563,7 @@ def told_apart(count, program, folder):
             run.log.waits("station 7 answer spoilt: ")
             told = [line for line in run.log.lines if " spoilt: " in line]
             count.judge(name, told and told[0] == line, run.log.lines)
-    both = LINE.replace("retries = 1", "retries = 0") + STATION + STATION.replace("7", "8")
+    both = LINE.replace("retries = 1", "retries = 0") + STATION + STATION.replace("7", "8").replace("ca = 1", "ca = 2")
     with Run(program, folder, Crossed(), "--log", settings=both) as run:
         at = run.log.waits("station 8 answer spoilt: ")
         line = run.log.lines[at - 1] if at else ""
