@@ -28,9 +28,9 @@ taken_beside before looked between after true there had has first renamed was_th
 taken_beside before looked between after true there had has first renamed was_there is second
     (Ok x) last =
     let sought : looked ≡ noted before (Sought (codes "stale") (Some true)) =
-        first ∙ ap (λ r. noted before (Sought (codes "stale") (answer_of r))) has in
+    first ∙ ap (λ r. noted before (Sought (codes "stale") (answer_of r))) has in
     let named : between ≡ noted (noted before (Sought (codes "stale") (Some true)))
-        (Renamed (codes "stale") (codes "kept") (Some was_there)) =
-        second ∙ ap (λ r. noted looked (Renamed (codes "stale") (codes "kept") (answer_of r))) is
-        ∙ ap (λ s. noted s (Renamed (codes "stale") (codes "kept") (Some was_there))) sought in
+    (Renamed (codes "stale") (codes "kept") (Some was_there)) =
+    second ∙ ap (λ r. noted looked (Renamed (codes "stale") (codes "kept") (answer_of r))) is
+    ∙ ap (λ s. noted s (Renamed (codes "stale") (codes "kept") (Some was_there))) sought in
     Taken was_there (last ∙ ap (λ s. noted s (Synced true)) named)
