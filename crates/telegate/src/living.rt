@@ -539,7 +539,7 @@ fn run_from<T: RunSite>(
     live(gateway, keeper, before, scribes)
 }
 
-/// What this directory has, or a new state, or none where the directory can't be used. It is logged.
+/// What this directory has, or a new state, or none if the directory can't be used. It is logged.
 #[tactic(auto, using(crate::proofs::KeptLemmas::found_in, crate::proofs::KeptLemmas::without_in, crate::proofs::KeptLemmas::logs_found, crate::proofs::KeptLemmas::logs_unused, crate::proofs::KeptLemmas::memory_is_unkept, crate::proofs::KeptLemmas::still_unclocked))]
 fn begun_in<T: RunSite>(
     site: &mut T,

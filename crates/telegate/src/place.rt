@@ -10,8 +10,8 @@ use state::{Folder, FolderFault};
 pub(crate) enum Place<F: Folder + Drop> {
     /// This one.
     In(F),
-    /// None: nothing is opened, so that no log is ever begun. What stands in the directory is marked
-    /// as stale.
+    /// None: nothing is opened, so that no log is ever begun. What stands in the directory is
+    /// marked as stale.
     Nowhere,
 }
 
