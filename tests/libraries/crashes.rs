@@ -189,7 +189,7 @@ fn found(alloc: Global, first: &[u8], second: &[u8]) -> Result<Option<u64>, Fail
         return Err("another checkpoint".into());
     }
     let mut count = *count;
-    let events = start.events(alloc)?;
+    let events = start.log(alloc)?.lines;
     let Some(end) = events.iter().rposition(|octet| *octet == b'\n') else {
         return Ok(Some(count));
     };
@@ -285,16 +285,18 @@ fn loses_no_synced_event(rt: HostRuntime) -> Result<(), Fail> {
     Ok(())
 }
 
-/// Lines behind the first octet 0 aren't read, nor one that isn't whole.
+/// A write in whose lines an octet is 0 isn't read.
 #[test]
-fn reads_whole_lines_alone(rt: HostRuntime) -> Result<(), Fail> {
+fn reads_whole_writes_alone(rt: HostRuntime) -> Result<(), Fail> {
     let alloc = rt.alloc();
     let first = Fuse::new(Memory::new(alloc), 1_000);
     let second = Fuse::new(Memory::new(alloc), 1_000);
     let Ok((mut segment, _spare)) = first_segment(alloc, first, second, 1, 0) else {
         return Err("no segment".into());
     };
-    segment.append(b"event 0\nevent 1\0\nevent 2\n")?;
+    segment.append(b"event 0\n")?;
+    segment.sync()?;
+    segment.append(b"event 1\0\nevent 2\n")?;
     segment.sync()?;
     assert_eq!(rt;
         segment.append(&[b'e'; 5_000]),

@@ -1,5 +1,5 @@
 //! The command that audits a recorded run.
-ghost use Rattle.std.specs.Prelude.{◌≡◌, MatchResult};
+ghost use Rattle.std.specs.Prelude.{◌≡◌, [], MatchResult};
 ghost use Rattle.telegate.specs.Audits.{IsAuditedBy, IsComparisonAnswer, IsMemory, fault_of_lem};
 
 use crate::answer::CommandAnswer;
@@ -28,6 +28,17 @@ pub(crate) fn audit<S: Source>(
         Ok(comparison) => answer_comparison(alloc, comparison),
         Err(fault) => Err(fault_of(fault)),
     }
+}
+
+/// The same of a record of which nothing is known that passed before.
+pub(crate) fn audit_alone<S: Source>(
+    alloc: Global,
+    config: &[u8],
+    text: &S,
+) -> Result<CommandAnswer, Fault>
+    ensures { IsAuditedBy config.now [] (S.has text.now) result }
+{
+    audit(alloc, config, text, History::new())
 }
 
 /// Why a command stops whose record has no comparison.

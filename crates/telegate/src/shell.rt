@@ -18,7 +18,7 @@ ghost use Rattle.telegate.specs.Wishes.{HasEndedLive, HasRunAsAsked, HasRunAsWis
 ghost use Rattle.telegate.specs.Wishes.{IsSiteIn, site_files};
 
 use crate::asking::ask_status;
-use crate::auditing::audit;
+use crate::auditing::audit_alone;
 use crate::capturing::capture;
 use crate::check::{Checking, check, refuse};
 use crate::closing::Closing;
@@ -36,7 +36,6 @@ use crate::stood::answer_stood;
 use crate::wishes::{judge_site, site_in, wishes_of};
 use clap::Error;
 use clap::error::ErrorKind;
-use gateway::History;
 use settings::Site;
 use std::alloc::Global;
 use std::io;
@@ -338,7 +337,7 @@ fn audit_file<H: Host, W: Write, E: Write>(
     ensures { AuditsFile (H.has host.now) name.now config.now
         (W.contents out.old) (W.contents out.new) result }
 {
-    match audit(alloc, config, &HostFile { host, name }, History::new()) {
+    match audit_alone(alloc, config, &HostFile { host, name }) {
         Err(Fault::Unread) => {
             let _ = write_unreadable(name, err);
             DEVICE_FAILED
