@@ -31,6 +31,7 @@ use Rattle.telegate.specs.declared.manner.Manner.{Manner}
 use Rattle.telegate.specs.declared.manner.Manner.TheVariants.{Lines, Words}
 use Rattle.telegate.specs.declared.fault.Fault.{Fault}
 use Rattle.telegate.specs.declared.fault.Fault.TheVariants.{Config, Site, Trace, Script, Record}
+use Rattle.telegate.specs.declared.fault.Fault.TheVariants.{Unfit}
 use Rattle.telegate.specs.declared.fault.Fault.TheVariants.{Sizes, Octets, Address, NoState}
 use Rattle.telegate.specs.declared.fault.Fault.TheVariants.{StateInUse, StateUnusable, Device}
 use Rattle.telegate.specs.declared.fault.Fault.TheVariants.{EndUnusable, Unread, NoMemory}
