@@ -402,7 +402,7 @@ AROUND = [
     (360, 100, "Its state on the disk", ["state state_files state_words", "segments statetext"],
      ["nothing_goes_out_before_it_is_on_disk", "Segment::survives"]),
     (25, 196, "Settings", ["settings"],
-     ["settings_are_named", "sites_are_named"]),
+     ["named_sites_are_read", "other_keys_are_refused"]),
     (360, 196, "Texts and tries", ["traces record sim", "words"],
      ["texts_are_read_line_by_line"]),
 ]
