@@ -1,13 +1,54 @@
 -- The definitions, computed for short ASDUs.
-use Rattle.std.proofs.Common.{◌≡◌, ℕ, [], ◌∷◌, Some, refl}
+use Rattle.std.proofs.Common.{◌≡◌, ℕ, List, [], ◌∷◌, Some, None, refl}
+use Rattle.elements.specs.declared.types.TypeId.TheVariants.{MSpNa1, MMeNa1, MSpTb1}
 use Rattle.elements.specs.Types.{type_of}
 use Rattle.asdu.specs.declared.sizes.CauseSize.TheVariants as causes
 use Rattle.asdu.specs.declared.sizes.CaSize.TheVariants as cas
 use Rattle.asdu.specs.declared.sizes.IoaSize.TheVariants as ioas
+use Rattle.asdu.specs.declared.sizes.Sizes.{Sizes}
 use Rattle.asdu.specs.Sizes.{tcp}
 use Rattle.asdu.specs.Refusals.{refusal}
-use Rattle.asdu.specs.InformationObjects.{objects_of, monitor_objects_of}
+use Rattle.asdu.specs.InformationObjects.{InformationObject, objects_of, monitor_objects_of}
 use Rattle.asdu.specs.Translation.{parts}
+
+abbrev small : Sizes
+small = record { cause = causes.One; ca = cas.One; ioa = ioas.One }
+
+abbrev point : ℕ → ℕ → List ℕ → InformationObject
+point cause a octets = record {
+  kind = MSpNa1;
+  cause = cause;
+  originator = 0;
+  ca = 1;
+  address = a;
+  element =
+      octets;
+  tag = None;
+}
+
+abbrev measured : ℕ → List ℕ → InformationObject
+measured a octets = record {
+  kind = MMeNa1;
+  cause = 3;
+  originator = 7;
+  ca = 513;
+  address = a;
+  element = octets;
+  tag =
+      None;
+}
+
+abbrev tagged_point : List ℕ → List ℕ → InformationObject
+tagged_point octets tag = record {
+  kind = MSpTb1;
+  cause = 3;
+  originator = 0;
+  ca = 1;
+  address = 100;
+  element =
+      octets;
+  tag = Some tag;
+}
 
 two_points : objects_of small (1 ∷ 2 ∷ 3 ∷ 1 ∷ 100 ∷ 1 ∷ 50 ∷ 240 ∷ []) ≡ point 3 100 (1 ∷ [])
     ∷ point 3 50 (240 ∷ [])

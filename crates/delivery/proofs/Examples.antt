@@ -26,6 +26,7 @@ use Rattle.delivery.specs.Delivery.{before_sessions, sessions_of}
 use Rattle.delivery.specs.Commands.{LineStep, Begun, Confirmed, Busy, Lost, steps_in}
 use Rattle.delivery.specs.Commands.{first_sendings, steps_logged, sent_to, forwarded_in, as_judged}
 use Rattle.delivery.specs.Commands.{on_line_of, AreCommandsOf, unmissed}
+use Rattle.delivery.specs.Selections.{AreAt, LogsAtMoments}
 use Rattle.delivery.specs.Arrivals.{Arrival, arrivals, arrivals_by, ShowsAt}
 
 abbrev example : Setup

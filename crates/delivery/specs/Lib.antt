@@ -6,6 +6,7 @@ pub mod FirstSendings
 pub mod Joined
 pub mod Delivery
 pub mod Sessions
+pub mod Selections
 pub mod Selecting
 pub mod Received
 pub mod Closing

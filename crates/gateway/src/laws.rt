@@ -1,5 +1,4 @@
 //! What holds of the definitions.
-pub(crate) mod deciding;
 pub(crate) mod going_on;
 pub(crate) mod going_out;
 pub(crate) mod ordering;

@@ -10,7 +10,6 @@ pub(crate) mod gaps;
 pub(crate) mod hearing;
 pub(crate) mod leave;
 pub(crate) mod life;
-pub(crate) mod links;
 pub(crate) mod logging;
 pub(crate) mod precedence;
 pub(crate) mod refinement;
