@@ -1,9 +1,9 @@
 //! What the control centre gets is what the outstations reported, and what the outstations accept
 //! is what the control centre sent.
 //!
-//! Laws over every log of a gateway ([`gateway::drive`] promises that its log is faithful). Upwards:
-//! [`nothing_is_lost`], and [`each_session_is_known`] for links that are reset on the way, where
-//! [`losses_are_reported`] as gaps ([`gaps_are_reported_by_their_station`],
+//! Laws over every log of a gateway ([`gateway::drive`] promises that its log is faithful).
+//! Upwards: [`nothing_is_lost`], and [`each_session_is_known`] for links that are reset on the way,
+//! where [`losses_are_reported`] as gaps ([`gaps_are_reported_by_their_station`],
 //! [`gaps_are_told_before_the_next_request`]) and [`losses_have_gaps`] says how many gaps there are
 //! at most. What comes of it to the control centre is one run, over closes and new connections:
 //! [`what_has_come_is_one_run`]. A piece is acknowledged with its frame:
@@ -12,13 +12,14 @@
 //! ([`reports_go_on_octet_by_octet`]).
 //!
 //! Downwards: [`each_command_is_given_once`], and [`faultless_commands_are_forwarded`]. What isn't
-//! given is answered ([`what_is_refused_is_answered`], [`refused_commands_come_back_with_their_cause`]).
-//! An execute needs a select of its own ([`each_execute_has_a_select_of_its_own`]), and that is
-//! enough ([`selects_let_their_execute_through`]). A command with a time tag is as old as its tag
-//! says ([`tags_are_as_old_as_the_moment_that_they_name`]). A command goes out for the first time on
-//! its own connection alone ([`commands_go_out_on_their_own_connection`]), and behind a restart none
-//! that came before it goes out at all ([`no_command_outlives_a_restart`]). What a station says of a
-//! command goes on as it came ([`answers_are_passed_on_as_they_came`]), with the command's tag
+//! given is answered ([`what_is_refused_is_answered`],
+//! [`refused_commands_come_back_with_their_cause`]). An execute needs a select of its own
+//! ([`each_execute_has_a_select_of_its_own`]), and that is enough
+//! ([`selects_let_their_execute_through`]). A command with a time tag is as old as its tag says
+//! ([`tags_are_as_old_as_the_moment_that_they_name`]). A command goes out for the first time on its
+//! own connection alone ([`commands_go_out_on_their_own_connection`]), and behind a restart none
+//! that came before it goes out at all ([`no_command_outlives_a_restart`]). What a station says of
+//! a command goes on as it came ([`answers_are_passed_on_as_they_came`]), with the command's tag
 //! ([`answers_bear_the_tag_of_their_command`]), once ([`each_answer_is_given_once`]; on each log
 //! [`answers_of_stations_are_heeded`]).
 //!
@@ -31,8 +32,8 @@
 //! ([`only_a_failed_device_ends_a_promise`]). Each part takes up other settings
 //! ([`new_settings_are_taken_up`]).
 //!
-//! Commands wait for the line by their stations ([`commands_wait_for_each_station`]). The line rests
-//! only where there is no room ([`a_line_rests_only_for_want_of_room`]), is asked once a step
+//! Commands wait for the line by their stations ([`commands_wait_for_each_station`]). The line
+//! rests only where there is no room ([`a_line_rests_only_for_want_of_room`]), is asked once a step
 //! ([`each_step_asks_and_closes_once`]), and goes by what was sent last
 //! ([`unanswered_services_go_out_again`], [`requests_are_looked_back_at`]).
 //!
@@ -48,9 +49,9 @@
 //! while a restart that gives up a command is: [`silence_is_no_reset`]). Of the control centre and
 //! of TCP nothing is asked, but that what came on all connections is one run only where it
 //! acknowledges no frame that hasn't come. The laws on commands speak of settings whose stations
-//! are found by their link addresses (`IsSetUp`), as those of each gateway are. All laws hold of the lives of a gateway together: a restart is an
-//! event of the log. What they don't say: that a report is ever polled, or that a command is ever
-//! put on the line or accepted.
+//! are found by their link addresses (`IsSetUp`), as those of each gateway are. All laws hold of
+//! the lives of a gateway together: a restart is an event of the log. What they don't say: that a
+//! report is ever polled, or that a command is ever put on the line or accepted.
 #![tactic(auto)]
 
 // Apart from the gateway, of which it needs the log and `IsFaithful` alone: so the gateway's chain

@@ -9,8 +9,8 @@
 //! reserved or marked invalid is carried as it came.
 //!
 //! What its public calls carry: each element keeps two laws, that reading what was written gives
-//! the value and that writing what was read gives the octets; `kind`, `size`, `tagged`, `monitor` and `value` answer one table of types
-//! (`specs/Types.antt`); and `judge` answers the first
+//! the value and that writing what was read gives the octets; `kind`, `size`, `tagged`, `monitor`
+//! and `value` answer one table of types (`specs/Types.antt`); and `judge` answers the first
 //! verdict that applies, by the count of days since 1970-01-01 (`faults_are_told_apart`).
 #![tactic(auto)]
 

@@ -20,21 +20,22 @@
 //! All of these speak of one course of the log: there is no other ([`one_course`]), and of two
 //! causes never both stand ([`one_cause`]). What is free is only how far the octets of an event
 //! were judged where the device failed in its step. A port whose device fails breaks none of this
-//! for the log so far. What is due to the control centre is given
-//! ([`what_is_due_is_given`]), stations' answers to commands being known by their types
+//! for the log so far. What is due to the control centre is given ([`what_is_due_is_given`]),
+//! stations' answers to commands being known by their types
 //! ([`answers_have_the_types_of_commands`]), and on the line turns end, no station starves and
-//! commands go before polls ([`logs_keep_turns`]). Within a step what came is taken first, one frame after another, each
-//! answered before the next ([`each_frame_is_answered_before_the_next`]). An own answer without a place closes the connection
-//! ([`own_answers_without_a_place_close`]), and a poll needs three ([`polls_need_three_places`]).
+//! commands go before polls ([`logs_keep_turns`]). Within a step what came is taken first, one
+//! frame after another, each answered before the next ([`each_frame_is_answered_before_the_next`]).
+//! An own answer without a place closes the connection ([`own_answers_without_a_place_close`]), and
+//! a poll needs three ([`polls_need_three_places`]).
 //!
 //! At a restart a gateway is read from the lines of its state ([`Gateway::read_state`]). It ends
 //! the connection and gives up the commands without an answer ([`Gateway::restart`]), and goes on
 //! with other settings where these were changed ([`Gateway::carried`],
 //! [`stations_go_on_by_their_addresses`]): no link is up then but of a station as it was
-//! ([`no_link_goes_on_but_of_a_station_as_it_was`]), a stale state leaves gaps, and counts and clock
-//! stay. With the same settings the restart is an event
-//! of the log ([`restarts_give_up_commands`]), which goes on: each promise on a log holds of all
-//! lives together.
+//! ([`no_link_goes_on_but_of_a_station_as_it_was`]), a stale state leaves gaps, and counts and
+//! clock stay. With the same settings the restart is an event of the log
+//! ([`restarts_give_up_commands`]), which goes on: each promise on a log holds of all lives
+//! together.
 #![tactic(auto)]
 
 mod config;

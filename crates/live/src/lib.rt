@@ -7,10 +7,10 @@
 //! [`LineSocket`], [`CentreListener`], [`CentreSocket`] and [`SystemClock`].
 //!
 //! Proved, for any ends that note what happens at them: an event is the first thing found in rounds
-//! of looks, which begin after the source of the last event; each source of a round is looked at once, and
-//! none after the one that had something, so no source hides another ([`no_source_hides_another`]).
-//! Where nothing is found a tick is given: 100 ms after the first round began, at once where the
-//! time of an exchange is over, and where the wall clock is due
+//! of looks, which begin after the source of the last event; each source of a round is looked at
+//! once, and none after the one that had something, so no source hides another
+//! ([`no_source_hides_another`]). Where nothing is found a tick is given: 100 ms after the first
+//! round began, at once where the time of an exchange is over, and where the wall clock is due
 //! ([`looks_for_an_event_begin_within_100_ms`],
 //! [`an_exchange_that_is_over_gives_an_event_at_once`], [`a_tick_has_a_reason`]).
 //!
@@ -22,14 +22,14 @@
 //!
 //! And of time, whatever the gateway stalls: an event bears the clock's moment after the looks, but
 //! none that ends an exchange whose line hasn't been looked at for `answer_ms` since the request
-//! was written ([`no_exchange_ends_unread`]), and once it has been, the clock's; where that moment is more than 50 ms
-//! behind the clock, the line alone is looked at, and octets of a control centre that would bear
-//! such a moment are held ([`what_the_centre_sent_is_given_in_time`]), until a frame has come from
-//! the line, which bears none that is ([`a_frame_catches_the_clock_up`]).
+//! was written ([`no_exchange_ends_unread`]), and once it has been, the clock's; where that moment
+//! is more than 50 ms behind the clock, the line alone is looked at, and octets of a control centre
+//! that would bear such a moment are held ([`what_the_centre_sent_is_given_in_time`]), until a
+//! frame has come from the line, which bears none that is ([`a_frame_catches_the_clock_up`]).
 //!
 //! The wall clock is given at the first call, and again where a second has passed since and the
-//! ends have been looked at in between ([`the_wall_clock_is_given_each_second`]): as it stood at the moment that the event bears. A wall
-//! clock that is set is given as it then shows.
+//! ends have been looked at in between ([`the_wall_clock_is_given_each_second`]): as it stood at
+//! the moment that the event bears. A wall clock that is set is given as it then shows.
 //!
 //! It has a log, and stores none of it: each event that it gave and each action that it put out.
 //! Where the ends note what happens at them, the log's octets are those that the line and the open

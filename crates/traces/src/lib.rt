@@ -14,8 +14,8 @@
 //! once; `read_octets` answers the octets that the digits spell, and nothing for any other text;
 //! the events of `Trace`'s log and those still to come are always the tick and all entries; and
 //! unless a write failed, its writer has got the lines of the log's actions in their order, and
-//! nothing else; and each line that is printed, of an event or an action, reads back as that very entry
-//! ([`printed_lines_read_back`]). Literal examples show what the lines of a trace log
+//! nothing else; and each line that is printed, of an event or an action, reads back as that very
+//! entry ([`printed_lines_read_back`]). Literal examples show what the lines of a trace log
 //! ([`trace_lines_by_example`]).
 //!
 //! `Blocks` reads a text on, block by block, each of whole lines: the blocks are the text, and one
