@@ -707,9 +707,9 @@ impl<'a, R: std::rt::Clock, I: SystemInstants + Drop> SystemClock<'a, R, I> {
 impl<R: std::rt::Clock, I: SystemInstants + Drop> SystemClock<'_, R, I> {
     /// The moment when the system's clock shows this, in ms.
     fn moment_at(&self, shown: Instant) -> u64
-        ensures moment { result
-            ≡ moment_by self.now.first self.now.start self.now.now (Ok shown) }
-        ensures from { self.now.first ≤ self.now.now → self.now.first ≤ result }
+        ensures moment { result ≡ moment_by self.entry.now.first self.entry.now.start
+            self.entry.now.now (Ok shown) }
+        ensures from { self.entry.now.first ≤ self.entry.now.now → self.entry.now.first ≤ result }
     {
         let passed = shown.duration_since(self.start);
         let passed = u64::try_from(passed.as_millis()).unwrap_or(u64::MAX);
