@@ -1,4 +1,5 @@
 pub mod Limits
+pub mod Causes
 pub mod LineLines
 pub mod Orders
 pub mod OrderWords

@@ -9,6 +9,7 @@ use Rattle.live.specs.declared.ends.CutCause.{CutCause}
 use Rattle.live.specs.declared.ends.CutCause.TheVariants as cut
 use Rattle.live.specs.declared.watched.Notice.{Notice}
 use Rattle.live.specs.declared.watched.Notice.TheVariants as notices
+use Rattle.runlog.specs.Causes.{cause_words}
 use Rattle.runlog.specs.OrderWords.{order_words, reason_words, fate_words, type_name}
 use Rattle.runlog.specs.Spoilings.{spoiling_words}
 use Rattle.runlog.specs.declared.content.Skip.{Skip}
@@ -17,7 +18,6 @@ use Rattle.runlog.specs.declared.spoiling.Spoiling.{Spoiling}
 use Rattle.runlog.specs.declared.note.LogLine.{LogLine}
 use Rattle.runlog.specs.declared.note.RunCounts.{RunCounts}
 use Rattle.runlog.specs.declared.note.Obstacle.{Obstacle}
-use Rattle.runlog.specs.declared.note.Obstacle.TheVariants as obstacle
 use Rattle.runlog.specs.declared.note.Remnant.{Remnant}
 use Rattle.runlog.specs.declared.note.Remnant.TheVariants as remnant
 use Rattle.runlog.specs.declared.note.Trouble.{Trouble}
@@ -91,8 +91,15 @@ skipped_words station kind why =
 
 -- why a start can't use the directory of its state
 abbrev pub obstacle_words : Obstacle → List ℕ
-obstacle_words obstacle.Foreign = codes "there are files of something else"
-obstacle_words obstacle.Device = codes "the disk failed"
+obstacle_words why =
+    codes "state: its directory can't be used, the run goes on without it: "
+    ++ why.place.now ++ codes ": " ++ cause_words why.cause
+
+-- a sync of the state, and the longest since the run began, in ms
+abbrev pub sync_words : (ms longest : ℕ) → List ℕ
+sync_words ms longest =
+    (codes "state: a sync took " ++ decimal ms ++ codes " ms, ")
+    ++ (codes "the longest so far " ++ decimal longest ++ codes " ms")
 
 abbrev pub damaged_words : (place : ℕ) → List ℕ
 damaged_words place =
@@ -155,8 +162,8 @@ words note.SettingsChanged = codes "state: settings have changed"
 words note.StateStale = codes "state is stale: each link is reset"
 words note.StatePutAside = codes "state can't be read: put aside"
 words (note.StateDamaged place) = damaged_words place
-words (note.StateUnused why) =
-    codes "state: its directory can't be used, the run goes on without it: " ++ obstacle_words why
+words (note.StateRefused why) = obstacle_words why
+words (note.SlowSync ms longest) = sync_words ms longest
 words (note.GivenUp what kind ca object) = given_up_words what kind ca object
 words (note.State notice) = notice_words notice
 words (note.Trouble why) = trouble_words why

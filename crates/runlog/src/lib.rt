@@ -6,8 +6,8 @@
 //! [`StandardError`] is the sink of a process.
 //!
 //! [`Watch`] is what is known of the run, for those who show it: each station's standing, what has
-//! passed between it and the gateway, the line, and the connection. It goes on where nothing is
-//! logged, if that is wanted ([`Logger::watching`]).
+//! passed between it and the gateway, the line, and the connection. It goes on if nothing is logged,
+//! where that is wanted ([`Logger::watching`]).
 //!
 //! Proved: the run log's log, script and failures are those of the port inside; which line follows
 //! from which event or action is one small function of what has passed, of what was seen of the
@@ -51,6 +51,7 @@
 #![tactic(auto)]
 
 mod befallen_laws;
+mod causes;
 mod connection_laws;
 mod content;
 mod ends;

@@ -5,9 +5,10 @@ ghost use Rattle.runlog.specs.Notes.{close_words, counts_words, cut_words, late_
 ghost use Rattle.runlog.specs.Notes.{left_out_words, line_text, notice_words, of_station};
 ghost use Rattle.runlog.specs.Notes.{given_up_words, peer_words, refused_peers_words};
 ghost use Rattle.runlog.specs.Notes.{damaged_words, obstacle_words, remnant_words};
-ghost use Rattle.runlog.specs.Notes.{skip_words, skipped_words, spoilt_words, trouble_words};
-ghost use Rattle.runlog.specs.Notes.{words};
+ghost use Rattle.runlog.specs.Notes.{skip_words, skipped_words, spoilt_words, sync_words};
+ghost use Rattle.runlog.specs.Notes.{trouble_words, words};
 
+use crate::causes::cause_words;
 use crate::content::Skip;
 use crate::fate::{CommandFate, Reason};
 use crate::order::Order;
@@ -17,6 +18,7 @@ use gateway::Counts;
 use live::{CutCause, Notice};
 use session::Close;
 use std::fmt;
+use std::io::ErrorKind;
 use std::net::{IpAddr, SocketAddr};
 
 /// A line that was closed since nothing came from it.
@@ -27,9 +29,6 @@ const MIRROR_DROPPED: &str = "answer to a command dropped: data transfer isn't r
 
 /// What stands behind a station whose link is held though it doesn't answer.
 const STILL_SILENT: &str = "still doesn't answer: if it was restarted, restart telegate too";
-
-/// What stands before the reason why a start can't use the directory of its state.
-const UNUSED: &str = "state: its directory can't be used, the run goes on without it: ";
 
 /// What was counted since the run began.
 #[derive(Clone, Copy, PartialEq, Eq)]
@@ -46,11 +45,11 @@ pub struct RunCounts {
 
 /// Why a start can't use the directory that is to have its state.
 #[derive(Clone, Copy, PartialEq, Eq)]
-pub enum Obstacle {
-    /// What stands there isn't a state's.
-    Foreign,
-    /// The disk failed, or the system refused.
-    Device,
+pub struct Obstacle {
+    /// The name of the file in the directory that can't be used, or `.` for the directory itself.
+    pub place: &'static str,
+    /// What the system answered.
+    pub cause: ErrorKind,
 }
 
 /// What of the connection before it a start gives up.
@@ -144,7 +143,9 @@ pub enum Note {
     /// The file of its log is damaged from this octet on, and nothing behind it is read.
     StateDamaged(u64),
     /// The run begins without the directory that was to have its state.
-    StateUnused(Obstacle),
+    StateRefused(Obstacle),
+    /// A sync of the state took so many ms, and the longest one since the run began so many.
+    SlowSync(u64, u64),
     /// A start gives up this of the connection before it: its type octet, its common address and
     /// the address of its object.
     GivenUp(Remnant, u8, u16, u32),
@@ -225,13 +226,20 @@ fn remnant_words(remnant: Remnant) -> &'static str
     }
 }
 
-fn obstacle_words(obstacle: Obstacle) -> &'static str
-    ensures { result.now ≡ obstacle_words obstacle }
+fn write_obstacle<W: fmt::Write>(obstacle: &Obstacle, f: &mut fmt::Formatter<W>) -> fmt::Result
+    ensures { WritesOnOk W.write_str_gives f.old result (obstacle_words obstacle.now) f.new }
 {
-    match obstacle {
-        Obstacle::Foreign => "there are files of something else",
-        Obstacle::Device => "the disk failed",
-    }
+    f.write_str("state: its directory can't be used, the run goes on without it: ")?;
+    f.write_str(obstacle.place)?;
+    f.write_str(": ")?;
+    f.write_str(cause_words(obstacle.cause))
+}
+
+fn write_sync<W: fmt::Write>(ms: u64, longest: u64, f: &mut fmt::Formatter<W>) -> fmt::Result
+    ensures { WritesOnOk W.write_str_gives f.old result (sync_words ms longest) f.new }
+{
+    write!(f, "state: a sync took {ms} ms, ")?;
+    write!(f, "the longest so far {longest} ms")
 }
 
 fn trouble_words(trouble: Trouble) -> &'static str
@@ -415,10 +423,8 @@ impl fmt::Display for Note {
             Note::StateStale => f.write_str("state is stale: each link is reset"),
             Note::StatePutAside => f.write_str("state can't be read: put aside"),
             Note::StateDamaged(place) => write_damaged(*place, f),
-            Note::StateUnused(obstacle) => {
-                f.write_str(UNUSED)?;
-                f.write_str(obstacle_words(*obstacle))
-            }
+            Note::StateRefused(obstacle) => write_obstacle(obstacle, f),
+            Note::SlowSync(ms, longest) => write_sync(*ms, *longest, f),
             Note::GivenUp(remnant, kind, ca, object) => {
                 write_given_up(*remnant, *kind, *ca, *object, f)
             }
