@@ -30,7 +30,7 @@ use Rattle.runlog.specs.declared.stations.StationWatch.{StationWatch}
 use Rattle.runlog.specs.declared.traffic.Traffic.{Traffic}
 
 abbrev pub at : ℕ → Note → LogLine
-at now what = record { moment = now; note = what; left_out = 0 }
+at now what = record { moment = now; note = what; left_out = none_left }
 
 -- the lines of requests, each with its moment, the oldest first
 abbrev pub lines_of_requests : LinkSize → List (ℕ × List ℕ) → List StationWatch → List LogLine

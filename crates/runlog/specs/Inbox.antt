@@ -10,16 +10,18 @@ use Rattle.gateway.specs.State.{State, wall_now}
 use Rattle.runlog.specs.Gathering.{nothing, added}
 use Rattle.runlog.specs.Gathering as gathering
 use Rattle.runlog.specs.Orders.{octet, order_of}
+use Rattle.runlog.specs.Trails.{added as told}
 use Rattle.runlog.specs.declared.fate.Reason.TheVariants as reason
 use Rattle.runlog.specs.declared.gathered.Gathered.{Gathered}
 use Rattle.runlog.specs.declared.note.LogLine.{LogLine}
 use Rattle.runlog.specs.declared.note.Note.TheVariants as note
 use Rattle.runlog.specs.declared.order.Order.{Order}
 
--- what a judgement looked at before the commands that come, and those that go on or are refused
+-- what a judgement looked at before the commands that come; those of the latest step that go on,
+-- which are to be told; and those that are refused
 pub record Orders : Type 0 where
   pub seen : Seen
-  pub ordered : Gathered
+  pub ordered : List LogLine
   pub refused : Gathered
 
 -- what came in the latest step behind what wasn't whole before, and whether the connection was
@@ -32,7 +34,7 @@ pub record Inbox : Type 0 where
 abbrev pub new_orders : Orders
 new_orders = record {
   seen = record { waiting = 0; selections = [] };
-  ordered = nothing;
+  ordered = [];
   refused = nothing;
 }
 
@@ -55,19 +57,19 @@ closed b = record b { is_closed = true }
 -- ---- One command
 
 -- it goes on to its station, or is refused by a rule
-abbrev pub rule_noted : Option Refusal × Seen → Option IpAddr → Order → Orders → Orders
-rule_noted (None, seen) peer o c =
-    record c { seen = seen; ordered = added (note.Ordered o peer) c.ordered }
-rule_noted (Some rule, seen) peer o c =
-    record c { seen = seen; refused = added (note.Refused o peer (reason.Rule rule)) c.refused }
+abbrev pub rule_noted : Option Refusal × Seen → (now : ℕ) → Option IpAddr → Order → Orders → Orders
+rule_noted (None, seen) now peer o c =
+    record c { seen = seen; ordered = told (note.Ordered o peer) now c.ordered }
+rule_noted (Some rule, seen) now peer o c =
+    record c { seen = seen; refused = added (note.Refused o peer (reason.Rule rule)) now c.refused }
 
 -- Where the connection was closed in the step in which it came, it goes nowhere.
 abbrev pub order_noted : State → (is_closed : Bool) → Option IpAddr → List ℕ → Order → Orders
     → Orders
 order_noted s true peer asdu o c =
-    record c { refused = added (note.Refused o peer reason.Closed) c.refused }
+    record c { refused = added (note.Refused o peer reason.Closed) s.moment c.refused }
 order_noted s false peer asdu o c = rule_noted
-    (seen_judged s.serial.commands asdu s.moment (wall_now s) c.seen) peer o c
+    (seen_judged s.serial.commands asdu s.moment (wall_now s) c.seen) s.moment peer o c
 
 abbrev pub asdu_by : Option Order → State → (is_closed : Bool) → Option IpAddr → List ℕ → Orders
     → Orders
@@ -120,17 +122,14 @@ judged_by (orders, rest) s b = record {
 abbrev pub judged : State → Option IpAddr → Inbox → Inbox
 judged s peer b = judged_by (all_noted (length b.octets) s b.is_closed peer b.octets b.orders) s b
 
-abbrev pub refused_line : ℕ → Orders → Orders × Option LogLine
-refused_line now c =
-    let logged = gathering.line_of now c.refused in (record c { refused = logged.0 }, logged.1)
+-- those that go on are told, behind others
+abbrev pub handed_on : Inbox → Inbox
+handed_on b = record b { orders = record b.orders { ordered = [] } }
 
-abbrev pub unless_ordered : Gathered × Option LogLine → ℕ → Orders → Orders × Option LogLine
-unless_ordered (ordered, Some line) now c = (record c { ordered = ordered }, Some line)
-unless_ordered (ordered, None) now c = refused_line now (record c { ordered = ordered })
-
--- a line of the commands that came, if one is to be logged
+-- a line of the commands that were refused, if one is to be logged
 abbrev pub orders_line : ℕ → Orders → Orders × Option LogLine
-orders_line now c = unless_ordered (gathering.line_of now c.ordered) now c
+orders_line now c =
+    let logged = gathering.line_of now c.refused in (record c { refused = logged.0 }, logged.1)
 
 abbrev pub line_of : ℕ → Inbox → Inbox × Option LogLine
 line_of now b = let logged = orders_line now b.orders in (record b { orders = logged.0 }, logged.1)

@@ -12,6 +12,7 @@ pub mod Ends
 pub mod Gathering
 pub mod Inbox
 pub mod Stations
+pub mod Trails
 pub mod Traffic
 pub mod Waiting
 pub mod Exchange

@@ -15,6 +15,7 @@ use Rattle.runlog.specs.Spoilings.{spoiling_words}
 use Rattle.runlog.specs.declared.content.Skip.{Skip}
 use Rattle.runlog.specs.declared.content.Skip.TheVariants as skip
 use Rattle.runlog.specs.declared.spoiling.Spoiling.{Spoiling}
+use Rattle.runlog.specs.declared.limit.LeftOut.{LeftOut}
 use Rattle.runlog.specs.declared.note.LogLine.{LogLine}
 use Rattle.runlog.specs.declared.note.RunCounts.{RunCounts}
 use Rattle.runlog.specs.declared.note.Obstacle.{Obstacle}
@@ -178,8 +179,11 @@ words (note.Spoilt address what) = spoilt_words address what
 words (note.Late address ms) = late_words address ms
 words (note.LeftOut count) = decimal count ++ codes " lines left out: nobody read them in time"
 
-abbrev pub left_out_words : ℕ → List ℕ
-left_out_words n = if n == 0 then [] else codes " (" ++ decimal n ++ codes " left out)"
+-- what was left out before it: how many, and the moment of the first of them
+abbrev pub left_out_words : LeftOut → List ℕ
+left_out_words l =
+    if l.count == 0 then []
+    else codes " (" ++ decimal l.count ++ codes " left out since " ++ decimal l.since ++ codes ")"
 
 -- what stands behind the line's UTC time
 abbrev pub line_text : LogLine → List ℕ

@@ -39,5 +39,5 @@ IsSkippedAs n why = (address now : ℕ) (s : Sizes) (report : List ℕ) → refu
     ≡ Some (record {
       moment = now;
       note = note.Skipped address (octet report 0) why;
-      left_out = 0;
+      left_out = none_left;
     })

@@ -1,11 +1,13 @@
 //! What is logged of the commands that come from the control centre.
 ghost use Rattle.std.specs.Prelude.{◌≡◌, ◌≤◌, ◌<◌, ◌+◌, length, drop, List, ℕ};
 ghost use Rattle.runlog.specs.Inbox as spec;
+ghost use Rattle.runlog.specs.Trails.{appended};
 
 use crate::fate::Reason;
 use crate::gathered::Gathered;
 use crate::note::{LogLine, Note};
 use crate::order::{Order, octet};
+use crate::trail::Trail;
 use arrayvec::ArrayVec;
 use asdu::Sizes;
 use command::Glance;
@@ -18,7 +20,8 @@ use std::net::IpAddr;
 pub(crate) struct Orders {
     /// What the next judgement looks at.
     glance: Glance,
-    ordered: Gathered,
+    /// Those of the latest step that go on to their stations.
+    ordered: Trail,
     refused: Gathered,
 }
 
@@ -36,7 +39,7 @@ impl Orders {
     {
         Orders {
             glance: Glance::new(),
-            ordered: Gathered::new(),
+            ordered: Trail::new(),
             refused: Gathered::new(),
         }
     }
@@ -53,17 +56,18 @@ impl Orders {
         requires { 9 ≤ length asdu.now }
         ensures { self.new ≡ spec.order_noted gateway.now is_closed peer asdu.now order self.old }
     {
+        let now = gateway.moment();
         // Nothing of the step goes on then, even what was refused before (docs/DECISIONS.md, "The
         // log judges no command").
         if is_closed {
-            self.refused.add(Note::Refused(order, peer, Reason::Closed));
+            self.refused.add(Note::Refused(order, peer, Reason::Closed), now);
             return;
         }
         match gateway.refusal_at(&mut self.glance, asdu) {
-            None => self.ordered.add(Note::Ordered(order, peer)),
+            None => self.ordered.add(Note::Ordered(order, peer), now),
             Some(rule) => self
                 .refused
-                .add(Note::Refused(order, peer, Reason::Rule(rule))),
+                .add(Note::Refused(order, peer, Reason::Rule(rule)), now),
         }
     }
 
@@ -111,14 +115,11 @@ impl Orders {
         done
     }
 
-    /// The line of the last command that came, where one is to be logged and may be logged now.
+    /// The line of the last command that was refused, if one is to be logged and may be logged now.
     fn line(&mut self, now: u64) -> Option<LogLine>
         ensures { (self.new, result) ≡ spec.orders_line now self.old }
     {
-        match self.ordered.line(now) {
-            Some(line) => Some(line),
-            None => self.refused.line(now),
-        }
+        self.refused.line(now)
     }
 }
 
@@ -241,7 +242,15 @@ impl Inbox {
         self.octets = rest;
     }
 
-    /// The line of the last command that came, where one is to be logged and may be logged now.
+    /// The commands that go on to their stations are told behind what stands there.
+    pub(crate) fn hand_on(&mut self, trail: &mut Trail)
+        ensures none { self.new ≡ spec.handed_on self.old }
+        ensures told { trail.new ≡ appended self.old.orders.ordered trail.old }
+    {
+        trail.append(&mut self.orders.ordered);
+    }
+
+    /// The line of the last command that was refused, if one is to be logged and may be logged now.
     pub(crate) fn line(&mut self, now: u64) -> Option<LogLine>
         ensures { (self.new, result) ≡ spec.line_of now self.old }
     {

@@ -82,6 +82,7 @@ mod station_laws;
 mod stations;
 mod system_laws;
 mod traffic;
+mod trail;
 mod watch;
 mod word_examples;
 
@@ -124,6 +125,7 @@ pub use laws::{
 };
 pub use logger::{Logger, taken_places};
 pub use name_laws::lines_end_with_the_name_of_what_they_are_about;
+pub use limit::LeftOut;
 pub use names::{LogNames, NamedLine, NamedStation, name_of};
 pub use note::{LogLine, Note, Obstacle, Remnant, RunCounts, Trouble};
 pub use order::{Order, OrderKind, Value};

@@ -11,6 +11,7 @@ ghost use Rattle.runlog.specs.Notes.{trouble_words, words};
 use crate::causes::cause_words;
 use crate::content::Skip;
 use crate::fate::{CommandFate, Reason};
+use crate::limit::LeftOut;
 use crate::order::Order;
 use crate::order_words::{write_fate, write_order, write_reason, write_type_name};
 use crate::spoiling::{Spoiling, write_spoiling};
@@ -175,11 +176,11 @@ pub enum Note {
 /// A line of the log.
 #[derive(Clone, Copy, PartialEq, Eq)]
 pub struct LogLine {
-    /// The moment of the run, in ms.
+    /// The moment of its event in the run, in ms.
     pub moment: u64,
     pub note: Note,
-    /// How many lines of this kind were left out before it.
-    pub left_out: u64,
+    /// The lines of this kind that were left out before it.
+    pub left_out: LeftOut,
 }
 
 fn peer_words<W: fmt::Write>(peer: Option<IpAddr>, f: &mut fmt::Formatter<W>) -> fmt::Result
@@ -453,13 +454,14 @@ impl fmt::Display for Note {
     }
 }
 
-fn write_left_out<W: fmt::Write>(left_out: u64, f: &mut fmt::Formatter<W>) -> fmt::Result
+fn write_left_out<W: fmt::Write>(left_out: LeftOut, f: &mut fmt::Formatter<W>) -> fmt::Result
     ensures { WritesOnOk W.write_str_gives f.old result (left_out_words left_out) f.new }
 {
-    if left_out == 0 {
+    let LeftOut { count, since } = left_out;
+    if count == 0 {
         return Ok(());
     }
-    write!(f, " ({left_out} left out)")
+    write!(f, " ({count} left out since {since})")
 }
 
 impl fmt::Display for LogLine {
