@@ -30,3 +30,8 @@ abbrev pub fate_told : Option CommandFate → Option Order → (address now : �
     → List LogLine
 fate_told (Some what) (Some o) address now lines = added (note.Fate o address what) now lines
 fate_told what o address now lines = lines
+
+-- these lines, the newest first, on others
+abbrev pub newest_first : (lines before : List LogLine) → List LogLine
+newest_first [] before = before
+newest_first (line ∷ lines) before = newest_first lines (line ∷ before)
