@@ -140,52 +140,52 @@ module _ (w : Watching) (fcb : Bool) (asdu : List ℕ) (now : ℕ)
     (none : NoneHas t.address before)
     (new : is_repeat (length before)
     (spelling w.link (request_frame t.address (request.Counted fcb (Command asdu)))) w ≡ false)
-    where
-  abbrev octets : List ℕ
-  octets = octets_of w.link t.address (request.Counted fcb (Command asdu))
+  where
+    abbrev octets : List ℕ
+    octets = octets_of w.link t.address (request.Counted fcb (Command asdu))
 
-  abbrev begun_at : Option ℕ → AwaitedAnswer → Watching
-  begun_at place what = record w {
-    exchange = exchange.asked w.link octets place what now w.exchange;
-  }
+    abbrev begun_at : Option ℕ → AwaitedAnswer → Watching
+    begun_at place what = record w {
+      exchange = exchange.asked w.link octets place what now w.exchange;
+    }
 
-  -- whatever is asked of what is known behind it
-  after_is : {A : Type 0} (f : Watching → A)
-      → ((v : List StationWatch × Option LogLine) (x : Watching)
-      → f (with_stations v x).0 ≡ f x)
-      → f (passed (Went now (LineOut octets)) w).0
-      ≡ f (sent_to t (length before) octets now (begun_at (Some (length before)) awaited.Command))
-  after_is f stations =
-      stations _ _
-      ∙ ap (λ place. f (sent_at place (awaited_of octets) octets now
-      (begun_at place (awaited_of octets))))
-      (ap (λ a. place_of a w.traffic) (address_is w.link t.address
-      (request.Counted fcb (Command asdu)))
-      ∙ place_here t.address before behind t w.traffic is none refl)
-      ∙ ap (λ what. f (sent_at (Some (length before)) what octets now
-      (begun_at (Some (length before)) what)))
-      (awaited_so w.link t.address (request.Counted fcb (Command asdu)))
-      ∙ ap (λ found. f (sent_by found (length before) octets now
-      (begun_at (Some (length before)) awaited.Command)))
-      (found_here before behind t w.traffic is)
-      ∙ ap (λ b. f (if b then begun_at (Some (length before)) awaited.Command
-      else sent_to t (length before) octets now
-      (begun_at (Some (length before)) awaited.Command))) new
+    -- whatever is asked of what is known behind it
+    after_is : {A : Type 0} (f : Watching → A)
+        → ((v : List StationWatch × Option LogLine) (x : Watching)
+        → f (with_stations v x).0 ≡ f x)
+        → f (passed (Went now (LineOut octets)) w).0
+        ≡ f (sent_to t (length before) octets now (begun_at (Some (length before)) awaited.Command))
+    after_is f stations =
+        stations _ _
+        ∙ ap (λ place. f (sent_at place (awaited_of octets) octets now
+        (begun_at place (awaited_of octets))))
+        (ap (λ a. place_of a w.traffic) (address_is w.link t.address
+        (request.Counted fcb (Command asdu)))
+        ∙ place_here t.address before behind t w.traffic is none refl)
+        ∙ ap (λ what. f (sent_at (Some (length before)) what octets now
+        (begun_at (Some (length before)) what)))
+        (awaited_so w.link t.address (request.Counted fcb (Command asdu)))
+        ∙ ap (λ found. f (sent_by found (length before) octets now
+        (begun_at (Some (length before)) awaited.Command)))
+        (found_here before behind t w.traffic is)
+        ∙ ap (λ b. f (if b then begun_at (Some (length before)) awaited.Command
+        else sent_to t (length before) octets now
+        (begun_at (Some (length before)) awaited.Command))) new
 
-  pub command_here : IsInPlace before behind (sent (order_of w.sizes asdu) t)
-      (passed (Went now (LineOut octets)) w).0
-  command_here =
-      after_is (λ x. x.traffic) (λ v x. refl)
-      ∙ ap (λ o. slice_set w.traffic (length before) (sent (order_of w.sizes o) t))
-      (command_so w.link t.address fcb asdu)
-      ∙ changed_here before behind t (sent (order_of w.sizes asdu) t) w.traffic is
+    pub command_here : IsInPlace before behind (sent (order_of w.sizes asdu) t)
+        (passed (Went now (LineOut octets)) w).0
+    command_here =
+        after_is (λ x. x.traffic) (λ v x. refl)
+        ∙ ap (λ o. slice_set w.traffic (length before) (sent (order_of w.sizes o) t))
+        (command_so w.link t.address fcb asdu)
+        ∙ changed_here before behind t (sent (order_of w.sizes asdu) t) w.traffic is
 
-  pub command_told : (passed (Went now (LineOut octets)) w).0.gone
-      ≡ fate_told (Some fate.Sent) (order_of w.sizes asdu) t.address now w.gone
-  command_told =
-      after_is (λ x. x.gone) (λ v x. refl)
-      ∙ ap (λ o. fate_told (Some fate.Sent) (order_of w.sizes o) t.address now w.gone)
-      (command_so w.link t.address fcb asdu)
+    pub command_told : (passed (Went now (LineOut octets)) w).0.gone
+        ≡ fate_told (Some fate.Sent) (order_of w.sizes asdu) t.address now w.gone
+    command_told =
+        after_is (λ x. x.gone) (λ v x. refl)
+        ∙ ap (λ o. fate_told (Some fate.Sent) (order_of w.sizes o) t.address now w.gone)
+        (command_so w.link t.address fcb asdu)
 
 -- ---- Answers
 
@@ -264,12 +264,12 @@ pub given_up_here : (counts : Counts) (w : Watching) (before behind : List Traff
     → IsInPlace before behind t (counts_noted counts w) × ((counts_noted counts w).trail
     ≡ fate_told (Some fate.GivenUp) t.order t.address w.moment w.trail)
 given_up_here counts w before behind t is asked more mirrors spoilt =
-    let as = counted_as false false true counts w (stayed _ _ spoilt) (stayed _ _ mirrors)
+    let counted = counted_as false false true counts w (stayed _ _ spoilt) (stayed _ _ mirrors)
     (below _ _ more) in (
-      ap (λ (v : Watching). v.traffic) as
-      ∙ suffered_here w.exchange.before mishap.GivenUp w before behind t is asked,
-      ap (λ (v : Watching). v.trail) as
-      ∙ told_here w.exchange.before mishap.GivenUp w before behind t is asked,
+      ap (λ (v : Watching). v.traffic) counted
+          ∙ suffered_here w.exchange.before mishap.GivenUp w before behind t is asked,
+      ap (λ (v : Watching). v.trail) counted
+          ∙ told_here w.exchange.before mishap.GivenUp w before behind t is asked,
     )
 
 pub dropped_here : (counts : Counts) (w : Watching) (before behind : List Traffic) (t : Traffic)

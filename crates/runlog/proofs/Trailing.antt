@@ -126,33 +126,33 @@ no_end a b is more not_so = let no : true ≡ false = sym (more is) ∙ not_so i
 
 goes_on : (lines : List LogLine) (book new : Book) (over : Bool) → book.is_over ≡ over
     → LogsEach lines book new → new.is_over ≡ false → book.is_over ≡ false
-goes_on lines book new false is others open = is
-goes_on lines book new true is others open =
-    no_end book.is_over new.is_over is (over_each lines book new others) open
+goes_on lines book new false is others lasts = is
+goes_on lines book new true is others lasts =
+    no_end book.is_over new.is_over is (over_each lines book new others) lasts
 
 each_handed : (lines : List LogLine) (old new : Book) (before : List LogLine)
     → LogsEach lines old new → old.is_over ≡ false → new.is_over ≡ false
     → old.handed ≡ Some before → new.handed ≡ Some (newest_first lines before)
-each_handed [] old new before is open still handed = ap (λ (b : Book). b.handed) is ∙ handed
-each_handed (line ∷ lines) old new before (book, one, others) open still handed =
+each_handed [] old new before is lasts still handed = ap (λ (b : Book). b.handed) is ∙ handed
+each_handed (line ∷ lines) old new before (book, one, others) lasts still handed =
     each_handed lines book new (line ∷ before) others
     (goes_on lines book new book.is_over refl others still) still
-    (ap (λ (b : Book). b.handed) one.done ∙ handed_on line one.taken old before open handed)
+    (ap (λ (b : Book). b.handed) one.done ∙ handed_on line one.taken old before lasts handed)
 
 -- nothing is told only if nothing is there
 open_tells : (over watched some : Bool) (old new : Book) → over ≡ false
     → TellsUnless ((over && not watched) || not some) old new
     → TellsUnless (not some) old new
-open_tells false watched some old new open tells = tells
-open_tells true watched some old new open tells = cc
+open_tells false watched some old new lasts tells = tells
+open_tells true watched some old new lasts tells = cc
 
 none_there : (lines : List LogLine) → is_told lines ≡ true → lines ≡ []
 none_there [] is = refl
 none_there (line ∷ lines) is = cc
 
-module _ (old new : Book) (tells : Tells old new) (open : old.is_over ≡ false) where
+module _ (old new : Book) (tells : Tells old new) (lasts : old.is_over ≡ false) where
   told_as : TellsUnless (not (has_trail old.watching)) old new
-  told_as = open_tells old.is_over old.is_watching (has_trail old.watching) old new open tells
+  told_as = open_tells old.is_over old.is_watching (has_trail old.watching) old new lasts tells
 
   whole_by : (done : Bool) → is_told old.watching.trail ≡ done
       → TellsUnless (not (not done)) old new
@@ -163,7 +163,7 @@ module _ (old new : Book) (tells : Tells old new) (open : old.is_over ≡ false)
       ∙ ap (λ lines. Some (newest_first lines before)) (sym (none_there old.watching.trail is))
   whole_by false is each before still handed =
       each_handed old.watching.trail (record old { watching = told old.watching }) new before each
-      open still handed
+      lasts still handed
 
   once_by : (done : Bool) → is_told old.watching.trail ≡ done
       → TellsUnless (not (not done)) old new → new.watching.trail ≡ []
@@ -176,10 +176,10 @@ module _ (old new : Book) (tells : Tells old new) (open : old.is_over ≡ false)
 pub told_whole : (old new : Book) (before : List LogLine) → Tells old new
     → old.is_over ≡ false → new.is_over ≡ false → old.handed ≡ Some before
     → new.handed ≡ Some (newest_first old.watching.trail before)
-told_whole old new before tells open still handed =
-    whole_by old new tells open (is_told old.watching.trail) refl (told_as old new tells open)
+told_whole old new before tells lasts still handed =
+    whole_by old new tells lasts (is_told old.watching.trail) refl (told_as old new tells lasts)
     before still handed
 
 pub told_once : (old new : Book) → Tells old new → old.is_over ≡ false → new.watching.trail ≡ []
-told_once old new tells open =
-    once_by old new tells open (is_told old.watching.trail) refl (told_as old new tells open)
+told_once old new tells lasts =
+    once_by old new tells lasts (is_told old.watching.trail) refl (told_as old new tells lasts)

@@ -60,7 +60,8 @@ impl Orders {
         // Nothing of the step goes on then, even what was refused before (docs/DECISIONS.md, "The
         // log judges no command").
         if is_closed {
-            self.refused.add(Note::Refused(order, peer, Reason::Closed), now);
+            self.refused
+                .add(Note::Refused(order, peer, Reason::Closed), now);
             return;
         }
         match gateway.refusal_at(&mut self.glance, asdu) {

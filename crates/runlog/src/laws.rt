@@ -45,10 +45,10 @@ pub fn lines_say_how_many_were_left_out()
         line_text (record { moment = moment; note = what; left_out = none_left })
         ≡ decimal moment ++ codes " " ++ words what }
     ensures some { (moment n since : ℕ) (what : Note) → line_text (record {
-          moment = moment;
-          note = what;
-          left_out = record { count = suc n; since = since };
-        }) ≡ (decimal moment ++ codes " " ++ words what) ++ (codes " (" ++ decimal (suc n)
+      moment = moment;
+      note = what;
+      left_out = record { count = suc n; since = since };
+    }) ≡ (decimal moment ++ codes " " ++ words what) ++ (codes " (" ++ decimal (suc n)
         ++ codes " left out since " ++ decimal since ++ codes ")") }
     ensures first { (now : ℕ) → one_left now none_left ≡ record { count = 1; since = now } }
     ensures more { (now n since : ℕ) →

@@ -123,9 +123,9 @@ pub use laws::{
     lines_of_a_kind_are_a_second_apart, lines_say_how_many_were_left_out,
     refusals_are_logged_by_their_rules, what_is_gathered_is_logged_or_counted,
 };
+pub use limit::LeftOut;
 pub use logger::{Logger, taken_places};
 pub use name_laws::lines_end_with_the_name_of_what_they_are_about;
-pub use limit::LeftOut;
 pub use names::{LogNames, NamedLine, NamedStation, name_of};
 pub use note::{LogLine, Note, Obstacle, Remnant, RunCounts, Trouble};
 pub use order::{Order, OrderKind, Value};

@@ -87,13 +87,7 @@ impl Traffic {
     }
 
     /// This became of a command at the station.
-    fn tell(
-        &self,
-        fate: Option<CommandFate>,
-        order: Option<Order>,
-        now: u64,
-        trail: &mut Trail,
-    )
+    fn tell(&self, fate: Option<CommandFate>, order: Option<Order>, now: u64, trail: &mut Trail)
         ensures { trail.new ≡ fate_told fate order self.now.address now trail.old }
     {
         if let (Some(fate), Some(order)) = (fate, order) {
@@ -131,8 +125,7 @@ impl Traffic {
         ensures { self.new ≡ spec.skip_noted why kind now self.old }
     {
         self.skipped = self.skipped.saturating_add(1);
-        self.skips
-            .add(Note::Skipped(self.address, kind, why), now);
+        self.skips.add(Note::Skipped(self.address, kind, why), now);
     }
 
     /// The station answered a poll with these user data.
