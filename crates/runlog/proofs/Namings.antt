@@ -220,6 +220,7 @@ other_subject note.SettingsChanged station line = refl
 other_subject note.StateStale station line = refl
 other_subject note.StatePutAside station line = refl
 other_subject (note.StateDamaged place) station line = refl
+other_subject (note.Unsent order) station line = refl
 other_subject (note.StateRefused why) station line = refl
 other_subject (note.SlowSync ms longest) station line = refl
 other_subject (note.GivenUp a b c d) station line = refl

@@ -33,6 +33,7 @@ has_row (note.Spoilt a what) = row.Spoilt a what
 has_row (note.Late a ms) = row.Late a ms
 has_row (note.LeftOut n) = row.LeftOut n
 has_row (note.Refused o peer why) = row.Refused o peer why
+has_row (note.Unsent o) = row.Unsent o
 has_row (note.Fate o a fate.Denied) = row.Denied o a
 has_row (note.Fate o a fate.Busy) = row.NotTaken o a
 has_row (note.Fate o a fate.GivenUp) = row.GivenUp o a

@@ -169,6 +169,7 @@ words (note.GivenUp what kind ca object) = given_up_words what kind ca object
 words (note.State notice) = notice_words notice
 words (note.Trouble why) = trouble_words why
 words (note.Ordered order peer) = order_words order ++ peer_words peer
+words (note.Unsent order) = order_words order ++ codes " not sent: its connection ended"
 words (note.Refused order peer why) =
     order_words order ++ peer_words peer ++ codes " refused: " ++ reason_words why
 words (note.Fate order station fate) = order_words order ++ fate_words fate station

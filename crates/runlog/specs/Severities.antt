@@ -66,6 +66,7 @@ severity_of (note.GivenUp what kind ca object) = Warning
 severity_of (note.State notice) = notice_severity notice
 severity_of (note.Trouble why) = Error
 severity_of (note.Ordered order peer) = Info
+severity_of (note.Unsent order) = Warning
 severity_of (note.Refused order peer why) = Warning
 severity_of (note.Fate order station what) = fate_severity what
 severity_of (note.Skipped station kind why) = Warning

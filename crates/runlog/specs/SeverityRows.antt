@@ -55,6 +55,7 @@ pub data HasRow : Note → ℕ → Type 0 where
   LeftOut : (n : ℕ) → HasRow (note.LeftOut n) 4
   -- a command that comes to nothing
   Refused : (o : Order) (peer : Option IpAddr) (why : Reason) → HasRow (note.Refused o peer why) 4
+  Unsent : (o : Order) → HasRow (note.Unsent o) 4
   Denied : (o : Order) (a : ℕ) → HasRow (note.Fate o a fate.Denied) 4
   NotTaken : (o : Order) (a : ℕ) → HasRow (note.Fate o a fate.Busy) 4
   GivenUp : (o : Order) (a : ℕ) → HasRow (note.Fate o a fate.GivenUp) 4

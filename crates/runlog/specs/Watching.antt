@@ -168,9 +168,16 @@ abbrev pub received : List ℕ → Watching → Watching
 received octets w =
     if is_some w.connection.opening then record w { inbox = inbox.received octets w.inbox } else w
 
+-- what waits never goes out, since its connection has ended: that is told
+abbrev pub lost_at : ℕ → Inbox → Watching → Watching
+lost_at now b w = record w {
+  inbox = inbox.lost b;
+  trail = inbox.unsent_told now b.orders.waiting w.trail;
+}
+
 -- nothing has come on a connection that begins or is cut
 abbrev pub at_end : ℕ → Watching → Watching
-at_end now w = record (at now w) { inbox = inbox.emptied w.inbox }
+at_end now w = lost_at now (inbox.emptied w.inbox) (at now w)
 
 -- ---- The line
 
@@ -216,6 +223,7 @@ abbrev pub sent_to : Traffic → (place : ℕ) → List ℕ → (now : ℕ) → 
 sent_to t place octets now w = record w {
   traffic = slice_set w.traffic place (traffic.sent (order_at octets w) t);
   gone = fate_told (Some fate.Sent) (order_at octets w) t.address now w.gone;
+  inbox = inbox.gone_out (order_at octets w) w.inbox;
 }
 
 abbrev pub sent_by : Option Traffic → (place : ℕ) → List ℕ → (now : ℕ) → Watching → Watching
@@ -328,7 +336,7 @@ inbox_after cause b = inbox.closed b
 -- the gateway closes the connection
 abbrev pub closed : Close → (now : ℕ) → Watching → Watching × Option LogLine
 closed cause now w = with_connection (connection_closed cause now w.connection)
-    (record w { inbox = inbox_after cause w.inbox })
+    (lost_at now (inbox_after cause w.inbox) w)
 
 -- An action: a request to a station, an APDU, the close of the connection, or a gap in what a
 -- station reported.

@@ -1,7 +1,7 @@
 //! Laws of the station that answers, commands and mishaps are noted of, of what passes a run that
 //! is watched, of APDUs that come in a step, and of how a run ends.
 ghost use Rattle.std.specs.Prelude.{◌≡◌, ℕ, ◌+◌, ◌%◌, ◌<◌, ◌≤◌, Bool, List, ◌∷◌, ◌++◌, length};
-ghost use Rattle.std.specs.Prelude.{◌-◌, drop, Option, Some, None, true, false, ◌≢◌, ◌⊎◌};
+ghost use Rattle.std.specs.Prelude.{[], ◌-◌, drop, Option, Some, None, true, false, ◌≢◌, ◌⊎◌};
 ghost use Rattle.std.specs.declared.net.ip_addr.IpAddr.{IpAddr};
 ghost use Rattle.asdu.specs.Sizes.{tcp};
 ghost use Rattle.asdu.specs.declared.sizes.Sizes.{Sizes};
@@ -158,10 +158,16 @@ pub fn each_apdu_of_a_step_is_read()
         b.is_closed ≡ false → (judged s peer b).octets ≡ start ∷ n ∷ rest }
     ensures foreign { (s : State) (peer : Option IpAddr) (b : Inbox) (start : ℕ)
         (rest : List ℕ) → b.octets ≡ start ∷ rest → start ≢ 0x68 →
-        (judged s peer b).orders ≡ record b.orders { seen = glance_of s.serial.commands } }
+        (judged s peer b).orders ≡ record b.orders {
+          seen = glance_of s.serial.commands;
+          early = [];
+        } }
     ensures no_length { (s : State) (peer : Option IpAddr) (b : Inbox) (start n : ℕ)
         (rest : List ℕ) → b.octets ≡ start ∷ n ∷ rest → (n < 4) ⊎ (253 < n) →
-        (judged s peer b).orders ≡ record b.orders { seen = glance_of s.serial.commands } }
+        (judged s peer b).orders ≡ record b.orders {
+          seen = glance_of s.serial.commands;
+          early = [];
+        } }
     ensures commands { (s : State) (is_closed : Bool) (peer : Option IpAddr) (apdu : List ℕ)
         (o : Order) (c : Orders) → octet apdu 2 % 2 ≡ 0 →
         order_of tcp (drop 6 apdu) ≡ Some o →

@@ -19,7 +19,7 @@ ghost use Rattle.runlog.specs.Traffic.{new_traffic, reply_of, sent, suffered, tr
 ghost use Rattle.runlog.specs.Trails.{added, at, newest_first};
 ghost use Rattle.runlog.specs.Waiting.{IsNothingFree, IsSkippedAs, first_alone};
 ghost use Rattle.runlog.specs.Watching.{Watching, command_sent, is_repeat, judged, line_received};
-ghost use Rattle.runlog.specs.Watching.{order_at};
+ghost use Rattle.runlog.specs.Watching.{lost_at, order_at};
 ghost use Rattle.runlog.specs.declared.content.Content.TheVariants.{Reply};
 ghost use Rattle.runlog.specs.declared.content.Skip.TheVariants as skip;
 ghost use Rattle.runlog.specs.declared.fate.CommandFate.{CommandFate};
@@ -37,8 +37,8 @@ ghost use Rattle.runlog.specs.declared.traffic.Traffic.{Traffic};
 
 /// Whatever becomes of a command that goes on to its station is told for that station, in a line of
 /// its own, with the moment of its event: that it came, that it went out, what the station answers,
-/// by the cause octet and the command of that very answer, that its link is busy, or that the latest
-/// command that went out to it was given up. All that is to be told is handed over behind the step,
+/// by the cause octet and the command of that very answer, that its link is busy, that the latest
+/// command that went out to it was given up, or that it never went out. All that is to be told is handed over behind the step,
 /// in its order, and nothing of it is left out. So is each report that isn't passed on, with its
 /// type and the reason, and each mishap: these at most once a minute.
 pub fn what_becomes_of_commands_is_logged()
@@ -62,6 +62,13 @@ pub fn what_becomes_of_commands_is_logged()
         (answer_told (Some Busy) s now t lines ≡ added (note.Fate o t.address fate.Busy) now lines)
         × (mishap_told mishap.GivenUp now t lines
         ≡ added (note.Fate o t.address fate.GivenUp) now lines) }
+    // Of the commands that wait each has its line when their connection ends, the oldest first.
+    ensures unsent { (now : ℕ) (o : Order) (os : List Order) (lines : List LogLine) →
+        (inbox.unsent_told now [] lines ≡ lines) × (inbox.unsent_told now (o ∷ os) lines
+        ≡ inbox.unsent_told now os (added (note.Unsent o) now lines)) }
+    ensures waits { (b : Inbox) (now : ℕ) (w : Watching) →
+        ((lost_at now b w).trail ≡ inbox.unsent_told now b.orders.waiting w.trail)
+        × ((lost_at now b w).inbox.orders.waiting ≡ []) }
     ensures latest { (o : Option Order) (t : Traffic) → (sent o t).order ≡ o }
     // What came in the step stands before what the step made of it, and what went out in it last.
     ensures order { (s : State) (w : Watching) →

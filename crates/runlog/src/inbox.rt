@@ -23,6 +23,10 @@ pub(crate) struct Orders {
     /// Those of the latest step that go on to their stations.
     ordered: Trail,
     refused: Gathered,
+    /// Those that wait for the line, oldest first.
+    waiting: ArrayVec<Order, 64>,
+    /// Those of the latest step that went out in it: they go out before they are seen to come.
+    early: ArrayVec<Order, 16>,
 }
 
 impl Model for Orders {
@@ -30,7 +34,13 @@ impl Model for Orders {
 
     ghost Value = { Seen };
 
-    ghost view = { λ c. record { seen = c.glance; ordered = c.ordered; refused = c.refused } };
+    ghost view = { λ c. record {
+      seen = c.glance;
+      ordered = c.ordered;
+      refused = c.refused;
+      waiting = c.waiting.items;
+      early = c.early.items;
+    } };
 }
 
 impl Orders {
@@ -41,6 +51,8 @@ impl Orders {
             glance: Glance::new(),
             ordered: Trail::new(),
             refused: Gathered::new(),
+            waiting: ArrayVec::new(),
+            early: ArrayVec::new(),
         }
     }
 
@@ -65,10 +77,41 @@ impl Orders {
             return;
         }
         match gateway.refusal_at(&mut self.glance, asdu) {
-            None => self.ordered.add(Note::Ordered(order, peer), now),
+            None => {
+                self.ordered.add(Note::Ordered(order, peer), now);
+                self.wait(order);
+            }
             Some(rule) => self
                 .refused
                 .add(Note::Refused(order, peer, Reason::Rule(rule)), now),
+        }
+    }
+
+    /// A command goes on to its station: it waits, if it isn't out already.
+    fn wait(&mut self, order: Order)
+        ensures { self.new ≡ spec.waits order self.old }
+    {
+        match self.early.iter().position(|sent| order.goes_out_as(*sent)) {
+            Some(place) if place < self.early.len() => {
+                self.early.remove(place);
+            }
+            _ => {
+                let _ = self.waiting.try_push(order);
+            }
+        }
+    }
+
+    /// A command goes out to the line so, for the first time.
+    fn go(&mut self, sent: Order)
+        ensures { self.new ≡ spec.gone sent self.old }
+    {
+        match self.waiting.iter().position(|came| came.goes_out_as(sent)) {
+            Some(place) if place < self.waiting.len() => {
+                self.waiting.remove(place);
+            }
+            _ => {
+                let _ = self.early.try_push(sent);
+            }
         }
     }
 
@@ -121,6 +164,17 @@ impl Orders {
         ensures { (self.new, result) ≡ spec.orders_line now self.old }
     {
         self.refused.line(now)
+    }
+}
+
+/// These commands wait no more, since their connection has ended.
+fn tell_unsent(orders: &[Order], now: u64, trail: &mut Trail)
+    ensures { trail.new ≡ spec.unsent_told now orders.now trail.old }
+{
+    let mut left = orders;
+    while let [first, more @ ..] = left {
+        trail.add(Note::Unsent(*first), now);
+        left = more;
     }
 }
 
@@ -228,6 +282,25 @@ impl Inbox {
         // For the next step: how commands were judged is decided by what stood before it
         // (docs/DECISIONS.md, "The log judges no command").
         self.orders.glance = gateway.glance();
+        self.orders.early.clear();
+    }
+
+    /// A command goes out to the line so, for the first time.
+    pub(crate) fn go(&mut self, sent: Option<Order>)
+        ensures { self.new ≡ spec.gone_out sent self.old }
+    {
+        if let Some(sent) = sent {
+            self.orders.go(sent);
+        }
+    }
+
+    /// The connection has ended: what waits never goes out, which is told.
+    pub(crate) fn lose(&mut self, now: u64, trail: &mut Trail)
+        ensures none { self.new ≡ spec.lost self.old }
+        ensures told { trail.new ≡ spec.unsent_told now self.old.orders.waiting trail.old }
+    {
+        tell_unsent(self.orders.waiting.as_slice(), now, trail);
+        self.orders.waiting.clear();
     }
 
     /// Leaves the first octets.

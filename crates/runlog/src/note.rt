@@ -156,6 +156,8 @@ pub enum Note {
     Trouble(Trouble),
     /// This command of the control centre, whose address may be known, goes on to its station.
     Ordered(Order, Option<IpAddr>),
+    /// It never went out to its station, since its connection ended before.
+    Unsent(Order),
     /// It doesn't go on.
     Refused(Order, Option<IpAddr>, Reason),
     /// What became of it at the station with this link address.
@@ -434,6 +436,10 @@ impl fmt::Display for Note {
             Note::Ordered(order, peer) => {
                 write_order(order, f)?;
                 peer_words(*peer, f)
+            }
+            Note::Unsent(order) => {
+                write_order(order, f)?;
+                f.write_str(" not sent: its connection ended")
             }
             Note::Refused(order, peer, reason) => {
                 write_order(order, f)?;

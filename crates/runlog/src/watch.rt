@@ -263,11 +263,13 @@ impl Watch {
                 self.begin(now);
                 // Half an APDU of the connection before is no beginning of one on this.
                 self.inbox.empty();
+                self.inbox.lose(now, &mut self.trail);
                 self.connection.open(sight.peer, now)
             }
             Next::Cut(now) => {
                 self.begin(now);
                 self.inbox.empty();
+                self.inbox.lose(now, &mut self.trail);
                 self.connection.cut(sight.why_cut, now)
             }
             Next::Bytes(now, len) => {
@@ -343,6 +345,7 @@ impl Watch {
         if !matches!(cause, Close::Replaced) {
             self.inbox.close();
         }
+        self.inbox.lose(now, &mut self.trail);
         self.connection.close(cause, now)
     }
 

@@ -63,6 +63,7 @@ impl Watch {
             return;
         }
         let order = Order::read(self.sizes, user_data(self.link, octets));
+        self.inbox.go(order);
         self.traffic[place].send(order, now, &mut self.gone);
     }
 
