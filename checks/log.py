@@ -14,7 +14,7 @@ and `--allow`.
   refused, with the rule. Of many refusals at once the last is logged, how many came before it, and
   since when.
 - The trail of commands is whole: of bursts of up to 64 commands, three quick select-and-executes,
-  a busy link and a station that falls silent, each line stands there that the record of the run
+  a busy link, a station that falls silent and a connection that ends too early, each line stands there that the record of the run
   gives, with its moment, in its order, and no other. So do the gathered lines of refusals.
 - A skipped report is logged with its type and the reason.
 - A station whose answers last longer than `answer_ms` is logged, once a minute; a silent one isn't.
@@ -497,6 +497,8 @@ class Trail:
     def __init__(self, record):
         self.lines, self.refusals = [], []
         self.tcp, self.line, self.latest, self.bit = b"", b"", None, None
+        # The commands that wait, the oldest first.
+        self.waiting = []
         # Of the refusals: when a line was written last and sought last, those left out since, and the last that came.
         self.written, self.sought, self.left, self.last = None, 0, [], None
         for text in record.splitlines():
@@ -505,9 +507,9 @@ class Trail:
                 continue
             moment, is_action, kind = int(fields[1]), fields[2], fields[3]
             octets = bytes.fromhex(fields[4]) if kind in "RS" and fields[4] else b""
+            if is_action and kind == "S":
+                self.went(moment, octets)
             if is_action:
-                if kind == "S":
-                    self.went(moment, octets)
                 continue
             # A look follows each step, and this event begins the next one.
             self.look()
@@ -516,6 +518,9 @@ class Trail:
                 self.came(moment, octets)
             elif kind == "S":
                 self.answered(moment, octets)
+            elif kind == "C":
+                self.lines += [(moment, f"{words} not sent: its connection ended") for words in self.waiting]
+                self.tcp, self.waiting = b"", []
         self.look()
 
     def came(self, moment, octets):
@@ -524,13 +529,14 @@ class Trail:
             apdu, self.tcp = self.tcp[: self.tcp[1] + 2], self.tcp[self.tcp[1] + 2 :]
             if apdu[2] % 2:
                 continue
-            words = told_of(apdu[6:], 6) + " by 127.0.0.1"
+            words = told_of(apdu[6:], 6)
             if apdu[10:12] == b"\x01\x00":
-                self.lines.append((moment, words))
+                self.lines.append((moment, f"{words} by 127.0.0.1"))
+                self.waiting.append(words)
                 continue
             if self.last:
                 self.left.append(self.last)
-            self.last = (moment, words + " refused: common address not known")
+            self.last = (moment, f"{words} by 127.0.0.1 refused: common address not known")
 
     def went(self, moment, octets):
         """A request: a command that goes out for the first time, or the status of a link whose command was given up."""
@@ -540,6 +546,7 @@ class Trail:
             if bit != self.bit:
                 self.latest = words
                 self.lines.append((moment, f"{words} sent to station 7"))
+                self.waiting.remove(words)
             self.bit = bit
         elif octets[1] % 16 == 9:
             if self.latest:
@@ -644,7 +651,8 @@ def bursts(station, centre):
 
 
 def unwell(station, centre):
-    """A command that finds the link busy; and one to which the station is silent, behind which others wait."""
+    """A command that finds the link busy; those to which the station is silent; and a connection that ends before all
+    of its commands went out."""
     station.is_busy = True
     centre.command(single(1, 1))
     station.settles(1)
@@ -655,6 +663,12 @@ def unwell(station, centre):
     station.is_deaf = False
     centre.command(single(4, 1))
     time.sleep(2)
+    # The connection ends while one is on the line and others wait.
+    station.is_deaf = True
+    centre.command(*(single(object, object % 2) for object in range(5, 12)))
+    time.sleep(0.1)
+    centre.stream.shutdown(socket.SHUT_RDWR)
+    time.sleep(1)
 
 
 def i_frame(centre, number, asdu):
