@@ -13,9 +13,10 @@ and `--allow`.
 - Commands are logged: one that is selected, confirmed, executed and done, and those that are
   refused, with the rule. Of many refusals at once the last is logged, how many came before it, and
   since when.
-- The trail of commands is whole: of bursts of up to 64 commands, three quick select-and-executes,
-  a busy link, a station that falls silent and a connection that ends too early, each line stands there that the record of the run
-  gives, with its moment, in its order, and no other. So do the gathered lines of refusals.
+- The trail of commands is whole. Each line stands there that the record of the run gives, with its
+  moment, in its order, and no other: of bursts of up to 64 commands, three quick
+  select-and-executes, a busy link, a station that falls silent, and a connection that ends before
+  all of its commands went out. So do the gathered lines of refusals.
 - A skipped report is logged with its type and the reason.
 - A station whose answers last longer than `answer_ms` is logged, once a minute; a silent one isn't.
 - What comes in the place of an answer is told apart: an echo, a late answer, a frame of another
