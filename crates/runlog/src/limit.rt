@@ -9,7 +9,7 @@ const APART_MS: u64 = 1000;
 const MINUTE_MS: u64 = 60_000;
 
 /// What was left out before a line.
-#[derive(Clone, Copy, PartialEq, Eq)]
+#[derive(Clone, Copy, PartialEq, Eq, Default)]
 pub struct LeftOut {
     /// How many lines of its kind.
     pub count: u64,

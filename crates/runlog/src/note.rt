@@ -175,8 +175,15 @@ pub enum Note {
     LeftOut(u64),
 }
 
+/// What stands in a place of a list that isn't used.
+impl Default for Note {
+    fn default() -> Note {
+        Note::QueueFree
+    }
+}
+
 /// A line of the log.
-#[derive(Clone, Copy, PartialEq, Eq)]
+#[derive(Clone, Copy, PartialEq, Eq, Default)]
 pub struct LogLine {
     /// The moment of its event in the run, in ms.
     pub moment: u64,

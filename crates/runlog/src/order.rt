@@ -23,6 +23,13 @@ pub enum OrderKind {
     Other,
 }
 
+/// What stands in a place of a list that isn't used.
+impl Default for OrderKind {
+    fn default() -> OrderKind {
+        OrderKind::Other
+    }
+}
+
 /// The value of a command.
 #[derive(Clone, Copy, PartialEq, Eq)]
 pub enum Value {
@@ -38,8 +45,15 @@ pub enum Value {
     Unknown,
 }
 
+/// What stands in a place of a list that isn't used.
+impl Default for Value {
+    fn default() -> Value {
+        Value::Unknown
+    }
+}
+
 /// What a line says of a command.
-#[derive(Clone, Copy, PartialEq, Eq)]
+#[derive(Clone, Copy, PartialEq, Eq, Default)]
 pub struct Order {
     /// Its type octet.
     pub kind: u8,
