@@ -239,7 +239,7 @@ misjudged config manner r has closing settings known old read found gives NoStat
     absurd wrong
 misjudged config manner r has closing settings known old read found gives StateInUse wrong =
     absurd wrong
-misjudged config manner r has closing settings known old read found gives StateUnusable wrong =
+misjudged config manner r has closing settings known old read found gives (StateUnusable cause) wrong =
     absurd wrong
 misjudged config manner r has closing settings known old read found gives Sizes wrong =
     absurd wrong
