@@ -41,6 +41,7 @@ mod laws;
 mod life;
 mod living;
 mod manner;
+mod mounts;
 mod performing;
 mod piping;
 mod place;
