@@ -91,8 +91,11 @@ impl SystemNames {
         if !found.is_file() || found.nlink() != 1 {
             return Ok(false);
         }
-        let mut how = OpenOptions::new();
-        Ok(how.read(true).write(true).open(&self.rt, path.as_str()).is_ok())
+        let opened = OpenOptions::new()
+            .read(true)
+            .write(true)
+            .open(&self.rt, path.as_str());
+        Ok(opened.is_ok())
     }
 
     /// Which of the two files of the log can't be used, as far as that can be told: the second one
