@@ -18,8 +18,8 @@ abbrev pub IsFaultAt : (name : List ℕ) → ErrorKind → FolderFault → Type 
 IsFaultAt name OutOfMemory fault = fault ≡ NoMemory
 IsFaultAt name cause fault = IsUnusable name cause fault
 
--- The two files of a log aren't opened, of which the one of this name can't be used: another process
--- has them, or a journal stands beside them, which only its database can play back.
+-- The two files of a log aren't opened, of which the one of this name can't be used. It may be that
+-- another process has them, or that a journal stands there, which only its database can play back.
 abbrev pub IsRefusal : (name : List ℕ) → OpenError → FolderFault → Type 0
 IsRefusal name openings.Busy fault = fault ≡ InUse
 IsRefusal name openings.HotJournal fault =
