@@ -45,7 +45,7 @@ module _ (old new : Option (List ℕ)) where
   never_0 fault.Address is = omega (arith, is)
   never_0 fault.NoState is = omega (arith, is)
   never_0 fault.StateInUse is = omega (arith, is)
-  never_0 fault.StateUnusable is = omega (arith, is)
+  never_0 (fault.StateUnusable cause) is = omega (arith, is)
   never_0 fault.EndUnusable is = omega (arith, is)
   never_0 fault.Device is = omega (arith, is)
   never_0 fault.Unread is = omega (arith, is)
@@ -64,7 +64,7 @@ module _ (old new : Option (List ℕ)) where
   not_refused explain text fault.Address h = never_0 fault.Address h.1
   not_refused explain text fault.NoState h = never_0 fault.NoState h.1
   not_refused explain text fault.StateInUse h = never_0 fault.StateInUse h.1
-  not_refused explain text fault.StateUnusable h = never_0 fault.StateUnusable h.1
+  not_refused explain text (fault.StateUnusable cause) h = never_0 (fault.StateUnusable cause) h.1
   not_refused explain text fault.EndUnusable h = never_0 fault.EndUnusable h.1
   not_refused explain text fault.Device h = never_0 fault.Device h.1
   not_refused explain text fault.Unread h = never_0 fault.Unread h.1

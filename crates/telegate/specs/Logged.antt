@@ -53,7 +53,7 @@ pub record LogsBeginning (o : Origin) (old new : Book) : Type 0 where
 
 -- its directory can't be used, so that it begins without a state
 abbrev pub LogsWithout : (old new : Book) → Type 0
-LogsWithout old new = (why : Obstacle) × LogsNote old (note.StateUnused why) new
+LogsWithout old new = (why : Obstacle) × LogsNote old (note.StateRefused why) new
 
 -- it begins with what its directory has, or without that, where it is marked so
 pub data LogsStart (marked : Type 0) (o : Origin) (old new : Book) : Type 0 where
@@ -63,7 +63,7 @@ pub data LogsStart (marked : Type 0) (o : Origin) (old new : Book) : Type 0 wher
 -- The state can't be had, which is logged, unless memory is refused.
 abbrev pub IsUnkept : Fault → (old new : Book) → Type 0
 IsUnkept StateInUse old new = LogsNote old (note.Trouble trouble.StateInUse) new
-IsUnkept StateUnusable old new = LogsNote old (note.Trouble trouble.StateUnusable) new
+IsUnkept (StateUnusable cause) old new = LogsNote old (note.Trouble trouble.StateUnusable) new
 IsUnkept NoMemory old new = new ≡ old
 IsUnkept _ old new = ⊥
 

@@ -25,6 +25,7 @@ ghost use Rattle.telegate.specs.Running.{IsReadLiveConfig};
 ghost use Rattle.telegate.specs.Served.{HasServedAnew, HasServedOn};
 ghost use Rattle.telegate.specs.Starts.{IsWithout, StartsIn};
 ghost use Rattle.telegate.specs.Turns.{in_life, shown_to};
+ghost use Rattle.telegate.specs.declared.fault.Fault.TheVariants as fault;
 ghost use Rattle.telegate.specs.Logged.{IsRefused, IsUnkept, LogsNoteIf, LogsBeginning, LogsGap};
 ghost use Rattle.telegate.specs.Logged.{LogsStart, LogsWithout, note_if_on, note_of_address};
 
@@ -621,8 +622,7 @@ fn origin_without<T: RunSite>(
     ensures asked { T.asked site.new ≡ T.asked site.old }
 {
     let obstacle = match fault {
-        FolderFault::Foreign => Obstacle::Foreign,
-        FolderFault::Device => Obstacle::Device,
+        FolderFault::Unusable(place, cause) => Obstacle { place, cause },
         FolderFault::InUse => {
             logger.note(Note::Trouble(Trouble::StateInUse));
             return Err(Fault::StateInUse);
@@ -632,12 +632,20 @@ fn origin_without<T: RunSite>(
     // Else a later start would take what stands there for what came last (docs/DECISIONS.md, "A
     // disk that fails").
     if !wishes.bears_loss || !site.mark_beside() {
-        logger.note(Note::Trouble(Trouble::StateUnusable));
-        return Err(Fault::StateUnusable);
+        return Err(refuse(obstacle, logger));
     }
     let origin = new_origin(site.alloc(), config)?;
-    logger.note(Note::StateUnused(obstacle));
+    logger.note(Note::StateRefused(obstacle));
     Ok(origin)
+}
+
+/// The state can't be kept, and the run doesn't begin without it, which is logged.
+fn refuse<S: LogSink + Drop>(obstacle: Obstacle, logger: &mut Logger<S>) -> Fault
+    ensures unkept { IsUnkept result logger.old logger.new }
+    ensures cause { result ≡ fault.StateUnusable obstacle.cause }
+{
+    logger.note(Note::Trouble(Trouble::StateUnusable));
+    Fault::StateUnusable(obstacle.cause)
 }
 
 /// With what a run begins that has no state.
