@@ -1,0 +1,5 @@
+pub mod Requests
+pub mod Errands
+pub mod Centres
+pub mod Plans
+pub mod Endings
