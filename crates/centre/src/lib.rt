@@ -12,16 +12,22 @@
 #![tactic(auto)]
 
 mod centre;
+mod desk;
 mod ending;
 mod errand;
 mod planning;
 mod reading;
 mod request;
+mod serving;
 mod tags;
+mod telling;
 
 pub use centre::Centre;
+pub use desk::Desk;
 pub use errand::{Errand, Loss, Outcome, Step, Until};
 pub use planning::{Terms, errand_of};
 pub use reading::{Manner, Order, Wish, is_wish_word, read_wish};
 pub use request::{ACTIVATION, DEACTIVATION, GLOBAL, Request, Value};
+pub use serving::{Untold, converse};
 pub use tags::tag_of;
+pub use telling::{Style, Way, push_line};

@@ -38,26 +38,33 @@ pub enum Wish {
     Command(Order),
 }
 
-/// What words ask for. `None` says that they are wrong.
-pub fn read_wish(words: &[&str]) -> Option<Wish> {
-    match words {
-        [] => Some(Wish::Watch),
-        [what] => wish_for(*what, None),
-        [what, second] => wish_for(*what, Some((*second).parse::<u16>().ok()?)),
-        [manner, target, value] => {
-            let (ca, ioa) = target_of(*target)?;
-            Some(Wish::Command(Order {
-                manner: manner_of(*manner)?,
-                ca,
-                ioa,
-                value: value_of(*value)?,
-            }))
-        }
-        _ => None,
+/// What words ask for: what is to be done, of whom, and a command's value. `None` says that they are
+/// wrong.
+pub fn read_wish(what: Option<&str>, target: Option<&str>, value: Option<&str>) -> Option<Wish> {
+    let Some(what) = what else {
+        return Some(Wish::Watch);
+    };
+    if let Some(manner) = manner_of(what) {
+        let (ca, ioa) = target_of(target?)?;
+        let value = value_of(value?)?;
+        return Some(Wish::Command(Order {
+            manner,
+            ca,
+            ioa,
+            value,
+        }));
     }
+    if value.is_some() {
+        return None;
+    }
+    let ca = match target {
+        Some(ca) => Some(ca.parse::<u16>().ok()?),
+        None => None,
+    };
+    wish_for(what, ca)
 }
 
-/// Whether a word begins what is asked for, so that it names no file.
+/// Whether a word says what is to be done, so that it names no file.
 pub fn is_wish_word(word: &str) -> bool {
     wish_for(word, None).is_some() || manner_of(word).is_some()
 }
