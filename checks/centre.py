@@ -106,11 +106,11 @@ def before_a_run(count, program, folder):
     with Substation(program, folder) as substation:
         out, err, status = substation.centre("execute", "1/200", "on")
         told = frames(out[:-1])
-        command = "CA 1  200 = on"
+        command = "CA 1  200 = on, execute"
         wanted = STARTS + [
             (DOWN, f"C_SC_NA_1 activation  {command}"),
             (UP, f"C_SC_NA_1 activation con  {command}"),
-            (UP, f"C_SC_NA_1 activation termination  {command}"),
+            (UP, f"C_SC_NA_1 activation term  {command}"),
         ] + STOPS
         # The report may come up in between.
         count.compare("execute: frames", [line for line in told if "M_SP" not in line[1]], wanted)
@@ -158,15 +158,15 @@ def watched(count, program, folder):
             wanted = {
                 (DOWN, "STARTDT act"),
                 (UP, "STARTDT con"),
-                (UP, "C_IC_NA_1 activation con  CA 1  0 = station interrogation"),
-                (UP, "C_IC_NA_1 activation termination  CA 3  0 = station interrogation"),
+                (UP, "C_IC_NA_1 activation con  CA 1  0 = station"),
+                (UP, "C_IC_NA_1 activation term  CA 3  0 = station"),
             }
             seen, end = [], time.monotonic() + ends.PATIENCE
             while time.monotonic() < end and not wanted <= set(seen):
                 seen += frames([watch.stdout.readline().decode().rstrip("\n")])
             count.judge("watch", wanted <= set(seen), seen)
             asked = [line for line in seen if line[0] == DOWN and line[1].startswith("C_IC")]
-            each = [(DOWN, f"C_IC_NA_1 activation  CA {ca}  0 = station interrogation") for ca in (1, 2, 3)]
+            each = [(DOWN, f"C_IC_NA_1 activation  CA {ca}  0 = station") for ca in (1, 2, 3)]
             count.compare("watch: asks each", asked, each)
             watch.send_signal(signal.SIGINT)
             count.compare("watch: ended", watch.wait(ends.PATIENCE), -signal.SIGINT)

@@ -126,7 +126,9 @@ sends_it now None c = (None, c)
 sends_it now (Some r) c =
     if may_send c.session then (
       Some (I c.session.next_sent c.session.next_received
-      (record { items = request_octets r })), after_sending now c)
+          (record { items = request_octets r })),
+      after_sending now c,
+    )
     else (None, c)
 
 abbrev pub sends : (now : ℕ) → Centre → Due

@@ -1,6 +1,6 @@
 -- A control centre over a stream of octets, with the text of what passes (this gateway's own
 -- profile).
-use Rattle.std.specs.Prelude.{◌≡◌, ◌⊎◌, ℕ, suc, Bool, if◌then◌else◌, List, [], ◌++◌, drop, length}
+use Rattle.std.specs.Prelude.{◌≡◌, ◌⊎◌, ℕ, ◌+◌, Bool, if◌then◌else◌, List, [], ◌++◌, drop, length}
 use Rattle.std.specs.Prelude.{Option, Some, None, IfSome, IfNone}
 use Rattle.apci.specs.Assembly.{Assembly, Receives}
 use Rattle.apci.specs.Spelling.{spelling}
@@ -61,7 +61,7 @@ pub data Sends (now : ℕ) (first : Scene) : (count : ℕ) → Scene → Type 0 
   None_yet : Sends now first 0 first
   One_more : (n : ℕ) (mid : Scene) (a : Apdu) (new : Scene) → Sends now first n mid
       → (next_of now mid.desk.centre).0 ≡ Some a → IsPut now a (stepped now mid) new
-      → Sends now first (suc n) new
+      → Sends now first (n + 1) new
 
 -- nothing more is due, or 64 went out
 abbrev pub IsSentOff : (now count : ℕ) → (mid new : Scene) → Type 0

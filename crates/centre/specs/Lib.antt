@@ -6,3 +6,4 @@ pub mod Telling
 pub mod Desks
 pub mod Courses
 pub mod Endings
+pub mod Examples

@@ -14,9 +14,13 @@ use std::alloc::Global;
 
 /// The values that IEC 60870-5-104, 9.6, has by default: k and w in APDUs, t1 to t3 in ms.
 const K: u16 = 12;
+
 const W: u16 = 8;
+
 const T1_MS: u64 = 15_000;
+
 const T2_MS: u64 = 10_000;
+
 const T3_MS: u64 = 20_000;
 
 /// How far the connection is (IEC 60870-5-104, 5.3).

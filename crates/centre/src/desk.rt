@@ -132,7 +132,14 @@ impl<S: OctetStream + Drop> Desk<S> {
         ensures { OnOk result (IsTakenIn now apdu.now (scene self.old (string_bytes text.old))
             (scene self.new (string_bytes text.new))) }
     {
-        push_line(self.alloc, text, self.style, Way::FromGateway, now, apdu.as_ref())?;
+        push_line(
+            self.alloc,
+            text,
+            self.style,
+            Way::FromGateway,
+            now,
+            apdu.as_ref(),
+        )?;
         self.centre.take(apdu, now);
         self.send(now, text)
     }
@@ -157,7 +164,14 @@ impl<S: OctetStream + Drop> Desk<S> {
         ensures { OnOk result (IsPut now apdu.now (scene self.old (string_bytes text.old))
             (scene self.new (string_bytes text.new))) }
     {
-        push_line(self.alloc, text, self.style, Way::FromCentre, now, apdu.as_ref())?;
+        push_line(
+            self.alloc,
+            text,
+            self.style,
+            Way::FromCentre,
+            now,
+            apdu.as_ref(),
+        )?;
         if !self.stream.write(encode(apdu).as_slice()) {
             self.centre.lose(Loss::Untaken);
         }

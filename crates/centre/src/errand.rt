@@ -152,7 +152,12 @@ impl Errand {
     /// through. Each confirmation may take so many ms.
     pub fn new(steps: Vec<Step>, stays: bool, wait: u64) -> Errand
         ensures { result ≡ record {
-          steps = steps; stays = stays; wait = wait; at = 0; standing = Unsent; outcome = None;
+          steps = steps;
+          stays = stays;
+          wait = wait;
+          at = 0;
+          standing = Unsent;
+          outcome = None;
         } }
     {
         Errand {

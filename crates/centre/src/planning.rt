@@ -15,11 +15,14 @@ const TERMINATION_MS: u64 = 1000;
 
 /// The types of ASDUs that are to a station as a whole (IEC 60870-5-101, 7.2.1.5).
 const INTERROGATION: u8 = 100;
+
 const COUNTERS: u8 = 101;
+
 const CLOCK: u8 = 103;
 
 /// Station interrogation (7.2.6.22), and a general request of counters (7.2.6.23).
 const STATION: u8 = 20;
+
 const GENERAL: u8 = 5;
 
 /// What is asked for beside the words.
@@ -138,7 +141,11 @@ fn commands(alloc: Global, order: Order, terms: Terms<'_>) -> Result<Vec<Step>, 
     ensures { IfOk result (λ steps.
         steps.items ≡ order_steps order.manner order (tag_if terms.entry.is_tagged terms.entry.tag)) }
 {
-    let tag = if terms.is_tagged { Some(terms.tag) } else { None };
+    let tag = if terms.is_tagged {
+        Some(terms.tag)
+    } else {
+        None
+    };
     let patient = Until::Terminated(TERMINATION_MS);
     let mut steps = Vec::new(alloc);
     match order.manner {

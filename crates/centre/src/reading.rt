@@ -137,4 +137,3 @@ fn short_float(text: &str) -> Option<u32> {
     }
     Some(value.to_bits())
 }
-

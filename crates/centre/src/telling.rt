@@ -103,7 +103,15 @@ fn push_numbers(text: &mut String, apdu: ApduRef<'_>) -> Result<(), AllocError>
     let ApduRef::I { asdu, .. } = apdu else {
         return Ok(());
     };
-    let Some(Answer { kind, cause, ca, ioa }) = answer_in(asdu) else {
+    let Some(
+        Answer {
+            kind,
+            cause,
+            ca,
+            ioa,
+        },
+    ) = answer_in(asdu)
+    else {
         return Ok(());
     };
     push_number(text, ",\"type\":", u32::from(kind))?;
