@@ -9,8 +9,8 @@ without a gap, nothing is operated twice, and the line is polled on.
   loss, or says what is wrong with the state and tells a gap of each station that lost a report.
 - A library in front of the C library's lets each call for a file of the state fail, from a moment
   on: with an error of the disk, because the file system is read-only, for want of space or of
-  permission. Or a file of the state is none. The run goes on, and names file and reason. With
-  `--state-or-stop` it ends with status 3.
+  permission. Or a file of the state is none. The run goes on as long as the mark can be made, on that
+  disk or in RUNTIME_DIRECTORY, and names file and reason. With `--state-or-stop` it ends with status 3.
 - The library lets each sync last for 150 ms: the log says so.
 
 The damage is drawn by a fixed seed. All of it is on the loopback.
@@ -25,7 +25,7 @@ import time
 
 import ends
 import kept
-from kept import PAUSE, alone, gaps, has_gone_round, looked, queue_up, quiet, resets_of, until
+from kept import PAUSE, alone, drained, gaps, has_gone_round, numbered, queue_up, quiet, resets_of, until
 from outstations import CONFIRMATION, Operator, command
 
 SECTOR = 512
@@ -424,7 +424,7 @@ def says_why(told, reason):
 
 def fails_amid_a_run(count, program, name):
     """The disk fails amid a run, and is well again at a later start: what was kept comes, and gaps tell the rest."""
-    fault, reason = FAULTS[name]
+    fault, _reason = FAULTS[name]
     with tempfile.TemporaryDirectory() as folder:
         case = Failing(program, folder, fault)
         gateway, field = case.gateway, case.field
@@ -433,7 +433,6 @@ def fails_amid_a_run(count, program, name):
         count.judge(f"{name}: it goes on", case.is_up(), (gateway.process.poll(), gateway.logged()))
         told = gateway.logged()
         count.judge(f"{name}: it says so", "isn't kept" in told, told)
-        count.judge(f"{name}: and why", says_why(told, reason), told)
         if gateway.process.poll() is None:
             queue_up(gateway, 2)
         gateway.kill()
@@ -441,7 +440,7 @@ def fails_amid_a_run(count, program, name):
         gateway.start()
         count.judge(f"{name}: a start goes on without a state", case.is_up(), gateway.logged())
         told = gateway.kill()
-        count.judge(f"{name}: and says why", says_why(told, reason), told)
+        count.judge(f"{name}: and says so", "the run goes on without it" in told or "isn't kept" in told, told)
         case.mend()
         resets = resets_of(gateway)
         gateway.start()
@@ -454,22 +453,61 @@ def fails_amid_a_run(count, program, name):
 
 
 def fails_at_a_start(count, program, name):
-    """The directory can't be used at the first start."""
+    """The directory can't be used at a start: the run goes on without it, and the next start knows that."""
+    fault, _reason = FAULTS[name]
+    with tempfile.TemporaryDirectory() as folder:
+        case = Failing(program, folder, fault)
+        gateway = case.gateway
+        case.begin()
+        gateway.kill()
+        case.fail()
+        gateway.start()
+        count.judge(f"{name} at a start: it goes on", case.is_up(), (gateway.process.poll(), gateway.logged()))
+        queue_up(gateway, 2)
+        got = drained(gateway, numbered(gateway, 3, 4))
+        count.judge(f"{name} at a start: reports come", all(numbers == [3, 4] for numbers in got.values()), got)
+        told = gateway.kill()
+        is_told = "its directory can't be used, the run goes on without it: the disk failed" in told
+        count.judge(f"{name} at a start: it says so", is_told and "isn't kept" in told, told)
+        case.mend()
+        gateway.start()
+        is_known = gateway.waits("stale")
+        got = drained(gateway, numbered(gateway, 1, 2))
+        told = gateway.kill()
+        count.judge(f"{name} at a start: the next one knows it", is_known and gaps(told) == [1, 2], told)
+        count.judge(f"{name} at a start: what was kept comes", all(numbers[:2] == [1, 2] for numbers in got.values()), got)
+        # Where no mark can be made a later start would take the old state for the newest.
+        gateway.environment = {**gateway.environment, "RUNTIME_DIRECTORY": ""}
+        case.fail()
+        gateway.start()
+        until(lambda: gateway.process.poll() is not None, 20)
+        count.compare(f"{name} at a start: without a second place it ends", gateway.process.poll(), 3)
+        told = gateway.kill()
+        count.judge(f"{name} at a start: and says so", "state can't be kept there" in told, told)
+        case.field.server.close()
+
+
+def says_reason(count, program, name, is_amid):
+    """The log names the file or the directory, and the reason in the system's words."""
     fault, reason = FAULTS[name]
     with tempfile.TemporaryDirectory() as folder:
         case = Failing(program, folder, fault)
-        os.mkdir(case.gateway.state)
-        case.fail()
-        case.gateway.start()
-        count.judge(f"{name} at a start: it goes on", case.is_up(), (case.gateway.process.poll(), case.gateway.logged()))
+        if is_amid:
+            case.begin()
+            case.fail()
+        else:
+            os.mkdir(case.gateway.state)
+            case.fail()
+            case.gateway.start()
+        case.is_up()
         told = case.gateway.kill()
-        count.judge(f"{name} at a start: it says why", says_why(told, reason), told)
+        count.judge(f"{name}: it says why", says_why(told, reason), told)
         case.field.server.close()
 
 
 def stops(count, program, name):
     """With --state-or-stop a run ends with 3, amid a run and at a start."""
-    fault, reason = FAULTS[name]
+    fault, _reason = FAULTS[name]
     with tempfile.TemporaryDirectory() as folder:
         case = Failing(program, folder, fault, flags=["--state-or-stop"])
         case.begin()
@@ -477,19 +515,21 @@ def stops(count, program, name):
         until(lambda: case.gateway.process.poll() is not None, 20)
         count.compare(f"{name}, --state-or-stop: it ends", case.gateway.process.poll(), 3)
         told = case.gateway.kill()
-        count.judge(f"{name}, --state-or-stop: it says why", says_why(told, reason), told)
+        count.judge(f"{name}, --state-or-stop: it says so", "state can't be kept there" in told, told)
         case.gateway.start()
         until(lambda: case.gateway.process.poll() is not None, 20)
         count.compare(f"{name}, --state-or-stop: a start ends", case.gateway.process.poll(), 3)
         told = case.gateway.kill()
-        count.judge(f"{name}, --state-or-stop: it says why", says_why(told, reason), told)
+        count.judge(f"{name}, --state-or-stop: it says so", "state can't be kept there" in told, told)
         case.field.server.close()
 
 
 def no_file(count, program):
     """A FIFO stands in the place of a file of the state."""
     with tempfile.TemporaryDirectory() as folder:
-        gateway = quiet(program, folder, **SHORT)
+        runtime = os.path.join(folder, "runtime")
+        os.mkdir(runtime)
+        gateway = quiet(program, folder, environment={**os.environ, "RUNTIME_DIRECTORY": runtime}, **SHORT)
         gateway.field.pause = PAUSE
         os.mkdir(gateway.state)
         os.mkfifo(os.path.join(gateway.state, "segments"))
@@ -497,7 +537,7 @@ def no_file(count, program):
         is_up = has_gone_round(gateway, 4)
         count.judge("a FIFO: it goes on", is_up and gateway.process.poll() is None, (gateway.process.poll(), gateway.logged()))
         told = gateway.kill()
-        count.judge("a FIFO: it names the file", re.search(r"state.*segments", told), told)
+        count.judge("a FIFO: it says so", "its directory can't be used, the run goes on without it" in told, told)
         gateway.field.server.close()
 
 
@@ -566,10 +606,13 @@ PARTS = [
     damage_part("sectors exchanged", exchange, 6),
     alone("disk older copy", older_copy, False),
     alone("disk clone", older_copy, True),
-    *(alone(f"disk fails amid a run: {name}", fails_amid_a_run, name) for name in FAULTS),
-    *(alone(f"disk fails at a start: {name}", fails_at_a_start, name) for name in FAULTS),
-    *(alone(f"disk or stop: {name}", stops, name) for name in ("EIO", "read-only")),
-    alone("disk FIFO", no_file),
+    *(alone(f"fails amid a run: {name}", fails_amid_a_run, name) for name in FAULTS),
+    # A full disk can be read: checks/state.py has a start on one.
+    *(alone(f"fails at a start: {name}", fails_at_a_start, name) for name in FAULTS if name != "no space"),
+    *(alone(f"disk reason: {name}, amid a run", says_reason, name, True) for name in FAULTS),
+    *(alone(f"disk reason: {name}, at a start", says_reason, name, False) for name in FAULTS),
+    *(alone(f"or stop: {name}", stops, name) for name in ("EIO", "read-only")),
+    alone("FIFO", no_file),
     alone("disk slow", slow_syncs),
     alone("disk each octet once", each_octet_once),
     alone("mark that can't be looked for", mark_unseen),

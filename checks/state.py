@@ -209,15 +209,28 @@ def a_state_that_is_no_state(count, program):
         gateway.field.server.close()
 
 
+def is_seal(line):
+    """Whether a line of a log is the seal of the write before it."""
+    return line.startswith(b"!")
+
+
 def rot_a_line(folder):
-    """Spoils the first octet of a line amid those behind the checkpoint of the newest log."""
+    """Spoils the first octet of a line amid those behind the checkpoint of the newest log. Answers the octet of the file at which the write
+    with that line begins."""
     path = max((os.path.join(folder, name) for name in os.listdir(folder)), key=head_of)
     begins = head_of(path)[1]
     with open(path, "r+b") as file:
         file.seek(begins)
         lines = file.read().split(b"\0")[0].split(b"\n")
-        file.seek(begins + sum(len(line) + 1 for line in lines[: len(lines) // 2]))
+        place = next(n for n in range(len(lines) // 2, len(lines)) if not is_seal(lines[n]))
+        ends = [begins + sum(len(line) + 1 for line in lines[:n]) for n in range(len(lines) + 1)]
+        file.seek(ends[place])
         file.write(b"?")
+    return max([begins, *(ends[n + 1] for n in range(place) if is_seal(lines[n]))])
+
+
+def damaged_at(octet):
+    return f"state: damaged, nothing is read from octet {octet} of its log on"
 
 
 def a_rotten_line(count, program):
@@ -228,9 +241,10 @@ def a_rotten_line(count, program):
         queue_up(gateway, 3)
         gateway.kill()
         resets = {address: station.resets for address, station in gateway.field.stations.items()}
-        rot_a_line(gateway.state)
+        octet = rot_a_line(gateway.state)
         gateway.start()
-        count.judge("a line that can't be read is told", gateway.waits("each link is reset"), gateway.logged())
+        is_told = gateway.waits(damaged_at(octet), "each link is reset")
+        count.judge("a line that can't be read is told", is_told, (octet, gateway.logged()))
         queue_up(gateway, 3)
         now = {address: station.resets for address, station in gateway.field.stations.items()}
         count.judge("each link is reset", all(now[a] == resets[a] + 1 for a in resets), (resets, now))
@@ -275,19 +289,20 @@ def rename_form(path):
     """Its first line names another form."""
     with open(path, "r+b") as file:
         file.seek(len("telegate state 1 rules "))
-        file.write(b"2")
+        file.write(b"3")
 
 
 def write_checkpoint(path, change):
-    """Changes the lines of the checkpoint, and makes the first line fit."""
+    """Changes the lines of the checkpoint, makes the first line fit, and leaves out the seals: logs of `rules 1` have none."""
     with open(path, "rb") as file:
         octets = file.read()
     number, end = head_of(path)
     lines = change(octets[87:end].split(b"\n"))
     text = b"\n".join(lines)
+    events = b"\n".join(line for line in octets[end:].split(b"\0")[0].split(b"\n") if not is_seal(line))
     head = f"telegate state 1 rules 1 segment {number:016x} octets {len(text):016x} sum {zlib.crc32(text):08x}\n"
     with open(path, "wb") as file:
-        file.write(head.encode() + text + octets[end:])
+        file.write((head.encode() + text + events).ljust(len(octets), b"\0"))
 
 
 def with_unknown_key(lines):
@@ -626,7 +641,8 @@ def a_look(count, program):
         path = max((os.path.join(gateway.state, name) for name in os.listdir(gateway.state)), key=head_of)
         number, begin = head_of(path)
         with open(path, "rb") as file:
-            events = file.read()[begin:].split(b"\0")[0].count(b"\n")
+            written = file.read()[begin:].split(b"\0")[0].split(b"\n")[:-1]
+        events = sum(not is_seal(line) for line in written)
         count.judge("the segment", lines[1] == f"segment {number} in {os.path.basename(path)}, events behind its head: {events}", (lines, number, path, events))
         count.judge("the clock", re.fullmatch(r"moment in ms \d+, wall clock in ms 1\d{12} at moment \d+", lines[2]), lines[2])
         stations = gateway.field.stations
@@ -656,13 +672,9 @@ def a_look(count, program):
         marked = ["the directory is marked as stale", "state is stale: each link is reset", f"state: goes on, {queued} queued"]
         count.judge("a stale one", lines[:3] == marked and status == 0, lines)
         os.rename(os.path.join(gateway.state, "stale"), os.path.join(gateway.state, "kept"))
-        rot_a_line(gateway.state)
-        with open(path, "rb") as file:
-            rotten = file.read()[begin:].split(b"\0")[0].split(b"\n")
+        octet = rot_a_line(gateway.state)
         lines, status, _ = looked(gateway, gateway.state)
-        count.judge("a rotten line", status == 0 and lines[0] == "state is stale: each link is reset", lines)
-        wanted = f"lines there that can be read: {len(rotten) // 2} of {len(rotten) - 1}"
-        count.judge("and which", wanted in lines, (lines, wanted))
+        count.judge("a rotten line", status == 0 and lines[:2] == [damaged_at(octet), "state is stale: each link is reset"], (octet, lines))
         for name in ("segments", "segments-wal"):
             with open(os.path.join(gateway.state, name), "r+b") as file:
                 if file.read(14) == b"telegate state":

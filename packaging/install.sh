@@ -82,8 +82,8 @@ put_unit telegate.service ''
 # One instance a line, each with folders and a user of its own: telegate@north reads
 # /etc/telegate/north/ and keeps its state in /var/lib/telegate-north/.
 put_unit telegate@.service 's|/etc/telegate/|/etc/telegate/%i/|g; s|^Description=.*|&, line %i|
-s|/var/lib/telegate|&-%i|; s|^StateDirectory=.*|&-%i|; s|^SyslogIdentifier=.*|&-%i|
-s|^DynamicUser=yes|&\nUser=telegate-%i|'
+s|/var/lib/telegate|&-%i|; s|^StateDirectory=.*|&-%i|; s|^RuntimeDirectory=.*|&-%i|
+s|^SyslogIdentifier=.*|&-%i|; s|^DynamicUser=yes|&\nUser=telegate-%i|'
 put_once 644 examples/full.toml "$root/etc/telegate/gateway.toml"
 put_once 644 packaging/site.toml "$root/etc/telegate/site.toml"
 put_once 644 packaging/telegate.env "$root/etc/telegate/telegate.env"

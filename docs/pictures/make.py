@@ -397,13 +397,13 @@ USES = {
 }
 # Those around the gateway, in rows of their names, and contracts of theirs.
 AROUND = [
-    (25, 100, "A live run", ["live runlog lookout status"],
+    (25, 100, "A live run", ["live runlog status"],
      ["the_log_has_what_passed", "what_is_gathered_is_logged_or_counted"]),
     (360, 100, "Its state on the disk", ["state state_files state_words", "segments statetext"],
      ["nothing_goes_out_before_it_is_on_disk", "Segment::survives"]),
-    (25, 196, "Settings", ["settings sitefile toml_places hints"],
+    (25, 196, "Settings", ["settings"],
      ["settings_are_named", "sites_are_named"]),
-    (360, 196, "Texts and tries", ["traces pages record capture sim", "stations show words ladder"],
+    (360, 196, "Texts and tries", ["traces record sim", "words"],
      ["texts_are_read_line_by_line"]),
 ]
 BESIDE = ["checkpoint", "noted_ends", "library_example"]

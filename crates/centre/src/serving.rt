@@ -5,7 +5,7 @@ ghost use Rattle.centre.specs.Courses.{HasGoneOn};
 use crate::desk::Desk;
 use crate::errand::Outcome;
 use live::{OctetStream, RunClock};
-use pages::print;
+use traces::print;
 use std::alloc::Global;
 use std::io::Write;
 

@@ -9,3 +9,16 @@ pub mod RunLemmas
 pub mod BlockLemmas
 pub mod Telling
 pub mod AuditLaw
+pub mod Carrying
+pub mod Numbering
+pub mod Lengths
+pub mod Cutting
+pub mod Sending
+pub mod CaptureLemmas
+pub mod WholeLemmas
+pub mod Timing
+pub mod BlockShapes
+pub mod DatagramShapes
+pub mod SerialShapes
+pub mod Fitting
+pub mod ReadBack

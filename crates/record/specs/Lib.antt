@@ -7,3 +7,16 @@ pub mod Passing
 pub mod Comparing
 pub mod Rerunning
 pub mod Audit
+pub mod Octets
+pub mod Blocks
+pub mod Segments
+pub mod Formats
+pub mod Connections
+pub mod Wires
+pub mod Clocks
+pub mod Recorded
+pub mod Entries
+pub mod CaptureExamples
+pub mod Captures
+pub mod Readers
+pub mod Texts

@@ -12,10 +12,12 @@
 //! by line, and behind it what the sheet learned that it missed. So what is proved of a run's log
 //! is proved of its record. If the sheet doesn't say these, the log is that of the port inside.
 //!
-//! [`audit_text`] compares a recorded run with the run over its events.
+//! [`audit_text`] compares a recorded run with the run over its events. [`capture_text`] writes a
+//! record as a capture.
 #![tactic(auto)]
 
 mod audit;
+mod capture;
 mod examples;
 mod laws;
 mod pen;
@@ -23,8 +25,16 @@ mod record_sheet;
 mod recorder;
 
 pub use audit::examples::record_lines_by_example;
-pub use audit::passing::{event_line, is_action, is_cut, part_of};
+pub use audit::passing::{event_line, is_action, part_of};
 pub use audit::{Comparison, RecordFault, audit_text};
+pub use capture::capturing::Capture;
+pub use capture::examples::comments_by_example;
+pub use capture::laws::{
+    captures_are_read_back, captures_carry_the_octets, packets_stand_at_their_times,
+    segments_run_on,
+};
+pub use capture::pcapng::put_file_header;
+pub use capture::whole::{CaptureFault, capture_text};
 pub use examples::{records_by_example, texts_are_read_by_example};
 pub use laws::{
     a_record_is_the_text_of_what_passed, audits_say_what_a_record_has,

@@ -14,6 +14,8 @@ use Rattle.runlog.specs.declared.content.Skip.{Skip}
 use Rattle.runlog.specs.declared.content.Skip.TheVariants as skip
 use Rattle.runlog.specs.declared.note.LogLine.{LogLine}
 use Rattle.runlog.specs.declared.note.RunCounts.{RunCounts}
+use Rattle.runlog.specs.declared.note.Obstacle.{Obstacle}
+use Rattle.runlog.specs.declared.note.Obstacle.TheVariants as obstacle
 use Rattle.runlog.specs.declared.note.Remnant.{Remnant}
 use Rattle.runlog.specs.declared.note.Remnant.TheVariants as remnant
 use Rattle.runlog.specs.declared.note.Trouble.{Trouble}
@@ -85,6 +87,16 @@ skipped_words station kind why =
     (codes "station " ++ decimal station ++ codes " report skipped, type " ++ decimal kind)
     ++ type_name kind ++ codes ": " ++ skip_words why
 
+-- why a start can't use the directory of its state
+abbrev pub obstacle_words : Obstacle → List ℕ
+obstacle_words obstacle.Foreign = codes "there are files of something else"
+obstacle_words obstacle.Device = codes "the disk failed"
+
+abbrev pub damaged_words : (place : ℕ) → List ℕ
+damaged_words place =
+    codes "state: damaged, nothing is read from octet "
+    ++ (decimal place ++ codes " of its log on")
+
 abbrev pub remnant_words : Remnant → List ℕ
 remnant_words remnant.Unanswered = codes "command without an answer"
 remnant_words remnant.Waiting = codes "waiting command"
@@ -136,6 +148,10 @@ words (note.StateGoesOn queued) = codes "state: goes on, " ++ decimal queued ++ 
 words note.SettingsChanged = codes "state: settings have changed"
 words note.StateStale = codes "state is stale: each link is reset"
 words note.StatePutAside = codes "state can't be read: put aside"
+words (note.StateDamaged place) = damaged_words place
+words (note.StateUnused why) =
+    codes "state: its directory can't be used, the run goes on without it: " ++ obstacle_words why
+words (note.SlowSync ms) = codes "state: a sync took " ++ decimal ms ++ codes " ms"
 words (note.GivenUp what kind ca object) = given_up_words what kind ca object
 words (note.State notice) = notice_words notice
 words (note.Trouble why) = trouble_words why

@@ -11,6 +11,7 @@ use Rattle.runlog.specs.declared.fate.CommandFate.TheVariants as fate
 use Rattle.runlog.specs.declared.fate.Reason.{Reason}
 use Rattle.runlog.specs.declared.note.Note.{Note}
 use Rattle.runlog.specs.declared.note.Note.TheVariants as note
+use Rattle.runlog.specs.declared.note.Obstacle.{Obstacle}
 use Rattle.runlog.specs.declared.note.Remnant.{Remnant}
 use Rattle.runlog.specs.declared.note.RunCounts.{RunCounts}
 use Rattle.runlog.specs.declared.note.Trouble.{Trouble}
@@ -28,7 +29,9 @@ pub data HasRow : Note → ℕ → Type 0 where
   QueueFull : HasRow note.QueueFull 3
   -- look at the disk
   NotKept : HasRow (note.State notices.NotKept) 3
+  SlowSync : (ms : ℕ) → HasRow (note.SlowSync ms) 4
   PutAside : HasRow note.StatePutAside 3
+  Unused : (why : Obstacle) → HasRow (note.StateUnused why) 3
   -- why a run can't begin, or go on
   CannotRun : (why : Trouble) → HasRow (note.Trouble why) 3
   -- look at the control centre
@@ -59,6 +62,7 @@ pub data HasRow : Note → ℕ → Type 0 where
   Remnants : (what : Remnant) (kind ca object : ℕ) → HasRow (note.GivenUp what kind ca object) 4
   -- nothing: the links are reset
   Stale : HasRow note.StateStale 4
+  Damaged : (place : ℕ) → HasRow (note.StateDamaged place) 4
   -- what was wrong is over, or seldom happens
   Reached : HasRow note.LineReached 5
   ReachedAgain : HasRow note.LineReachedAgain 5

@@ -17,7 +17,8 @@ use Rattle.live.specs.declared.watched.Failure.{Failure}
 use Rattle.live.specs.declared.watched.Failure.TheVariants as failure
 use Rattle.live.specs.declared.watched.EndsSight.{EndsSight}
 use Rattle.live.specs.declared.ends.Presence.TheVariants.{Away}
-use Rattle.runlog.specs.Ends.{new_limit, changed, new_line, new_listener, new_connection, line_seen}
+use Rattle.runlog.specs.Ends.{new_limit, changed, happened, new_line, new_listener, new_connection}
+use Rattle.runlog.specs.Ends.{line_seen}
 use Rattle.runlog.specs.Ends.{listener_seen, connection_opened, connection_cut, connection_sent}
 use Rattle.runlog.specs.Ends.{connection_closed, is_away}
 use Rattle.runlog.specs.Inbox as inbox
@@ -27,6 +28,7 @@ use Rattle.link.specs.declared.answer.Answer.{Answer}
 use Rattle.runlog.specs.Exchange as exchange
 use Rattle.runlog.specs.Exchange.{RequestWatch, new_exchange, begun, over, awaited_of, place_of}
 use Rattle.runlog.specs.Exchange.{user_data, answer_in, traffic_after}
+use Rattle.runlog.specs.Limits.{is_minute_after, one_more}
 use Rattle.runlog.specs.Orders.{order_of}
 use Rattle.runlog.specs.Traffic as traffic
 use Rattle.runlog.specs.Traffic.{new_traffics, first_line}
@@ -42,6 +44,7 @@ use Rattle.runlog.specs.Stations.{new_station}
 use Rattle.runlog.specs.declared.ends.LineWatch.{LineWatch}
 use Rattle.runlog.specs.declared.ends.ListenerWatch.{ListenerWatch}
 use Rattle.runlog.specs.declared.ends.ConnectionWatch.{ConnectionWatch}
+use Rattle.runlog.specs.declared.limit.Limit.{Limit}
 use Rattle.runlog.specs.declared.note.LogLine.{LogLine}
 use Rattle.runlog.specs.declared.note.Note.{Note}
 use Rattle.runlog.specs.declared.note.Note.TheVariants as note
@@ -96,6 +99,8 @@ pub record Watching : Type 0 where
   pub seen : Counts
   -- how many octets of the line were dropped before requests, as far as that was seen
   pub late : ℕ
+  -- when a slow sync of the state was logged last, and how many were left out since
+  pub syncs : Limit
   -- when a line was sought among what is gathered
   pub sought : ℕ
   -- what the wall clock showed last
@@ -122,6 +127,7 @@ new_watching c = record {
   exchange = new_exchange c.line.answer_ms;
   seen = record { skipped = 0; mirrors = 0; lost = 0; spoilt = 0 };
   late = 0;
+  syncs = new_limit;
   sought = 0;
   wall = None;
   traffic = new_traffics c.stations;
@@ -336,6 +342,16 @@ abbrev pub failed : Option Failure → Watching → Watching × Option LogLine
 failed None w = (w, None)
 failed (Some failure.Line) w = with_line (line_seen Away w.moment w.line) w
 failed (Some failure.State) w = (w, Some (line_of (note.Trouble StateUnusable) w))
+
+abbrev pub with_syncs : Limit × Option LogLine → Watching → Watching × Option LogLine
+with_syncs logged w = (record w { syncs = logged.0 }, logged.1)
+
+-- a sync of the state took so many ms: a line a minute says so, and how many were left out
+abbrev pub sync_noted : (ms : ℕ) → Watching → Watching × Option LogLine
+sync_noted ms w =
+    with_syncs (if is_minute_after w.syncs.logged w.moment
+    then happened (note.SlowSync ms) w.syncs w.moment
+    else (record w.syncs { left_out = one_more w.syncs.left_out }, None)) w
 
 abbrev pub sum_line : Counts → (taken : ℕ) → Watching → LogLine
 sum_line counts taken w = line_of (note.Counts (tally counts taken w)) w

@@ -123,7 +123,7 @@ pub use laws::{
 pub use logger::{Logger, taken_places};
 pub use name_laws::lines_end_with_the_name_of_what_they_are_about;
 pub use names::{LogNames, NamedLine, NamedStation, name_of};
-pub use note::{LogLine, Note, Remnant, RunCounts, Trouble};
+pub use note::{LogLine, Note, Obstacle, Remnant, RunCounts, Trouble};
 pub use order::{Order, OrderKind, Value};
 pub use order_laws::{
     acts_of_commands_are_told_by_their_bits, commands_are_told_with_their_addresses,

@@ -4,7 +4,7 @@ ghost use Rattle.std.specs.Fmt.{WritesOnOk};
 ghost use Rattle.runlog.specs.Notes.{close_words, counts_words, cut_words, late_words};
 ghost use Rattle.runlog.specs.Notes.{left_out_words, line_text, notice_words, of_station};
 ghost use Rattle.runlog.specs.Notes.{given_up_words, peer_words, refused_peers_words};
-ghost use Rattle.runlog.specs.Notes.{remnant_words};
+ghost use Rattle.runlog.specs.Notes.{damaged_words, obstacle_words, remnant_words};
 ghost use Rattle.runlog.specs.Notes.{skip_words, skipped_words, trouble_words, words};
 
 use crate::content::Skip;
@@ -29,6 +29,9 @@ const STILL_SILENT: &str = "still doesn't answer: if it was restarted, restart t
 /// What stands behind a station whose answer is spoilt.
 const SPOILT: &str = "answer spoilt: octets came, but no answer";
 
+/// What stands before the reason why a start can't use the directory of its state.
+const UNUSED: &str = "state: its directory can't be used, the run goes on without it: ";
+
 /// What was counted since the run began.
 #[derive(Clone, Copy, PartialEq, Eq)]
 pub struct RunCounts {
@@ -40,6 +43,15 @@ pub struct RunCounts {
     pub places: u64,
     /// How many connections were opened.
     pub connections: u64,
+}
+
+/// Why a start can't use the directory that is to have its state.
+#[derive(Clone, Copy, PartialEq, Eq)]
+pub enum Obstacle {
+    /// What stands there isn't a state's.
+    Foreign,
+    /// The disk failed, or the system refused.
+    Device,
 }
 
 /// What of the connection before it a start gives up.
@@ -130,6 +142,12 @@ pub enum Note {
     StateStale,
     /// What is kept can't be read, and stands under another name now.
     StatePutAside,
+    /// The file of its log is damaged from this octet on, and nothing behind it is read.
+    StateDamaged(u64),
+    /// The run begins without the directory that was to have its state.
+    StateUnused(Obstacle),
+    /// A sync of it took so many ms.
+    SlowSync(u64),
     /// A start gives up this of the connection before it: its type octet, its common address and
     /// the address of its object.
     GivenUp(Remnant, u8, u16, u32),
@@ -206,6 +224,15 @@ fn remnant_words(remnant: Remnant) -> &'static str
         Remnant::Waiting => "waiting command",
         Remnant::Selection => "selection",
         Remnant::OwnAnswer => "own answer",
+    }
+}
+
+fn obstacle_words(obstacle: Obstacle) -> &'static str
+    ensures { result.now ≡ obstacle_words obstacle }
+{
+    match obstacle {
+        Obstacle::Foreign => "there are files of something else",
+        Obstacle::Device => "the disk failed",
     }
 }
 
@@ -312,6 +339,13 @@ fn write_given_up<W: fmt::Write>(
     f.write_str(", given up at a start")
 }
 
+fn write_damaged<W: fmt::Write>(place: u64, f: &mut fmt::Formatter<W>) -> fmt::Result
+    ensures { WritesOnOk W.write_str_gives f.old result (damaged_words place) f.new }
+{
+    f.write_str("state: damaged, nothing is read from octet ")?;
+    write!(f, "{place} of its log on")
+}
+
 fn write_of_station<W: fmt::Write>(
     address: u16,
     words: &str,
@@ -370,6 +404,12 @@ impl fmt::Display for Note {
             Note::SettingsChanged => f.write_str("state: settings have changed"),
             Note::StateStale => f.write_str("state is stale: each link is reset"),
             Note::StatePutAside => f.write_str("state can't be read: put aside"),
+            Note::StateDamaged(place) => write_damaged(*place, f),
+            Note::StateUnused(obstacle) => {
+                f.write_str(UNUSED)?;
+                f.write_str(obstacle_words(*obstacle))
+            }
+            Note::SlowSync(ms) => write!(f, "state: a sync took {ms} ms"),
             Note::GivenUp(remnant, kind, ca, object) => {
                 write_given_up(*remnant, *kind, *ca, *object, f)
             }

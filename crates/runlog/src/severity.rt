@@ -59,10 +59,12 @@ impl Note {
         match self {
             Note::LineLost | Note::LineNotThere | Note::Gap(_) | Note::QueueFull => Severity::Error,
             Note::LineSilent | Note::StatePutAside | Note::Trouble(_) => Severity::Error,
+            Note::StateUnused(_) => Severity::Error,
             Note::Cut(_) | Note::Closed(_) | Note::RefusedPeers(_, _) => Severity::Warning,
             Note::Silent(_) | Note::Down(_) | Note::StateStale => Severity::Warning,
             Note::StillSilent(_) | Note::LeftOut(_) => Severity::Warning,
             Note::GivenUp(_, _, _, _) => Severity::Warning,
+            Note::StateDamaged(_) | Note::SlowSync(_) => Severity::Warning,
             Note::Refused(_, _, _) | Note::Skipped(_, _, _) => Severity::Warning,
             Note::MirrorDropped(_) | Note::Spoilt(_) | Note::Late(_) => Severity::Warning,
             Note::LineReached | Note::LineReachedAgain | Note::QueueFree => Severity::Notice,

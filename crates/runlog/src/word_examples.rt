@@ -17,6 +17,7 @@ ghost use Rattle.runlog.specs.declared.fate.Reason.TheVariants as reason;
 ghost use Rattle.runlog.specs.declared.note.Note.TheVariants as note;
 ghost use Rattle.runlog.specs.declared.note.RunCounts.{RunCounts};
 ghost use Rattle.runlog.specs.declared.note.Trouble.{Trouble};
+ghost use Rattle.runlog.specs.declared.note.Obstacle.TheVariants as obstacle;
 ghost use Rattle.runlog.specs.declared.note.Remnant.TheVariants as remnant;
 ghost use Rattle.runlog.specs.declared.note.Trouble.TheVariants as trouble;
 ghost use Rattle.runlog.specs.declared.order.Order.{Order};
@@ -53,6 +54,13 @@ pub fn each_word_by_example()
         × (words note.SettingsChanged ≡ codes "state: settings have changed")
         × (words note.StateStale ≡ codes "state is stale: each link is reset")
         × (words note.StatePutAside ≡ codes "state can't be read: put aside")
+        × (words (note.StateDamaged 4096)
+        ≡ codes "state: damaged, nothing is read from octet 4096 of its log on")
+        × (words (note.StateUnused obstacle.Foreign) ≡ codes "state: its directory can't be "
+        ++ codes "used, the run goes on without it: there are files of something else")
+        × (words (note.StateUnused obstacle.Device) ≡ codes "state: its directory can't be "
+        ++ codes "used, the run goes on without it: the disk failed")
+        × (words (note.SlowSync 812) ≡ codes "state: a sync took 812 ms")
         × (words (note.GivenUp remnant.Waiting 45 1 100)
         ≡ codes "waiting command of type 45 to 1/100, given up at a start")
         × (words (note.State notices.NotKept)

@@ -16,7 +16,7 @@ use Rattle.hex.proofs.HexLemmas.{decode_sized-encode_lower}
 use Rattle.sqlite_disk.specs.Disk.{Holds}
 use Rattle.statetext.specs.Sum.{remainder_after, sum_of}
 use Rattle.segments.specs.Crash.{BeginsWith, HasLength, HasNoOther, IsShut}
-use Rattle.segments.specs.Crash.{HasText, IsTextIfOpen}
+use Rattle.segments.specs.Crash.{IsTextIfOpen, IsTextTo}
 use Rattle.segments.specs.Crashes.{AreBoth, AreOlder, AreShutOr, HasWhole, IsThatOf}
 use Rattle.segments.specs.Crashes.{StandsIn}
 use Rattle.segments.specs.Crashes.{StaysBacked}
@@ -454,29 +454,36 @@ summed_front number end sum remainder seen body text few value summed =
 
 -- What is left where the last octet couldn't be written, or may not have been
 
-whole_or_shut : (outcomes : List ℕ → Type 0) (number : ℕ) (body : List ℕ)
-    → Fits (head_for number body) → AreShutOr outcomes (HasText (whole_text number body))
+whole_or_shut : (outcomes : List ℕ → Type 0) (number : ℕ) (body : List ℕ) (size : ℕ)
+    → Fits (head_for number body) → are_blocks (size - (87 + length body)) ≡ true
+    → AreShutOr outcomes (IsTextTo size (whole_text number body))
     → AreShutOr outcomes (HasWhole number body)
-whole_or_shut outcomes number body fits kept c left = elim (kept c left) [
+whole_or_shut outcomes number body size fits blocks kept c left = elim (kept c left) [
   | inl shut ↦ inl shut
-  | inr text ↦ inr (record { fits = fits; text = text })
+  | inr text ↦ inr (record {
+      fits = fits;
+      text = text.0;
+      blocks = ap (λ (n : ℕ). are_blocks (n - (87 + length body))) text.1 ∙ blocks;
+    })
 ]
 
 pub few_or_shut : (outcomes : List ℕ → Type 0) (number octets sum remainder : ℕ) (body : List ℕ)
+    (size : ℕ)
     → number < 2 ^ 64 → length body ≤ octets → sum < 2 ^ 32 → sum ≡ bit_xor remainder 0xffffffff
     → remainder ≡ remainder_after 0xffffffff body → IsShut outcomes ⊎ (octets < 2 ^ 64)
-    → AreShutOr outcomes (HasText (whole_text number body))
+    → are_blocks (size - (87 + length body)) ≡ true
+    → AreShutOr outcomes (IsTextTo size (whole_text number body))
     → AreShutOr outcomes (HasWhole number body)
-few_or_shut outcomes number octets sum remainder body few long small value summed (inl shut) kept c
-    left = inl (inr (shut c left))
-few_or_shut outcomes number octets sum remainder body few long small value summed (inr less) kept c
-    left =
-    whole_or_shut outcomes number body (record {
+few_or_shut outcomes number octets sum remainder body size few long small value summed (inl shut)
+    blocks kept c left = inl (inr (shut c left))
+few_or_shut outcomes number octets sum remainder body size few long small value summed (inr less)
+    blocks kept c left =
+    whole_or_shut outcomes number body size (record {
       number = few;
       octets = omega (arith, long, less);
       sum = subst (λ (n : ℕ). n < 2 ^ 32)
           (value ∙ ap (λ (r : ℕ). bit_xor r 0xffffffff) summed) small;
-    }) kept c left
+    }) blocks kept c left
 
 pub whole_begun : (number end : ℕ) (seen : List ℕ) → number < 2 ^ 64 → end < 2 ^ 64
     → end ≤ length seen → sum_of (drop 87 (take end seen)) < 2 ^ 32

@@ -10,7 +10,7 @@ use Rattle.std.proofs.lemmas.List.{take_all}
 use Rattle.std.proofs.Math.Seq.{take-append-add}
 use Rattle.sqlite_disk.specs.Disk.{Holds, Mixed, Torn, Follows, Only}
 use Rattle.segments.specs.Crash.{HasLength, IsBlankFrom, IsShut, IsLong}
-use Rattle.segments.specs.Crash.{HasText, IsWholeIfOpen, IsTextIfOpen}
+use Rattle.segments.specs.Crash.{HasText, IsTextIfOpen, IsTextTo, IsWholeIfOpen}
 use Rattle.segments.specs.Crashes.{AreShutOr}
 use Rattle.segments.specs.Written.{text_in}
 use Rattle.segments.specs.Zeroed.{IsZeroed}
@@ -226,11 +226,12 @@ pub shut_text : (outcomes : List ℕ → Type 0) (text : List ℕ) → IsShut ou
 shut_text outcomes text shut c left opened =
     let never : 0 ≡ 116 = sym (shut c left) ∙ opened in absurd (omega (arith, never))
 
-pub text_or_shut : (outcomes : List ℕ → Type 0) (seen text : List ℕ) → HasText text seen
-    → AreShutOr outcomes (λ c. c ≡ seen) → AreShutOr outcomes (HasText text)
-text_or_shut outcomes seen text has kept c left = elim (kept c left) [
+pub text_or_shut : (outcomes : List ℕ → Type 0) (size : ℕ) (seen text : List ℕ)
+    → IsTextTo size text seen → AreShutOr outcomes (λ c. c ≡ seen)
+    → AreShutOr outcomes (IsTextTo size text)
+text_or_shut outcomes size seen text has kept c left = elim (kept c left) [
   | inl shut ↦ inl shut
-  | inr is ↦ inr (subst (HasText text) (sym is) has)
+  | inr is ↦ inr (subst (IsTextTo size text) (sym is) has)
 ]
 
 pub has_text : (end : ℕ) (head seen text : List ℕ) → length head ≡ 87 → 87 ≤ end

@@ -45,6 +45,10 @@ IsWholeIfOpen outcomes text = (c : List ℕ) → outcomes c → slice_index c 0 
 abbrev pub HasText : (text file : List ℕ) → Type 0
 HasText text file = (take (length text) file ≡ text) × IsBlankFrom (length text) file
 
+-- it has so many octets, and is this text with zeros alone behind it
+abbrev pub IsTextTo : (size : ℕ) → (text file : List ℕ) → Type 0
+IsTextTo size text file = HasText text file × (length file ≡ size)
+
 -- each outcome that may be a segment has this text
 abbrev pub IsTextIfOpen : (List ℕ → Type 0) → List ℕ → Type 0
 IsTextIfOpen outcomes text =

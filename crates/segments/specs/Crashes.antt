@@ -35,10 +35,11 @@ AreOlder outcomes number = (c : List ℕ) → outcomes c → (head : SegmentHead
 abbrev pub AreShutOr : (outcomes : List ℕ → Type 0) → (List ℕ → Type 0) → Type 0
 AreShutOr outcomes these = (c : List ℕ) → outcomes c → IsShut c ⊎ these c
 
--- a file has the segment with this number and this checkpoint, and zeros alone behind it
+-- a file has the segment with this number and this checkpoint, and zeros alone behind it: whole blocks
 pub record HasWhole (number : ℕ) (body file : List ℕ) : Type 0 where
   pub fits : Fits (head_for number body)
   pub text : HasText (whole_text number body) file
+  pub blocks : are_blocks (length file - (87 + length body)) ≡ true
 
 -- whatever a crash leaves of a file has the segment with this number, whole
 abbrev pub StandsIn : (List ℕ → Type 0) → ℕ → Type 0

@@ -4,7 +4,7 @@ ghost use Rattle.std.specs.Prelude.{◌⊎◌};
 ghost use Rattle.std.specs.Prelude.{length, slice_index, bit_xor, IsTrue, IfOk, IfErr, OnOk, OnErr};
 ghost use Rattle.std.specs.Prelude.{true, false};
 ghost use Rattle.sqlite_disk.specs.Disk.{Only};
-ghost use Rattle.segments.specs.Crash.{AreMixing, HasText, IsShut, IsLong, IsBlankFrom};
+ghost use Rattle.segments.specs.Crash.{AreMixing, IsShut, IsLong, IsBlankFrom, IsTextTo};
 ghost use Rattle.segments.specs.Crash.{IsTextIfOpen};
 ghost use Rattle.segments.specs.Head.{Fits, head_for, head_of, whole_text};
 ghost use Rattle.segments.specs.Crashes.{AreShutOr, HasWhole, StaysBacked};
@@ -199,7 +199,8 @@ fn fill<D: Disk>(
     ensures crash { OnErr result (IsTextIfOpen (D.Disk.may_leave file.new)
         (whole_text number (drop 87 (text_in stored (D.Disk.seen file.old) page.now)))) }
     ensures mixed { OnErr result (AreMixing D.Disk → AreShutOr (D.Disk.may_leave file.new)
-        (HasText (whole_text number (drop 87 (text_in stored (D.Disk.seen file.old) page.now))))) }
+        (IsTextTo (stored + length page.now + blocks * 4096)
+        (whole_text number (drop 87 (text_in stored (D.Disk.seen file.old) page.now))))) }
     ensures few { OnErr result (IsShut (D.Disk.may_leave file.new)
         ⊎ (stored + length page.now < 2 ^ 64)) }
 {

@@ -13,3 +13,14 @@ mod UnknownNamed
 mod Faulting
 mod Wording
 pub mod HereLemmas
+pub mod ChangesLemmas
+pub mod WrongStationLemmas
+pub mod TwinLemmas
+pub mod SiteKeyLemmas
+pub mod SiteNameLemmas
+pub mod SiteLemmas
+pub mod SiteUnknownLemmas
+pub mod SiteNaming
+mod SiteKnowing
+mod SiteTextLemmas
+mod SiteNamingBack

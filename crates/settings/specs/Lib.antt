@@ -13,3 +13,17 @@ pub mod Files
 pub mod FirstUnknown
 pub mod FirstWrong
 pub mod Here
+pub mod Places
+pub mod Spans
+pub mod Changes
+pub mod Explained
+pub mod WrongStations
+pub mod SiteFaults
+pub mod SiteKeys
+pub mod SiteNames
+pub mod Site
+pub mod SiteUnknown
+pub mod SiteWanted
+pub mod SiteNamed
+pub mod SiteKnown
+pub mod SiteFirstWrong

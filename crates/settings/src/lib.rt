@@ -7,14 +7,20 @@
 //! the definition's order; an unknown key is reported only if no key is wrong, and is the least of
 //! the unknown ones in the order of octets; a file without fault is never refused but for want of
 //! memory.
+//!
+//! `site` reads a site's file, `hints` says what is wrong with either file and where, and `places`
+//! finds where a value stands in a text.
 #![tactic(auto)]
 
 mod config;
 mod fault;
+mod hints;
 mod keys;
 mod line;
 mod live;
 mod named;
+mod places;
+mod site;
 mod stations;
 mod tcp;
 mod unknown;
@@ -22,6 +28,7 @@ mod wanted;
 
 pub use config::{read_config, read_live_config, wrong_station};
 pub use fault::{ConfigFault, WrongKey};
+pub use hints::{explain, explain_site};
 pub use keys::{Flag, Whole, given, section};
 pub use live::{LiveSettings, is_address, is_here};
 pub use named::{
@@ -29,5 +36,9 @@ pub use named::{
     files_may_have_these_keys_and_stations, lines_are_here_by_their_names, named_settings_are_read,
     other_keys_are_refused, settings_are_named, values_are_those_under_their_keys,
     words_are_those_of_the_rows,
+};
+pub use site::{
+    Flags, Names, Places, Site, SiteFault, StationName, named_sites_are_read,
+    other_site_keys_are_refused, read_site, site_values, sites_are_named,
 };
 pub use wanted::wanted_values;

@@ -25,3 +25,16 @@ pub mod TextLemmas
 pub mod RunLemmas
 pub mod Bare
 pub mod SimulationLemmas
+pub mod Commenting
+pub mod CueLines
+pub mod CueReading
+pub mod Delays
+pub mod Receiving
+pub mod Placing
+pub mod Rounds
+pub mod BothReadings
+pub mod Replying
+pub mod Requesting
+pub mod Sizes
+pub mod Reporting
+pub mod Timing

@@ -204,7 +204,8 @@ served_so : (laws : Laws) → Delivered → Steadied → SessionsKnown → Idle 
     Serves (setup_of c) (requests_to (setup_of c) ds i log) (exchanges_of (setup_of c) log) waiting
     i
     (first_station c ds i) s t → HasServed c ds log i s t
-served_so laws delivers steadies known idle losses c ds log waiting i s t rules faithful life small lt
+served_so laws delivers steadies known idle losses c ds log waiting i s t rules faithful life small
+    lt
     h =
     let p : Setup = setup_of c in
     let a : ℕ = address_at p.addresses i in

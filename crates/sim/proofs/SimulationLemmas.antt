@@ -14,8 +14,8 @@ use Rattle.gateway.specs.Reports.{Setup}
 use Rattle.gateway.specs.Setups.{setup_of}
 use Rattle.gateway.specs.State.{State}
 use Rattle.gateway.specs.Traffic.{IsFaithful}
-use Rattle.pages.specs.Pouring.{IsBegun}
-use Rattle.pages.proofs.Poured.{appends_none}
+use Rattle.traces.specs.Pouring.{IsBegun}
+use Rattle.traces.proofs.Poured.{appends_none}
 use Rattle.traces.specs.Actions.{lines_of_actions}
 use Rattle.sim.specs.declared.directive.Directive.{Directive}
 use Rattle.sim.specs.declared.fault.SimFault.{SimFault}

@@ -11,7 +11,7 @@ use Rattle.gateway.specs.Setups.{setup_of}
 use Rattle.gateway.specs.Traffic.{IsFaithful, HasRested}
 use Rattle.delivery.specs.Delivery.{Delivers}
 use Rattle.traces.specs.Actions.{lines_of_actions}
-pub use Rattle.pages.specs.Pouring.{IsBegun}
+pub use Rattle.traces.specs.Pouring.{IsBegun}
 use Rattle.sim.specs.declared.directive.Directive.{Directive}
 use Rattle.sim.specs.declared.tally.StationTally.{StationTally}
 use Rattle.sim.specs.Losses.{turns_of}

@@ -2,7 +2,7 @@
 use Rattle.std.specs.Prelude.{◌⊎◌, ◌++◌, ℕ, List, Option, Result, Ok, Err, MatchResult}
 use Rattle.std.specs.Io.KnownBytes.{Appends, Keeps}
 use Rattle.gateway.specs.Config.{Settings}
-use Rattle.pages.specs.Pouring.{IsBegun}
+use Rattle.traces.specs.Pouring.{IsBegun}
 use Rattle.sim.specs.declared.directive.Directive.{Directive}
 use Rattle.sim.specs.declared.fault.SimFault.{SimFault}
 use Rattle.sim.specs.declared.fault.SimFault.TheVariants.{NoMemory, Write}

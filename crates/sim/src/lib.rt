@@ -32,6 +32,8 @@
 //!
 //! Not proved: that a report is ever asked for, or that a port whose device fails wanted memory (it
 //! fails too where more than 2^64 requests or frames would be counted).
+//!
+//! `stations` plays the outstations of a script behind a socket, to try a control centre with.
 #![tactic(auto)]
 
 mod beginning;
@@ -51,6 +53,7 @@ mod receiving;
 mod script;
 mod sim;
 mod simulating;
+mod stations;
 mod tallies;
 mod tally;
 mod text;
@@ -66,5 +69,10 @@ pub use receiving::{arriving, put_out};
 pub use script::Script;
 pub use sim::Sim;
 pub use simulating::{simulate, simulate_watched};
+pub use stations::{
+    Cue, GatewaySocket, LineListener, OutstationServer, Outstations, Scenario, TimedServer, Timer,
+    lines_are_read_by_example, play, read_scenario, reports_come_at_their_moments,
+    requests_are_what_came, serve, stations_take_their_own_requests_alone,
+};
 pub use tally::StationTally;
 pub use traces::TextFault;

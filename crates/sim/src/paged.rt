@@ -4,7 +4,7 @@ ghost use Rattle.sim.specs.Lives.{Plan};
 ghost use Rattle.std.proofs.Common.{ap};
 
 use crate::sim::Sim;
-use pages::Paged;
+use traces::Paged;
 
 impl Paged for Sim<'_> {
     ghost poured = { λ s. s.poured };

@@ -3,7 +3,7 @@ ghost use Rattle.std.specs.Prelude.{◌≡◌, ℕ, List, Option};
 ghost use Rattle.gateway.specs.Config.{Settings, AreStations};
 ghost use Rattle.gateway.specs.Setups.{setup_of};
 ghost use Rattle.gateway.specs.Traffic.{IsFaithful, HasRested};
-ghost use Rattle.pages.specs.Pouring.{IsPoured};
+ghost use Rattle.traces.specs.Pouring.{IsPoured};
 ghost use Rattle.traces.specs.Actions.{lines_of_actions};
 ghost use Rattle.sim.specs.declared.directive.Directive.{Directive};
 ghost use Rattle.sim.specs.Calls.{calls_in};
@@ -16,10 +16,10 @@ use crate::fault::SimFault;
 use crate::script::Script;
 use crate::sim::Sim;
 use gateway::{Config, End, Gateway};
-use pages::{drive_printed, print};
 use std::alloc::Global;
 use std::io;
 use std::io::Write;
+use traces::{drive_printed, print};
 
 /// Runs a gateway with these settings as a script for them says, and prints a line for each action
 /// as it is made, and then the closing lines: one for each station, one for each connection, and

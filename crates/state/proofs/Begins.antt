@@ -7,7 +7,7 @@ use Rattle.std.specs.Prelude.{not, ◌&&◌, if◌then◌else◌, MatchOption}
 use Rattle.sqlite_disk.specs.declared.Disk.{Ghosts}
 use Rattle.gateway.specs.Agrees.{Follows, Rests}
 use Rattle.gateway.specs.Carried.{carried, command_given_up, commands_given_up_upto}
-use Rattle.gateway.specs.Carried.{link_given_up, without_commands}
+use Rattle.gateway.specs.Carried.{link_given_up, restarted, without_commands}
 use Rattle.gateway.specs.Config.{Settings}
 use Rattle.gateway.specs.Log.{Came, Log, Restarted, events_of}
 use Rattle.gateway.specs.Restored.{IsSaid, IsSavable, state_lines}
@@ -19,19 +19,22 @@ use Rattle.gateway.proofs.Carrying as carrying
 use Rattle.link.specs.Carried.{awaits_command}
 use Rattle.segments.specs.Crashes.{lines_behind}
 use Rattle.segments.specs.Head.{Fits}
-use Rattle.segments.specs.Starts.{ArePlaced, HasNoNewer, IsFoundIn, IsShut, before_zero}
+use Rattle.segments.specs.Room.{log_in}
+use Rattle.segments.specs.Starts.{ArePlaced, HasNoNewer, IsFoundIn, IsShut}
 use Rattle.segments.specs.declared.head.SegmentHead.{SegmentHead}
 use Rattle.segments.proofs.Crashes.{same_first}
 use Rattle.segments.proofs.Fronts.{not_shut}
 use Rattle.settings.specs.Settings.{IsReadOfText}
 use Rattle.statetext.specs.Text.{lines_in}
-use Rattle.state.specs.Beginnings.{AreLinesRead, GoesOnBy, GoesOnFrom, IsMoved}
+use Rattle.state.specs.Beginnings.{IsReadWhole, GoesOnBy, GoesOnFrom, IsMoved}
 use Rattle.state.specs.Beginnings.{SayState, WentOn, gap_now, has_past, is_trusted}
 use Rattle.state.specs.Directories.{BeginsOver}
+use Rattle.state.specs.GivenUps.{given_up_by}
 use Rattle.state.specs.Origins.{IsMarkedBy}
 use Rattle.state.specs.Replays.{ReportedGap, events_in_front, last_gap, whole_lines}
 use Rattle.state.specs.Sights.{BeginsSo, IsDistrusted, IsSeen, IsShown, IsSight}
 use Rattle.state.specs.declared.beginning.Origin.{Origin}
+use Rattle.state.specs.declared.given_up.GivenUp.{GivenUp}
 use Rattle.state.specs.declared.looking.Seen.{Seen}
 use Rattle.state.specs.declared.looking.Sight.{Sight}
 use Rattle.state.specs.declared.start.Beginning.{Beginning}
@@ -48,34 +51,34 @@ IsGone trusted c written wrote left s last gap =
     × (gap ≡ gap_now wrote.stations c.stations last))
 
 record Gone (trusted : Bool) (c : Settings) (written : List ℕ) (log : Log)
-    (lines : List (List ℕ)) (events : List ℕ) (gap : Option ReportedGap) (whole : Log)
-    (s : State) : Type 0 where
+    (lines : List (List ℕ)) (events : List ℕ) (gap : Option ReportedGap)
+    (given_up : List GivenUp) (whole : Log) (s : State) : Type 0 where
   wrote : Settings
   left : State
   last : Option ReportedGap
-  went : WentOn wrote log lines events last whole left
+  went : WentOn wrote log lines events last given_up whole left
   gone : IsGone trusted c written wrote left s last gap
 
 gone_on : (trusted is_moved : Bool) (c : Settings) (written : List ℕ) (log : Log)
-    (lines : List (List ℕ)) (events : List ℕ) (gap : Option ReportedGap) (whole : Log) (s : State)
-    → IsMoved c written is_moved
-    → GoesOnBy (trusted && not is_moved) trusted c written log lines events gap whole s
-    → Gone trusted c written log lines events gap whole s
-gone_on true false c written log lines events gap whole s moved goes = record {
+    (lines : List (List ℕ)) (events : List ℕ) (gap : Option ReportedGap)
+    (given_up : List GivenUp) (whole : Log) (s : State) → IsMoved c written is_moved
+    → GoesOnBy (trusted && not is_moved) trusted c written log lines events gap given_up whole s
+    → Gone trusted c written log lines events gap given_up whole s
+gone_on true false c written log lines events gap given_up whole s moved goes = record {
   wrote = c;
   left = s;
   last = gap;
   went = goes;
   gone = inl (refl, moved, refl, refl, refl);
 }
-gone_on true true c written log lines events gap whole s moved goes = record {
+gone_on true true c written log lines events gap given_up whole s moved goes = record {
   wrote = goes.wrote;
   left = goes.left;
   last = goes.last;
   went = goes.went;
   gone = inr (goes.read, goes.moved, goes.told);
 }
-gone_on false is_moved c written log lines events gap whole s moved goes = record {
+gone_on false is_moved c written log lines events gap given_up whole s moved goes = record {
   wrote = goes.wrote;
   left = goes.left;
   last = goes.last;
@@ -106,7 +109,8 @@ moved_is false c written moved = (λ is. absurd (cc), λ _. moved)
 -- the head of the log is that which stands in the file
 head_is : (c : Settings) (log : Log) (o : Origin) (trusted : Bool)
     (file : List ℕ) (head : SegmentHead) (body written : List ℕ) (lines : List (List ℕ))
-    (goes : GoesOnFrom trusted c log file o.is_moved o.gap o.before.entries o.gateway)
+    (goes : GoesOnFrom trusted c log file o.is_moved o.damage o.gap o.given_up.items o.before.entries
+    o.gateway)
     → Fits head → IsFoundIn file head body → lines_in body ≡ written ∷ lines
     → AreSame goes.begins (87 + length body) goes.written written goes.lines lines
 head_is c log o trusted file head body written lines goes fits found says =
@@ -115,12 +119,14 @@ head_is c log o trusted file head body written lines goes fits found says =
 
 gone_from : (c : Settings) (log : Log) (o : Origin) (trusted : Bool)
     (file : List ℕ)
-    (goes : GoesOnFrom trusted c log file o.is_moved o.gap o.before.entries o.gateway)
-    → Gone trusted c goes.written log goes.lines (before_zero (drop goes.begins file)) o.gap
-    o.before.entries o.gateway
+    (goes : GoesOnFrom trusted c log file o.is_moved o.damage o.gap o.given_up.items o.before.entries
+    o.gateway)
+    → Gone trusted c goes.written log goes.lines (log_in goes.begins file) o.gap
+    o.given_up.items o.before.entries o.gateway
 gone_from c log o trusted file goes =
     gone_on trusted o.is_moved c goes.written log goes.lines
-    (before_zero (drop goes.begins file)) o.gap o.before.entries o.gateway goes.moved goes.goes
+    (log_in goes.begins file) o.gap o.given_up.items o.before.entries o.gateway
+    goes.moved goes.goes
 
 module _ {D : Type 0} {g : Ghosts D} where
   pub received : (c : Settings) (log : Log) (mark : Option Bool)
@@ -174,7 +180,7 @@ module _ {D : Type 0} {g : Ghosts D} where
                   ∙ ap (λ (l : Log). Came it.left.moment Restarted ∷ l) replayed.behind,
               ap events_of (sym replayed.behind) ∙ replayed.arrived
                   ∙ ap (λ (n : ℕ). events_of log
-                  ++ events_in_front (whole_lines (before_zero (drop n file)))) same.place,
+                  ++ events_in_front (whole_lines (log_in n file))) same.place,
               replayed.last,
             ),
       )
@@ -221,6 +227,8 @@ module _ {D : Type 0} {g : Ghosts D} where
       (newest other : D) (o : Origin) → BeginsOver g c log mark newest other o
       → has_past o.beginning ≡ true → (wrote : Settings) × (left : State)
       × ((o.gateway ≡ left) ⊎ (o.gateway ≡ carried (is_trusted o.beginning) wrote c left))
+      × ((held : State) × (left ≡ restarted held)
+      × (o.given_up.items ≡ given_up_by wrote.line.sizes held))
       × ((place : ℕ) → place < length left.serial.line.stations
       → awaits_command left.serial.line place ≡ false)
   gives_up law c log mark newest other o over past =
@@ -238,6 +246,7 @@ module _ {D : Type 0} {g : Ghosts D} where
           | inl kept ↦ inl kept.3
           | inr moved ↦ inr moved.1
         ],
+        (it.went.left, it.went.given, it.went.named),
         λ place within. subst (λ (s : Serial). awaits_command s.line place ≡ false) (sym serial)
             (carrying.done law before place (omega (arith, within, same))),
       )
@@ -289,10 +298,10 @@ log_shown log is_stale first second s shown l head body written lines is fits fo
       it.number.is ∙ ap (λ (h : SegmentHead). h.number) first_line,
       same.wrote,
       it.counted.whole
-          ∙ ap (λ (n : ℕ). length (whole_lines (before_zero (drop n shown.newest)))) same.place,
+          ∙ ap (λ (n : ℕ). length (whole_lines (log_in n shown.newest))) same.place,
       it.counted.logged
-          ∙ ap (λ (n : ℕ). length (events_in_front (whole_lines (before_zero (drop n
-          shown.newest))))) same.place,
+          ∙ ap (λ (n : ℕ). length (events_in_front (whole_lines (log_in n shown.newest))))
+          same.place,
     )
 
 pub gateway_shown : (log : Log) (is_stale : Bool) (first second : List ℕ) (s : Sight)
@@ -327,7 +336,7 @@ gateway_shown log is_stale first second s shown l head body written state rest i
             replayed.follows,
             replayed.arrived
                 ∙ ap (λ (n : ℕ). events_of log
-                ++ events_in_front (whole_lines (before_zero (drop n shown.newest)))) same.place,
+                ++ events_in_front (whole_lines (log_in n shown.newest))) same.place,
           ),
     )
 
@@ -394,16 +403,16 @@ module _ {D : Type 0} {g : Ghosts D} where
         torn (subst (λ (file : List ℕ). HasNoNewer file shown.other) (sym one)
         (subst (HasNoNewer (g.seen newest)) (sym two)
         (over.begun.sure is over.first over.second)))
-        (subst AreLinesRead (sym one) (over.begun.read is over.first over.second))
+        (subst IsReadWhole (sym one) (over.begun.read is over.first over.second))
 
     reset_here : o.beginning ≡ beginnings.LinksReset → is_stale ≡ false
-        → HasNoNewer shown.newest shown.other → AreLinesRead shown.newest → ⊥
+        → HasNoNewer shown.newest shown.other → IsReadWhole shown.newest → ⊥
     reset_here is fresh older read = elim (over.begun.reset is) [
       | inl stale ↦ both_ways is_stale (stale_or is_stale stale) fresh
       | inr torn ↦ torn over.first over.second
           (subst (λ (file : List ℕ). HasNoNewer file (g.seen other)) one
           (subst (HasNoNewer shown.newest) two older))
-          (subst AreLinesRead one read)
+          (subst IsReadWhole one read)
     ]
 
     by_both : (would does : Beginning) → s.beginning ≡ would → o.beginning ≡ does

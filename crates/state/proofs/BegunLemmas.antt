@@ -6,7 +6,7 @@ use Rattle.gateway.specs.Config.{Settings}
 use Rattle.gateway.specs.Log.{Log}
 use Rattle.segments.specs.Starts.{HasNoNewer, IsAbove, IsNext, IsNewest, IsShut}
 use Rattle.sqlite_disk.specs.declared.Disk.{Ghosts}
-use Rattle.state.specs.Beginnings.{AreLinesRead, GoesOnFrom, has_past, is_trusted, moment_at}
+use Rattle.state.specs.Beginnings.{IsReadWhole, GoesOnFrom, has_past, is_trusted, moment_at}
 use Rattle.state.specs.Origins.{IsBegun, IsMarkedBy, IsNew, IsNumbered}
 use Rattle.state.specs.declared.beginning.Origin.{Origin}
 use Rattle.state.specs.declared.opened.Opened.{Opened}
@@ -48,12 +48,12 @@ module _ {D : Type 0} {g : Ghosts D} where
       → IsNewest (g.seen newest) (g.seen spare))
       → (goes_on ≡ true → IsTrue (g.is_clean newest) → IsTrue (g.is_clean spare)
       → HasNoNewer (g.seen newest) (g.seen spare))
-      → (goes_on ≡ true → IsTrue (g.is_clean newest) → AreLinesRead (g.seen newest))
+      → (goes_on ≡ true → IsTrue (g.is_clean newest) → IsReadWhole (g.seen newest))
       → (goes_on ≡ false → (mark ≡ Some true) ⊎ (IsTrue (g.is_clean newest)
       → IsTrue (g.is_clean spare)
-      → HasNoNewer (g.seen newest) (g.seen spare) → AreLinesRead (g.seen newest) → ⊥))
-      → (IsTrue (g.is_clean newest) → GoesOnFrom goes_on c log (g.seen newest) o.is_moved o.gap
-      o.before.entries o.gateway)
+      → HasNoNewer (g.seen newest) (g.seen spare) → IsReadWhole (g.seen newest) → ⊥))
+      → (IsTrue (g.is_clean newest) → GoesOnFrom goes_on c log (g.seen newest) o.is_moved o.damage o.gap
+      o.given_up.items o.before.entries o.gateway)
       → IsBegun {D = D} {g = g} c log mark (opens.Both newest spare) o
   resumed_begun c log mark newest spare o goes_on moment past is marked wins sure read reset
       goes =
@@ -67,7 +67,8 @@ module _ {D : Type 0} {g : Ghosts D} where
         read = λ on one two. read (sym is ∙ ap is_trusted on) one;
         reset = λ links. reset (sym is ∙ ap is_trusted links);
         goes_on = λ _. subst (λ (t : Bool). IsTrue (g.is_clean newest) →
-            GoesOnFrom t c log (g.seen newest) o.is_moved o.gap o.before.entries o.gateway)
+            GoesOnFrom t c log (g.seen newest) o.is_moved o.damage o.gap o.given_up.items
+            o.before.entries o.gateway)
             (sym is) goes;
       }
 
@@ -103,12 +104,12 @@ module _ {D : Type 0} {g : Ghosts D} where
       → (IsTrue (g.is_clean old) × IsTrue (g.is_clean other) → IsNewest (g.seen old) (g.seen other))
       → (goes_on ≡ true → IsTrue (g.is_clean old) × IsTrue (g.is_clean other)
       → HasNoNewer (g.seen old) (g.seen other))
-      → (goes_on ≡ true → IsTrue (g.is_clean new) → AreLinesRead (g.seen new))
+      → (goes_on ≡ true → IsTrue (g.is_clean new) → IsReadWhole (g.seen new))
       → (goes_on ≡ false → (mark ≡ Some true) ⊎ (IsTrue (g.is_clean new)
       → IsTrue (g.is_clean other)
-      → HasNoNewer (g.seen old) (g.seen other) → AreLinesRead (g.seen new) → ⊥))
-      → (IsTrue (g.is_clean new) → GoesOnFrom goes_on c log (g.seen new) o.is_moved o.gap
-      o.before.entries o.gateway)
+      → HasNoNewer (g.seen old) (g.seen other) → IsReadWhole (g.seen new) → ⊥))
+      → (IsTrue (g.is_clean new) → GoesOnFrom goes_on c log (g.seen new) o.is_moved o.damage o.gap
+      o.given_up.items o.before.entries o.gateway)
       → IsBegun {D = D} {g = g} c log mark opened o
   begun_from c log mark opened newest spare new old other o goes_on both at_newest at_spare
       seen clean moment past is

@@ -10,31 +10,36 @@ use Rattle.gateway.specs.Reports.{Setup}
 use Rattle.gateway.specs.Restored.{IsSaid}
 use Rattle.gateway.specs.Setups.{setup_of}
 use Rattle.gateway.specs.State.{State}
-use Rattle.segments.specs.Starts.{before_zero}
+use Rattle.segments.specs.Room.{damage_in, log_in}
 use Rattle.settings.specs.Settings.{IsReadOfText, known_settings, values_of}
 use Rattle.state.specs.Beginnings.{GoesOnBy, GoesOnFrom, IsHeadOf, IsMoved, IsRead}
 use Rattle.state.specs.Beginnings.{MovedOn, SayState, WentOn}
+use Rattle.state.specs.GivenUps.{given_up_by}
 use Rattle.state.specs.Replays.{ReportedGap}
 use Rattle.state.specs.Sights.{AreChanged}
+use Rattle.state.specs.declared.given_up.GivenUp.{GivenUp}
 
 -- what is said by these lines
 pub say_state : (s : State) (lines rest : List (List ℕ)) → IsSaid s lines rest → SayState lines
 say_state s lines rest said = record { first = s; rest = rest; said = said }
 
 pub went_on : (c : Settings) (log : Log) (lines : List (List ℕ)) (events : List ℕ)
-    (gap other : Option ReportedGap) (arrived whole : Log) (left s : State)
-    → SayState lines → IsRead c log lines events gap arrived left → other ≡ gap → s ≡ restarted left
+    (gap other : Option ReportedGap) (given_up : List GivenUp) (arrived whole : Log)
+    (left s : State) → SayState lines → IsRead c log lines events gap arrived left → other ≡ gap
+    → given_up ≡ given_up_by c.line.sizes left → s ≡ restarted left
     → whole ≡ Came left.moment Restarted ∷ arrived
     → ((p : Setup) → Follows p left (Some arrived) → Rests p (Some arrived)
     → Follows p s (Some whole))
-    → WentOn c log lines events other whole s
-went_on c log lines events gap other arrived whole left s said read same given behind follows =
+    → WentOn c log lines events other given_up whole s
+went_on c log lines events gap other given_up arrived whole left s said read same named given
+    behind follows =
     record {
       said = said;
       left = left;
       arrived = arrived;
       read = subst (λ (g : Option ReportedGap). IsRead c log lines events g arrived left) (sym same)
           read;
+      named = named;
       given = given;
       restarted = behind;
       follows = λ first rest are savable before rests.
@@ -89,18 +94,52 @@ by_moved false is_same other = refl
 by_moved true false other = refl
 by_moved true true other = other refl
 
+-- it goes on with its links, under the same settings
+pub stays_from : (trusted is_moved : Bool) (damage : Option ℕ) (c : Settings) (log : Log)
+    (file : List ℕ) (begins : ℕ) (written : List ℕ) (lines : List (List ℕ))
+    (gap : Option ReportedGap) (given_up : List GivenUp) (whole : Log) (s : State)
+    → IsHeadOf file begins written lines → IsReadOfText written (Ok c) → trusted ≡ true
+    → is_moved ≡ false → WentOn c log lines (log_in begins file) gap given_up whole s
+    → damage ≡ damage_in begins file
+    → GoesOnFrom trusted c log file is_moved damage gap given_up whole s
+stays_from true false damage c log file begins written lines gap given_up whole s head says on same
+    went damaged = record {
+      begins = begins;
+      written = written;
+      lines = lines;
+      head = head;
+      moved = says;
+      goes = went;
+      damaged = damaged;
+    }
+stays_from true true damage c log file begins written lines gap given_up whole s head says on same
+    went damaged = absurd (cc)
+stays_from false is_moved damage c log file begins written lines gap given_up whole s head says on
+    same went damaged = absurd (cc)
+
+-- the head of a log whose file and place are the same
+pub head_kept : (before after : List ℕ) (from at : ℕ) (written : List ℕ) (lines : List (List ℕ))
+    → at ≡ from → after ≡ before → IsHeadOf before from written lines
+    → IsHeadOf after at written lines
+head_kept before after from at written lines place same head =
+    subst (λ (n : ℕ). IsHeadOf after n written lines) (sym place)
+    (subst (λ (file : List ℕ). IsHeadOf file from written lines) (sym same) head)
+
 -- it was moved
-pub moved_from : (trusted is_same is_moved : Bool) (c : Settings) (log : Log)
+pub moved_from : (trusted is_same is_moved : Bool) (damage : Option ℕ) (c : Settings) (log : Log)
     (file : List ℕ) (begins : ℕ)
-    (written : List ℕ) (lines : List (List ℕ)) (gap : Option ReportedGap) (whole : Log) (s : State)
+    (written : List ℕ) (lines : List (List ℕ)) (gap : Option ReportedGap)
+    (given_up : List GivenUp) (whole : Log) (s : State)
     → IsHeadOf file begins written lines → (is_same ≡ true → IsReadOfText written (Ok c))
     → (is_same ≡ false → IsReadOfText written (Ok c) → ⊥)
     → (trusted ≡ true → is_same ≡ false) → is_moved ≡ not is_same
-    → MovedOn trusted c written log lines (before_zero (drop begins file)) gap whole s
-    → GoesOnFrom trusted c log file is_moved gap whole s
-moved_from trusted is_same is_moved c log file begins written lines gap whole s head same
-    others other is moved =
-    subst (λ (m : Bool). GoesOnFrom trusted c log file m gap whole s) (sym is) (record {
+    → MovedOn trusted c written log lines (log_in begins file) gap given_up whole s
+    → damage ≡ damage_in begins file
+    → GoesOnFrom trusted c log file is_moved damage gap given_up whole s
+moved_from trusted is_same is_moved damage c log file begins written lines gap given_up whole s head same
+    others other is moved damaged =
+    subst (λ (m : Bool). GoesOnFrom trusted c log file m damage gap given_up whole s) (sym is)
+    (record {
       begins = begins;
       written = written;
       lines = lines;
@@ -108,6 +147,7 @@ moved_from trusted is_same is_moved c log file begins written lines gap whole s 
       moved = moved_by is_same c written same others;
       goes =
           subst (λ (b : Bool). GoesOnBy b trusted c written log lines
-          (before_zero (drop begins file)) gap whole s)
+          (log_in begins file) gap given_up whole s)
           (sym (by_moved trusted is_same other)) moved;
+      damaged = damaged;
     })

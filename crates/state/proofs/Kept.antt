@@ -22,7 +22,6 @@ use Rattle.state.specs.Stores.{IsStored, Stored}
 use Rattle.state.specs.declared.standing.Standing.{Standing}
 use Rattle.state.specs.declared.standing.Standing.TheVariants.{Synced, Waiting, Lost}
 use Rattle.state.specs.declared.loss.Loss.{Loss}
-use Rattle.state.specs.declared.loss.Loss.TheVariants.{Marked, Unmarked}
 use Rattle.state.specs.declared.loss.StoreFault.{StoreFault}
 use Rattle.state.specs.declared.loss.StoreFault.TheVariants as faults
 
@@ -131,9 +130,8 @@ may_put : (bears : Bool) (s : Standing) (action : LogEntry) (deeds : Deeds) → 
     → is_stopped s bears ≡ false → IsStanding s deeds → MayBe bears (PutOut action) deeds
 may_put bears Synced action deeds settled goes stands = inl stands.disk
 may_put bears (Waiting moment) action deeds settled goes stands = absurd settled
-may_put true (Lost Marked) action deeds settled goes stands = inr (stands, refl)
-may_put false (Lost Marked) action deeds settled goes stands = absurd (cc)
-may_put bears (Lost Unmarked) action deeds settled goes stands = absurd (cc)
+may_put true (Lost loss) action deeds settled goes stands = inr (ap is_some stands, refl)
+may_put false (Lost loss) action deeds settled goes stands = absurd (cc)
 
 pub put_orderly : (gone bears : Bool) (s : Standing) (action : LogEntry) (old new : Deeds)
     → new ≡ (if gone then PutOut action ∷ [] else []) ++ old → IsSettled s
@@ -206,18 +204,18 @@ begun_room state old new is = ap (λ (deeds : Deeds). is_renewal_due (grown deed
 
 stored_grown : (settings : List ℕ) (deeds : Deeds) (stored : Stored)
     → IsStored settings deeds stored
-    → is_kept deeds ≡ true → length stored.text ≡ grown deeds
-stored_grown settings deeds stored are kept = ap (λ (s : Stored). length s.text) (are kept)
+    → is_kept deeds ≡ true → stored.octets ≡ grown deeds
+stored_grown settings deeds stored are kept = ap (λ (s : Stored). s.octets) (are kept)
 
 pub due_by : (settings : List ℕ) (deeds : Deeds) (stored : Stored) (octets : ℕ) (is : Bool)
-    → IsStored settings deeds stored → octets ≡ length stored.text → is ≡ is_renewal_due octets
+    → IsStored settings deeds stored → octets ≡ stored.octets → is ≡ is_renewal_due octets
     → is_kept deeds ≡ true → is ≡ is_renewal_due (grown deeds)
 due_by settings deeds stored octets is are count due kept =
     due ∙ ap is_renewal_due (count ∙ stored_grown settings deeds stored are kept)
 
 pub has_failed : (settings : List ℕ) (stored : Stored) (fault : StoreFault) (events : Log)
     (loss : Loss) (old new : Deeds) → IsStored settings old stored → is_kept old ≡ true
-    → new ≡ GivenUp fault loss ∷ old → IsRefusedBy fault events (length stored.text)
+    → new ≡ GivenUp fault loss ∷ old → IsRefusedBy fault events stored.octets
     → HasFailed events loss old new
 has_failed settings stored fault events loss old new are kept failed refused = record {
   fault = fault;

@@ -21,7 +21,7 @@ use Rattle.traces.specs.Event as events
 use Rattle.traces.specs.Printed.{FitsTrace, IsPrintable, line_of_entry, lines_of_log}
 use Rattle.traces.specs.Progress.{came}
 use Rattle.state.specs.Lines.{FitsLine, IsRefusedBy, IsWritable, is_renewal_due, longest_line}
-use Rattle.state.specs.Lines.{most_octets}
+use Rattle.state.specs.Lines.{most_octets, seal_octets}
 use Rattle.state.specs.declared.loss.StoreFault.{StoreFault}
 use Rattle.state.specs.declared.loss.StoreFault.TheVariants as faults
 use Rattle.state.proofs.Surviving.{writable}
@@ -151,12 +151,11 @@ refused_with faults.Full events octets refused = refused
 refused_with faults.Failed events octets refused = tt
 
 -- A line that finds no room comes where a new log is due
-pub full_due : (head octets size : ℕ) (text : List ℕ) → head + most_octets + longest_line ≤ size
-    → octets ≤ longest_line → size < length text + octets → head ≤ length text
-    → is_renewal_due (length (drop head text)) ≡ true
-full_due head octets size text room fits full within =
-    lt-ltb 3900000 (length (drop head text))
-    (omega (arith, length-drop head text, room, fits, full, within))
+pub full_due : (head counted octets total size : ℕ)
+    → head + most_octets + longest_line + seal_octets ≤ size → octets ≤ longest_line
+    → size < total + octets + 27 → total ≤ head + counted → is_renewal_due counted ≡ true
+full_due head counted octets total size room fits full within =
+    lt-ltb 3900000 counted (omega (arith, room, fits, full, within))
 
 pub refused_any : {A : Type 0} (r : Result A StoreFault) (events : Log) (octets : ℕ)
     → IfErr r (λ fault. IsRefusedBy fault [] octets)
@@ -164,17 +163,18 @@ pub refused_any : {A : Type 0} (r : Result A StoreFault) (events : Log) (octets 
 refused_any (Ok x) events octets refused = tt
 refused_any (Err fault) events octets refused = refused_with fault events octets refused
 
-pub refused_append : (answer : StoreFault) (fault : SegmentFault) (head octets size : ℕ)
-    (text : List ℕ)
+pub refused_append : (answer : StoreFault) (fault : SegmentFault)
+    (head counted octets total size : ℕ)
     → (answer ≡ faults.Full → fault ≡ Full) → (answer ≡ faults.Unwritable → ⊥)
-    → head + most_octets + longest_line ≤ size → octets ≤ longest_line
-    → (fault ≡ Full → size < length text + octets) → head ≤ length text
-    → IsRefusedBy answer [] (length (drop head text))
-refused_append faults.Unwritable fault head octets size text is none room fits full within =
-    absurd (none refl)
-refused_append faults.Full fault head octets size text is none room fits full within =
-    full_due head octets size text room fits (full (is refl)) within
-refused_append faults.Failed fault head octets size text is none room fits full within = tt
+    → head + most_octets + longest_line + seal_octets ≤ size → octets ≤ longest_line
+    → (fault ≡ Full → size < total + octets + 27) → (fault ≡ Full → total ≤ head + counted)
+    → IsRefusedBy answer [] counted
+refused_append faults.Unwritable fault head counted octets total size is none room fits full
+    within = absurd (none refl)
+refused_append faults.Full fault head counted octets total size is none room fits full within =
+    full_due head counted octets total size room fits (full (is refl)) (within (is refl))
+refused_append faults.Failed fault head counted octets total size is none room fits full within =
+    tt
 
 -- what holds at all holds of an answer
 pub where_ok : {A E P : Type 0} (r : Result A E) → P → OnOk r P

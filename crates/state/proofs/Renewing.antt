@@ -1,17 +1,12 @@
 -- What a renewal of a log leaves of both files.
-use Rattle.std.proofs.Common.{◌≡◌, ◌∙◌, inl, inr, ℕ, ◌≤◌, Bool, true, List, ◌∷◌}
-use Rattle.std.proofs.Common.{length, take, drop, ap, subst, arith, slice_index}
-use Rattle.std.specs.Prelude.{◌≢◌}
-use Rattle.std.proofs.lemmas.Bool.{cases_lt}
-use Rattle.std.proofs.lemmas.List.{ext_get_or, get_or-take, get_or_past, length-take-le}
+use Rattle.std.proofs.Common.{◌≡◌, inl, inr, ℕ, Bool, true, List, ◌∷◌, subst}
 use Rattle.sqlite_disk.specs.declared.Disk.{Ghosts}
-use Rattle.segments.specs.Crash.{AreMixing, BeginsWith, HasLength, HasNoOther, HasText, IsShut}
+use Rattle.segments.specs.Crash.{AreMixing, IsShut}
 use Rattle.segments.specs.Crashes.{AreShutOr, HasWhole}
-use Rattle.segments.specs.Head.{IsWholeText}
-use Rattle.segments.proofs.HeadLemmas.{whole_behind}
 use Rattle.statetext.specs.Text.{lines_in}
-use Rattle.state.specs.Logs.{AreAmid, AreFilesOf, HasFreshLog, IsAmid, IsHeaded, IsReadWell}
+use Rattle.state.specs.Logs.{AreAmid, AreFilesOf, IsAmid, IsReadWell}
 use Rattle.state.specs.Logs.{leaves_amid, leaves_behind}
+use Rattle.state.proofs.Fresh.{fresh_whole}
 use Rattle.state.specs.declared.opened.Opened.{Opened}
 use Rattle.state.specs.declared.opened.Opened.TheVariants as opens
 
@@ -35,52 +30,8 @@ pub whole_amid : (before outcomes : List ℕ → Type 0) (number : ℕ) (setting
 whole_amid before outcomes number settings lines body says kept file left =
     elim (kept file left) [
       | inl shut ↦ inl shut
-      | inr whole ↦ inr (inr (record {
-        body = body;
-        fits = whole.fits;
-        says = says;
-        text = whole.text;
-      }))
+      | inr whole ↦ inr (inr (fresh_whole number body file whole settings lines says))
     ]
-
--- A log that was begun
-
-no_octet : (file text : List ℕ) (i : ℕ)
-    → (slice_index file i ≢ 0 → slice_index file i ≡ slice_index text i) → length text ≤ i
-    → slice_index file i ≡ 0
-no_octet file text i same le = elim (cases_lt 0 (slice_index file i)) [
-  | inl some ↦ same (λ zero. absurd (omega (arith, some, zero))) ∙ get_or_past text i 0 le
-  | inr none ↦ omega (arith, none)
-]
-
-text_left : (outcomes : List ℕ → Type 0) (text : List ℕ) (size : ℕ) → length text ≤ size
-    → HasLength outcomes size → BeginsWith outcomes (length text) text → HasNoOther outcomes text
-    → (file : List ℕ) → outcomes file → HasText text file
-text_left outcomes text size room long kept none file left = (
-  ext_get_or 0 (take (length text) file) text count
-      (λ i lt. get_or-take (length text) file i 0 (omega (arith, lt, count))
-      ∙ kept file left i (omega (arith, lt, count))),
-  λ i le. no_octet file text i (none file left i) le,
-)
-  where
-    count : length (take (length text) file) ≡ length text
-    count = length-take-le (length text) file (omega (arith, room, long file left))
-
-pub fresh_left : (outcomes : List ℕ → Type 0) (number : ℕ) (settings : List ℕ)
-    (lines : List (List ℕ)) (text : List ℕ) (durable size : ℕ) → IsWholeText number text
-    → IsHeaded settings lines text → durable ≡ length text → length text ≤ size
-    → HasLength outcomes size → BeginsWith outcomes durable text → HasNoOther outcomes text
-    → (file : List ℕ) → outcomes file → HasFreshLog number settings lines file
-fresh_left outcomes number settings lines text durable size whole headed synced room long kept none
-    file left = record {
-      body = drop 87 text;
-      fits = whole.fits;
-      says = ap lines_in (ap (drop 87) headed.is ∙ whole_behind headed.number headed.body)
-          ∙ headed.says;
-      text = subst (λ (t : List ℕ). HasText t file) whole.is
-          (text_left outcomes text size room long
-          (subst (λ (n : ℕ). BeginsWith outcomes n text) synced kept) none file left);
-    }
 
 -- Both files
 

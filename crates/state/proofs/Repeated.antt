@@ -1,5 +1,5 @@
 -- What is received again, line by line.
-use Rattle.std.proofs.Common.{◌≡◌, ◌∙◌, ℕ, ◌≤◌, Bool, true, false, List, [], ◌∷◌, ◌++◌, length, map}
+use Rattle.std.proofs.Common.{◌≡◌, ◌∙◌, ℕ, suc, ◌≤◌, Bool, true, false, List, [], ◌∷◌, ◌++◌, length, map}
 use Rattle.std.proofs.Common.{Option, Some, None, ap, sym, subst, refl, append_assoc, arith}
 use Rattle.std.proofs.Common.{if◌then◌else◌}
 use Rattle.std.proofs.lemmas.List.{append-nil}
@@ -19,8 +19,10 @@ use Rattle.gateway.specs.declared.ports.Next.{Next}
 use Rattle.traces.specs.Event.{Event, event_of, event_in, line, opening, received, cut, tick, wall}
 use Rattle.traces.specs.Progress.{came}
 use Rattle.traces.specs.Trace.{lines_of, logged, is_skipped, is_wrong, first_wrong}
-use Rattle.state.specs.Replays.{IsFirst, IsRepeating, IsReplayed, IsLogged, Replaying, ReportedGap}
-use Rattle.state.specs.Replays.{before_those, events_in_front, events_left, last_gap, log_of}
+use Rattle.state.specs.Replays.{AreRead, IsFirst, IsRepeating, IsReplayed, IsLogged, IsRow, Replaying}
+use Rattle.state.specs.Replays.{ReportedGap, before_those, events_in_front, events_left, last_gap}
+use Rattle.state.specs.Replays.{lines_left, log_of}
+use Rattle.state.specs.declared.replaying.Row.TheVariants as rows
 
 -- A line
 
@@ -107,6 +109,27 @@ wrongly_logged text n buf one wrong =
     subst (λ found. IsLogged found None buf)
     (sym (unless_skipped (is_skipped text) (event_in text) is)) refl
 
+-- What a line is
+
+pub event_row : (text : List ℕ) (lines others : List (List ℕ)) (next : Next) (buf : List ℕ)
+    → lines ≡ text ∷ others → IsLogged (logged text) (Some next) buf
+    → IsRow lines others (rows.Event next) buf
+event_row text lines others next buf is logs =
+    subst (λ (all : List (List ℕ)). IsRow all others (rows.Event next) buf) (sym is) (logs, refl)
+
+fewer_by : (found : Option Event) (buf : List ℕ) (lines : List (List ℕ))
+    → IsLogged found None buf
+    → length (before_those found (events_in_front lines)) ≡ suc (length lines) → ⊥
+fewer_by None buf lines is all = absurd (omega (arith, all))
+fewer_by (Some event) buf lines is all = is
+
+pub wrong_row : (text : List ℕ) (lines others : List (List ℕ)) (buf : List ℕ)
+    → lines ≡ text ∷ others → IsLogged (logged text) None buf
+    → IsRow lines others rows.Wrong buf
+wrong_row text lines others buf is logs =
+    subst (λ (all : List (List ℕ)). IsRow all others rows.Wrong buf) (sym is)
+    ((logs, refl), fewer_by (logged text) buf others logs)
+
 -- A replay
 
 came_events : (event : Event) (log : Log) → events_of (came event ∷ log)
@@ -167,32 +190,55 @@ no_gap_yet : (lines others : List (List ℕ)) (next : Next) (buf : List ℕ)
 no_gap_yet [] others next buf first log = absurd (cc)
 no_gap_yet (text ∷ lines) others next buf first log = no_gap_by (logged text) next buf first.0 log
 
+-- each of the lines logs an event exactly if the others do
+others_read : (found : Option Event) (next : Next) (buf : List ℕ) (lines : List (List ℕ))
+    → IsLogged found (Some next) buf
+    → (length (before_those found (events_in_front lines)) ≡ suc (length lines) → AreRead lines)
+    × (AreRead lines → length (before_those found (events_in_front lines)) ≡ suc (length lines))
+others_read None next buf lines is = absurd (cc)
+others_read (Some event) next buf lines is =
+    (λ all. omega (arith, all), λ all. omega (arith, all))
+
+rest_read : (lines others : List (List ℕ)) (next : Next) (buf : List ℕ)
+    → IsFirst lines others (Some next) buf
+    → (AreRead lines → AreRead others) × (AreRead others → AreRead lines)
+rest_read [] others next buf first = absurd (cc)
+rest_read (text ∷ lines) others next buf first =
+    subst (λ (ls : List (List ℕ)). (AreRead (text ∷ lines) → AreRead ls)
+    × (AreRead ls → AreRead (text ∷ lines))) (sym first.1)
+    (others_read (logged text) next buf lines first.0)
+
+going : (is_over : Bool) (coming : List (List ℕ)) → is_over ≡ false
+    → lines_left is_over coming ≡ coming
+going true coming is = absurd (cc)
+going false coming is = refl
+
 -- an event was received
-pub one_more : (events : List LogEntry) (coming others : List (List ℕ)) (is_over : Bool)
-    (news more earlier : Log)
-    (failed : ℕ) (gap : Option ReportedGap) (next : Next) (buf : List ℕ)
-    → IsFirst coming others (Some next) buf → is_over ≡ false
+pub one_more : (lines coming others : List (List ℕ)) (is_over is_broken : Bool)
+    (news more earlier : Log) (failed : ℕ) (gap : Option ReportedGap) (next : Next) (buf : List ℕ)
+    → IsRow coming others (rows.Event next) buf → is_over ≡ false
     → more ≡ logged_by next buf ++ news
-    → IsRepeating events (record {
+    → IsRepeating lines (record {
       coming = coming;
       is_over = is_over;
+      is_broken = is_broken;
       news = news;
-      earlier =
-          earlier;
+      earlier = earlier;
       failed = failed;
       gap = gap;
     })
-    → IsRepeating events (record {
+    → IsRepeating lines (record {
       coming = others;
       is_over = is_over;
+      is_broken = is_broken;
       news = more;
-      earlier =
-          earlier;
+      earlier = earlier;
       failed = failed;
       gap = None;
     })
-one_more events coming others is_over news more earlier failed gap next buf first goes is
-    repeating = record {
+one_more lines coming others is_over is_broken news more earlier failed gap next buf first goes is
+    repeating =
+    let rest = rest_read coming others next buf first in record {
       whole = λ healthy.
           ap (λ over. events_of (more ++ earlier) ++ events_left over others) goes
           ∙ ap (λ news. events_of (news ++ earlier) ++ events_in_front others) is
@@ -201,51 +247,108 @@ one_more events coming others is_over news more earlier failed gap next buf firs
           ∙ more_events coming others next buf first (news ++ earlier)
           ∙ ap (λ over. events_of (news ++ earlier) ++ events_left over coming) (sym goes)
           ∙ repeating.whole healthy;
+      each = λ healthy sound all. repeating.each healthy sound
+          (subst AreRead (sym (going is_over coming goes))
+          (rest.1 (subst AreRead (going is_over others goes) all)));
+      none = λ healthy all.
+          let before = repeating.none healthy all in (
+            before.0,
+            subst AreRead (sym (going is_over others goes))
+                (rest.0 (subst AreRead (going is_over coming goes) before.1)),
+          );
       gap = sym (ap last_gap is ∙ no_gap_yet coming others next buf first news);
     }
 
--- none comes any more
-pub no_more : (events : List LogEntry) (coming others : List (List ℕ)) (is_over : Bool)
-    (news earlier : Log)
-    (failed : ℕ) (gap : Option ReportedGap) (buf : List ℕ) → IsFirst coming others None buf
-    → is_over
-    ≡ false
-    → IsRepeating events (record {
+-- a line logs no event
+pub broken_off : (lines coming others : List (List ℕ)) (is_over is_broken : Bool)
+    (news earlier : Log) (failed : ℕ) (gap : Option ReportedGap) (buf : List ℕ)
+    → IsRow coming others rows.Wrong buf → is_over ≡ false
+    → IsRepeating lines (record {
       coming = coming;
       is_over = is_over;
+      is_broken = is_broken;
       news = news;
-      earlier =
-          earlier;
+      earlier = earlier;
       failed = failed;
       gap = gap;
     })
-    → IsRepeating events (record {
+    → IsRepeating lines (record {
       coming = others;
       is_over = true;
+      is_broken = true;
       news = news;
-      earlier =
-          earlier;
+      earlier = earlier;
       failed = failed;
       gap = gap;
     })
-no_more events coming others is_over news earlier failed gap buf first goes repeating = record {
-  whole = λ healthy.
-      ap (λ es. events_of (news ++ earlier) ++ es)
-      (sym (ap (λ over. events_left over coming) goes ∙ none_left coming others buf first))
-      ∙ repeating.whole healthy;
-  gap = repeating.gap;
-}
+broken_off lines coming others is_over is_broken news earlier failed gap buf row goes repeating =
+    record {
+      whole = λ healthy.
+          ap (λ es. events_of (news ++ earlier) ++ es)
+          (sym (ap (λ over. events_left over coming) goes ∙ none_left coming others buf row.0))
+          ∙ repeating.whole healthy;
+      each = λ healthy sound all. let no : true ≡ false = sound in absurd (cc);
+      none = λ healthy all. absurd (row.1
+          (subst AreRead (going is_over coming goes) (repeating.none healthy all).1));
+      gap = repeating.gap;
+    }
+
+-- none comes any more
+pub no_more : (lines coming others : List (List ℕ)) (is_over is_broken : Bool)
+    (news earlier : Log) (failed : ℕ) (gap : Option ReportedGap) (buf : List ℕ)
+    → IsRow coming others rows.End buf → is_over ≡ false
+    → IsRepeating lines (record {
+      coming = coming;
+      is_over = is_over;
+      is_broken = is_broken;
+      news = news;
+      earlier = earlier;
+      failed = failed;
+      gap = gap;
+    })
+    → IsRepeating lines (record {
+      coming = others;
+      is_over = true;
+      is_broken = is_broken;
+      news = news;
+      earlier = earlier;
+      failed = failed;
+      gap = gap;
+    })
+no_more lines coming others is_over is_broken news earlier failed gap buf end goes repeating =
+    record {
+      whole = λ healthy.
+          ap (λ es. events_of (news ++ earlier) ++ es)
+          (sym (ap (λ over. events_left over coming) goes ∙ ap events_in_front end))
+          ∙ repeating.whole healthy;
+      each = λ healthy sound all. repeating.each healthy sound
+          (subst AreRead (sym (going is_over coming goes ∙ end)) refl);
+      none = λ healthy all. ((repeating.none healthy all).0, refl);
+      gap = repeating.gap;
+    }
+
+-- what is known of the lines when it is over
+pub read_to_end : (lines : List (List ℕ)) (end : Replaying) → IsRepeating lines end
+    → end.failed ≡ 0 → end.is_over ≡ true → end.is_broken ≡ false → AreRead lines
+read_to_end lines end known healthy over sound =
+    known.each healthy sound
+    (subst (λ (is_over : Bool). AreRead (lines_left is_over end.coming)) (sym over) refl)
+
+pub not_to_end : (lines : List (List ℕ)) (end : Replaying) → IsRepeating lines end
+    → end.failed ≡ 0 → end.is_broken ≡ true → AreRead lines → ⊥
+not_to_end lines end known healthy broken all =
+    let no : true ≡ false = sym broken ∙ (known.none healthy all).0 in absurd (cc)
 
 -- the gateway follows the log of the replay
-pub replayed : (p : Setup) (log : Log) (events : List LogEntry) (gap : Option ReportedGap)
+pub replayed : (p : Setup) (log : Log) (lines : List (List ℕ)) (gap : Option ReportedGap)
     (whole : Log)
     (s : State)
     (end : Replaying) → Follows p s (Some (log_of end)) → Rests p (Some (log_of end))
-    → IsRepeating events end
+    → IsRepeating lines end
     → end.failed ≡ 0 → end.is_over ≡ true → end.earlier ≡ log → gap ≡ end.gap → whole ≡ log_of end
-    → IsReplayed p log events gap whole s
-replayed p log events gap whole s end follows rests known healthy over earlier logged is =
-    subst (λ log. IsReplayed p log events gap whole s) earlier (record {
+    → IsReplayed p log (events_in_front lines) gap whole s
+replayed p log lines gap whole s end follows rests known healthy over earlier logged is =
+    subst (λ log. IsReplayed p log (events_in_front lines) gap whole s) earlier (record {
       news = end.news;
       behind = is;
       last = logged ∙ known.gap;

@@ -13,12 +13,12 @@ use Rattle.gateway.specs.Setups.{setup_of}
 use Rattle.gateway.specs.State.{State}
 use Rattle.segments.specs.Crashes.{AreBoth}
 use Rattle.segments.specs.Starts.{HasNoNewer, IsFoundIn, IsNewest, IsShut, IsSound}
-use Rattle.segments.specs.Starts.{before_zero}
+use Rattle.segments.specs.Room.{log_in}
 use Rattle.segments.proofs.Crashes.{one_segment}
 use Rattle.segments.proofs.Fronts.{not_shut}
 use Rattle.settings.specs.Settings.{IsReadOfText}
 use Rattle.statetext.specs.Text.{lines_in}
-use Rattle.state.specs.Beginnings.{AreLinesRead, GoesOnBy, GoesOnFrom, IsHeadOf, IsMoved, WentOn}
+use Rattle.state.specs.Beginnings.{IsReadWhole, GoesOnBy, GoesOnFrom, IsHeadOf, IsMoved, WentOn}
 use Rattle.state.specs.Beginnings.{has_past, is_trusted, moment_at}
 use Rattle.state.specs.Crashed.{IsKeptIn}
 use Rattle.state.specs.Deeds.{Deeds}
@@ -28,6 +28,7 @@ use Rattle.state.specs.Logs.{IsOlderBeside}
 use Rattle.state.specs.Returns.{GoesOnOver, HasReturned, IsBegunOver}
 use Rattle.state.specs.Stores.{head, safe}
 use Rattle.state.specs.declared.beginning.Origin.{Origin}
+use Rattle.state.specs.declared.given_up.GivenUp.{GivenUp}
 use Rattle.state.specs.declared.start.Beginning.{Beginning}
 use Rattle.state.specs.declared.start.Beginning.TheVariants as beginnings
 
@@ -59,19 +60,20 @@ same_head file begins begins' settings settings' lines lines' one two =
 
 -- a log whose settings are the same wasn't moved
 went : (is_moved : Bool) (c : Settings) (written : List ℕ) (log : Log)
-    (lines : List (List ℕ)) (events : List ℕ) (gap : Option ReportedGap) (whole : Log) (s : State)
+    (lines : List (List ℕ)) (events : List ℕ) (gap : Option ReportedGap)
+    (given_up : List GivenUp) (whole : Log) (s : State)
     → IsMoved c written is_moved → IsReadOfText written (Ok c)
-    → GoesOnBy (true && not is_moved) true c written log lines events gap whole s
-    → WentOn c log lines events gap whole s
-went true c written log lines events gap whole s moved same goes = absurd (moved same)
-went false c written log lines events gap whole s moved same goes = goes
+    → GoesOnBy (true && not is_moved) true c written log lines events gap given_up whole s
+    → WentOn c log lines events gap given_up whole s
+went true c written log lines events gap given_up whole s moved same goes = absurd (moved same)
+went false c written log lines events gap given_up whole s moved same goes = goes
 
 module _ {D : Type 0} (g : Ghosts D) (settings : List ℕ) (deeds : Deeds) (file other : List ℕ)
     (c : Settings) (log : Log) (o : Origin) (kept : IsKeptIn settings deeds file)
     (beside : IsOlderBeside file other) (b : IsBegunOver g file other c log o) where
   -- the newest file is that of the log, where the start has found a segment there
-  newest_is : (trusted : Bool) → GoesOnFrom trusted c log (g.seen b.newest) o.is_moved o.gap
-      o.before.entries o.gateway
+  newest_is : (trusted : Bool) → GoesOnFrom trusted c log (g.seen b.newest) o.is_moved o.damage o.gap
+      o.given_up.items o.before.entries o.gateway
       → IsNewest (g.seen b.newest) (g.seen b.spare)
       → AreBoth file other (g.seen b.newest) (g.seen b.spare)
       → (g.seen b.newest ≡ file) × (g.seen b.spare ≡ other)
@@ -122,21 +124,23 @@ module _ {D : Type 0} (g : Ghosts D) (settings : List ℕ) (deeds : Deeds) (file
         absurd (beside.sound (λ sound. rotten b.clean.0 b.clean.1
         (subst (λ (f : List ℕ). HasNoNewer f (g.seen b.spare)) (sym there.0)
         (subst (HasNoNewer file) (sym there.1) (no_newer sound)))
-        (subst AreLinesRead (sym there.0) kept.read)))
+        (subst IsReadWhole (sym there.0) kept.read)))
   ]
   begins_so beginnings.GoesOn is = is
 
   pub goes_on : o.beginning ≡ beginnings.GoesOn
   goes_on = begins_so o.beginning refl
 
-  from_file : GoesOnFrom true c log file o.is_moved o.gap o.before.entries o.gateway
+  from_file : GoesOnFrom true c log file o.is_moved o.damage o.gap o.given_up.items o.before.entries
+      o.gateway
   from_file =
       let past : has_past o.beginning ≡ true = ap has_past goes_on in
       let there = is_there past in
-      subst (λ (f : List ℕ). GoesOnFrom true c log f o.is_moved o.gap o.before.entries
-      o.gateway) there.0
-      (subst (λ (t : Bool). GoesOnFrom t c log (g.seen b.newest) o.is_moved o.gap
-      o.before.entries o.gateway) (ap is_trusted goes_on) (b.begun.goes_on past b.clean.0))
+      subst (λ (f : List ℕ). GoesOnFrom true c log f o.is_moved o.damage o.gap o.given_up.items
+      o.before.entries o.gateway) there.0
+      (subst (λ (t : Bool). GoesOnFrom t c log (g.seen b.newest) o.is_moved o.damage o.gap
+      o.given_up.items o.before.entries o.gateway) (ap is_trusted goes_on)
+      (b.begun.goes_on past b.clean.0))
 
   returned_from : IsReadOfText settings (Ok c) → IsSavable kept.state
       → Follows (setup_of c) kept.state (Some log) → Rests (setup_of c) (Some log)
@@ -145,17 +149,17 @@ module _ {D : Type 0} (g : Ghosts D) (settings : List ℕ) (deeds : Deeds) (file
       let goes = from_file in
       let same = same_head file goes.begins kept.begins goes.written settings goes.lines
       (state_lines kept.state) goes.head kept.opening in
-      let on : WentOn c log goes.lines (before_zero (drop goes.begins file)) o.gap
-      o.before.entries o.gateway =
-      went o.is_moved c goes.written log goes.lines (before_zero (drop goes.begins file))
-      o.gap o.before.entries o.gateway goes.moved
+      let on : WentOn c log goes.lines (log_in goes.begins file) o.gap
+      o.given_up.items o.before.entries o.gateway =
+      went o.is_moved c goes.written log goes.lines (log_in goes.begins file)
+      o.gap o.given_up.items o.before.entries o.gateway goes.moved
       (subst (λ (t : List ℕ). IsReadOfText t (Ok c)) (sym same.wrote) unchanged) goes.goes in
       let lines : goes.lines ≡ state_lines kept.state ++ [] =
       same.state ∙ sym (append-nil (state_lines kept.state)) in
       let replayed = on.read kept.state [] lines savable follows rests in
-      let logged : events_in_front (whole_lines (before_zero (drop goes.begins file)))
+      let logged : events_in_front (whole_lines (log_in goes.begins file))
       ≡ reverse (kept.left.left ++ safe deeds) =
-      ap (λ (n : ℕ). events_in_front (whole_lines (before_zero (drop n file)))) same.place
+      ap (λ (n : ℕ). events_in_front (whole_lines (log_in n file))) same.place
       ∙ kept.left.with_news.logged in
       let restarted : o.before.entries ≡ Came o.gateway.moment Restarted ∷ on.arrived =
       on.restarted ∙ ap (λ (n : ℕ). Came n Restarted ∷ on.arrived)

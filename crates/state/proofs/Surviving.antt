@@ -1,15 +1,12 @@
 -- What outlives a crash of what a store has.
-use Rattle.std.proofs.Common.{◌≡◌, ◌∙◌, inl, inr, ℕ, ◌+◌, ◌-◌, ◌<◌, ◌≤◌, ◌^◌, true, List, []}
+use Rattle.std.proofs.Common.{◌≡◌, ◌∙◌, inl, inr, ℕ, ◌+◌, ◌<◌, ◌≤◌, true, List, []}
 use Rattle.std.proofs.Common.{◌∷◌}
-use Rattle.std.proofs.Common.{◌++◌, length, take, drop, map, Some, refl, sym, ap}
+use Rattle.std.proofs.Common.{◌++◌, length, take, map, Some, refl, sym, ap}
 use Rattle.std.proofs.Common.{subst}
 use Rattle.std.proofs.Common.{arith}
-use Rattle.std.specs.List.{AllByRecursion}
-use Rattle.std.proofs.Common.{slice_index}
+use Rattle.std.specs.List.{AllByRecursion, concat}
 use Rattle.std.specs.Prelude.{◌⊎◌}
-use Rattle.std.proofs.lemmas.Bool.{cases_lt}
-use Rattle.std.proofs.lemmas.List.{append-nil, get_or-take, length-append, length-drop, length-take}
-use Rattle.std.proofs.lemmas.List.{length-take-le, take-append-drop}
+use Rattle.std.proofs.lemmas.List.{length-take-le}
 use Rattle.sqlite_disk.specs.Disk.{Only}
 use Rattle.sqlite_disk.specs.declared.Disk.{Ghosts}
 use Rattle.gateway.specs.Log.{Log}
@@ -19,20 +16,22 @@ use Rattle.gateway.specs.State.{State}
 use Rattle.gateway.specs.declared.ports.Next.{Next}
 use Rattle.gateway.specs.declared.ports.Next.TheVariants as answers
 use Rattle.segments.specs.Crash.{AreMixing, HasNoOther, IsShut}
-use Rattle.segments.specs.Crashes.{AreOlder, HasNoZero, StandsIn, Survives}
-use Rattle.segments.specs.Head.{Fits, IsWholeText, head_for, whole_text}
-use Rattle.segments.specs.Segment.{durable_of, outcomes_of, text_of}
+use Rattle.segments.specs.Crashes.{AreOlder, StandsIn, Survives, damage_behind, lines_behind}
+use Rattle.segments.specs.Crashes.{log_text}
+use Rattle.segments.specs.Head.{Fits, head_for}
+use Rattle.segments.specs.Segment.{body_of, open_of, outcomes_of, own_number, writes_of}
 use Rattle.segments.specs.Starts as starts
 use Rattle.segments.specs.Starts.{IsFoundIn, IsSound}
 use Rattle.segments.specs.declared.head.SegmentHead.{SegmentHead}
-use Rattle.segments.proofs.Crashes.{found_front, same_first, whole_left}
+use Rattle.segments.proofs.Crashes.{one_segment, same_first, whole_left}
 use Rattle.segments.proofs.Fronts.{not_shut}
+use Rattle.statetext.specs.Sealed.{AreLines, AreWrites}
 use Rattle.traces.specs.Event as events
 use Rattle.traces.specs.Event.{Event}
-use Rattle.traces.specs.Printed.{FitsTrace, IsPrintable, lines_of_log}
-use Rattle.traces.specs.Progress.{came}
-use Rattle.traces.proofs.ReadingBack.{log_above}
-use Rattle.state.specs.Crashed.{HasLog, IsKeptIn}
+use Rattle.traces.specs.Printed.{IsPrintable, lines_of_log}
+use Rattle.state.specs.Beginnings.{IsReadWhole, IsWhole}
+use Rattle.state.specs.Crashed.{AreLeft, HasLog, IsKeptIn}
+use Rattle.state.specs.Replays.{AreRead, whole_lines}
 use Rattle.state.specs.Deeds.{Deeds, Received, Appended, Synced, Begun, GivenUp, PutOut, is_kept}
 use Rattle.state.specs.Deeds.{waiting, written}
 use Rattle.state.specs.Lines.{FitsLine, IsWritable}
@@ -44,8 +43,9 @@ use Rattle.state.specs.Stores.{IsStored, Stored, head, lines_of_head, safe}
 use Rattle.state.specs.declared.opened.Current.{Current}
 use Rattle.state.specs.declared.opened.Opened.{Opened}
 use Rattle.state.specs.declared.opened.Opened.TheVariants as opens
-use Rattle.state.proofs.CrashLines.{all_read, lines_left}
+use Rattle.state.proofs.CrashLines.{all_read, lines_left, nothing_read}
 use Rattle.state.proofs.Histories.{all_written}
+use Rattle.state.proofs.LogLines.{behind_writable, from_lines, log_lines}
 
 -- Events that a line can hold
 
@@ -88,28 +88,6 @@ pub written_received : (news : Log) (deeds : Deeds) → AllByRecursion IsWritabl
     → AllByRecursion IsWritable (written (map Received news ++ deeds))
 written_received [] deeds before = before
 written_received (event ∷ news) deeds before = written_received news deeds before
-
-small : (now : ℕ) → now ≤ 999999999999999 → now < 2 ^ 64
-small now le = omega arith
-
-printable : (logged : Event) → FitsTrace logged → IsPrintable (came logged)
-printable (events.line now octets) fits = (small now fits.0, fits.1)
-printable (events.opening now) fits = (small now fits, tt)
-printable (events.received now octets) fits = (small now fits.0, fits.1)
-printable (events.cut now) fits = (small now fits, tt)
-printable (events.tick now) fits = (small now fits, tt)
-printable (events.wall now number) fits = (small now fits.0, small number fits.1)
-
-all_printable : (log : Log) → AllByRecursion IsWritable log → AllByRecursion IsPrintable log
-all_printable [] all = tt
-all_printable (event ∷ log) all =
-    let (logged, fits, is) = all.0 in
-    (subst IsPrintable (sym is) (printable logged fits), all_printable log all.1)
-
-pub no_zero : (log : Log) → AllByRecursion IsWritable log → HasNoZero (lines_of_log log)
-no_zero log all i lt zero =
-    let above = log_above log (all_printable log all) i 0 lt in
-    absurd (omega (arith, above, zero))
 
 -- A log that was begun has a head
 
@@ -175,11 +153,6 @@ shut_beside file other shut = record {
       absurd (not_shut other head found'.first shut);
 }
 
-fresh_found : (number : ℕ) (settings : List ℕ) (lines : List (List ℕ)) (file : List ℕ)
-    → (new : HasFreshLog number settings lines file)
-    → IsFoundIn file (head_for number new.body) new.body
-fresh_found number settings lines file new = found_front file number new.body new.text.0
-
 behind_fresh : (outcomes : List ℕ → Type 0) (own : ℕ) → StandsIn outcomes own → (number : ℕ)
     (settings : List ℕ) (lines : List (List ℕ)) (file other : List ℕ) → outcomes file
     → own < number → HasFreshLog number settings lines other → IsOlderBeside other file
@@ -189,7 +162,7 @@ behind_fresh outcomes own stands number settings lines file other left less new 
       let (body, whole, there) = stands file left in
       let above : mine.number ≡ number = ap (λ (h : SegmentHead). h.number)
       (same_first other mine (head_for number new.body) fits new.fits found.first
-      (fresh_found number settings lines other new).first) in
+      new.found.first) in
       let below : head.number ≡ own = ap (λ (h : SegmentHead). h.number)
       (same_first file head (head_for own body) fits' whole found'.first there.first) in
       omega (arith, above, below, less);
@@ -197,42 +170,19 @@ behind_fresh outcomes own stands number settings lines file other left less new 
 
 -- The next log, which has no events yet
 
-module _ (number : ℕ) (settings : List ℕ) (lines : List (List ℕ)) (file : List ℕ)
-    (new : HasFreshLog number settings lines file) where
-  fresh_octet : (i : ℕ) → i < length (whole_text number new.body)
-      → slice_index file i ≡ slice_index (whole_text number new.body ++ []) i
-  fresh_octet i lt =
-      sym (get_or-take (length (whole_text number new.body)) file i 0 lt)
-      ∙ ap (λ (l : List ℕ). slice_index l i)
-      (new.text.0 ∙ sym (append-nil (whole_text number new.body)))
+fresh_lines : (number : ℕ) (settings : List ℕ) (lines : List (List ℕ)) (file : List ℕ)
+    → (new : HasFreshLog number settings lines file) → whole_lines (lines_behind new.body file) ≡ []
+fresh_lines number settings lines file new = ap whole_lines new.empty ∙ nothing_read
 
-  fresh_room : length (whole_text number new.body ++ []) ≤ length file
-  fresh_room = omega (
-    arith,
-    length-append (whole_text number new.body) [],
-    ap (λ (l : List ℕ). length l) new.text.0,
-    length-take (length (whole_text number new.body)) file,
-  )
-
-  pub fresh_log : HasLog (λ c. c ≡ file) number new.body [] []
-  fresh_log = record {
-    writable = tt;
-    survives = record {
-      fits = new.fits;
-      within = omega arith;
-      some = λ i lt zero. absurd (omega (arith, lt));
-      size = length file;
-      long = λ c is. ap (λ (l : List ℕ). length l) is;
-      room = fresh_room;
-      kept = λ c is i lt. ap (λ (l : List ℕ). slice_index l i) is
-          ∙ fresh_octet i (omega (arith, lt));
-    };
-    mixed = λ c is i some. elim (cases_lt i (length (whole_text number new.body))) [
-      | inl lt ↦ ap (λ (l : List ℕ). slice_index l i) is ∙ fresh_octet i lt
-      | inr le ↦
-          absurd (some (ap (λ (l : List ℕ). slice_index l i) is ∙ new.text.1 i le))
-    ];
-  }
+fresh_read : (number : ℕ) (settings : List ℕ) (lines : List (List ℕ)) (file : List ℕ)
+    → HasFreshLog number settings lines file → IsReadWhole file
+fresh_read number settings lines file new head text fits found =
+    let same : text ≡ new.body =
+    one_segment file head (head_for number new.body) text new.body fits new.fits found new.found in
+    subst (λ (t : List ℕ). IsWhole (lines_behind t file) (damage_behind t file)) (sym same) (
+      subst AreRead (sym (fresh_lines number settings lines file new)) refl,
+      new.sound,
+    )
 
 pub fresh_kept : (number : ℕ) (settings : List ℕ) (state : State) (deeds : Deeds) (file : List ℕ)
     → HasFreshLog number settings (state_lines state) file
@@ -245,77 +195,55 @@ fresh_kept number settings state deeds file new = record {
     head = head_for number new.body;
     body = new.body;
     fits = new.fits;
-    found = fresh_found number settings (state_lines state) file new;
+    found = new.found;
     says = new.says;
     behind = refl;
   };
-  left = lines_left (λ c. c ≡ file) number new.body [] [] file
-      (fresh_log number settings (state_lines state) file new) refl;
-  read = all_read (λ c. c ≡ file) number new.body [] [] file
-      (fresh_log number settings (state_lines state) file new) refl;
+  left = subst (AreLeft [] []) (sym (fresh_lines number settings (state_lines state) file new))
+      (record {
+        lost = [];
+        left = [];
+        split = refl;
+        together = inl refl;
+        with_news = record { logged = refl; each = refl };
+      });
+  read = fresh_read number settings (state_lines state) file new;
 }
 
 module _ {D : Type 0} {g : Ghosts D} where
   pub current_survives : (current : Current D g)
-      → durable_of current.segment ≤ length (text_of current.segment)
-      → ((number : ℕ) (body lines : List ℕ) → Fits (head_for number body)
-      → text_of current.segment ≡ whole_text number body ++ lines → HasNoZero lines
-      → length (whole_text number body) ≤ durable_of current.segment
-      → Survives (outcomes_of current.segment) number body lines
-      (durable_of current.segment - length (whole_text number body)))
-      → (AreMixing g → HasNoOther (outcomes_of current.segment) (text_of current.segment))
-      → HasNoZero (drop current.head (text_of current.segment))
+      → (AreWrites (writes_of current.segment) → Survives (outcomes_of current.segment)
+      (own_number current.segment) (body_of current.segment) (writes_of current.segment))
+      → (AreMixing g → HasNoOther (outcomes_of current.segment)
+      (log_text (own_number current.segment) (body_of current.segment)
+      (writes_of current.segment ++ open_of current.segment ∷ [])))
+      → AreLines (concat (writes_of current.segment))
       → SurvivesAsLogged (opens.Current current)
-  current_survives current within survives mixed none =
-      let text : List ℕ = text_of current.segment in
-      let body : List ℕ = drop 87 (take current.head text) in
-      let behind : List ℕ = drop current.head text in
-      let durable : ℕ = durable_of current.segment in
-      let le : current.head ≤ length text = omega (arith, current.within, within) in
-      let is : text ≡ whole_text current.number body ++ behind =
-      sym (take-append-drop current.head text)
-      ∙ ap (λ (l : List ℕ). l ++ behind) current.whole.is in
-      let count : length (whole_text current.number body) ≡ current.head =
-      ap (λ (l : List ℕ). length l) (sym current.whole.is)
-      ∙ length-take-le current.head text le in
-      let synced : durable - length (whole_text current.number body)
-      ≡ length (drop current.head (take durable text)) = omega (
-        arith,
-        count,
-        length-drop current.head (take durable text),
-        length-take-le durable text within,
-      ) in
-      record {
-        number = current.number;
-        body = body;
-        says = refl;
-        survives =
-            subst (Survives (outcomes_of current.segment) current.number body behind) synced
-            (survives current.number body behind current.whole.fits is none
-            (omega (arith, count, current.within)));
-        mixed = λ mixing.
-            subst (HasNoOther (outcomes_of current.segment)) is (mixed mixing);
-      }
+  current_survives current survives mixed are = record {
+    number = own_number current.segment;
+    body = body_of current.segment;
+    says = refl;
+    writes = writes_of current.segment;
+    synced = refl;
+    survives = survives (from_lines (writes_of current.segment) are);
+    mixed = mixed;
+  }
 
   -- the other file has older segments
   pub current_beside : (current : Current D g)
-      → ((number begins : ℕ) → begins ≤ durable_of current.segment
-      → IsWholeText number (take begins (text_of current.segment))
-      → StandsIn (outcomes_of current.segment) number)
+      → StandsIn (outcomes_of current.segment) (own_number current.segment)
       → (file other : List ℕ) → leaves_both (opens.Current current) file other
       → IsOlderBeside file other
   current_beside current stands file other (clean, left, left') = record {
     sound = current.sound clean other left';
     older = older_than (outcomes_of current.segment) current.number
-        (stands current.number current.head current.within current.whole) file other left
+        (subst (StandsIn (outcomes_of current.segment)) current.own stands) file other left
         (current.older clean other left');
   }
 
   -- and amid a renewal it may have a newer one
   pub current_amid : (current : Current D g)
-      → ((number begins : ℕ) → begins ≤ durable_of current.segment
-      → IsWholeText number (take begins (text_of current.segment))
-      → StandsIn (outcomes_of current.segment) number)
+      → StandsIn (outcomes_of current.segment) (own_number current.segment)
       → (number : ℕ) (settings : List ℕ) (lines : List (List ℕ)) (file other : List ℕ)
       → leaves_amid (opens.Current current) number settings lines file other
       → IsOlderBeside file other
@@ -328,7 +256,7 @@ module _ {D : Type 0} {g : Ghosts D} where
       inr (
         new,
         behind_fresh (outcomes_of current.segment) current.number
-            (stands current.number current.head current.within current.whole) number settings
+            (subst (StandsIn (outcomes_of current.segment)) current.own stands) number settings
             lines file other left less new,
       )
 
@@ -369,22 +297,19 @@ module _ {D : Type 0} {g : Ghosts D} where
       (file : List ℕ)
       → head deeds ≡ Some state
       → (stored_in opened).head ≡ settings ∷ state_lines state
-      → (stored_in opened).text ≡ lines_of_log (waiting deeds ++ safe deeds)
       → (stored_in opened).safe ≡ lines_of_log (safe deeds)
+      → (stored_in opened).held ≡ lines_of_log (waiting deeds)
       → AllByRecursion IsWritable (waiting deeds ++ safe deeds)
       → AreMixing g → SurvivesAsLogged opened → leaves_in opened file
       → IsKeptIn settings deeds file
-  kept_so opened settings deeds state file begun opening text synced all mixing s left =
-      let lines : List ℕ = lines_of_log (waiting deeds ++ safe deeds) in
+  kept_so opened settings deeds state file begun opening synced held all mixing s left =
       let has : HasLog (leaves_in opened) s.number s.body (waiting deeds) (safe deeds) = record {
         writable = all;
-        survives =
-            subst (λ (l : List ℕ). Survives (leaves_in opened) s.number s.body lines (length l))
-            synced (subst (λ (l : List ℕ). Survives (leaves_in opened) s.number s.body l
-            (length (stored_in opened).safe)) text s.survives);
-        mixed =
-            subst (λ (l : List ℕ). HasNoOther (leaves_in opened)
-            (whole_text s.number s.body ++ l)) text (s.mixed mixing);
+        writes = s.writes;
+        lines = s.synced ∙ synced;
+        survives = s.survives;
+        mixed = subst (λ (l : List ℕ). HasNoOther (leaves_in opened)
+            (log_text s.number s.body (s.writes ++ l ∷ []))) held (s.mixed mixing);
       } in
       record {
         state = state;
@@ -393,9 +318,8 @@ module _ {D : Type 0} {g : Ghosts D} where
         opening = record {
           head = head_for s.number s.body;
           body = s.body;
-          fits = has.survives.fits;
-          found = whole_left (leaves_in opened) s.number s.body lines
-              (length (lines_of_log (safe deeds))) file has.survives left;
+          fits = s.survives.fits;
+          found = whole_left (leaves_in opened) s.number s.body s.writes file s.survives left;
           says = s.says ∙ opening;
           behind = refl;
         };
@@ -407,7 +331,7 @@ module _ {D : Type 0} {g : Ghosts D} where
 
   pub kept_in : (opened : Opened D g) (settings : List ℕ) (deeds : Deeds)
       → IsStored settings deeds (stored_in opened) → AllByRecursion IsWritable (written deeds)
-      → (((stored_in opened).head ≡ [] → ⊥) → HasNoZero (stored_in opened).text
+      → (((stored_in opened).head ≡ [] → ⊥) → AreLines (stored_in opened).safe
       → SurvivesAsLogged opened)
       → is_kept deeds ≡ true → AreMixing g → (file : List ℕ) → leaves_in opened file
       → IsKeptIn settings deeds file
@@ -415,13 +339,15 @@ module _ {D : Type 0} {g : Ghosts D} where
       let (state, begun) = has_head deeds kept in
       let opening : (stored_in opened).head ≡ settings ∷ state_lines state =
       ap (λ (s : Stored). s.head) (stored kept) ∙ ap (lines_of_head settings) begun in
-      let text : (stored_in opened).text ≡ lines_of_log (written deeds) =
-      ap (λ (s : Stored). s.text) (stored kept) in
-      kept_so opened settings deeds state file begun opening
-      (text ∙ ap lines_of_log (all_written deeds)) (ap (λ (s : Stored). s.safe) (stored kept))
-      (subst (AllByRecursion IsWritable) (all_written deeds) all) mixing
+      let synced : (stored_in opened).safe ≡ lines_of_log (safe deeds) =
+      ap (λ (s : Stored). s.safe) (stored kept) in
+      let each : AllByRecursion IsWritable (waiting deeds ++ safe deeds) =
+      subst (AllByRecursion IsWritable) (all_written deeds) all in
+      kept_so opened settings deeds state file begun opening synced
+      (ap (λ (s : Stored). s.held) (stored kept)) each mixing
       (survives (some_head settings (state_lines state) (stored_in opened).head opening)
-      (subst HasNoZero (sym text) (no_zero (written deeds) all))) left
+      (subst AreLines (sym synced)
+      (log_lines (safe deeds) (behind_writable (waiting deeds) (safe deeds) each)))) left
 
   pub kept_head : (opened : Opened D g) (settings : List ℕ) (deeds : Deeds)
       → IsStored settings deeds (stored_in opened) → is_kept deeds ≡ true

@@ -17,9 +17,10 @@ use Rattle.gateway.specs.Unchanged.{MayGoOn}
 use Rattle.gateway.specs.declared.settings.StationSettings.{StationSettings}
 use Rattle.link.specs.Procedure.{is_up}
 use Rattle.link.specs.Turns.{station_at}
-use Rattle.segments.specs.Crashes.{lines_behind}
+use Rattle.segments.specs.Crashes.{damage_behind, lines_behind}
 use Rattle.segments.specs.Head.{Fits, head_of}
-use Rattle.segments.specs.Starts.{HasNoNewer, IsFoundIn, IsShut, before_zero}
+use Rattle.segments.specs.Room.{log_in}
+use Rattle.segments.specs.Starts.{HasNoNewer, IsFoundIn, IsShut}
 use Rattle.std.specs.Prelude.{drop, slice_get}
 use Rattle.segments.specs.declared.head.SegmentHead.{SegmentHead}
 use Rattle.segments.proofs.Crashes.{same_first}
@@ -30,7 +31,7 @@ use Rattle.statetext.specs.Text.{lines_in}
 use Rattle.traces.specs.Event.{Event}
 use Rattle.traces.specs.Progress.{came}
 use Rattle.traces.specs.Trace.{logged}
-use Rattle.state.specs.Beginnings.{AreLinesRead, GoesOnFrom, MovedOn, has_past, is_trusted}
+use Rattle.state.specs.Beginnings.{IsReadWhole, GoesOnFrom, MovedOn, has_past, is_trusted}
 use Rattle.state.specs.Directories.{BeginsOver}
 use Rattle.state.specs.Origins.{IsMarkedBy}
 use Rattle.state.specs.Replays.{AreRead, before_those, events_in_front, whole_lines}
@@ -85,8 +86,10 @@ module _ {D : Type 0} {g : Ghosts D} where
       → IsFoundIn (g.seen newest) head body
       → AllByRecursion (λ line. is_some (logged line) ≡ true)
       (whole_lines (lines_behind body (g.seen newest)))
+      × (damage_behind body (g.seen newest) ≡ None)
   takes_lines c log mark newest other o over on head body fits found =
-      each_read _ (over.begun.read on over.first over.second head body fits found)
+      let whole = over.begun.read on over.first over.second head body fits found in
+      (each_read _ whole.0, whole.1)
 
   pub takes_newest : (c : Settings) (log : Log) (mark : Option Bool)
       (newest other : D) (o : Origin) → BeginsOver g c log mark newest other o
@@ -123,7 +126,7 @@ module _ {D : Type 0} {g : Ghosts D} where
 
   pub links_stay : (c : Settings) (log : Log) (newest other : D) (o : Origin)
       → BeginsOver g c log (Some false) newest other o
-      → HasNoNewer (g.seen newest) (g.seen other) → AreLinesRead (g.seen newest)
+      → HasNoNewer (g.seen newest) (g.seen other) → IsReadWhole (g.seen newest)
       → o.beginning ≡ beginnings.LinksReset → ⊥
   links_stay c log newest other o over older read reset =
       elim (over.begun.reset reset) [
@@ -154,12 +157,14 @@ module _ {D : Type 0} {g : Ghosts D} where
       (station : StationSettings) → slice_get c.stations place ≡ Some station
       → is_up (station_at o.gateway.serial.line.stations place).link ≡ true → ⊥)
   reset_down law c log mark newest other o b is =
-      let goes : GoesOnFrom false c log (g.seen newest) o.is_moved o.gap o.before.entries
-      o.gateway =
-      subst (λ (t : Bool). GoesOnFrom t c log (g.seen newest) o.is_moved o.gap
-      o.before.entries o.gateway) (ap is_trusted is) (b.begun.goes_on (ap has_past is) b.first) in
+      let goes : GoesOnFrom false c log (g.seen newest) o.is_moved o.damage o.gap o.given_up.items
+      o.before.entries o.gateway =
+      subst (λ (t : Bool). GoesOnFrom t c log (g.seen newest) o.is_moved o.damage o.gap
+      o.given_up.items o.before.entries o.gateway) (ap is_trusted is)
+      (b.begun.goes_on (ap has_past is) b.first) in
       let moved : MovedOn false c goes.written log goes.lines
-      (before_zero (drop goes.begins (g.seen newest))) o.gap o.before.entries o.gateway =
+      (log_in goes.begins (g.seen newest)) o.gap o.given_up.items o.before.entries
+      o.gateway =
       goes.goes in (
         moved.wrote,
         moved.left,

@@ -14,14 +14,13 @@ use Rattle.settings.specs.declared.fault.ConfigFault.{ConfigFault}
 use Rattle.settings.specs.declared.fault.ConfigFault.TheVariants.{NotToml, Key, Unknown, NoMemory}
 use Rattle.settings.specs.Unknown.{unknown_paths}
 use Rattle.segments.specs.Starts.{HasNone, IsBacked, IsFoundIn, IsShut}
-use Rattle.segments.specs.Starts.{before_zero}
+use Rattle.segments.specs.Room.{damage_in, log_in}
 use Rattle.segments.specs.Head.{Fits}
 use Rattle.segments.specs.declared.head.SegmentHead.{SegmentHead}
 use Rattle.segments.specs.declared.start.FoundHead.{FoundHead}
 use Rattle.segments.proofs.Crashes.{one_segment}
 use Rattle.segments.proofs.Fronts.{not_shut}
-use Rattle.state.specs.Beginnings.{AreLinesRead, IsHeadOf, has_past}
-use Rattle.state.specs.Replays.{AreRead, whole_lines}
+use Rattle.state.specs.Beginnings.{IsHeadOf, IsReadWhole, IsWhole, has_past}
 use Rattle.state.specs.declared.start.Beginning.{Beginning}
 use Rattle.state.specs.declared.start.Beginning.TheVariants as beginnings
 use Rattle.state.specs.Unread.{AreStateOf, HasState, IsUnread}
@@ -67,34 +66,32 @@ unread_found newest other head body wins found none = record {
 
 -- A line that can't be read
 
-pub lines_read : (clean : Type 0) (file : List ℕ) (o : Option FoundHead) (at : ℕ) → is_some o ≡ true
-    → IfSome o (λ c. Fits c.head)
-    → ForSome o (λ c. (at ≡ 87 + length c.text.items)
-    × (clean → IsFoundIn file c.head c.text.items))
-    → clean → AreRead (whole_lines (before_zero (drop at file))) → AreLinesRead file
-lines_read clean file None at some fits stands is read head body fits' found = absurd (cc)
-lines_read clean file (Some c) at some fits stands is read head body fits' found =
-    let same : c.text.items ≡ body =
-    one_segment file c.head head c.text.items body fits fits' ((stands c refl).1 is) found in
-    let place : at ≡ 87 + length body =
-    (stands c refl).0 ∙ ap (λ (text : List ℕ). 87 + length text) same in
-    subst (λ (n : ℕ). AreRead (whole_lines (before_zero (drop n file)))) place read
+pub lines_read : (file : List ℕ) (begins : ℕ) (written : List ℕ) (lines : List (List ℕ))
+    → IsHeadOf file begins written lines
+    → IsWhole (log_in begins file) (damage_in begins file) → IsReadWhole file
+lines_read file begins written lines own read head body fits found =
+    let same : own.body ≡ body =
+    one_segment file own.head head own.body body own.fits fits own.found found in
+    let place : begins ≡ 87 + length body =
+    own.behind ∙ ap (λ (text : List ℕ). 87 + length text) same in
+    subst (λ (n : ℕ). IsWhole (log_in n file) (damage_in n file)) place read
 
-pub lines_rotten : (clean : Type 0) (file : List ℕ) (o : Option FoundHead) (at : ℕ) → is_some o
-    ≡ true
-    → IfSome o (λ c. Fits c.head)
-    → ForSome o (λ c. (at ≡ 87 + length c.text.items)
-    × (clean → IsFoundIn file c.head c.text.items))
-    → clean → (AreRead (whole_lines (before_zero (drop at file))) → ⊥) → AreLinesRead file → ⊥
-lines_rotten clean file None at some fits stands is rotten all = absurd (cc)
-lines_rotten clean file (Some c) at some fits stands is rotten all =
-    rotten (subst (λ (n : ℕ). AreRead (whole_lines (before_zero (drop n file))))
-    (sym (stands c refl).0) (all c.head c.text.items fits ((stands c refl).1 is)))
+pub lines_rotten : (file : List ℕ) (begins : ℕ) (written : List ℕ) (lines : List (List ℕ))
+    → IsHeadOf file begins written lines
+    → (IsWhole (log_in begins file) (damage_in begins file) → ⊥) → IsReadWhole file → ⊥
+lines_rotten file begins written lines own rotten all =
+    rotten (subst (λ (n : ℕ). IsWhole (log_in n file) (damage_in n file)) (sym own.behind)
+    (all own.head own.body own.fits own.found))
 
 pub if_ok_map : {T E : Type 0} {P Q : T → Type 0} (r : Result T E) → IfOk r P
     → ((x : T) → P x → Q x) → IfOk r Q
 if_ok_map (Ok x) p all = all x p
 if_ok_map (Err e) p all = tt
+
+pub if_ok_both : {T E : Type 0} {P Q : T → Type 0} (r : Result T E) → IfOk r P → IfOk r Q
+    → IfOk r (λ x. P x × Q x)
+if_ok_both (Ok x) p q = (p, q)
+if_ok_both (Err e) p q = tt
 
 pub if_err_map : {T E : Type 0} {P Q : E → Type 0} (r : Result T E) → IfErr r P
     → ((e : E) → P e → Q e) → IfErr r Q

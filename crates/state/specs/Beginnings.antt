@@ -10,13 +10,16 @@ use Rattle.gateway.specs.Restored.{IsSaid, IsSavable, state_lines}
 use Rattle.gateway.specs.Setups.{setup_of}
 use Rattle.gateway.specs.State.{State}
 use Rattle.gateway.specs.declared.settings.StationSettings.{StationSettings}
-use Rattle.segments.specs.Crashes.{lines_behind}
+use Rattle.segments.specs.Crashes.{damage_behind, lines_behind}
 use Rattle.segments.specs.Head.{Fits}
-use Rattle.segments.specs.Starts.{IsFoundIn, before_zero}
+use Rattle.segments.specs.Room.{damage_in, log_in}
+use Rattle.segments.specs.Starts.{IsFoundIn}
 use Rattle.segments.specs.declared.head.SegmentHead.{SegmentHead}
 use Rattle.settings.specs.Settings.{IsReadOfText}
 use Rattle.statetext.specs.Text.{lines_in}
+use Rattle.state.specs.GivenUps.{given_up_by}
 use Rattle.state.specs.Replays.{AreRead, IsReplayed, ReportedGap, events_in_front, whole_lines}
+use Rattle.state.specs.declared.given_up.GivenUp.{GivenUp}
 use Rattle.state.specs.declared.start.Beginning.{Beginning}
 use Rattle.state.specs.declared.start.Beginning.TheVariants as beginnings
 
@@ -71,10 +74,14 @@ pub record BearsNumber (file : List ℕ) (number : ℕ) : Type 0 where
   pub found : IsFoundIn file head body
   pub is : number ≡ head.number
 
--- Each whole line behind the checkpoint of the file's segment logs an event.
-abbrev pub AreLinesRead : List ℕ → Type 0
-AreLinesRead file = (head : SegmentHead) (body : List ℕ) → Fits head → IsFoundIn file head body →
-    AreRead (whole_lines (lines_behind body file))
+-- each whole line of a log logs an event, and no damage ends it
+abbrev pub IsWhole : (lines : List ℕ) → (damage : Option ℕ) → Type 0
+IsWhole lines damage = AreRead (whole_lines lines) × (damage ≡ None)
+
+-- So it is behind the checkpoint of the file's segment.
+abbrev pub IsReadWhole : List ℕ → Type 0
+IsReadWhole file = (head : SegmentHead) (body : List ℕ) → Fits head → IsFoundIn file head body →
+    IsWhole (lines_behind body file) (damage_behind body file)
 
 -- The gateway follows this whole log, where the log before the state that these lines say was that
 -- one.
@@ -92,15 +99,15 @@ pub record SayState (lines : List (List ℕ)) : Type 0 where
   pub said : IsSaid first lines rest
 
 -- It has received the events behind the state that these lines say. It has then ended the
--- connection
--- and given up each command without an answer. The whole log has this restart at its end, and the
--- gateway follows it.
+-- connection and given up what it held of that, which is named whole, and each command without an
+-- answer. The whole log has this restart at its end, and the gateway follows it.
 pub record WentOn (c : Settings) (log : Log) (lines : List (List ℕ)) (events : List ℕ)
-    (gap : Option ReportedGap) (whole : Log) (s : State) : Type 0 where
+    (gap : Option ReportedGap) (given_up : List GivenUp) (whole : Log) (s : State) : Type 0 where
   pub said : SayState lines
   pub left : State
   pub arrived : Log
   pub read : IsRead c log lines events gap arrived left
+  pub named : given_up ≡ given_up_by c.line.sizes left
   pub given : s ≡ restarted left
   pub restarted : whole ≡ Came left.moment Restarted ∷ arrived
   pub follows : GoesOnWith c log lines whole s
@@ -119,24 +126,24 @@ gap_now before now (Some gap) =
 -- It went on so under the settings that wrote the log, and was then moved to these: a gap of its
 -- last step is told by the place that its station has now.
 pub record MovedOn (trusted : Bool) (c : Settings) (written : List ℕ) (log : Log)
-    (lines : List (List ℕ)) (events : List ℕ) (gap : Option ReportedGap) (whole : Log) (s : State) :
-    Type 0 where
+    (lines : List (List ℕ)) (events : List ℕ) (gap : Option ReportedGap)
+    (given_up : List GivenUp) (whole : Log) (s : State) : Type 0 where
   pub wrote : Settings
   pub read : IsReadOfText written (Ok wrote)
   pub left : State
   pub last : Option ReportedGap
-  pub went : WentOn wrote log lines events last whole left
+  pub went : WentOn wrote log lines events last given_up whole left
   pub told : gap ≡ gap_now wrote.stations c.stations last
   pub moved : s ≡ carried trusted wrote c left
 
 -- under the same settings with each link, or else moved
 abbrev pub GoesOnBy : (is_same : Bool) → (trusted : Bool) → Settings → (written : List ℕ)
-    → (log : Log) → (lines : List (List ℕ)) → (events : List ℕ) → Option ReportedGap → (whole : Log)
-    → State → Type 0
-GoesOnBy true trusted c written log lines events gap whole s =
-    WentOn c log lines events gap whole s
-GoesOnBy false trusted c written log lines events gap whole s =
-    MovedOn trusted c written log lines events gap whole s
+    → (log : Log) → (lines : List (List ℕ)) → (events : List ℕ) → Option ReportedGap
+    → List GivenUp → (whole : Log) → State → Type 0
+GoesOnBy true trusted c written log lines events gap given_up whole s =
+    WentOn c log lines events gap given_up whole s
+GoesOnBy false trusted c written log lines events gap given_up whole s =
+    MovedOn trusted c written log lines events gap given_up whole s
 
 -- whether the text under which a log was written says other settings than these
 abbrev pub IsMoved : Settings → (written : List ℕ) → Bool → Type 0
@@ -146,11 +153,13 @@ IsMoved c written false = IsReadOfText written (Ok c)
 -- A gateway with these settings goes on with what stands in a file. Where the log there was written
 -- under others it is moved, and also where its links aren't trusted: then each of them is reset.
 pub record GoesOnFrom (trusted : Bool) (c : Settings) (log : Log) (file : List ℕ)
-    (is_moved : Bool) (gap : Option ReportedGap) (whole : Log) (s : State) : Type 0 where
+    (is_moved : Bool) (damage : Option ℕ) (gap : Option ReportedGap) (given_up : List GivenUp)
+    (whole : Log) (s : State) : Type 0 where
   pub begins : ℕ
   pub written : List ℕ
   pub lines : List (List ℕ)
   pub head : IsHeadOf file begins written lines
   pub moved : IsMoved c written is_moved
   pub goes : GoesOnBy (trusted && not is_moved) trusted c written log lines
-      (before_zero (drop begins file)) gap whole s
+      (log_in begins file) gap given_up whole s
+  pub damaged : damage ≡ damage_in begins file

@@ -1,17 +1,16 @@
 -- What is done where the events of a run are kept on a disk, in one history: the gateway receives
 -- an event, its line goes to the log on the disk, the log is synced, an action is handed out
 -- (profile).
-use Rattle.std.specs.Prelude.{◌≡◌, ℕ, ◌-◌, ◌<◌, ◌⊎◌, Bool, true, false, List, [], ◌∷◌, map, Option}
+use Rattle.std.specs.Prelude.{◌≡◌, ℕ, ◌+◌, ◌-◌, ◌<◌, ◌⊎◌, Bool, true, false, List, [], ◌∷◌, map, Option}
 use Rattle.std.specs.Prelude.{Some, None, IfSome, length}
 use Rattle.std.specs.Option.{is_some}
 use Rattle.gateway.specs.Log.{Log, LogEntry, Came, Went}
 use Rattle.gateway.specs.Ports.{logged_by, output_of}
 use Rattle.gateway.specs.Restored.{IsSavable}
 use Rattle.gateway.specs.State.{State, IsBetweenSteps}
-use Rattle.traces.specs.Printed.{lines_of_log}
-use Rattle.state.specs.Lines.{IsRefusedBy}
+use Rattle.traces.specs.Printed.{line_of_entry}
+use Rattle.state.specs.Lines.{IsRefusedBy, seal_octets}
 use Rattle.state.specs.declared.loss.Loss.{Loss}
-use Rattle.state.specs.declared.loss.Loss.TheVariants.{Marked}
 use Rattle.state.specs.declared.loss.StoreFault.{StoreFault}
 use Rattle.state.specs.declared.trail.Done.{Done}
 use Rattle.state.specs.declared.trail.Done.TheVariants as done
@@ -109,9 +108,15 @@ written (Begun state ∷ deeds) = []
 written (GivenUp fault loss ∷ deeds) = written deeds
 written (PutOut action ∷ deeds) = written deeds
 
--- how many octets their lines have
+-- how many octets the log has behind its head: their lines, and a seal of 27 octets for each sync
 abbrev pub grown : Deeds → ℕ
-grown deeds = length (lines_of_log (written deeds))
+grown [] = 0
+grown (Received event ∷ deeds) = grown deeds
+grown (Appended event ∷ deeds) = grown deeds + length (line_of_entry event)
+grown (Synced ∷ deeds) = grown deeds + seal_octets
+grown (Begun state ∷ deeds) = 0
+grown (GivenUp fault loss ∷ deeds) = grown deeds
+grown (PutOut action ∷ deeds) = grown deeds
 
 -- a log was begun, and the store hasn't failed since
 abbrev pub is_kept : Deeds → Bool
@@ -151,9 +156,9 @@ span (event ∷ log) = moment_of event - oldest event log
 abbrev pub IsAllOnDisk : Deeds → Type 0
 IsAllOnDisk deeds = (is_kept deeds ≡ true) × (on_disk deeds ≡ arrived deeds)
 
--- an action may go out: all received events are on the disk, or the state there is marked as stale
+-- an action may go out: all received events are on the disk, or the store has failed
 abbrev pub IsSafe : Deeds → Type 0
-IsSafe deeds = IsAllOnDisk deeds ⊎ (loss_of deeds ≡ Some Marked)
+IsSafe deeds = IsAllOnDisk deeds ⊎ (is_some (loss_of deeds) ≡ true)
 
 -- no event waits for the disk while others are received for a second
 abbrev pub IsInTime : Deeds → Type 0
@@ -165,14 +170,13 @@ latest [] = []
 latest (event ∷ log) = event ∷ []
 
 -- When a deed may be done, behind these. An action is handed out where all received events are on
--- the disk, or where the store has failed, the state on the disk is marked as stale and that is
--- borne. No event is received while one has waited for the disk for a second. A log whose store has
+-- the disk, or where the store has failed and that is borne. No event is received while one has waited for the disk for a second. A log whose store has
 -- failed is neither appended to nor synced again, and none is synced for nothing. A log begins with
 -- the state of a gateway that can be read again, if it is between two steps. A store fails for
 -- want of room only where a new log is due, and for an event only if no line can hold the latest.
 abbrev pub MayBe : (bears : Bool) → Deed → Deeds → Type 0
 MayBe bears (PutOut action) deeds =
-    IsAllOnDisk deeds ⊎ ((loss_of deeds ≡ Some Marked) × (bears ≡ true))
+    IsAllOnDisk deeds ⊎ ((is_some (loss_of deeds) ≡ true) × (bears ≡ true))
 MayBe bears (Received event) deeds = IsInTime deeds
 MayBe bears (Appended event) deeds = is_kept deeds ≡ true
 MayBe bears Synced deeds = (is_kept deeds ≡ true) × (waiting deeds ≡ [] → ⊥)

@@ -10,6 +10,7 @@ pub mod Replays
 pub mod Renewals
 pub mod Notices
 pub mod Starts
+pub mod GivenUps
 pub mod Beginnings
 pub mod Origins
 pub mod Unread

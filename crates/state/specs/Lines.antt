@@ -30,11 +30,15 @@ FitsLine answers.Fault = Unit {0}
 abbrev pub longest_line : ℕ
 longest_line = 15 + 1 + 2 * 1024 + 2 + 1
 
--- how many octets of events a log has before a new one is due
+-- how many octets the seal of a write has
+abbrev pub seal_octets : ℕ
+seal_octets = 27
+
+-- how many octets of events and seals a log has before a new one is due
 abbrev pub most_octets : ℕ
 most_octets = 3900000
 
--- its events take more than that
+-- they are more than that
 abbrev pub is_renewal_due : (events : ℕ) → Bool
 is_renewal_due events = nat_lt most_octets events
 

@@ -1,11 +1,12 @@
 -- What a log in two files has (profile).
 use Rattle.std.specs.Prelude.{◌≡◌, ◌⊎◌, ℕ, ◌<◌, List, [], ◌∷◌, ◌++◌, length, take, drop, IsTrue}
-use Rattle.std.specs.Prelude.{Bool, true}
+use Rattle.std.specs.Prelude.{Bool, true, None}
+use Rattle.std.specs.List.{concat}
 use Rattle.sqlite_disk.specs.declared.Disk.{Ghosts}
-use Rattle.segments.specs.Crash.{AreMixing, HasNoOther, HasText}
-use Rattle.segments.specs.Crashes.{Survives}
-use Rattle.segments.specs.Head.{Fits, head_for, whole_text}
-use Rattle.segments.specs.Segment.{durable_of, file_of, outcomes_of, text_of}
+use Rattle.segments.specs.Crash.{AreMixing, HasNoOther}
+use Rattle.segments.specs.Crashes.{Survives, damage_behind, lines_behind, log_text}
+use Rattle.segments.specs.Head.{Fits, head_for}
+use Rattle.segments.specs.Segment.{body_of, file_of, open_of, outcomes_of, own_number, writes_of}
 use Rattle.segments.specs.Starts.{IsFoundIn, IsShut, IsSound}
 use Rattle.segments.specs.declared.head.SegmentHead.{SegmentHead}
 use Rattle.statetext.specs.Text.{lines_in}
@@ -24,14 +25,16 @@ pub record IsOlderBeside (file other : List ℕ) : Type 0 where
   pub sound : IsUndoubted other
   pub older : HasOlder file other
 
--- a file has the log with this number, which begins with these settings and these lines, and has no
--- events yet
+-- a file has the log with this number, which begins with these settings and these lines: a start
+-- reads no events behind them yet, and no damage
 pub record HasFreshLog (number : ℕ) (settings : List ℕ) (lines : List (List ℕ)) (file : List ℕ) :
     Type 0 where
   pub body : List ℕ
   pub fits : Fits (head_for number body)
+  pub found : IsFoundIn file (head_for number body) body
+  pub empty : lines_behind body file ≡ []
+  pub sound : damage_behind body file ≡ None
   pub says : lines_in body ≡ settings ∷ lines
-  pub text : HasText (whole_text number body) file
 
 -- What a file has where the next log, with this number and this head, is begun in it: it is shut,
 -- or has what it may have had before, or has the next log.
@@ -46,21 +49,6 @@ abbrev pub AreAmid : (before : List ℕ → Type 0) → (number : ℕ) → (sett
 AreAmid before number settings lines outcomes =
     (file : List ℕ) → outcomes file → IsAmid before number settings lines file
 
--- the text of a segment that begins with these settings and these lines, and has no events yet
-pub record IsHeaded (settings : List ℕ) (lines : List (List ℕ)) (text : List ℕ) : Type 0 where
-  pub number : ℕ
-  pub body : List ℕ
-  pub is : text ≡ whole_text number body
-  pub says : lines_in body ≡ settings ∷ lines
-
--- what a text says of which so many octets come before the events, and so many are on the disk
-abbrev pub logged_by : (head durable : ℕ) → List ℕ → Stored
-logged_by head durable text = record {
-  head = lines_in (drop 87 (take head text));
-  text = drop head text;
-  safe = drop head (take durable text);
-}
-
 -- a file has what one of two files has
 abbrev pub IsOneOf : (one two file : List ℕ) → Type 0
 IsOneOf one two file = (file ≡ one) ⊎ (file ≡ two)
@@ -72,11 +60,20 @@ pub record WasOpened {D : Type 0} (g : Ghosts D) (opened : D → D → Type 0) (
   pub were : opened one two
   pub is : IsOneOf (g.seen one) (g.seen two) (g.seen file)
 
+-- where no log takes lines
+abbrev pub nothing_stored : Stored
+nothing_stored = record { head = []; safe = []; held = []; octets = 0 }
+
 module _ {D : Type 0} {g : Ghosts D} where
   abbrev pub stored_in : Opened D g → Stored
-  stored_in opens.Neither = record { head = []; text = []; safe = [] }
-  stored_in (opens.Both newest spare) = record { head = []; text = []; safe = [] }
-  stored_in (opens.Current c) = logged_by c.head (durable_of c.segment) (text_of c.segment)
+  stored_in opens.Neither = nothing_stored
+  stored_in (opens.Both newest spare) = nothing_stored
+  stored_in (opens.Current c) = record {
+    head = lines_in (body_of c.segment);
+    safe = concat (writes_of c.segment);
+    held = open_of c.segment;
+    octets = c.octets;
+  }
 
   -- of a log that takes no lines yet, this holds of the file of the newest segment
   abbrev pub NewestIs : (D → Type 0) → Opened D g → Type 0
@@ -94,8 +91,7 @@ module _ {D : Type 0} {g : Ghosts D} where
   abbrev pub Bears : ℕ → Opened D g → Type 0
   Bears number opens.Neither = ⊥
   Bears number (opens.Both newest spare) = ⊥
-  Bears number (opens.Current c) =
-      (body : List ℕ) × (take c.head (text_of c.segment) ≡ whole_text number body)
+  Bears number (opens.Current c) = own_number c.segment ≡ number
 
   -- What a crash may leave of the file of the log that takes lines. Where none does, that is
   -- anything.
@@ -167,13 +163,14 @@ module _ {D : Type 0} {g : Ghosts D} where
       × ((file : List ℕ) → g.may_leave spare file → g.may_leave c.spare file)
 
   -- Whatever a crash leaves of that file: the segment with the head that the log says, and behind
-  -- it the log's lines, as far as they are synced. Where a crash leaves each octet old or new, each
-  -- octet there is one of the log, or 0.
+  -- it the writes that are synced. Where a crash leaves each octet old or new, each octet there is
+  -- one of the log with the write that waits, or 0.
   pub record SurvivesAsLogged (opened : Opened D g) : Type 0 where
     pub number : ℕ
     pub body : List ℕ
     pub says : lines_in body ≡ (stored_in opened).head
-    pub survives : Survives (leaves_in opened) number body (stored_in opened).text
-        (length (stored_in opened).safe)
-    pub mixed : AreMixing g →
-        HasNoOther (leaves_in opened) (whole_text number body ++ (stored_in opened).text)
+    pub writes : List (List ℕ)
+    pub synced : concat writes ≡ (stored_in opened).safe
+    pub survives : Survives (leaves_in opened) number body writes
+    pub mixed : AreMixing g → HasNoOther (leaves_in opened)
+        (log_text number body (writes ++ (stored_in opened).held ∷ []))

@@ -7,7 +7,7 @@ use Rattle.gateway.specs.Setups.{setup_of}
 use Rattle.gateway.specs.State.{first_state}
 use Rattle.segments.specs.Starts.{HasNoNewer, IsAbove, IsNewest, IsNext, IsShut}
 use Rattle.sqlite_disk.specs.declared.Disk.{Ghosts}
-use Rattle.state.specs.Beginnings.{AreLinesRead, GoesOnFrom, has_past, is_trusted, moment_at}
+use Rattle.state.specs.Beginnings.{IsReadWhole, GoesOnFrom, has_past, is_trusted, moment_at}
 use Rattle.state.specs.Logs.{NewestIs}
 use Rattle.state.specs.declared.beginning.Origin.{Origin}
 use Rattle.state.specs.declared.opened.Opened.{Opened}
@@ -19,6 +19,8 @@ use Rattle.state.specs.declared.start.Beginning.TheVariants as beginnings
 pub record IsNew (c : Settings) (o : Origin) : Type 0 where
   pub gateway : o.gateway ≡ first_state c
   pub gap : o.gap ≡ None
+  pub given_up : o.given_up.items ≡ []
+  pub damage : o.damage ≡ None
   pub before : o.before.entries ≡ []
   pub moved : o.is_moved ≡ false
   pub follows : Follows (setup_of c) o.gateway (Some [])
@@ -66,9 +68,9 @@ module _ {D : Type 0} {g : Ghosts D} where
     pub newest : has_past o.beginning ≡ true → OnBoth IsNewest opened
     pub sure : o.beginning ≡ beginnings.GoesOn → OnBoth HasNoNewer opened
     pub read : o.beginning ≡ beginnings.GoesOn →
-        OnBoth (λ newest spare. AreLinesRead newest) opened
+        OnBoth (λ newest spare. IsReadWhole newest) opened
     pub reset : o.beginning ≡ beginnings.LinksReset → (mark ≡ Some true)
-        ⊎ OnBoth (λ newest spare. HasNoNewer newest spare → AreLinesRead newest → ⊥) opened
+        ⊎ OnBoth (λ newest spare. HasNoNewer newest spare → IsReadWhole newest → ⊥) opened
     pub goes_on : has_past o.beginning ≡ true → NewestIs (λ newest. IsTrue (g.is_clean newest) →
-        GoesOnFrom (is_trusted o.beginning) c log (g.seen newest) o.is_moved o.gap
-        o.before.entries o.gateway) opened
+        GoesOnFrom (is_trusted o.beginning) c log (g.seen newest) o.is_moved o.damage o.gap
+        o.given_up.items o.before.entries o.gateway) opened

@@ -10,6 +10,8 @@ use Rattle.gateway.specs.Reports.{Setup}
 use Rattle.gateway.specs.State.{State}
 use Rattle.gateway.specs.declared.ports.Next.{Next}
 use Rattle.gateway.specs.declared.ports.Next.TheVariants.{Done}
+use Rattle.state.specs.declared.replaying.Row.{Row}
+use Rattle.state.specs.declared.replaying.Row.TheVariants as rows
 use Rattle.traces.specs.Event.{Event}
 use Rattle.traces.specs.Progress.{came}
 use Rattle.traces.specs.Trace.{lines_of, logged}
@@ -56,6 +58,13 @@ abbrev pub IsFirst : (lines others : List (List ℕ)) → Option Next → (buf :
 IsFirst [] others found buf = found ≡ None
 IsFirst (line ∷ lines) others found buf = IsLogged (logged line) found buf × (others ≡ lines)
 
+-- what the first of these lines is: it logs an event that a port's answer gives, or none; or no line
+-- is left
+abbrev pub IsRow : (lines others : List (List ℕ)) → Row → (buf : List ℕ) → Type 0
+IsRow lines others (rows.Event next) buf = IsFirst lines others (Some next) buf
+IsRow lines others rows.Wrong buf = IsFirst lines others None buf × (AreRead lines → ⊥)
+IsRow lines others rows.End buf = lines ≡ []
+
 -- a gap that was reported: the station by its place, and the session
 abbrev pub ReportedGap : Type 0
 ReportedGap = ℕ × ℕ
@@ -65,11 +74,18 @@ ReportedGap = ℕ × ℕ
 pub record Replaying : Type 0 where
   pub coming : List (List ℕ)
   pub is_over : Bool
+  -- a line logs no event
+  pub is_broken : Bool
   pub news : Log
   pub earlier : Log
   pub failed : ℕ
   -- the gap that the latest step reported
   pub gap : Option ReportedGap
+
+-- the lines that are still to come, unless it is over
+abbrev pub lines_left : (is_over : Bool) → List (List ℕ) → List (List ℕ)
+lines_left true coming = []
+lines_left false coming = coming
 
 abbrev pub events_left : (is_over : Bool) → List (List ℕ) → List LogEntry
 events_left true coming = []
@@ -101,11 +117,16 @@ last_gap [] = None
 last_gap (Came now event ∷ log) = None
 last_gap (Went now action ∷ log) = or_gap (gap_of action) (last_gap log)
 
--- unless a line couldn't be read, the events of the log, with those that are still to come, are
--- those of the log before and then these; and the gap is that of the latest step
-pub record IsRepeating (events : List LogEntry) (r : Replaying) : Type 0 where
-  pub whole : r.failed ≡ 0 →
-      events_of (log_of r) ++ events_left r.is_over r.coming ≡ events_of r.earlier ++ events
+-- Unless a line couldn't be read, the events of the log, with those that are still to come, are
+-- those of the log before and then those of these lines. Each of these logs an event exactly if each
+-- that is still to come does, and no line was broken. The gap is that of the latest step.
+pub record IsRepeating (lines : List (List ℕ)) (r : Replaying) : Type 0 where
+  pub whole : r.failed ≡ 0 → events_of (log_of r) ++ events_left r.is_over r.coming
+      ≡ events_of r.earlier ++ events_in_front lines
+  pub each : r.failed ≡ 0 → r.is_broken ≡ false →
+      AreRead (lines_left r.is_over r.coming) → AreRead lines
+  pub none : r.failed ≡ 0 → AreRead lines →
+      (r.is_broken ≡ false) × AreRead (lines_left r.is_over r.coming)
   pub gap : r.gap ≡ last_gap r.news
 
 -- The gateway has received these events behind this log: it follows a whole log that goes on from

@@ -3,11 +3,13 @@ use Rattle.std.specs.Prelude.{◌≡◌, ◌⊎◌, Bool, true, false, ℕ, List
 use Rattle.std.specs.Prelude.{Option, Ok}
 use Rattle.gateway.specs.Config.{Settings}
 use Rattle.gateway.specs.Log.{Log}
-use Rattle.segments.specs.Starts.{ArePlaced, HasNoNewer, IsNewest, IsShut, before_zero}
+use Rattle.segments.specs.Room.{damage_in, log_in}
+use Rattle.segments.specs.Starts.{ArePlaced, HasNoNewer, IsNewest, IsShut}
 use Rattle.segments.specs.declared.start.Side.{Side}
 use Rattle.settings.specs.Settings.{IsReadOfText}
-use Rattle.state.specs.Beginnings.{AreLinesRead, BearsNumber, IsHeadOf, IsMoved, IsRead, SayState}
+use Rattle.state.specs.Beginnings.{IsReadWhole, BearsNumber, IsHeadOf, IsMoved, IsRead, SayState}
 use Rattle.state.specs.Beginnings.{has_past}
+use Rattle.state.specs.GivenUps.{given_up_by}
 use Rattle.state.specs.Replays.{ReportedGap, events_in_front, whole_lines}
 use Rattle.state.specs.Unread.{IsUnread}
 use Rattle.state.specs.declared.looking.Seen.{Seen}
@@ -22,7 +24,8 @@ pub record AreCounted (lines : List (List ℕ)) (events all : ℕ) : Type 0 wher
 
 -- A file has this log, behind what passed before: the settings at its head are a file of settings
 -- that can be read, and the gateway with these has received the events behind the state at its
--- head, as one does that goes on with the log (`WentOn`). It has given up nothing yet.
+-- head, as one does that goes on with the log (`WentOn`). It has given up nothing yet, and what a
+-- start would give up is named.
 pub record IsSeen (log : Log) (file : List ℕ) (s : Seen) : Type 0 where
   pub number : BearsNumber file s.number
   pub begins : ℕ
@@ -31,10 +34,12 @@ pub record IsSeen (log : Log) (file : List ℕ) (s : Seen) : Type 0 where
   pub said : SayState lines
   pub wrote : Settings
   pub readable : IsReadOfText s.settings.items (Ok wrote)
-  pub counted : AreCounted (whole_lines (before_zero (drop begins file))) s.events s.lines
+  pub counted : AreCounted (whole_lines (log_in begins file)) s.events s.lines
   pub gap : Option ReportedGap
   pub whole : Log
-  pub read : IsRead wrote log lines (before_zero (drop begins file)) gap whole s.gateway
+  pub read : IsRead wrote log lines (log_in begins file) gap whole s.gateway
+  pub damaged : s.damage ≡ damage_in begins file
+  pub named : s.given_up.items ≡ given_up_by wrote.line.sizes s.gateway
 
 -- Whether the settings that the second text says are others than those of the first, under which a
 -- log was written. A text that can't be read says none.
@@ -47,7 +52,7 @@ AreChanged written text false =
 -- where links aren't trusted, each of them would be reset
 abbrev pub IsDistrusted : (is_stale : Bool) → (newest other : List ℕ) → Type 0
 IsDistrusted is_stale newest other = (is_stale ≡ true)
-    ⊎ (HasNoNewer newest other → AreLinesRead newest → ⊥)
+    ⊎ (HasNoNewer newest other → IsReadWhole newest → ⊥)
 
 -- A run would begin so with two files, as `IsBegun` says it of one that does: anew where both are
 -- shut; what can't be read would be put aside; and else it would go on with the newer segment.
@@ -58,7 +63,7 @@ BeginsSo beginnings.PutAside is_stale newest other =
 BeginsSo beginnings.LinksReset is_stale newest other =
     IsNewest newest other × IsDistrusted is_stale newest other
 BeginsSo beginnings.GoesOn is_stale newest other =
-    IsNewest newest other × HasNoNewer newest other × AreLinesRead newest × (is_stale ≡ false)
+    IsNewest newest other × HasNoNewer newest other × IsReadWhole newest × (is_stale ≡ false)
 
 -- there is a log, or none
 abbrev pub IsShown : (log : Log) → (has_past : Bool) → (first second newest other : List ℕ)

@@ -5,7 +5,7 @@ use Rattle.gateway.specs.Restored.{state_lines}
 use Rattle.gateway.specs.State.{State}
 use Rattle.traces.specs.Printed.{lines_of_log}
 use Rattle.state.specs.Deeds.{Deeds, Received, Appended, Synced, Begun, GivenUp, PutOut, arrived}
-use Rattle.state.specs.Deeds.{is_kept, loss_of, written}
+use Rattle.state.specs.Deeds.{grown, is_kept, loss_of, waiting, written}
 use Rattle.state.specs.declared.loss.Loss.TheVariants.{Marked}
 
 -- the state at the head of the log
@@ -38,12 +38,13 @@ safe (Begun state ∷ deeds) = []
 safe (GivenUp fault loss ∷ deeds) = safe deeds
 safe (PutOut action ∷ deeds) = safe deeds
 
--- what a store says: the lines at the head of its log, the text behind them, and how much of that
--- text is on the disk
+-- what a store says: the lines at the head of its log, those behind them that are on the disk, those
+-- that wait for it, and how many octets all that is behind the head has
 pub record Stored : Type 0 where
   pub head : List (List ℕ)
-  pub text : List ℕ
   pub safe : List ℕ
+  pub held : List ℕ
+  pub octets : ℕ
 
 -- the settings, and the lines of a state, if there is one
 abbrev pub lines_of_head : (settings : List ℕ) → Option State → List (List ℕ)
@@ -54,8 +55,9 @@ lines_of_head settings (Some state) = settings ∷ state_lines state
 abbrev pub IsStored : (settings : List ℕ) → Deeds → Stored → Type 0
 IsStored settings deeds stored = is_kept deeds ≡ true → stored ≡ record {
   head = lines_of_head settings (head deeds);
-  text = lines_of_log (written deeds);
   safe = lines_of_log (safe deeds);
+  held = lines_of_log (waiting deeds);
+  octets = grown deeds;
 }
 
 -- Where the state is kept it isn't marked as stale on the disk. Where the store has failed, and the

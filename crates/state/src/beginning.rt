@@ -3,7 +3,8 @@ ghost use Rattle.std.specs.Prelude.{◌≡◌, ◌⊎◌, ◌∷◌, ℕ, List, 
 ghost use Rattle.std.specs.Prelude.{IfSome, IsTrue};
 ghost use Rattle.std.specs.Prelude.{true, false};
 ghost use Rattle.std.specs.Option.{is_some};
-ghost use Rattle.segments.specs.Found.{AreClean, begins_at, events_in, newest_in, newest_of};
+ghost use Rattle.segments.specs.Found.{AreClean, begins_at, damage_of, events_in, newest_in};
+ghost use Rattle.segments.specs.Found.{newest_of};
 ghost use Rattle.segments.specs.Found.{next_of, other_in, other_of};
 ghost use Rattle.gateway.specs.Agrees.{Follows, Rests};
 ghost use Rattle.gateway.specs.Carried.{carried, place_of, restarted};
@@ -14,9 +15,11 @@ ghost use Rattle.gateway.specs.State.{State};
 ghost use Rattle.segments.specs.Head.{Fits};
 ghost use Rattle.segments.specs.Starts.{HasNoNewer, IsAbove, IsBacked, IsNewest, IsNext};
 ghost use Rattle.settings.specs.Settings.{IsReadOfText};
-ghost use Rattle.state.specs.Beginnings.{AreLinesRead, BearsNumber, GoesOnFrom, HasRead, gap_now};
-ghost use Rattle.state.specs.Beginnings.{IsHeadOf, IsRead, MovedOn, SayState, WentOn};
+ghost use Rattle.state.specs.Beginnings.{BearsNumber, GoesOnFrom, HasRead, IsReadWhole, IsWhole};
+ghost use Rattle.state.specs.Beginnings.{gap_now};
+ghost use Rattle.state.specs.Beginnings.{IsHeadOf, IsRead, SayState, WentOn};
 ghost use Rattle.state.specs.Beginnings.{has_past, is_trusted};
+ghost use Rattle.state.specs.GivenUps.{given_up_by};
 ghost use Rattle.state.specs.Origins.{IsBegun, IsNew, IsNumbered};
 ghost use Rattle.state.specs.Replays.{whole_lines};
 ghost use Rattle.state.specs.Starts.{beginning_of};
@@ -25,12 +28,13 @@ ghost use Rattle.state.specs.Unread.{AreStateOf, HasState, IsUnread, WasAside};
 use crate::disk_store::DiskStore;
 use crate::event_text::EventText;
 use crate::folder::{Folder, FolderFault};
-use crate::replaying::{EventLines, Lineage, Replayed, ReportedGap, are_read, replay};
+use crate::given_up::{GivenUp, given_up_by};
+use crate::replaying::{EventLines, Lineage, Replayed, ReportedGap, replay};
 use crate::same_settings::are_same;
 use crate::start::{Beginning, Found, beginning_of};
 use checkpoint::{Lines, StateFault};
 use gateway::{Config, Gateway, History, NoMemory, StationSettings};
-use segments::{SegmentFault, Start};
+use segments::{FoundLog, SegmentFault, Start};
 use settings::{ConfigFault, read_config};
 use sqlite_disk::Disk;
 use statetext::TextLines;
@@ -49,6 +53,10 @@ pub struct Origin {
     /// The gap that the last step before the end reported, if it reported one: of the station by
     /// the place that it has now. Nobody may have seen it.
     pub gap: Option<ReportedGap>,
+    /// From which octet of the newest segment's file on nothing was read, if that is for damage.
+    pub damage: Option<usize>,
+    /// What of the connection before was given up, if one was.
+    pub given_up: Vec<GivenUp>,
     /// What passed in the lives before, as far as the directory shows it.
     pub before: History,
     /// The state was kept under other settings.
@@ -62,16 +70,34 @@ pub struct Begun<F: Folder + Drop> {
     pub store: DiskStore<F>,
 }
 
-/// A gateway that goes on.
+/// A gateway that has received again what it had received.
 #[derive(Drop)]
-pub(crate) struct Resumed {
+pub(crate) struct Arrived {
     pub(crate) gateway: Gateway,
     /// The gap that its last step reported, if it reported one.
     gap: Option<ReportedGap>,
     /// What passed before.
     before: History,
+    /// Each whole line of its log logs an event, and no damage ends it.
+    is_whole: bool,
+    /// From which octet of the file on nothing was read, if that is for damage.
+    pub(crate) damage: Option<usize>,
+}
+
+/// A gateway that goes on.
+#[derive(Drop)]
+struct Resumed {
+    gateway: Gateway,
+    gap: Option<ReportedGap>,
+    damage: Option<usize>,
+    /// What of the connection before was given up.
+    given_up: Vec<GivenUp>,
+    /// What passed before.
+    before: History,
     /// It was kept under other settings.
     is_moved: bool,
+    /// Its links go on, too.
+    goes_on: bool,
 }
 
 impl From<StateFault> for FolderFault {
@@ -142,13 +168,23 @@ fn read<K: Lineage>(alloc: Global, config: &Config, lines: TextLines) -> Result<
     }
 }
 
+/// What stands behind a checkpoint.
+#[derive(Drop)]
+pub(crate) struct LogText {
+    pub(crate) lines: EventText,
+    /// From which octet of the file on nothing was read, if that is for damage.
+    pub(crate) damage: Option<usize>,
+}
+
 /// The whole lines behind the checkpoint that was found.
 pub(crate) fn lines_of<D: Disk + Drop>(
     alloc: Global,
     start: &mut Start<D>,
-) -> Result<EventText, StateFault>
-    ensures lines { IfOk result (λ lines. IsTrue (D.Disk.is_clean (newest_of start.new)) →
-        ⟦<EventText as EventLines>⟧.coming lines ≡ whole_lines (events_in start.new)) }
+) -> Result<LogText, StateFault>
+    ensures lines { IfOk result (λ log. IsTrue (D.Disk.is_clean (newest_of start.new)) →
+        ⟦<EventText as EventLines>⟧.coming log.lines ≡ whole_lines (events_in start.new)) }
+    ensures damage { IfOk result (λ log. IsTrue (D.Disk.is_clean (newest_of start.new)) →
+        log.damage ≡ damage_of start.new) }
     ensures fault { IfErr result (λ fault. fault ≡ StateFault.Wrong → ⊥) }
     ensures seen { D.Disk.seen (newest_of start.new) ≡ D.Disk.seen (newest_of start.old) }
     ensures clean { IsTrue (D.Disk.is_clean (newest_of start.new)) →
@@ -158,8 +194,11 @@ pub(crate) fn lines_of<D: Disk + Drop>(
     ensures other { other_of start.new ≡ other_of start.old }
     ensures next { next_of start.new ≡ next_of start.old }
 {
-    match start.events(alloc) {
-        Ok(events) => Ok(EventText::new(events)),
+    match start.log(alloc) {
+        Ok(FoundLog { lines, damage }) => Ok(LogText {
+            lines: EventText::new(lines),
+            damage,
+        }),
         Err(SegmentFault::NoMemory) => Err(StateFault::NoMemory),
         Err(SegmentFault::Full | SegmentFault::Device) => Err(StateFault::Device),
     }
@@ -171,14 +210,21 @@ pub(crate) fn replayed<K: Lineage, D: Disk + Drop>(
     config: &Config,
     lines: TextLines,
     start: &mut Start<D>,
-) -> Result<Resumed, StateFault>
+) -> Result<Arrived, StateFault>
     ensures wrong { IfErr result (λ fault. fault ≡ StateFault.Wrong →
         AreStateOf config.now (⟦<TextLines as Lines>⟧.coming lines) → ⊥) }
     ensures read { IfOk result (λ r. IsTrue (D.Disk.is_clean (newest_of start.new)) →
         IsRead config.now K.log (⟦<TextLines as Lines>⟧.coming lines) (events_in start.new)
         r.gap r.before.entries r.gateway) }
     ensures said { IfOk result (λ _. SayState (⟦<TextLines as Lines>⟧.coming lines)) }
-    ensures moved { IfOk result (λ r. r.is_moved ≡ false) }
+    ensures whole { IfOk result (λ r. r.is_whole ≡ true →
+        IsTrue (D.Disk.is_clean (newest_of start.new)) →
+        IsWhole (events_in start.new) (damage_of start.new)) }
+    ensures broken { IfOk result (λ r. r.is_whole ≡ false →
+        IsTrue (D.Disk.is_clean (newest_of start.new)) →
+        IsWhole (events_in start.new) (damage_of start.new) → ⊥) }
+    ensures damage { IfOk result (λ r. IsTrue (D.Disk.is_clean (newest_of start.new)) →
+        r.damage ≡ damage_of start.new) }
     ensures seen { D.Disk.seen (newest_of start.new) ≡ D.Disk.seen (newest_of start.old) }
     ensures clean { IsTrue (D.Disk.is_clean (newest_of start.new)) →
         IsTrue (D.Disk.is_clean (newest_of start.old)) }
@@ -188,13 +234,14 @@ pub(crate) fn replayed<K: Lineage, D: Disk + Drop>(
 {
     // The checkpoint may be as long as the queue: its text goes before the events are read.
     let mut gateway = read::<K>(alloc, config, lines)?;
-    let events = lines_of(alloc, start)?;
-    let Replayed { gap, log } = replay::<K, EventText>(alloc, &mut gateway, events)?;
-    Ok(Resumed {
+    let LogText { lines, damage } = lines_of(alloc, start)?;
+    let Replayed { gap, log, is_whole } = replay::<K, EventText>(alloc, &mut gateway, lines)?;
+    Ok(Arrived {
         gateway,
         gap,
         before: log,
-        is_moved: false,
+        is_whole: is_whole && damage.is_none(),
+        damage,
     })
 }
 
@@ -238,49 +285,67 @@ pub(crate) fn read_opening<D: Disk + Drop>(
     })
 }
 
-/// It has ended the connection and given up each command without an answer, which is the restart in
-/// its log.
-fn restarted(resumed: Resumed) -> Resumed
-    ensures gateway { result.gateway ≡ restarted resumed.gateway }
+/// It has ended the connection and given up this, and each command without an answer, which is the
+/// restart in its log.
+fn restarted(arrived: Arrived, given_up: Vec<GivenUp>, goes_on: bool) -> Resumed
+    ensures gateway { result.gateway ≡ restarted arrived.gateway }
     ensures before { result.before.entries
-        ≡ Came resumed.gateway.moment Restarted ∷ resumed.before.entries }
-    ensures follows { (p : Setup) → Follows p resumed.gateway (Some resumed.before.entries) →
-        Rests p (Some resumed.before.entries) →
+        ≡ Came arrived.gateway.moment Restarted ∷ arrived.before.entries }
+    ensures follows { (p : Setup) → Follows p arrived.gateway (Some arrived.before.entries) →
+        Rests p (Some arrived.before.entries) →
         Follows p result.gateway (Some result.before.entries) }
-    ensures gap { result.gap ≡ resumed.gap }
-    ensures moved { result.is_moved ≡ resumed.is_moved }
+    ensures gap { result.gap ≡ arrived.gap }
+    ensures given_up { result.given_up ≡ given_up }
+    ensures moved { result.is_moved ≡ false }
+    ensures goes_on { result.goes_on ≡ goes_on }
+    ensures damage { result.damage ≡ arrived.damage }
 {
-    let Resumed {
+    let Arrived {
         mut gateway,
         gap,
         before,
-        is_moved,
-    } = resumed;
+        damage,
+        ..
+    } = arrived;
     let moment = gateway.moment();
     let before = before.restarted(&moment);
     gateway.restart();
     Resumed {
         gateway,
         gap,
+        damage,
+        given_up,
         before,
-        is_moved,
+        is_moved: false,
+        goes_on,
     }
 }
 
 /// The gateway goes on with the state that was found, under the settings that wrote it, which are
-/// these.
+/// these. Its links go on where the state is trusted, and each whole line of its log can be read.
+/// Where one can't, events behind it are lost, and what went out on them isn't known.
 fn go_on<K: Lineage, D: Disk + Drop>(
     alloc: Global,
     config: &Config,
     lines: TextLines,
     start: &mut Start<D>,
+    is_trusted: bool,
 ) -> Result<Resumed, StateFault>
     ensures wrong { IfErr result (λ fault. fault ≡ StateFault.Wrong →
         AreStateOf config.now (⟦<TextLines as Lines>⟧.coming lines) → ⊥) }
     ensures went { IfOk result (λ r. IsTrue (D.Disk.is_clean (newest_of start.new)) →
         WentOn config.now K.log (⟦<TextLines as Lines>⟧.coming lines) (events_in start.new)
-        r.gap r.before.entries r.gateway) }
+        r.gap r.given_up.items r.before.entries r.gateway) }
     ensures moved { IfOk result (λ r. r.is_moved ≡ false) }
+    ensures trusted { IfOk result (λ r. r.goes_on ≡ true → is_trusted ≡ true) }
+    ensures whole { IfOk result (λ r. r.goes_on ≡ true →
+        IsTrue (D.Disk.is_clean (newest_of start.new)) →
+        IsWhole (events_in start.new) (damage_of start.new)) }
+    ensures reset { IfOk result (λ r. r.goes_on ≡ false → (is_trusted ≡ false)
+        ⊎ (IsTrue (D.Disk.is_clean (newest_of start.new)) →
+        IsWhole (events_in start.new) (damage_of start.new) → ⊥)) }
+    ensures damage { IfOk result (λ r. IsTrue (D.Disk.is_clean (newest_of start.new)) →
+        r.damage ≡ damage_of start.new) }
     ensures seen { D.Disk.seen (newest_of start.new) ≡ D.Disk.seen (newest_of start.old) }
     ensures clean { IsTrue (D.Disk.is_clean (newest_of start.new)) →
         IsTrue (D.Disk.is_clean (newest_of start.old)) }
@@ -288,8 +353,13 @@ fn go_on<K: Lineage, D: Disk + Drop>(
     ensures other { other_of start.new ≡ other_of start.old }
     ensures next { next_of start.new ≡ next_of start.old }
 {
-    let resumed = replayed::<K, D>(alloc, config, lines, start)?;
-    Ok(restarted(resumed))
+    let arrived = replayed::<K, D>(alloc, config, lines, start)?;
+    // A restart leaves nothing of the connection, so this is taken before it.
+    let Ok(given_up) = given_up_by(alloc, config.line().sizes, &arrived.gateway) else {
+        return Err(StateFault::NoMemory);
+    };
+    let goes_on = is_trusted && arrived.is_whole;
+    Ok(restarted(arrived, given_up, goes_on))
 }
 
 /// The place of the station with this link address.
@@ -322,47 +392,45 @@ fn gap_now(
     }
 }
 
-/// The gateway receives again what was kept, under the settings that wrote it. It is then moved to
-/// these. `is_moved` says that they are others.
-fn move_on<K: Lineage, D: Disk + Drop>(
+/// A gateway that went on under the settings that wrote its log is moved to these. `is_moved` says
+/// that they are others.
+fn move_on(
     alloc: Global,
     config: &Config,
     wrote: &Config,
-    lines: TextLines,
-    start: &mut Start<D>,
-    goes_on: bool,
+    resumed: Resumed,
     is_moved: bool,
 ) -> Result<Resumed, StateFault>
-    ensures wrong { IfErr result (λ fault. fault ≡ StateFault.Wrong →
-        AreStateOf wrote.now (⟦<TextLines as Lines>⟧.coming lines) → ⊥) }
-    ensures went { IfOk result (λ r. IsTrue (D.Disk.is_clean (newest_of start.new)) →
-        (left : State) × (last : Option (ℕ × ℕ))
-        × WentOn wrote.now K.log (⟦<TextLines as Lines>⟧.coming lines)
-        (events_in start.new) last r.before.entries left
-        × (r.gap ≡ gap_now wrote.now.stations config.now.stations last)
-        × (r.gateway ≡ carried goes_on wrote.now config.now left)) }
+    ensures gateway { IfOk result (λ r. r.gateway
+        ≡ carried resumed.goes_on wrote.now config.now resumed.gateway) }
+    ensures gap { IfOk result (λ r.
+        r.gap ≡ gap_now wrote.now.stations config.now.stations resumed.gap) }
+    ensures given_up { IfOk result (λ r. r.given_up ≡ resumed.given_up) }
+    ensures damage { IfOk result (λ r. r.damage ≡ resumed.damage) }
+    ensures before { IfOk result (λ r. r.before ≡ resumed.before) }
     ensures moved { IfOk result (λ r. r.is_moved ≡ is_moved) }
-    ensures seen { D.Disk.seen (newest_of start.new) ≡ D.Disk.seen (newest_of start.old) }
-    ensures clean { IsTrue (D.Disk.is_clean (newest_of start.new)) →
-        IsTrue (D.Disk.is_clean (newest_of start.old)) }
-    ensures same { begins_at start.new ≡ begins_at start.old }
-    ensures other { other_of start.new ≡ other_of start.old }
-    ensures next { next_of start.new ≡ next_of start.old }
+    ensures goes_on { IfOk result (λ r. r.goes_on ≡ resumed.goes_on) }
+    ensures fault { IfErr result (λ fault. fault ≡ StateFault.Wrong → ⊥) }
 {
-    let resumed = go_on::<K, D>(alloc, wrote, lines, start)?;
     let Resumed {
         gateway,
         gap,
+        damage,
+        given_up,
         before,
-        is_moved: _,
+        goes_on,
+        ..
     } = resumed;
     let gap = gap_now(wrote.stations(), config.stations(), gap);
     match gateway.carried(alloc, wrote, config, goes_on) {
         Ok(gateway) => Ok(Resumed {
             gateway,
             gap,
+            damage,
+            given_up,
             before,
             is_moved,
+            goes_on,
         }),
         Err(NoMemory) => Err(StateFault::NoMemory),
     }
@@ -385,7 +453,7 @@ fn resume<K: Lineage, D: Disk + Drop, F: Folder>(
     alloc: Global,
     config: &Config,
     start: &mut Start<D>,
-    goes_on: bool,
+    is_trusted: bool,
     _folder: &F,
 ) -> Result<Resumed, StateFault>
     requires { F.lineage _folder.now ≡ K.log }
@@ -393,8 +461,15 @@ fn resume<K: Lineage, D: Disk + Drop, F: Folder>(
         is_some start.old.checkpoint ≡ true → IsTrue (D.Disk.is_clean (newest_of start.new)) →
         HasState (D.Disk.seen (newest_of start.new)) → ⊥) }
     ensures goes_on { IfOk result (λ r. IsTrue (D.Disk.is_clean (newest_of start.new)) →
-        GoesOnFrom goes_on config.now K.log (D.Disk.seen (newest_of start.new))
-        r.is_moved r.gap r.before.entries r.gateway) }
+        GoesOnFrom r.goes_on config.now K.log (D.Disk.seen (newest_of start.new))
+        r.is_moved r.damage r.gap r.given_up.items r.before.entries r.gateway) }
+    ensures trusted { IfOk result (λ r. r.goes_on ≡ true → is_trusted ≡ true) }
+    ensures read { IfOk result (λ r. r.goes_on ≡ true →
+        IsTrue (D.Disk.is_clean (newest_of start.new)) →
+        IsReadWhole (D.Disk.seen (newest_of start.new))) }
+    ensures reset { IfOk result (λ r. r.goes_on ≡ false → (is_trusted ≡ false)
+        ⊎ (IsTrue (D.Disk.is_clean (newest_of start.new)) →
+        IsReadWhole (D.Disk.seen (newest_of start.new)) → ⊥)) }
     ensures seen { D.Disk.seen (newest_of start.new) ≡ D.Disk.seen (newest_of start.old) }
     ensures clean { IsTrue (D.Disk.is_clean (newest_of start.new)) →
         IsTrue (D.Disk.is_clean (newest_of start.old)) }
@@ -403,12 +478,17 @@ fn resume<K: Lineage, D: Disk + Drop, F: Folder>(
 {
     let opening = read_opening(alloc, start)?;
     let wrote = settings_in(alloc, &opening.settings)?;
-    let is_same = are_same(&wrote, config);
     let lines = opening.lines;
-    if goes_on && is_same {
-        return go_on::<K, D>(alloc, config, lines, start);
+    let is_same = are_same(&wrote, config);
+    if is_same {
+        let resumed = go_on::<K, D>(alloc, config, lines, start, is_trusted)?;
+        if resumed.goes_on {
+            return Ok(resumed);
+        }
+        return move_on(alloc, config, config, resumed, false);
     }
-    move_on::<K, D>(alloc, config, &wrote, lines, start, goes_on, !is_same)
+    let resumed = go_on::<K, D>(alloc, &wrote, lines, start, is_trusted)?;
+    move_on(alloc, config, &wrote, resumed, true)
 }
 
 /// Begins a run: with the state that the directory has, or anew. `text` is the file of settings
@@ -457,37 +537,6 @@ pub fn begin<F: Folder + Drop>(
     }
 }
 
-/// Whether the links go on: where the state is trusted, and each whole line of its log can be read.
-/// Where one can't, events behind it are lost, and what went out on them isn't known.
-pub(crate) fn may_go_on<D: Disk + Drop>(
-    alloc: Global,
-    start: &mut Start<D>,
-    is_trusted: bool,
-) -> Result<bool, FolderFault>
-    requires found { is_some start.old.checkpoint ≡ true }
-    requires fits { IfSome start.old.checkpoint (λ c. Fits c.head) }
-    ensures trusted { IfOk result (λ may. may ≡ true → is_trusted ≡ true) }
-    ensures read { IfOk result (λ may. may ≡ true → IsTrue (D.Disk.is_clean (newest_of start.new)) →
-        AreLinesRead (D.Disk.seen (newest_of start.new))) }
-    ensures reset { IfOk result (λ may. may ≡ false → (is_trusted ≡ false)
-        ⊎ (IsTrue (D.Disk.is_clean (newest_of start.new)) →
-        AreLinesRead (D.Disk.seen (newest_of start.new)) → ⊥)) }
-    ensures seen { D.Disk.seen (newest_of start.new) ≡ D.Disk.seen (newest_of start.old) }
-    ensures clean { IsTrue (D.Disk.is_clean (newest_of start.new)) →
-        IsTrue (D.Disk.is_clean (newest_of start.old)) }
-    ensures same { begins_at start.new ≡ begins_at start.old }
-    ensures taken { start.new.checkpoint ≡ start.old.checkpoint }
-    ensures other { other_of start.new ≡ other_of start.old }
-    ensures next { next_of start.new ≡ next_of start.old }
-{
-    if !is_trusted {
-        return Ok(false);
-    }
-    let lines = lines_of(alloc, start)?;
-    let may = are_read(alloc, lines)?;
-    Ok(may)
-}
-
 /// How a run begins that has a past.
 pub(crate) fn with_past(goes_on: bool) -> Beginning
     ensures past { has_past result ≡ true }
@@ -507,6 +556,8 @@ fn origin_of(resumed: Resumed, beginning: Beginning) -> Origin
       moment = Some resumed.gateway.moment;
       beginning = beginning;
       gap = resumed.gap;
+      damage = resumed.damage;
+      given_up = resumed.given_up;
       before = resumed.before;
       is_moved = resumed.is_moved;
     } }
@@ -514,14 +565,19 @@ fn origin_of(resumed: Resumed, beginning: Beginning) -> Origin
     let Resumed {
         gateway,
         gap,
+        damage,
+        given_up,
         before,
         is_moved,
+        ..
     } = resumed;
     Origin {
         moment: Some(gateway.moment()),
         gateway,
         beginning,
         gap,
+        damage,
+        given_up,
         before,
         is_moved,
     }
@@ -558,9 +614,9 @@ fn carry_on<F: Folder + Drop>(
     ensures numbered { IfOk result (λ b. IsNumbered b.store.number b.store.opened) }
 {
     let mut start = start;
-    let goes_on = may_go_on(alloc, &mut start, is_trusted)?;
-    match resume::<Brand, F::File, F>(alloc, config, &mut start, goes_on, &folder) {
+    match resume::<Brand, F::File, F>(alloc, config, &mut start, is_trusted, &folder) {
         Ok(resumed) => {
+            let goes_on = resumed.goes_on;
             let store = DiskStore::new(alloc, folder, settings, start.next_number());
             let (newest, spare) = start.into_files();
             Ok(Begun {
@@ -597,6 +653,8 @@ fn anew<F: Folder + Drop>(
                 moment: None,
                 beginning,
                 gap: None,
+                damage: None,
+                given_up: Vec::new(alloc),
                 before: History::new(),
                 is_moved: false,
             },

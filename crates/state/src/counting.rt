@@ -2,7 +2,7 @@
 ghost use Rattle.std.specs.Prelude.{◌≡◌, ◌+◌, [], length, IfErr, IfOk, false, true};
 ghost use Rattle.state.specs.Replays.{events_in_front};
 
-use crate::replaying::{EventLines, broken_off, next_event};
+use crate::replaying::{EventLines, Row, broken_off, next_row};
 use checkpoint::StateFault;
 use std::alloc::Global;
 
@@ -55,5 +55,8 @@ fn logs_next<L: EventLines>(
         events_in_front (L.coming lines.old) ≡ []) }
 {
     let mut buf = [0; 1024];
-    Ok(next_event(alloc, lines, line, &mut buf)?.is_some())
+    match next_row(alloc, lines, line, &mut buf)? {
+        Row::Event(_) => Ok(true),
+        Row::Wrong | Row::End => Ok(false),
+    }
 }

@@ -2,17 +2,19 @@
 ghost use Rattle.std.specs.Io.Iter.{u64_saturate};
 ghost use Rattle.std.specs.Prelude.{◌≡◌, ◌⊎◌, ◌+◌, ◌*◌, ◌++◌, ◌∷◌, [], List, ℕ, IfOk, IfSome};
 ghost use Rattle.std.specs.Prelude.{IsTrue, IfErr, OnOk};
-ghost use Rattle.std.specs.Prelude.{◌<◌, Option, Some, length, true, false};
+ghost use Rattle.std.specs.Prelude.{◌<◌, ◌≤◌, Option, Some, length, true, false};
+ghost use Rattle.std.specs.List.{concat};
 ghost use Rattle.gateway.specs.Restored.{IsSavable, state_lines};
 ghost use Rattle.gateway.specs.State.{IsBetweenSteps};
 ghost use Rattle.segments.specs.Crash.{AreMixing, IsShut};
-ghost use Rattle.segments.specs.Head.{IsWholeText, whole_text};
-ghost use Rattle.segments.specs.Segment.{durable_of, file_of, outcomes_of, size_of, text_of};
+ghost use Rattle.segments.specs.Segment.{body_of, file_of, octets_of, open_of, outcomes_of};
+ghost use Rattle.segments.specs.Segment.{own_number, size_of, writes_of};
 ghost use Rattle.segments.specs.Crashes.{AreOlder, StaysBacked};
 ghost use Rattle.segments.specs.Starts.{IsBacked, IsSound};
 ghost use Rattle.segments.specs.Writer.{appended_to};
 ghost use Rattle.state.specs.Doubts.{AreUndoubted};
-ghost use Rattle.state.specs.Logs.{AreAmid, AreFilesOf, HasFreshLog, IsHeaded, IsOneOf, WasOpen};
+ghost use Rattle.state.specs.Lines.{IsRefusedBy, longest_line, seal_octets};
+ghost use Rattle.state.specs.Logs.{AreAmid, AreFilesOf, HasFreshLog, IsOneOf, WasOpen};
 ghost use Rattle.statetext.specs.Text.{lines_in};
 
 use crate::folder::Folder;
@@ -29,8 +31,11 @@ use statetext::TextSheet;
 use std::alloc::Global;
 use std::mem;
 
+/// How many octets the seal of a write has.
+const SEAL: usize = 27;
+
 /// A log in two files of a directory, which are written in turn: a segment begins with the settings
-/// and the state of a gateway, and then has lines. The next one goes into the other file, and
+/// and the state of a gateway, and then has lines, of which those of a sync are sealed together. The next one goes into the other file, and
 /// stands there whole before the one before is touched. A file whose write or sync failed is used
 /// no more: both are opened anew where the next segment begins, and what they have says into which
 /// one it goes.
@@ -50,7 +55,8 @@ pub struct DiskStore<F: Folder + Drop> {
 }
 
 impl<F: Folder + Drop> DiskStore<F> {
-    ghost use Rattle.segments.specs.Crashes.{AreOlder, HasNoZero, StaysBacked};
+    ghost use Rattle.segments.specs.Crashes.{AreOlder, StaysBacked};
+    ghost use Rattle.statetext.specs.Sealed.{AreLines};
     ghost use Rattle.state.specs.Doubts.{AreUndoubted};
     ghost use Rattle.state.specs.Logs.{AreOpen, Bears, HasFreshLog, IsAmid, IsOlderBeside, SpareIs};
     ghost use Rattle.state.specs.Logs.{IsLeftBeside, WasOpened};
@@ -134,8 +140,9 @@ impl<F: Folder + Drop> DiskStore<F> {
         requires { self.old.opened ≡ Opened.Neither }
         ensures begun { result ≡ true → stored_in self.new.opened ≡ record {
           head = self.old.settings.items ∷ state_lines gateway.now;
-          text = [];
           safe = [];
+          held = [];
+          octets = 0;
         } }
         ensures savable { result ≡ true → IsBetweenSteps gateway.now → IsSavable gateway.now }
         ensures mark { result ≡ true → F.mark self.new.folder ≡ Some false }
@@ -182,8 +189,9 @@ impl<F: Folder + Drop> DiskStore<F> {
             AreOlder (F.File.may_leave newest) self.old.number }
         ensures begun { result ≡ true → stored_in self.new.opened ≡ record {
           head = self.old.settings.items ∷ state_lines gateway.now;
-          text = [];
           safe = [];
+          held = [];
+          octets = 0;
         } }
         ensures savable { result ≡ true → IsBetweenSteps gateway.now → IsSavable gateway.now }
         ensures newest { is_sound ≡ true → result ≡ true → SpareIs newest self.new.opened }
@@ -214,11 +222,10 @@ impl<F: Folder + Drop> DiskStore<F> {
         let Some(spare) = mended(newest, is_sound, number) else {
             return false;
         };
-        let head = segment.octets();
         let current = Current {
             segment,
             number,
-            head,
+            octets: 0,
             spare,
         };
         self.opened = Opened::Current(current);
@@ -226,12 +233,13 @@ impl<F: Folder + Drop> DiskStore<F> {
     }
 
     /// Whatever a crash leaves now of the file of a log that was begun has what the store says of
-    /// it: the head, the lines that are synced, and nothing else but the beginning of those that
-    /// wait. No octet of a line may be 0.
+    /// it: the head, the lines that are synced, and nothing else but those that wait, all of them or
+    /// none. No octet of a line may be 0 or begin a seal.
     #[tactic(auto, using(crate::proofs::Surviving::none_survives))]
     pub fn survives(&self)
         ensures { ((stored_in self.now.opened).head ≡ [] → ⊥) →
-            HasNoZero (stored_in self.now.opened).text → SurvivesAsLogged self.now.opened }
+            AreLines (stored_in self.now.opened).safe →
+            SurvivesAsLogged self.now.opened }
     {
         if let Opened::Current(current) = &self.opened {
             current.segment.survives();
@@ -329,7 +337,7 @@ fn files_behind<D: Disk + Drop>(
     let Current {
         segment,
         number: own,
-        head: _,
+        octets: _,
         spare,
     } = current;
     if own >= number || !segment.is_open() || !spare.may_be_used() {
@@ -486,14 +494,14 @@ fn write_segment<D: Disk + Drop>(
     requires usable { IsTrue (D.Disk.is_usable spare) }
     requires backed { IsTrue (D.Disk.is_clean newest.now) → IsTrue (D.Disk.is_clean spare) →
         StaysBacked (D.Disk.may_leave newest.now) (D.Disk.seen spare) }
+    requires some { 0 < blocks }
     ensures head { IfOk result
-        (λ s. IsHeaded settings.now (state_lines gateway.now) (text_of s)) }
+        (λ s. lines_in (body_of s) ≡ settings.now ∷ state_lines gateway.now) }
     ensures savable { IsBetweenSteps gateway.now → OnOk result (IsSavable gateway.now) }
-    ensures synced { IfOk result (λ s. durable_of s ≡ length (text_of s)) }
-    ensures number { IfOk result
-        (λ s. (body : List ℕ) × (text_of s ≡ whole_text number body)) }
-    ensures whole { IfOk result (λ s. IsWholeText number (text_of s)) }
-    ensures room { IfOk result (λ s. size_of s ≡ length (text_of s) + blocks * 4096) }
+    ensures writes { IfOk result (λ s. (writes_of s ≡ []) × (open_of s ≡ [])) }
+    ensures number { IfOk result (λ s. own_number s ≡ number) }
+    ensures octets { IfOk result (λ s. octets_of s ≡ 87 + length (body_of s)) }
+    ensures room { IfOk result (λ s. size_of s ≡ octets_of s + blocks * 4096) }
     ensures fresh { IfOk result (λ s. AreMixing D.Disk → (file : List ℕ) → outcomes_of s file →
         HasFreshLog number settings.now (state_lines gateway.now) file) }
     ensures amid { IfErr result (λ file. AreMixing D.Disk → AreAmid (D.Disk.may_leave spare)
@@ -511,6 +519,42 @@ fn write_segment<D: Disk + Drop>(
         }
         Err(Failed { file, fault: _ }) => Err(file),
     }
+}
+
+/// Appends a line to a log.
+fn append_to<D: Disk + Drop>(current: &mut Current<D>, lines: &[u8]) -> Result<(), StoreFault>
+    requires { length lines.now ≤ longest_line }
+    ensures held { OnOk result (open_of current.new.segment
+        ≡ open_of current.old.segment ++ lines.now) }
+    ensures octets { OnOk result (current.new.octets
+        ≡ current.old.octets + length lines.now) }
+    ensures same { (body_of current.new.segment ≡ body_of current.old.segment)
+        × (writes_of current.new.segment ≡ writes_of current.old.segment) }
+    ensures refused { IfErr result (λ fault. IsRefusedBy fault [] current.old.octets) }
+{
+    let Some(octets) = current.octets.checked_add(lines.len()) else {
+        return Err(StoreFault::Full);
+    };
+    current.octets = octets;
+    match current.segment.append(lines) {
+        Ok(()) => Ok(()),
+        Err(fault) => Err(refusal(fault)),
+    }
+}
+
+/// Seals and syncs what was appended to a log. `false` says that it failed.
+fn sync_to<D: Disk + Drop>(current: &mut Current<D>) -> bool
+    ensures synced { result ≡ true → concat (writes_of current.new.segment)
+        ≡ concat (writes_of current.old.segment) ++ open_of current.old.segment }
+    ensures held { result ≡ true → open_of current.new.segment ≡ [] }
+    ensures octets { result ≡ true → current.new.octets ≡ current.old.octets + seal_octets }
+    ensures same { body_of current.new.segment ≡ body_of current.old.segment }
+{
+    let Some(octets) = current.octets.checked_add(SEAL) else {
+        return false;
+    };
+    current.octets = octets;
+    current.segment.sync().is_ok()
 }
 
 /// Why a line isn't appended.
@@ -542,17 +586,14 @@ impl<F: Folder + Drop> Store for DiskStore<F> {
 
     fn append(&mut self, lines: &[u8]) -> Result<(), StoreFault> {
         match &mut self.opened {
-            Opened::Current(current) => match current.segment.append(lines) {
-                Ok(()) => Ok(()),
-                Err(fault) => Err(refusal(fault)),
-            },
+            Opened::Current(current) => append_to(current, lines),
             Opened::Neither | Opened::Both(..) => Err(StoreFault::Failed),
         }
     }
 
     fn sync(&mut self) -> bool {
         match &mut self.opened {
-            Opened::Current(current) => current.segment.sync().is_ok(),
+            Opened::Current(current) => sync_to(current),
             Opened::Neither | Opened::Both(..) => false,
         }
     }
@@ -563,8 +604,9 @@ impl<F: Folder + Drop> Store for DiskStore<F> {
     fn begin(&mut self, gateway: &Gateway) -> bool
         ensures begun { result ≡ true → stored_in self.new.opened ≡ record {
           head = self.old.settings.items ∷ state_lines gateway.now;
-          text = [];
           safe = [];
+          held = [];
+          octets = 0;
         } }
         ensures savable { result ≡ true → IsBetweenSteps gateway.now → IsSavable gateway.now }
         ensures mark { result ≡ true → F.mark self.new.folder ≡ Some false }
@@ -595,9 +637,7 @@ impl<F: Folder + Drop> Store for DiskStore<F> {
 
     fn event_octets(&self) -> u64 {
         match &self.opened {
-            Opened::Current(current) => {
-                current.segment.octets().saturating_sub(current.head) as u64
-            }
+            Opened::Current(current) => current.octets as u64,
             Opened::Neither | Opened::Both(..) => 0,
         }
     }

@@ -33,7 +33,7 @@ pub trait Folder {
     ghost use Rattle.std.specs.Prelude.{◌≡◌, ℕ, List, [], Option, Some, Bool, true, false, IfOk};
     ghost use Rattle.std.specs.Prelude.{MatchResult, None, OnOk};
     ghost use Rattle.std.specs.Prelude.{IsTrue, ◌+◌, ◌*◌, ◌≤◌};
-    ghost use Rattle.state.specs.Lines.{longest_line, most_octets};
+    ghost use Rattle.state.specs.Lines.{longest_line, most_octets, seal_octets};
 
     type File: Disk + Drop;
 
@@ -56,10 +56,10 @@ pub trait Folder {
     ghost refused: { Self → Type 0 } = { λ _. Unit {0} };
 
     /// How many blocks of 4,096 zeros stand behind a checkpoint, for the lines to come: where no
-    /// new log is due yet, there is room for the longest line. Two logs have 8,000,000 octets of
-    /// them at most.
+    /// new log is due yet, there is room for the longest line and its seal. Two logs have 8,000,000
+    /// octets of them at most.
     fn blocks(&self) -> usize
-        ensures room { most_octets + longest_line ≤ result * 4096 }
+        ensures room { most_octets + longest_line + seal_octets ≤ result * 4096 }
         ensures most { 2 * (result * 4096) ≤ 8000000 }
     {
         BLOCKS

@@ -15,7 +15,7 @@ ghost use Rattle.gateway.specs.declared.settings.StationSettings.{StationSetting
 ghost use Rattle.hex.specs.Hex.{IsBytes};
 ghost use Rattle.link.specs.Procedure.{is_up};
 ghost use Rattle.link.specs.Turns.{station_at};
-ghost use Rattle.segments.specs.Crashes.{lines_behind};
+ghost use Rattle.segments.specs.Crashes.{damage_behind, lines_behind};
 ghost use Rattle.segments.specs.Head.{Fits, head_of};
 ghost use Rattle.segments.specs.Starts.{IsFoundIn, IsShut};
 ghost use Rattle.segments.specs.declared.head.SegmentHead.{SegmentHead};
@@ -23,7 +23,7 @@ ghost use Rattle.settings.specs.Settings.{IsReadOfText};
 ghost use Rattle.sqlite_disk.specs.Disk.{Holds};
 ghost use Rattle.statetext.specs.Sum.{sum_of};
 ghost use Rattle.statetext.specs.Text.{lines_in};
-ghost use Rattle.state.specs.Beginnings.{AreLinesRead, has_past};
+ghost use Rattle.state.specs.Beginnings.{IsReadWhole, has_past};
 ghost use Rattle.state.specs.Crashed.{AreLeft, HasLog, IsKeptIn};
 ghost use Rattle.live.specs.declared.watched.Failure.{Failure};
 ghost use Rattle.live.specs.declared.watched.Notice.{Notice};
@@ -31,7 +31,7 @@ ghost use Rattle.live.specs.declared.watched.Notice.TheVariants.{NotKept, KeptAg
 ghost use Rattle.state.specs.Deeds.{AreRight, Deeds, GivenUp, IsAllOnDisk, IsSafe, PutOut};
 ghost use Rattle.state.specs.Deeds.{Appended, Begun, Received, Synced, appended, arrived, is_kept};
 ghost use Rattle.state.specs.Deeds.{loss_of, moment_of, on_disk};
-ghost use Rattle.state.specs.Deeds.{waiting, written};
+ghost use Rattle.state.specs.Deeds.{grown, waiting, written};
 ghost use Rattle.state.specs.Directories.{BeginsOver};
 ghost use Rattle.state.specs.Keeping.{HasTended, IsOrderly, Keeping, failure_of};
 ghost use Rattle.state.specs.Lines.{IsWritable, is_renewal_due};
@@ -47,7 +47,6 @@ ghost use Rattle.state.specs.Stores.{led_to_head, safe};
 ghost use Rattle.state.specs.Unread.{IsUnread, WasAside};
 ghost use Rattle.state.specs.declared.beginning.Origin.{Origin};
 ghost use Rattle.state.specs.declared.loss.Loss.{Loss};
-ghost use Rattle.state.specs.declared.loss.Loss.TheVariants.{Marked, Unmarked};
 ghost use Rattle.state.specs.declared.looking.Sight.{Sight};
 ghost use Rattle.state.specs.declared.loss.StoreFault.TheVariants.{Failed, Full, Unwritable};
 ghost use Rattle.state.specs.declared.opened.Opened.{Opened};
@@ -63,8 +62,8 @@ use gateway::no_link_goes_on_but_of_a_station_as_it_was;
 use live::Failure;
 use sqlite_disk::Disk;
 
-/// Whatever action was handed out: when it was, all received events were on the disk, or the state
-/// there was marked as stale; and where a loss isn't borne, they were on the disk. There they led
+/// Whatever action was handed out: when it was, all received events were on the disk, or the store
+/// had failed; and where a loss isn't borne, they were on the disk. There they led
 /// to the state at the head of the log, or their lines behind it are synced. So it is in the
 /// history of each keeper ([`crate::Keeper::standing`]).
 pub fn nothing_goes_out_before_it_is_on_disk()
@@ -78,11 +77,11 @@ pub fn nothing_goes_out_before_it_is_on_disk()
     ensures borne { (later earlier : Deeds) (action : LogEntry) →
         AreRight true (later ++ PutOut action ∷ earlier) → ((is_kept earlier ≡ true)
         × (arrived earlier ≡ safe earlier ++ led_to_head earlier))
-        ⊎ (loss_of earlier ≡ Some Marked) }
+        ⊎ (is_some (loss_of earlier) ≡ true) }
     ensures kept { (bears : Bool) (standing : Standing) (later earlier : Deeds)
         (action : LogEntry) → IsOrderly bears standing (later ++ PutOut action ∷ earlier) →
         ((is_kept earlier ≡ true) × (arrived earlier ≡ safe earlier ++ led_to_head earlier))
-        ⊎ ((loss_of earlier ≡ Some Marked) × (bears ≡ true)) }
+        ⊎ ((is_some (loss_of earlier) ≡ true) × (bears ≡ true)) }
 {}
 
 /// No event waits for the disk for a second while others come: where the gateway is about to
@@ -181,16 +180,15 @@ pub fn a_keeper_remembers_what_it_tried_and_reported<E: Ends + Drop>()
         ∷ (Tried (is_lost new.standing) ∷ calls)))) }
 {}
 
-/// What becomes of a run whose store has failed, case by case. It goes on where the loss is borne
-/// and the state on the disk is marked as stale, and else it is stopped. Once it was stopped, what
+/// What becomes of a run whose store has failed, case by case. It goes on where the loss is borne,
+/// whether the state on the disk is marked as stale or not, and else it is stopped. Once it was stopped, what
 /// has failed is the state, whatever the port says. A store that has failed counts as lost, whether
 /// the mark stands or not, and no other does.
 pub fn losses_by_example()
     ensures kept { (moment : ℕ) (bears : Bool) → (is_stopped Standing.Synced bears ≡ false)
         × (is_stopped (Standing.Waiting moment) bears ≡ false) }
-    ensures marked { (is_stopped (Standing.Lost Marked) true ≡ false)
-        × (is_stopped (Standing.Lost Marked) false ≡ true) }
-    ensures unmarked { (bears : Bool) → is_stopped (Standing.Lost Unmarked) bears ≡ true }
+    ensures borne { (loss : Loss) → (is_stopped (Standing.Lost loss) true ≡ false)
+        × (is_stopped (Standing.Lost loss) false ≡ true) }
     ensures lost { (moment : ℕ) (loss : Loss) → (is_lost Standing.Synced ≡ false)
         × (is_lost (Standing.Waiting moment) ≡ false) × (is_lost (Standing.Lost loss) ≡ true) }
     ensures going { (of_port : Option Failure) → failure_of 0 of_port ≡ of_port }
@@ -231,7 +229,7 @@ pub fn a_line_can_hold_each_event()
 pub fn a_log_is_begun_where_one_is_due<E: Ends + Drop>()
     ensures grown { (old new : Keeping E) (state : State) (notice : Option Notice) →
         HasTended E.log E.deeds old state new notice → is_lost old.standing ≡ false →
-        3900000 < length (lines_of_log (written (E.deeds old.ends))) →
+        3900000 < grown (E.deeds old.ends) →
         (E.deeds new.ends ≡ Begun state ∷ E.deeds old.ends)
         ⊎ ((loss : Loss) × (E.deeds new.ends ≡ GivenUp Failed loss ∷ E.deeds old.ends)) }
     ensures lost { (old new : Keeping E) (state : State) (notice : Option Notice) →
@@ -241,7 +239,7 @@ pub fn a_log_is_begun_where_one_is_due<E: Ends + Drop>()
         ⊎ ((loss : Loss) × (E.deeds new.ends ≡ GivenUp Failed loss ∷ E.deeds old.ends)) }
     ensures small { (old new : Keeping E) (state : State) (notice : Option Notice) →
         HasTended E.log E.deeds old state new notice → is_lost old.standing ≡ false →
-        length (lines_of_log (written (E.deeds old.ends))) ≤ 3900000 →
+        grown (E.deeds old.ends) ≤ 3900000 →
         E.deeds new.ends ≡ E.deeds old.ends }
     ensures waits { (old new : Keeping E) (state : State) (notice : Option Notice) →
         HasTended E.log E.deeds old state new notice → is_lost old.standing ≡ true →
@@ -262,7 +260,7 @@ pub fn no_line_is_longer_than_2067_octets()
 pub fn a_log_has_room_for_each_line()
     ensures room { (bears : Bool) (later earlier : Deeds) (loss : Loss) →
         AreRight bears (later ++ GivenUp Full loss ∷ earlier) →
-        3900000 < length (lines_of_log (written earlier)) }
+        3900000 < grown earlier }
     ensures each { (bears : Bool) (later earlier : Deeds) (loss : Loss) (event : LogEntry)
         (log : Log) → AreRight bears (later ++ GivenUp Unwritable loss ∷ earlier) →
         arrived earlier ≡ event ∷ log → IsWritable event → ⊥ }
@@ -278,7 +276,7 @@ pub fn no_crash_leaves_another_line<D: Disk>()
         AreLeft later synced (whole_lines (lines_behind body c)) }
     ensures read { (mine : D) (number : ℕ) (body : List ℕ) (later synced : Log) (c : List ℕ) →
         HasLog (D.Disk.may_leave mine) number body later synced → D.Disk.may_leave mine c →
-        AreLinesRead c }
+        IsReadWhole c }
 {}
 
 /// A start behind a crash goes on. It finds the file of a log that was kept, as a crash left it.
@@ -295,8 +293,8 @@ pub fn a_start_goes_on_behind_a_crash<D: Disk + Drop>()
 
 /// A state that is damaged is never gone on with as if it was whole. What is gone on with has a
 /// checkpoint of the length and the sum that its first line says. Where the links go on, each whole
-/// line behind that logs an event, no first line of a segment as new stands in the other file, and
-/// no mark says that the state is stale.
+/// line behind that logs an event, no damage ends the log, no first line of a segment as new stands
+/// in the other file, and no mark says that the state is stale.
 pub fn a_damaged_state_never_goes_on_as_whole<D: Disk + Drop>()
     ensures whole { (c : Settings) (log : Log) (mark : Option Bool)
         (newest other : D) (o : Origin) → BeginsOver D.Disk c log mark newest other o →
@@ -309,7 +307,8 @@ pub fn a_damaged_state_never_goes_on_as_whole<D: Disk + Drop>()
         o.beginning ≡ Beginning.GoesOn → (head : SegmentHead) (body : List ℕ) → Fits head →
         IsFoundIn (D.Disk.seen newest) head body →
         AllByRecursion (λ line. is_some (logged line) ≡ true)
-        (whole_lines (lines_behind body (D.Disk.seen newest))) }
+        (whole_lines (lines_behind body (D.Disk.seen newest)))
+        × (damage_behind body (D.Disk.seen newest) ≡ None) }
     ensures newer { (c : Settings) (log : Log) (mark : Option Bool)
         (newest other : D) (o : Origin) → BeginsOver D.Disk c log mark newest other o →
         o.beginning ≡ Beginning.GoesOn → (own head : SegmentHead) → Fits own → Fits head →
@@ -334,7 +333,7 @@ pub fn what_stands_is_not_passed_over<D: Disk + Drop>()
         IsShut (D.Disk.seen other) ⊎ ((own head : SegmentHead) × Fits own × Fits head ×
         Holds (D.Disk.seen newest) 0 (head_of own) × Holds (D.Disk.seen other) 0 (head_of head) ×
         (head.number < own.number)) →
-        AreLinesRead (D.Disk.seen newest) → o.beginning ≡ Beginning.LinksReset → ⊥ }
+        IsReadWhole (D.Disk.seen newest) → o.beginning ≡ Beginning.LinksReset → ⊥ }
     ensures newest { (c : Settings) (log : Log) (mark : Option Bool)
         (newest other : D) (o : Origin) → BeginsOver D.Disk c log mark newest other o →
         has_past o.beginning ≡ true → (own head : SegmentHead) (body others : List ℕ) → Fits own →

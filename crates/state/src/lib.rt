@@ -8,6 +8,7 @@ mod ends;
 mod event_text;
 mod folder;
 mod form_laws;
+mod given_up;
 mod keeper;
 mod keeping;
 mod laws;
@@ -33,6 +34,7 @@ pub use form_laws::{
     commands_are_kept_in_this_form, lines_of_a_state_are_these_texts, links_are_kept_in_this_form,
     sessions_are_kept_in_this_form, states_are_kept_in_this_form,
 };
+pub use given_up::{GivenUp, Stage};
 pub use keeper::Keeper;
 pub use laws::{
     a_clock_goes_on_where_the_gateway_stood, a_damaged_state_never_goes_on_as_whole,

@@ -13,10 +13,10 @@ ghost use Rattle.state.specs.Sights.{AreChanged, AreCounted, IsSeen, IsSight};
 ghost use Rattle.state.specs.Unread.{AreStateOf, HasState};
 
 use crate::beginning::{
-    Opening, found_in, lines_of, may_go_on, read_opening, replayed, settings_in, with_past,
+    Opening, found_in, lines_of, read_opening, replayed, settings_in, with_past,
 };
 use crate::counting::{count_all, count_logged};
-use crate::folder::FolderFault;
+use crate::given_up::{GivenUp, given_up_by};
 use crate::replaying::Lineage;
 use crate::same_settings::are_same;
 use crate::start::{Beginning, beginning_of};
@@ -41,8 +41,12 @@ pub struct Seen {
     pub lines: u64,
     /// How many of them log an event, up to the first that logs none.
     pub events: u64,
+    /// From which octet of the file on nothing is read, if that is for damage.
+    pub damage: Option<usize>,
     /// The gateway that has received these events. It has given up nothing yet.
     pub gateway: Gateway,
+    /// What of its connection a start would give up.
+    pub given_up: Vec<GivenUp>,
 }
 
 /// What a start would find in a directory.
@@ -119,13 +123,18 @@ fn without_log(beginning: Beginning) -> Sight
     }
 }
 
-/// Why lines can't be read where a directory is looked at.
-fn unlooked(fault: FolderFault) -> StateFault
-    ensures { result ≡ StateFault.Wrong → ⊥ }
+/// Whether links would go on with a log: it is trusted, each line of it logs an event, and no
+/// damage ends it.
+fn would_go_on(is_trusted: bool, seen: &Seen) -> bool
+    ensures trusted { result ≡ true → is_trusted ≡ true }
+    ensures whole { result ≡ true →
+        (seen.now.events ≡ seen.now.lines) × (seen.now.damage ≡ None) }
+    ensures others { result ≡ false → is_trusted ≡ true → seen.now.events ≡ seen.now.lines →
+        seen.now.damage ≡ None → ⊥ }
 {
-    match fault {
-        FolderFault::NoMemory => StateFault::NoMemory,
-        FolderFault::InUse | FolderFault::Foreign | FolderFault::Device => StateFault::Device,
+    match seen.damage {
+        None => is_trusted && seen.events == seen.lines,
+        Some(_) => false,
     }
 }
 
@@ -149,12 +158,11 @@ fn look_behind<K: Lineage, D: Disk + Drop>(
     ensures fault { IfErr result (λ fault. fault ≡ StateFault.Wrong → ⊥) }
 {
     let mut start = start;
-    let goes_on = match may_go_on(alloc, &mut start, is_trusted) {
-        Ok(goes_on) => goes_on,
-        Err(fault) => return Err(unlooked(fault)),
-    };
     match see::<K, D>(alloc, &mut start) {
-        Ok(seen) => Ok(with_log(with_past(goes_on), seen)),
+        Ok(seen) => {
+            let goes_on = would_go_on(is_trusted, &seen);
+            Ok(with_log(with_past(goes_on), seen))
+        }
         Err(StateFault::Wrong) => Ok(without_log(Beginning::PutAside)),
         Err(StateFault::NoMemory) => Err(StateFault::NoMemory),
         Err(StateFault::Device) => Err(StateFault::Device),
@@ -236,7 +244,10 @@ fn see_behind<K: Lineage, D: Disk + Drop>(
         lines,
     } = opening;
     let wrote = settings_in(alloc, &settings)?;
-    let resumed = replayed::<K, D>(alloc, &wrote, lines, start)?;
+    let arrived = replayed::<K, D>(alloc, &wrote, lines, start)?;
+    let Ok(given_up) = given_up_by(alloc, wrote.line().sizes, &arrived.gateway) else {
+        return Err(StateFault::NoMemory);
+    };
     let count = count(alloc, start)?;
     Ok(Seen {
         number,
@@ -244,7 +255,9 @@ fn see_behind<K: Lineage, D: Disk + Drop>(
         settings,
         lines: count.all,
         events: count.logged,
-        gateway: resumed.gateway,
+        damage: arrived.damage,
+        gateway: arrived.gateway,
+        given_up,
     })
 }
 
@@ -262,9 +275,9 @@ fn count<D: Disk + Drop>(alloc: Global, start: &mut Start<D>) -> Result<LineCoun
         AreCounted (whole_lines (events_in start.old)) n.logged n.all) }
     ensures fault { IfErr result (λ fault. fault ≡ StateFault.Wrong → ⊥) }
 {
-    let lines = lines_of(alloc, start)?;
-    let logged = count_logged(alloc, lines)?;
-    let lines = lines_of(alloc, start)?;
-    let all = count_all(alloc, lines)?;
+    let log = lines_of(alloc, start)?;
+    let logged = count_logged(alloc, log.lines)?;
+    let log = lines_of(alloc, start)?;
+    let all = count_all(alloc, log.lines)?;
     Ok(LineCount { logged, all })
 }

@@ -1,10 +1,9 @@
 //! What of a log's two files is open.
-ghost use Rattle.std.specs.Prelude.{◌+◌, ◌≤◌, take, IsTrue};
+ghost use Rattle.std.specs.Prelude.{◌≡◌, ◌+◌, ◌≤◌, length, IsTrue};
 ghost use Rattle.segments.specs.Crashes.{AreOlder};
-ghost use Rattle.segments.specs.Head.{IsWholeText};
-ghost use Rattle.segments.specs.Segment.{durable_of, size_of, text_of};
+ghost use Rattle.segments.specs.Segment.{body_of, is_open, octets_of, own_number, size_of};
 ghost use Rattle.state.specs.Doubts.{AreUndoubted};
-ghost use Rattle.state.specs.Lines.{longest_line, most_octets};
+ghost use Rattle.state.specs.Lines.{longest_line, most_octets, seal_octets};
 
 use segments::Segment;
 use sqlite_disk::Disk;
@@ -15,12 +14,14 @@ pub(crate) struct Current<D: Disk + Drop> {
     pub(crate) segment: Segment<D>,
     /// Its number.
     pub(crate) number: u64,
-    /// How many octets of its text come before the lines.
-    pub(crate) head: usize,
+    /// How many octets its lines have at most, with a seal for each sync.
+    pub(crate) octets: usize,
     pub(crate) spare: D,
-    pub(crate) ghost within: { head ≤ durable_of segment },
-    pub(crate) ghost whole: { IsWholeText number (take head (text_of segment)) },
-    pub(crate) ghost room: { head + most_octets + longest_line ≤ size_of segment },
+    pub(crate) ghost own: { own_number segment ≡ number },
+    pub(crate) ghost counted: { IsTrue (is_open segment) →
+        octets_of segment ≤ 87 + length (body_of segment) + octets },
+    pub(crate) ghost room: { 87 + length (body_of segment) + most_octets + longest_line
+        + seal_octets ≤ size_of segment },
     // Whatever a crash leaves of the other file, no start doubts it, and it has no segment as new.
     pub(crate) ghost sound: { IsTrue (D.Disk.is_clean spare) →
         AreUndoubted (D.Disk.may_leave spare) },

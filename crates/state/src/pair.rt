@@ -1,10 +1,11 @@
 //! A port, and a store beside it.
-ghost use Rattle.std.specs.Prelude.{◌≡◌, ◌⊎◌, ◌++◌, ℕ, List, true, false, [], length, IfErr};
+ghost use Rattle.std.specs.Prelude.{◌≡◌, ◌⊎◌, ◌+◌, ◌++◌, ℕ, List, true, false, [], length, IfErr};
 ghost use Rattle.std.specs.Prelude.{OnOk};
+ghost use Rattle.std.specs.Fmt.{decimal};
 ghost use Rattle.std.specs.List.{AllByRecursion};
 ghost use Rattle.gateway.specs.Ports.{FitsBuffer, logged_by};
 ghost use Rattle.state.specs.Lines.{FitsLine, IsRefusedBy, IsWritable};
-ghost use Rattle.traces.specs.Printed.{lines_of_log};
+ghost use Rattle.traces.specs.Printed.{IsPrintable, lines_of_log};
 
 use crate::disk_store::DiskStore;
 use crate::ends::Ends;
@@ -15,9 +16,9 @@ use crate::store::Store;
 use crate::trail::{Done, Trail};
 use gateway::{Action, Gateway, LAST_MOMENT, Next};
 use live::{EndsSight, Watched};
-use std::alloc::Global;
+use std::alloc::{AllocError, Global};
 use std::marker::Model;
-use traces::append_event;
+use traces::{Moment, Page, print_event};
 
 /// A port, and a store beside it. What is done at both is one history, which only proofs read.
 #[derive(Drop)]
@@ -25,6 +26,8 @@ pub struct Pair<P: Watched + Drop, S: Store + Drop> {
     alloc: Global,
     port: P,
     store: S,
+    /// The line of an event, while that is appended.
+    page: Page,
     trail: Trail,
 }
 
@@ -59,6 +62,7 @@ impl<P: Watched + Drop, S: Store + Drop> Pair<P, S> {
             alloc,
             port,
             store,
+            page: page_with_room(alloc),
             trail: Trail::new(),
         }
     }
@@ -125,19 +129,66 @@ fn is_writable(next: Next) -> bool
     }
 }
 
-/// Appends the line of an event to a store, if there is one and memory for it.
+/// More octets than any line of an event has.
+const ROW: usize = 4_096;
+
+/// An empty page with room for any line, so that no event asks for memory. Where there is no memory
+/// now, the first event asks again.
+fn page_with_room(alloc: Global) -> Page
+    ensures { result ≡ [] }
+{
+    let mut page = match vec![in alloc; 0; ROW] {
+        Ok(room) => Page::holding(room),
+        Err(AllocError) => Page::new(alloc),
+    };
+    page.clear();
+    page
+}
+
+/// Puts a number, and words behind it.
+fn put_number(page: &mut Page, number: u64, words: &str) -> Result<(), AllocError>
+    ensures { OnOk result (page.new ≡ page.old ++ (decimal number ++ words.now)) }
+{
+    page.put(Moment::new(number).digits())?;
+    page.put(words.as_bytes())
+}
+
+/// Puts the line of an event, if there is one.
+fn put_line(alloc: Global, page: &mut Page, next: Next, buf: &[u8; 1024]) -> Result<(), AllocError>
+    requires { FitsBuffer next }
+    ensures line { OnOk result (page.new
+        ≡ page.old ++ lines_of_log (logged_by next buf.now)) }
+    ensures printable { OnOk result (AllByRecursion IsPrintable (logged_by next buf.now)) }
+{
+    match next {
+        Next::Open(now) => put_number(page, now, " O\n"),
+        Next::Cut(now) => put_number(page, now, " C\n"),
+        Next::Tick(now) => put_number(page, now, " T\n"),
+        Next::Wall(now, number) => {
+            put_number(page, now, " W ")?;
+            put_number(page, number, "\n")
+        }
+        Next::Line(..) | Next::Bytes(..) | Next::Done | Next::Fault => {
+            print_event(alloc, page, next, buf)
+        }
+    }
+}
+
+/// Appends the line of an event to a store, if there is one, by way of this page.
 fn take<S: Store>(
     alloc: Global,
+    page: &mut Page,
     store: &mut S,
     next: Next,
     buf: &[u8; 1024],
 ) -> Result<(), StoreFault>
     requires { FitsBuffer next }
     ensures taken { OnOk result (S.stored store.new ≡ record (S.stored store.old) {
-      text = (S.stored store.old).text ++ lines_of_log (logged_by next buf.now);
+      held = (S.stored store.old).held ++ lines_of_log (logged_by next buf.now);
+      octets = (S.stored store.old).octets + length (lines_of_log (logged_by next buf.now));
     }) }
     ensures refused { IfErr result (λ fault.
-        IsRefusedBy fault (logged_by next buf.now) (length (S.stored store.old).text)) }
+        IsRefusedBy fault (logged_by next buf.now) (S.stored store.old).octets) }
     ensures writable { OnOk result (AllByRecursion IsWritable (logged_by next buf.now)) }
     ensures mark { S.mark store.new ≡ S.mark store.old }
     ensures settings { S.settings store.new ≡ S.settings store.old }
@@ -146,12 +197,12 @@ fn take<S: Store>(
     if !is_writable(next) {
         return Err(StoreFault::Unwritable);
     }
-    let mut line = String::new(alloc);
-    if append_event(alloc, &mut line, next, buf).is_err() {
+    page.clear();
+    if put_line(alloc, page, next, buf).is_err() {
         return Err(StoreFault::Failed);
     }
-    // Without a sum of its own: no crash needs one (docs/DECISIONS.md, "No sum by line").
-    store.append(line.as_bytes())
+    // Its write gets a seal at the sync.
+    store.append(page.octets())
 }
 
 impl<P: Watched + Drop, S: Store + Drop> Ends for Pair<P, S> {
@@ -194,7 +245,7 @@ impl<P: Watched + Drop, S: Store + Drop> Ends for Pair<P, S> {
     }
 
     fn append(&mut self, next: Next, buf: &[u8; 1024]) -> Result<(), Loss> {
-        if let Err(fault) = take(self.alloc, &mut self.store, next, buf) {
+        if let Err(fault) = take(self.alloc, &mut self.page, &mut self.store, next, buf) {
             let loss = self.store.give_up();
             self.trail = self.trail.with(&Done::GivenUp(fault, loss));
             return Err(loss);

@@ -1,10 +1,10 @@
 //! A gateway receives again what it had received.
-ghost use Rattle.std.specs.Prelude.{◌≡◌, ◌∷◌, [], List, Some, None, IfErr, IfOk, true, false};
+ghost use Rattle.std.specs.Prelude.{◌≡◌, ◌∷◌, [], List, Some, None, IfErr, IfOk, not, true, false};
 ghost use Rattle.gateway.specs.Log.{LogEntry};
 ghost use Rattle.gateway.specs.Agrees.{Follows, Rests};
 ghost use Rattle.gateway.specs.Reports.{Setup};
 ghost use Rattle.gateway.specs.Ports.{output_of};
-ghost use Rattle.state.specs.Replays.{AreRead, IsFirst, IsRepeating, IsReplayed, IsLogged};
+ghost use Rattle.state.specs.Replays.{AreRead, IsFirst, IsRepeating, IsReplayed, IsLogged, IsRow};
 ghost use Rattle.state.specs.Replays.{events_in_front, gap_of};
 ghost use Rattle.traces.specs.Trace.{lines_of, logged};
 
@@ -43,14 +43,14 @@ impl Lineage for Brand {
     ghost log = { [] };
 }
 
-/// That log, and the events of the replay.
+/// That log, and the lines of the replay.
 trait ReplayScript {
     ghost use Rattle.gateway.specs.Log.{LogEntry};
-    ghost use Rattle.std.specs.Prelude.{List};
+    ghost use Rattle.std.specs.Prelude.{ℕ, List};
 
     ghost log: { List LogEntry };
 
-    ghost events: { List LogEntry };
+    ghost lines: { List (List ℕ) };
 }
 
 impl ReplayScript for Brand {
@@ -58,7 +58,7 @@ impl ReplayScript for Brand {
 
     ghost log = { [] };
 
-    ghost events = { [] };
+    ghost lines = { [] };
 }
 
 /// A gap that was reported: the station by its place among the settings, from 0, and the session
@@ -72,6 +72,18 @@ pub struct Replayed {
     pub gap: Option<ReportedGap>,
     /// The log before it, with the events of the replay and what the gateway did on them.
     pub log: History,
+    /// Each line logs an event.
+    pub is_whole: bool,
+}
+
+/// What a line is.
+pub(crate) enum Row {
+    /// It logs this event, as a port answers it.
+    Event(Next),
+    /// It logs none.
+    Wrong,
+    /// There is none.
+    End,
 }
 
 /// The gap that an action reports, if it reports one.
@@ -93,6 +105,8 @@ struct Repeater<K: ReplayScript, L: EventLines + Drop> {
     /// The line that was read last.
     line: Vec<u8>,
     is_over: bool,
+    /// A line logs no event.
+    is_broken: bool,
     history: History,
     /// The gap that the latest step reported, if it reported one.
     gap: Option<ReportedGap>,
@@ -109,15 +123,17 @@ impl<K: ReplayScript, L: EventLines + Drop> Model for Repeater<K, L> {
     ghost view = { λ r. record {
       coming = L.coming r.lines;
       is_over = r.is_over;
+      is_broken = r.is_broken;
       news = r.history.entries;
       earlier = K.log;
       failed = r.failures;
       gap = r.gap;
     } };
 
-    ghost invariant = { λ r. IsRepeating K.events (record {
+    ghost invariant = { λ r. IsRepeating K.lines (record {
       coming = L.coming r.lines;
       is_over = r.is_over;
+      is_broken = r.is_broken;
       news = r.history.entries;
       earlier = K.log;
       failed = r.failures;
@@ -154,36 +170,23 @@ fn announce_line(
     }
 }
 
-/// Gives the event of the next line as a port does, or nothing where there is none.
-pub(crate) fn next_event<L: EventLines>(
+/// What the next line is. Its event is given as a port gives it.
+#[tactic(auto, using(crate::proofs::Repeated::event_row, crate::proofs::Repeated::wrong_row))]
+pub(crate) fn next_row<L: EventLines>(
     alloc: Global,
     lines: &mut L,
     line: &mut Vec<u8>,
     buf: &mut [u8; 1024],
-) -> Result<Option<Next>, StateFault>
-    ensures { IfOk result (λ found.
-        IsFirst (L.coming lines.old) (L.coming lines.new) found buf.new) }
+) -> Result<Row, StateFault>
+    ensures { IfOk result (λ row.
+        IsRow (L.coming lines.old) (L.coming lines.new) row buf.new) }
 {
     if !lines.next_line(line)? {
-        return Ok(None);
+        return Ok(Row::End);
     }
-    announce_line(alloc, line.as_slice(), buf)
-}
-
-/// Whether each of these lines logs an event.
-pub(crate) fn are_read<L: EventLines + Drop>(alloc: Global, lines: L) -> Result<bool, StateFault>
-    ensures all { IfOk result (λ are. are ≡ true → AreRead (L.coming lines)) }
-    ensures others { IfOk result (λ are. are ≡ false → AreRead (L.coming lines) → ⊥) }
-{
-    let mut lines = lines;
-    let (mut line, mut buf) = (Vec::new(alloc), [0; 1024]);
-    loop {
-        if !lines.next_line(&mut line)? {
-            return Ok(true);
-        }
-        let Some(_) = announce_line(alloc, line.as_slice(), &mut buf)? else {
-            return Ok(false);
-        };
+    match announce_line(alloc, line.as_slice(), buf)? {
+        Some(next) => Ok(Row::Event(next)),
+        None => Ok(Row::Wrong),
     }
 }
 
@@ -192,10 +195,11 @@ impl<K: ReplayScript, L: EventLines + Drop> Repeater<K, L> {
 
     /// One over these lines.
     fn over(alloc: Global, lines: L) -> Repeater<K, L>
-        requires { events_in_front (L.coming lines) ≡ K.events }
+        requires { L.coming lines ≡ K.lines }
         ensures { result ≡ record {
           coming = L.coming lines;
           is_over = false;
+          is_broken = false;
           news = [];
           earlier = K.log;
           failed = 0;
@@ -207,6 +211,7 @@ impl<K: ReplayScript, L: EventLines + Drop> Repeater<K, L> {
             lines,
             line: Vec::new(alloc),
             is_over: false,
+            is_broken: false,
             history: History::new(),
             gap: None,
             fault: StateFault::NoMemory,
@@ -234,13 +239,13 @@ impl<K: ReplayScript, L: EventLines + Drop> Repeater<K, L> {
         known(&self.history)
     }
 
-    /// Whether no event comes any more.
-    fn is_over(&self) -> bool
-        ensures over { result ≡ self.now.is_over }
-        ensures whole { IsRepeating K.events self.now }
+    /// Whether each line so far logs an event.
+    fn is_whole(&self) -> bool
+        ensures is { result ≡ not self.now.is_broken }
+        ensures whole { IsRepeating K.lines self.now }
         ensures earlier { self.now.earlier ≡ K.log }
     {
-        self.is_over
+        !self.is_broken
     }
 }
 
@@ -258,18 +263,23 @@ impl<K: ReplayScript, L: EventLines + Drop> Port for Repeater<K, L> {
 
     ghost script = { λ _. tt };
 
-    #[tactic(auto, using(crate::proofs::Repeated::one_more, crate::proofs::Repeated::no_more))]
+    #[tactic(auto, using(crate::proofs::Repeated::one_more, crate::proofs::Repeated::no_more, crate::proofs::Repeated::broken_off))]
     fn next(&mut self, buf: &mut [u8; 1024]) -> Next {
         if self.is_over {
             return Next::Done;
         }
-        match next_event(self.alloc, &mut self.lines, &mut self.line, buf) {
-            Ok(Some(next)) => {
+        match next_row(self.alloc, &mut self.lines, &mut self.line, buf) {
+            Ok(Row::Event(next)) => {
                 self.history = self.history.came(&next, buf);
                 self.gap = None;
                 next
             }
-            Ok(None) => {
+            Ok(Row::Wrong) => {
+                self.is_over = true;
+                self.is_broken = true;
+                Next::Done
+            }
+            Ok(Row::End) => {
                 self.is_over = true;
                 Next::Done
             }
@@ -311,19 +321,22 @@ fn repeat<K: ReplayScript, L: EventLines + Drop>(
     gateway: &mut Gateway,
     lines: L,
 ) -> Result<Replayed, StateFault>
-    requires { events_in_front (L.coming lines) ≡ K.events }
+    requires { L.coming lines ≡ K.lines }
     ensures replayed { (p : Setup) → Follows p gateway.old (Some K.log) → Rests p (Some K.log) →
-        IfOk result (λ r. IsReplayed p K.log K.events r.gap r.log.entries gateway.new) }
+        IfOk result (λ r. IsReplayed p K.log (events_in_front K.lines) r.gap r.log.entries
+        gateway.new) }
+    ensures whole { IfOk result (λ r. r.is_whole ≡ true → AreRead K.lines) }
+    ensures broken { IfOk result (λ r. r.is_whole ≡ false → AreRead K.lines → ⊥) }
     ensures fault { IfErr result (λ fault. fault ≡ StateFault.Wrong → ⊥) }
 {
     let mut port: Repeater<K, L> = Repeater::over(alloc, lines);
     let end = drive_on(gateway, &mut port, u64::MAX);
     match end {
         End::Finished => {
-            let _is_over = port.is_over();
             Ok(Replayed {
                 gap: port.gap(),
                 log: port.log(),
+                is_whole: port.is_whole(),
             })
         }
         // No memory holds so many lines.
@@ -343,6 +356,8 @@ pub fn replay<K: Lineage, L: EventLines + Drop>(
     ensures replayed { (p : Setup) → Follows p gateway.old (Some K.log) → Rests p (Some K.log) →
         IfOk result (λ r. IsReplayed p K.log (events_in_front (L.coming lines)) r.gap
         r.log.entries gateway.new) }
+    ensures whole { IfOk result (λ r. r.is_whole ≡ true → AreRead (L.coming lines)) }
+    ensures broken { IfOk result (λ r. r.is_whole ≡ false → AreRead (L.coming lines) → ⊥) }
     ensures fault { IfErr result (λ fault. fault ≡ StateFault.Wrong → ⊥) }
 {
     repeat::<Brand, L>(alloc, gateway, lines)

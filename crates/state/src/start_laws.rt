@@ -3,7 +3,7 @@ ghost use Rattle.std.specs.Prelude.{◌≡◌, ◌⊎◌, [], ◌∷◌, ◌++�
 ghost use Rattle.std.specs.Prelude.{Bool, IsTrue, None, Ok, Option, Some, length, slice_get};
 ghost use Rattle.std.specs.Prelude.{true, false};
 ghost use Rattle.gateway.specs.Agrees.{Follows, Rests};
-ghost use Rattle.gateway.specs.Carried.{carried};
+ghost use Rattle.gateway.specs.Carried.{carried, restarted};
 ghost use Rattle.gateway.specs.Config.{Settings};
 ghost use Rattle.gateway.specs.Log.{Came, Log, Restarted, events_of};
 ghost use Rattle.gateway.specs.Restored.{IsSaid, IsSavable, state_lines};
@@ -20,6 +20,7 @@ ghost use Rattle.sqlite_disk.specs.Disk.{Holds};
 ghost use Rattle.statetext.specs.Text.{lines_in};
 ghost use Rattle.state.specs.Beginnings.{gap_now, has_past, is_trusted};
 ghost use Rattle.state.specs.Directories.{BeginsOver};
+ghost use Rattle.state.specs.GivenUps.{given_up_by};
 ghost use Rattle.state.specs.Origins.{IsNumbered};
 ghost use Rattle.state.specs.Replays.{events_in_front, last_gap, whole_lines};
 ghost use Rattle.state.specs.Sights.{IsSight};
@@ -74,12 +75,15 @@ pub fn each_log_is_received_again_under_its_settings<D: Disk + Drop>()
 {}
 
 /// No command is sent again by a run that goes on: of what it goes on with, each station's command
-/// without an answer is given up, whether the settings have changed or not.
+/// without an answer is given up, whether the settings have changed or not. What the gateway held
+/// of the connection is named: all of it, in its order, and nothing else.
 pub fn no_command_outlives_a_start<D: Disk + Drop>()
     ensures { (c : Settings) (log : Log) (mark : Option Bool) (newest other : D)
         (o : Origin) → BeginsOver D.Disk c log mark newest other o →
         has_past o.beginning ≡ true → (wrote : Settings) × (left : State) ×
         ((o.gateway ≡ left) ⊎ (o.gateway ≡ carried (is_trusted o.beginning) wrote c left)) ×
+        ((held : State) × (left ≡ restarted held)
+        × (o.given_up.items ≡ given_up_by wrote.line.sizes held)) ×
         ((place : ℕ) → place < length left.serial.line.stations →
         awaits_command left.serial.line place ≡ false) }
 {

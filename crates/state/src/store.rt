@@ -8,7 +8,7 @@ use gateway::Gateway;
 pub trait Store {
     ghost use Rattle.gateway.specs.Restored.{IsSavable, state_lines};
     ghost use Rattle.gateway.specs.State.{IsBetweenSteps};
-    ghost use Rattle.state.specs.Lines.{IsRefusedBy, longest_line};
+    ghost use Rattle.state.specs.Lines.{IsRefusedBy, longest_line, seal_octets};
     ghost use Rattle.state.specs.Stores.{Stored};
     ghost use Rattle.std.specs.Io.Iter.{u64_saturate};
     ghost use Rattle.std.specs.Prelude.{◌≡◌, ◌⊎◌, ℕ, ◌+◌, ◌≤◌, length, List, [], ◌∷◌, ◌++◌};
@@ -34,20 +34,25 @@ pub trait Store {
     /// Appends the line of an event, with its line feed. An `Err` says why it failed.
     fn append(&mut self, lines: &[u8]) -> Result<(), StoreFault>
         requires short { length lines.now ≤ longest_line }
-        ensures appended { OnOk result (stored self.new
-            ≡ record (stored self.old) { text = (stored self.old).text ++ lines.now }) }
+        ensures appended { OnOk result (stored self.new ≡ record (stored self.old) {
+          held = (stored self.old).held ++ lines.now;
+          octets = (stored self.old).octets + length lines.now;
+        }) }
         // While no new log is due, there is room for each line.
         ensures refused { IfErr result
-            (λ fault. IsRefusedBy fault [] (length (stored self.old).text)) }
+            (λ fault. IsRefusedBy fault [] (stored self.old).octets) }
         ensures mark { mark self.new ≡ mark self.old }
         ensures next { next self.new ≡ next self.old }
         ensures settings { settings self.new ≡ settings self.old };
 
-    /// Syncs all that was appended. `false` says that it failed: what is on the disk isn't known
-    /// then.
+    /// Seals what was appended, and syncs it. `false` says that it failed: what is on the disk isn't
+    /// known then.
     fn sync(&mut self) -> bool
-        ensures synced { result ≡ true → stored self.new
-            ≡ record (stored self.old) { safe = (stored self.old).text } }
+        ensures synced { result ≡ true → stored self.new ≡ record (stored self.old) {
+          safe = (stored self.old).safe ++ (stored self.old).held;
+          held = [];
+          octets = (stored self.old).octets + seal_octets;
+        } }
         ensures mark { mark self.new ≡ mark self.old }
         ensures next { next self.new ≡ next self.old }
         ensures settings { settings self.new ≡ settings self.old };
@@ -57,7 +62,12 @@ pub trait Store {
     /// next number, and no number is left out.
     fn begin(&mut self, gateway: &Gateway) -> bool
         ensures begun { result ≡ true → stored self.new
-            ≡ record { head = settings self.old ∷ state_lines gateway.now; text = []; safe = [] } }
+            ≡ record {
+          head = settings self.old ∷ state_lines gateway.now;
+          safe = [];
+          held = [];
+          octets = 0;
+        } }
         // A start can read the state there again, if the gateway is between two steps.
         ensures savable { result ≡ true → IsBetweenSteps gateway.now → IsSavable gateway.now }
         ensures mark { result ≡ true → mark self.new ≡ Some false }
@@ -67,9 +77,9 @@ pub trait Store {
             ⊎ (next self.new ≡ u64_saturate (next self.old + 1)) }
         ensures settings { settings self.new ≡ settings self.old };
 
-    /// How many octets the lines behind the head of the log have.
+    /// How many octets the lines behind the head of the log have, with their seals.
     fn event_octets(&self) -> u64
-        ensures { result ≡ length (stored self.now).text };
+        ensures { result ≡ (stored self.now).octets };
 
     /// It has failed, and marks the state on the disk as stale. Neither line nor sync comes until a
     /// new log is begun.

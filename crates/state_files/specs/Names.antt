@@ -43,6 +43,19 @@ IsMarkedAs from to before after =
     × (after ≡ noted (noted (noted before (Renamed from to (Some was_there)))
     (Sought to (Some true))) (Synced true))
 
+-- The mark is made in the second place: a file of its name is there, and then the names are synced.
+abbrev pub IsMarkedBeside : (before after : Steps) → Type 0
+IsMarkedBeside before after =
+    after ≡ noted (noted before (Made (codes "stale") true)) (Synced true)
+
+-- No mark stands there: there was none, or it got another name, and then the names were synced.
+pub data HasNoneBeside (before after : Steps) : Type 0 where
+  Absent : after ≡ noted before (Sought (codes "stale") (Some false)) → HasNoneBeside before after
+  Taken : (was_there : Bool) → after ≡ noted (noted (noted before
+      (Sought (codes "stale") (Some true)))
+      (Renamed (codes "stale") (codes "kept") (Some was_there))) (Synced true)
+      → HasNoneBeside before after
+
 -- A file that says that the state is good stands there, or one that says that it isn't. Where none
 -- stood there, the first is made, and the names are synced.
 pub data HasMark (before after : Steps) : Type 0 where

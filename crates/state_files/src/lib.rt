@@ -6,13 +6,17 @@
 //! - `kept` says that the state is good, `stale` that it isn't. The mark is a rename from one name
 //!   to the other, which takes no space; the directory is synced behind it. Where both stand, the
 //!   state is stale. `kept` is made before the first segment is begun.
+//! - Where a disk takes no mark, `stale` is made in a second place: the directory that the
+//!   environment calls RUNTIME_DIRECTORY, as systemd gives it to a unit. A state is stale if either
+//!   place says so. That place may be lost when the machine is started again.
 //! - `unread-1` to `unread-9`, each with a `-wal`, are files that couldn't be read.
 //!
 //! [`stood_in`] reads what stands in such a directory, beside a process that has it or alone, and
 //! changes nothing.
 //!
 //! Not proved is what the system does. What is proved is what this crate makes of its answers. The
-//! mark counts as made or taken away only where the rename and the sync behind it have succeeded.
+//! mark counts as made or taken away only where the calls for it and the sync behind them have
+//! succeeded.
 //! No name is looked for or changed, and no file of the log is opened, before the lock is taken.
 #![tactic(auto)]
 
@@ -20,11 +24,13 @@ ghost use Rattle.std.specs.Prelude.{◌≡◌, IfOk, IsTrue, None, false, true};
 ghost use Rattle.state_files.specs.Faults.{fault_by, refusal_of};
 ghost use Rattle.std.specs.IoError.{error_kind};
 
+mod beside;
 mod laws;
 mod looking;
 mod marks;
 mod names;
 
+use crate::beside::Beside;
 use crate::marks::Marks;
 use crate::names::SystemNames;
 use gateway::History;
@@ -39,7 +45,7 @@ use sqlite_disk::{Disk, Files};
 use sqlite_std_file::{File, OpenError, Unknown};
 use state::{Folder, FolderFault};
 use std::io::ErrorKind;
-use std::{fs, io};
+use std::{env, fs, io};
 
 /// The directory of a state. It is made, and locked, where its files are opened first.
 #[derive(Drop)]
@@ -72,26 +78,43 @@ fn refusal(error: &OpenError) -> FolderFault
     }
 }
 
+/// A second place for the mark, if the environment names one.
+fn second_place(rt: HostRuntime) -> Option<Beside<SystemNames>> {
+    match env::var(&rt, "RUNTIME_DIRECTORY") {
+        Ok(path) if !path.is_empty() => Some(Beside::new(SystemNames {
+            rt,
+            path,
+            lock: None,
+        })),
+        Ok(_) | Err(_) => None,
+    }
+}
+
+/// Makes the mark in the second place alone, for a run that goes on without its directory: a later
+/// start with that resets each link. `false`: it couldn't be done, or there is no such place.
+pub fn mark_beside(rt: HostRuntime) -> bool {
+    match second_place(rt) {
+        Some(mut beside) => beside.mark().is_ok(),
+        None => false,
+    }
+}
+
 impl Directory {
     /// The directory at a path, to whose state this history has led. Nothing is asked of the system
-    /// yet.
+    /// yet but for the second place of its mark.
     pub fn new(rt: HostRuntime, path: String, lineage: History) -> Directory
-        ensures { result ≡ record {
-          marks = record {
-            names = record { rt = rt; path = path; lock = None };
-            is_locked = false;
-            mark = None;
-            has_put_aside = false;
-          };
-          lineage = lineage;
-        } }
+        ensures names { result.marks.names ≡ record { rt = rt; path = path; lock = None } }
+        ensures unlocked { result.marks.is_locked ≡ false }
+        ensures unknown { result.marks.mark ≡ None }
+        ensures lineage { result.lineage ≡ lineage }
     {
+        let names = SystemNames {
+            rt,
+            path,
+            lock: None,
+        };
         Directory {
-            marks: Marks::new(SystemNames {
-                rt,
-                path,
-                lock: None,
-            }),
+            marks: Marks::new(names, second_place(rt)),
             lineage,
         }
     }

@@ -1,10 +1,12 @@
 //! What the names of files in a directory say of the state there.
-ghost use Rattle.std.specs.Prelude.{◌≡◌, ◌<◌, ◌≤◌, ◌++◌, codes, false, true, IfOk, None, Some};
+ghost use Rattle.std.specs.Prelude.{◌≡◌, ◌⊎◌, ◌<◌, ◌≤◌, ◌++◌, codes, false, true, IfOk, None, Some};
 ghost use Rattle.std.specs.Prelude.{IsTrue};
+ghost use Rattle.state_files.specs.Beside.{HasNoneThere, IsFoundStale, IsMarkedThere, SaysBeside};
 ghost use Rattle.state_files.specs.Names.{AreRenamed, HasMark, IsFree, IsLockTaken, IsMarkedAs};
 ghost use Rattle.state_files.specs.Names.{IsPutAside, IsRenamed, Sought, Synced, noted};
 ghost use Rattle.state_files.specs.Names.{unread_name};
 
+use crate::beside::Beside;
 use crate::names::{Names, named};
 use std::alloc::Global;
 use std::io;
@@ -29,16 +31,19 @@ pub(crate) struct Marks<N: Names> {
     mark: Option<bool>,
     /// Files that couldn't be read were put aside.
     has_put_aside: bool,
+    /// A second place for the mark, if there is one.
+    beside: Option<Beside<N>>,
 }
 
 impl<N: Names> Marks<N> {
     /// Those of a directory of which nothing is known yet.
-    pub(crate) fn new(names: N) -> Marks<N>
+    pub(crate) fn new(names: N, beside: Option<Beside<N>>) -> Marks<N>
         ensures { result ≡ record {
           names = names;
           is_locked = false;
           mark = None;
           has_put_aside = false;
+          beside = beside;
         } }
     {
         Marks {
@@ -46,6 +51,7 @@ impl<N: Names> Marks<N> {
             is_locked: false,
             mark: None,
             has_put_aside: false,
+            beside,
         }
     }
 
@@ -77,6 +83,7 @@ impl<N: Names> Marks<N> {
             (N.steps self.new.names)) }
         ensures mark { self.new.mark ≡ self.old.mark }
         ensures lock { self.new.is_locked ≡ self.old.is_locked }
+        ensures beside { self.new.beside ≡ self.old.beside }
     {
         self.names.rename(from, to)?;
         if !self.names.has(to)? {
@@ -103,49 +110,93 @@ impl<N: Names> Marks<N> {
         self.names.sync()
     }
 
-    /// Whether the mark stands on the disk.
+    /// Whether the mark stands in the second place, if there is one. Where that can't be told it
+    /// counts as marked.
+    fn is_marked_beside(&mut self) -> bool
+        ensures found { SaysBeside N.steps self.old.beside self.new.beside result }
+        ensures names { self.new.names ≡ self.old.names }
+        ensures mark { self.new.mark ≡ self.old.mark }
+        ensures lock { self.new.is_locked ≡ self.old.is_locked }
+    {
+        match &mut self.beside {
+            Some(beside) => beside.is_marked().unwrap_or(true),
+            None => false,
+        }
+    }
+
+    /// Whether the mark stands, on the disk or in the second place.
     pub(crate) fn is_stale(&mut self) -> io::Result<bool>
         requires { IsTrue self.old.is_locked }
-        ensures found { IfOk result (λ is_stale. N.steps self.new.names
-            ≡ noted (noted (N.steps self.old.names) (Synced true))
-            (Sought (codes "stale") (Some is_stale))) }
+        ensures found { IfOk result (IsFoundStale N.steps (N.steps self.old.names)
+            (N.steps self.new.names) self.old.beside self.new.beside) }
         ensures mark { IfOk result (λ is_stale. self.new.mark ≡ Some is_stale) }
         ensures lock { self.new.is_locked ≡ self.old.is_locked }
     {
         self.names.sync()?;
-        let is_stale = self.names.has("stale")?;
+        let is_here = self.names.has("stale")?;
+        let is_there = self.is_marked_beside();
+        let is_stale = is_here || is_there;
         self.mark = Some(is_stale);
         Ok(is_stale)
     }
 
-    /// Marks the state as stale, on the disk. `false`: it couldn't be done.
+    /// Makes the mark in the second place. `false`: it couldn't be done, or there is none.
+    fn mark_beside(&mut self) -> bool
+        ensures marked { result ≡ true → IsMarkedThere N.steps self.old.beside self.new.beside }
+        ensures names { self.new.names ≡ self.old.names }
+        ensures mark { self.new.mark ≡ self.old.mark }
+        ensures lock { self.new.is_locked ≡ self.old.is_locked }
+    {
+        match &mut self.beside {
+            Some(beside) => beside.mark().is_ok(),
+            None => false,
+        }
+    }
+
+    /// Takes the mark away in the second place. `false`: it couldn't be done.
+    fn unmark_beside(&mut self) -> bool
+        ensures marked { result ≡ true → HasNoneThere N.steps self.old.beside self.new.beside }
+        ensures names { self.new.names ≡ self.old.names }
+        ensures mark { self.new.mark ≡ self.old.mark }
+        ensures lock { self.new.is_locked ≡ self.old.is_locked }
+    {
+        match &mut self.beside {
+            Some(beside) => beside.unmark().is_ok(),
+            None => true,
+        }
+    }
+
+    /// Marks the state as stale: on the disk, or else in the second place. `false`: it couldn't be
+    /// done.
     pub(crate) fn mark_stale(&mut self) -> bool
         requires { IsTrue self.old.is_locked }
         ensures marked { result ≡ true → IsMarkedAs (codes "kept") (codes "stale")
-            (N.steps self.old.names) (N.steps self.new.names) }
+            (N.steps self.old.names) (N.steps self.new.names)
+            ⊎ IsMarkedThere N.steps self.old.beside self.new.beside }
         ensures mark { result ≡ true → self.new.mark ≡ Some true }
         ensures unknown { result ≡ false → self.new.mark ≡ None }
         ensures lock { self.new.is_locked ≡ self.old.is_locked }
     {
         self.mark = None;
-        let is_made = self.mark_as("kept", "stale").is_ok();
+        let is_made = self.mark_as("kept", "stale").is_ok() || self.mark_beside();
         if is_made {
             self.mark = Some(true);
         }
         is_made
     }
 
-    /// Takes the mark away, on the disk. `false`: it couldn't be done.
+    /// Takes the mark away, on the disk and in the second place. `false`: it couldn't be done.
     pub(crate) fn unmark(&mut self) -> bool
         requires { IsTrue self.old.is_locked }
         ensures marked { result ≡ true → IsMarkedAs (codes "stale") (codes "kept")
             (N.steps self.old.names) (N.steps self.new.names) }
+        ensures beside { result ≡ true → HasNoneThere N.steps self.old.beside self.new.beside }
         ensures mark { result ≡ true → self.new.mark ≡ Some false }
         ensures unknown { result ≡ false → self.new.mark ≡ None }
         ensures lock { self.new.is_locked ≡ self.old.is_locked }
     {
         self.mark = None;
-        let is_taken = self.mark_as("stale", "kept").is_ok();
+        let is_taken = self.mark_as("stale", "kept").is_ok() && self.unmark_beside();
         if is_taken {
             self.mark = Some(false);
         }

@@ -21,5 +21,5 @@ link_left p station s = left_by p.settings (awaited_at p station) s.link
 abbrev pub rest_of_log : Seen → List ℕ
 rest_of_log s =
     line (codes "state: goes on, " ++ decimal (taken_in s.gateway) ++ codes " queued")
-    ++ place_lines s ++ standing_lines s.gateway ++ line (codes "kept under these settings:")
+    ++ place_lines s ++ standing_lines s ++ line (codes "kept under these settings:")
     ++ s.settings.items

@@ -12,11 +12,12 @@ use Rattle.runlog.specs.declared.note.Trouble.TheVariants as trouble
 use Rattle.segments.specs.declared.start.Side.{Side}
 use Rattle.segments.specs.declared.start.Side.TheVariants as sides
 use Rattle.state.specs.Sights.{AreChanged}
+use Rattle.state.specs.declared.given_up.GivenUp.{GivenUp}
 use Rattle.state.specs.declared.looking.Seen.{Seen}
 use Rattle.state.specs.declared.looking.Sight.{Sight}
 use Rattle.state.specs.declared.start.Beginning.{Beginning}
-use Rattle.state_words.specs.Notes.{note_of, note_of_queue, note_of_settings}
-use Rattle.state_words.specs.Pending.{pending_lines}
+use Rattle.state_words.specs.Notes.{note_of, note_of_damage, note_of_given_up, note_of_queue}
+use Rattle.state_words.specs.Notes.{note_of_settings}
 use Rattle.state_words.specs.Stations.{station_lines}
 
 -- the words of the log, if there is anything to say
@@ -71,9 +72,14 @@ abbrev pub gateway_lines : State → List ℕ
 gateway_lines s = moment_words s.moment ++ wall_words s.wall
     ++ station_lines s.serial.line 0 s.serial.line.stations
 
--- with what its start would give up of the connection
-abbrev pub standing_lines : State → List ℕ
-standing_lines s = gateway_lines s ++ pending_lines s.serial.commands
+-- what its start would give up of the connection, a line each
+abbrev pub given_up_lines : List GivenUp → List ℕ
+given_up_lines [] = []
+given_up_lines (g ∷ gs) = note_line (Some (note_of_given_up g)) ++ given_up_lines gs
+
+-- both
+abbrev pub standing_lines : Seen → List ℕ
+standing_lines s = gateway_lines s.gateway ++ given_up_lines s.given_up.items
 
 -- what a run that goes on with it would report
 abbrev pub notes_lines : (is_moved : Bool) → Seen → List ℕ
@@ -83,10 +89,11 @@ notes_lines is_moved s =
 -- where it stands, and how far it can be read
 abbrev pub place_lines : Seen → List ℕ
 place_lines s = segment_line s ++ unread_line (nat_lt s.events s.lines) s.events s.lines
+    ++ note_line (note_of_damage s.damage)
 
 -- the log that a run would go on with
 abbrev pub log_lines : (is_moved : Bool) → Seen → List ℕ
-log_lines is_moved s = notes_lines is_moved s ++ place_lines s ++ standing_lines s.gateway
+log_lines is_moved s = notes_lines is_moved s ++ place_lines s ++ standing_lines s
     ++ codes "kept under these settings:" ++ 10 ∷ []
 
 -- with the settings at its head

@@ -47,8 +47,8 @@ pub fn the_first_lines_say_how_a_run_begins()
 
 /// What is said of a log, of every one. If no log counts, nothing stands behind the first lines.
 /// Else come a line where the given settings aren't those of the log, value by value, and how many
-/// places of the queue are taken. The number of the segment, its file and its events follow, and a
-/// line where not all lines can be read. Then come the gateway, what a start gives up of the
+/// places of the queue are taken. The number of the segment, its file and its events follow, a line
+/// if not all lines can be read, and one if damage ends the log. Then come the gateway, what a start gives up of the
 /// connection, and last the settings as they are.
 pub fn a_log_is_told_whole()
     ensures none { (is_held is_stale : Bool) (given : Option (List ℕ)) (o : Sight)
@@ -68,16 +68,21 @@ pub fn a_log_is_told_whole()
         IsStateText is_held is_stale (Some given) o text →
         text ≡ beginning_lines is_held is_stale o.beginning
         ++ line (codes "state: settings have changed") ++ rest_of_log s }
-    ensures files { (s : Seen) → s.lines ≤ s.events →
+    ensures files { (s : Seen) → s.lines ≤ s.events → s.damage ≡ None →
         (s.side ≡ Log → place_lines s ≡ line (codes "segment " ++ decimal s.number
         ++ codes " in segments-wal, events behind its head: " ++ decimal s.events))
         × (s.side ≡ Db → place_lines s ≡ line (codes "segment " ++ decimal s.number
         ++ codes " in segments, events behind its head: " ++ decimal s.events)) }
-    ensures unread { (s : Seen) → s.events < s.lines → s.side ≡ Log →
+    ensures unread { (s : Seen) → s.events < s.lines → s.damage ≡ None → s.side ≡ Log →
         place_lines s ≡ line (codes "segment " ++ decimal s.number
         ++ codes " in segments-wal, events behind its head: " ++ decimal s.events)
         ++ line (codes "lines there that can be read: " ++ decimal s.events ++ codes " of "
         ++ decimal s.lines) }
+    ensures damaged { (s : Seen) (octet : ℕ) → s.lines ≤ s.events → s.damage ≡ Some octet →
+        s.side ≡ Log → place_lines s ≡ line (codes "segment " ++ decimal s.number
+        ++ codes " in segments-wal, events behind its head: " ++ decimal s.events)
+        ++ line (codes "state: damaged, nothing is read from octet " ++ decimal octet
+        ++ codes " of its log on") }
     ensures clock { (s : State) (wall : Wall) → s.wall ≡ Some wall → gateway_lines s
         ≡ line (codes "moment in ms " ++ decimal s.moment ++ codes ", wall clock in ms "
         ++ decimal wall.number ++ codes " at moment " ++ decimal wall.moment)

@@ -10,7 +10,6 @@
 
 mod laws;
 mod notes;
-mod pending;
 mod stations;
 mod text;
 
@@ -18,5 +17,5 @@ pub use laws::{
     a_log_is_told_whole, each_station_has_its_line, links_are_told_as_they_stand,
     the_first_lines_say_how_a_run_begins,
 };
-pub use notes::{note_of, note_of_queue, note_of_settings};
+pub use notes::{note_of, note_of_damage, note_of_given_up, note_of_queue, note_of_settings};
 pub use text::describe_state;

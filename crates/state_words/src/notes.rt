@@ -3,8 +3,8 @@ ghost use Rattle.std.specs.Prelude.{◌≡◌};
 ghost use Rattle.state_words.specs.Notes as spec;
 
 use gateway::Gateway;
-use runlog::{Note, taken_places};
-use state::Beginning;
+use runlog::{Note, Remnant, taken_places};
+use state::{Beginning, GivenUp, Stage};
 
 /// The note that says what is made of the state in a directory, if there is anything to say.
 pub fn note_of(beginning: Beginning) -> Option<Note>
@@ -15,6 +15,17 @@ pub fn note_of(beginning: Beginning) -> Option<Note>
         Beginning::PutAside => Some(Note::StatePutAside),
         Beginning::LinksReset => Some(Note::StateStale),
         Beginning::GoesOn => None,
+    }
+}
+
+/// The note that says from which octet of its file on nothing is read of the log, if that is for
+/// damage.
+pub fn note_of_damage(damage: Option<usize>) -> Option<Note>
+    ensures { result ≡ spec.note_of_damage damage }
+{
+    match damage {
+        Some(octet) => Some(Note::StateDamaged(octet as u64)),
+        None => None,
     }
 }
 
@@ -34,4 +45,28 @@ pub fn note_of_queue(gateway: &Gateway) -> Note
     ensures { result ≡ spec.note_of_queue gateway.now }
 {
     Note::StateGoesOn(taken_places(gateway))
+}
+
+/// What of a connection is given up, in the words of the log.
+fn remnant_of(stage: Stage) -> Remnant
+    ensures { result ≡ spec.remnant_of stage }
+{
+    match stage {
+        Stage::Unanswered => Remnant::Unanswered,
+        Stage::Waiting => Remnant::Waiting,
+        Stage::Selection => Remnant::Selection,
+        Stage::OwnAnswer => Remnant::OwnAnswer,
+    }
+}
+
+/// The note that names what a start gives up.
+pub fn note_of_given_up(given_up: &GivenUp) -> Note
+    ensures { result ≡ spec.note_of_given_up given_up.now }
+{
+    Note::GivenUp(
+        remnant_of(given_up.stage),
+        given_up.kind,
+        given_up.ca,
+        given_up.object,
+    )
 }

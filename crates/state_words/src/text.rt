@@ -3,13 +3,12 @@ ghost use Rattle.std.specs.Prelude.{◌≡◌, ◌++◌, IfOk, OnOk, Some, false
 ghost use Rattle.std.specs.Prelude.{true};
 ghost use Rattle.state_words.specs.Text as spec;
 
-use crate::notes::{note_of, note_of_queue, note_of_settings};
-use crate::pending::push_pending;
+use crate::notes::{note_of, note_of_damage, note_of_given_up, note_of_queue, note_of_settings};
 use crate::stations::push_stations;
 use gateway::{Gateway, Wall};
 use runlog::{Note, Trouble};
 use segments::Side;
-use state::{Seen, Sight, are_changed};
+use state::{GivenUp, Seen, Sight, are_changed};
 use std::alloc::{AllocError, Global};
 
 /// Appends the words of the log, if there is anything to say.
@@ -137,13 +136,26 @@ fn push_gateway(text: &mut String, gateway: &Gateway) -> Result<(), AllocError>
     push_stations(text, gateway.line())
 }
 
-/// The gateway, and what a start would give up of the connection.
-fn push_standing(text: &mut String, gateway: &Gateway) -> Result<(), AllocError>
+/// A line for each of what a start would give up.
+fn push_given_up(text: &mut String, given_up: &[GivenUp]) -> Result<(), AllocError>
     ensures { OnOk result (string_bytes text.new ≡ string_bytes text.old
-        ++ spec.standing_lines gateway.now) }
+        ++ spec.given_up_lines given_up.now) }
 {
-    push_gateway(text, gateway)?;
-    push_pending(text, gateway.commands())
+    let mut left = given_up;
+    while let [first, more @ ..] = left {
+        push_note(text, Some(note_of_given_up(first)))?;
+        left = more;
+    }
+    Ok(())
+}
+
+/// The gateway, and what a start would give up of the connection.
+fn push_standing(text: &mut String, seen: &Seen) -> Result<(), AllocError>
+    ensures { OnOk result (string_bytes text.new ≡ string_bytes text.old
+        ++ spec.standing_lines seen.now) }
+{
+    push_gateway(text, &seen.gateway)?;
+    push_given_up(text, &seen.given_up)
 }
 
 /// What a run that goes on with a log would report.
@@ -161,7 +173,8 @@ fn push_place(text: &mut String, seen: &Seen) -> Result<(), AllocError>
         ++ spec.place_lines seen.now) }
 {
     push_segment(text, seen)?;
-    push_unread(text, seen.events < seen.lines, seen.events, seen.lines)
+    push_unread(text, seen.events < seen.lines, seen.events, seen.lines)?;
+    push_note(text, note_of_damage(seen.damage))
 }
 
 /// The lines of a log that counts, before the settings.
@@ -171,7 +184,7 @@ fn push_seen(text: &mut String, seen: &Seen, is_moved: bool) -> Result<(), Alloc
 {
     push_notes(text, seen, is_moved)?;
     push_place(text, seen)?;
-    push_standing(text, &seen.gateway)?;
+    push_standing(text, seen)?;
     text.push_str("kept under these settings:\n")
 }
 

@@ -5,3 +5,8 @@ pub mod JudgeLaws
 pub mod VisitLemmas
 pub mod ReadingLemmas
 pub mod ReplyLemmas
+pub mod Rows
+pub mod Settings
+pub mod LookLaws
+pub mod SightLaws
+pub mod Peers

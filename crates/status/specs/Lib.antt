@@ -18,3 +18,7 @@ pub mod Streams
 pub mod Table
 pub mod Texts
 pub mod Words
+pub mod Shown
+pub mod Looking
+pub mod Looks
+pub mod Sights

@@ -4,9 +4,10 @@
 //! [`Visitors`] come from a [`StreamSource`]: four at once at the most, each for two seconds at
 //! the most. [`Visitors::turn`] is called between two events. At most one visitor comes then, and
 //! each gets one read or one write, which never waits. What is shown is a [`Snapshot`], plain data
-//! that the caller fills in and lends. This crate doesn't know the gateway, so who looks changes
-//! nothing. All memory is taken by [`Visitors::new`]. [`VisitorListener`] is the source on the
-//! system's sockets.
+//! that the caller fills in and lends: visitors and pages don't know the gateway. A [`Lookout`]
+//! fills it in from a live run, which it is lent for reading alone, so who looks changes nothing.
+//! All memory is taken by [`Visitors::new`]. [`VisitorListener`] is the source on the system's
+//! sockets.
 //!
 //! Proved: the body of each page is a small function of the snapshot, text for text, with what is
 //! written in place of octets that would mean something else. The status, the fields and the body
@@ -32,6 +33,7 @@ mod judging;
 mod labels;
 mod laws;
 mod lists;
+mod lookout;
 mod metrics;
 mod page;
 mod reading_laws;
@@ -53,6 +55,10 @@ pub use judging::{Judgement, judge};
 pub use laws::{
     a_text_stands_whole_or_not_at_all, judgements_mean_what_they_say,
     visitors_are_sent_what_they_asked_for,
+};
+pub use lookout::{
+    Lookout, each_station_has_its_row, line_state_and_settings_are_shown_as_they_are,
+    the_centre_is_shown_as_it_is, the_queue_is_shown_as_it_is,
 };
 pub use reading_laws::texts_are_read_back;
 pub use reply::{UNKNOWN, body_of, exit_status};

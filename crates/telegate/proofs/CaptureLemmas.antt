@@ -1,10 +1,10 @@
 -- The answer to a capture.
 use Rattle.std.proofs.Common.{◌≡◌, ℕ, List, Option, inl, inr, subst}
 use Rattle.std.specs.Prelude.{Ok, Err}
-use Rattle.capture.specs.Texts.{IsCaptureFault, IsCaptured}
-use Rattle.capture.specs.declared.whole.CaptureFault.{CaptureFault}
-use Rattle.capture.specs.declared.whole.CaptureFault.TheVariants as faults
-use Rattle.capture.proofs.WholeLemmas.{captured_as}
+use Rattle.record.specs.Texts.{IsCaptureFault, IsCaptured}
+use Rattle.record.specs.declared.capture.whole.CaptureFault.{CaptureFault}
+use Rattle.record.specs.declared.capture.whole.CaptureFault.TheVariants as faults
+use Rattle.record.proofs.WholeLemmas.{captured_as}
 use Rattle.ft12.specs.declared.frame.LinkSize.{LinkSize}
 use Rattle.gateway.specs.Config.{Settings}
 use Rattle.settings.specs.Settings.{IsReadOfText}

@@ -9,14 +9,15 @@ use Rattle.gateway.specs.Log.{Log}
 use Rattle.settings.specs.Live.{Places}
 use Rattle.sqlite_disk.specs.declared.Disk.{Ghosts}
 use Rattle.state.specs.Beginnings.{moment_at}
-use Rattle.state.specs.Directories.{BeginsIn}
 use Rattle.state.specs.declared.beginning.Origin.{Origin}
 use Rattle.state.specs.declared.start.Beginning.{Beginning}
 use Rattle.state.specs.declared.start.Beginning.TheVariants as beginnings
 use Rattle.telegate.specs.Asked.{Asked, SiteCall, run_asked}
 use Rattle.telegate.specs.Kept.{first_moment}
 use Rattle.telegate.specs.Ran.{HasLivedAnew, HasLivedAs, HasLivedKept, RunLeft}
+use Rattle.telegate.specs.Starts.{StartsIn}
 use Rattle.telegate.specs.declared.host.Wishes.{Wishes}
+use Rattle.telegate.proofs.KeptLemmas.{moment_in}
 use Rattle.telegate.proofs.RanLemmas.{all_noted}
 
 first_by : (o : Origin) (beginning : Beginning)
@@ -85,13 +86,14 @@ clocked_anew begins settings wishes places lineage before moments new left ended
 pub clocked_kept : {E D : Type 0} (g : Ghosts D) (settings : Settings) (wishes : Wishes)
     (places : Places) (lineage : Log) (before : List SiteCall)
     (moments : List ℕ) (new : Asked) (left : RunLeft) (ended : Result (Unit {0}) E)
-    (directory : Bor Text) → HasLivedAs (BeginsIn g settings lineage) settings wishes (record {
+    (directory : Bor Text)
+    → HasLivedAs (StartsIn g wishes settings lineage) settings wishes (record {
       places = places;
       lineage = lineage;
       calls = Some before;
       clocks = Some moments;
     }) new left ended → wishes.state ≡ Some directory
-    → (o : Origin) × BeginsIn g settings lineage o × (left.before ≡ o.before.entries)
+    → (o : Origin) × StartsIn g wishes settings lineage o × (left.before ≡ o.before.entries)
     × ((o.beginning ≡ beginnings.GoesOn) ⊎ (o.beginning ≡ beginnings.LinksReset)
     → new.clocks ≡ Some (o.gateway.moment ∷ moments))
     × ((o.beginning ≡ beginnings.Anew) ⊎ (o.beginning ≡ beginnings.PutAside)
@@ -99,16 +101,17 @@ pub clocked_kept : {E D : Type 0} (g : Ghosts D) (settings : Settings) (wishes :
 unfolding was By
 clocked_kept {E} {D} g settings wishes places lineage before moments new left ended directory h
     named =
-    let begins : Origin → Type 0 = BeginsIn g settings lineage in
+    let begins : Origin → Type 0 = StartsIn g wishes settings lineage in
     let k = of_some begins settings wishes places lineage before moments new left ended directory h
     named in
     let o = k.lived.origin in
+    let moment = moment_in g wishes settings lineage o k.lived.begun in
     let at : new.clocks ≡ Some (first_moment o.moment ∷ moments) =
     noted_at begins settings wishes places lineage before moments new left ended
     (first_moment o.moment) k.lived.clock in (
       o,
       k.lived.begun,
       k.lived.on.behind,
-      λ on. at ∙ ap (λ m. Some (m ∷ moments)) (first_on o k.lived.begun.begun.moment on),
-      λ anew. at ∙ ap (λ m. Some (m ∷ moments)) (first_anew o k.lived.begun.begun.moment anew),
+      λ on. at ∙ ap (λ m. Some (m ∷ moments)) (first_on o moment on),
+      λ anew. at ∙ ap (λ m. Some (m ∷ moments)) (first_anew o moment anew),
     )

@@ -4,7 +4,7 @@ use Rattle.std.proofs.Common.{subst}
 use Rattle.std.specs.Prelude.{Bool, Result}
 use Rattle.std.specs.Borrow.{Bor}
 use Rattle.clap.specs.Words.{Text}
-use Rattle.sitefile.specs.declared.site.Site.{Site as SiteFile}
+use Rattle.settings.specs.declared.site.Site.{Site as SiteFile}
 use Rattle.telegate.specs.Shell.{IsNoSite, IsNotRead, IsUnread, ReplaysFile, Responds, RunsAsSaid}
 use Rattle.telegate.specs.Shell.{ChecksBehind, PlayFiles, RunsAtSite, ShowsState, files_of}
 use Rattle.state_files.specs.declared.looking.Stood.{Stood}

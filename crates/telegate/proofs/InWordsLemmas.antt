@@ -4,9 +4,9 @@ use Rattle.std.proofs.Common.{subst, ap, ◌∙◌, append_assoc}
 use Rattle.std.proofs.lemmas.List.{append-nil}
 use Rattle.gateway.specs.Log.{Log, LogEntry, Came, Went, events_of}
 use Rattle.gateway.specs.State.{State}
-use Rattle.ladder.specs.Scribing.{Scribing}
-use Rattle.ladder.specs.Described.{IsLadder, first_remembered}
-use Rattle.ladder.specs.declared.rungs.Style.{Style}
+use Rattle.words.specs.Scribing.{Scribing}
+use Rattle.words.specs.Ladders.{IsLadder, first_remembered}
+use Rattle.words.specs.declared.ladder.rungs.Style.{Style}
 use Rattle.sim.specs.Runs.{IsBegun}
 use Rattle.std.specs.Io.KnownBytes.{Appends}
 use Rattle.traces.specs.Progress.{Progress, Standing, coming_in, script_of}
@@ -14,7 +14,7 @@ use Rattle.telegate.specs.Parts.{IsPartStopped, StaysFaithful}
 use Rattle.telegate.specs.Printed.{IsPoured}
 use Rattle.telegate.specs.InWords.{HasWritten}
 use Rattle.telegate.proofs.PartLemmas.{RunsTo, part_start, runs_begin}
-use Rattle.pages.proofs.Poured.{appends_none}
+use Rattle.traces.proofs.Poured.{appends_none}
 
 -- nothing is written of nothing
 pub no_words : (style : Style) → IsLadder style [] []

@@ -1,12 +1,22 @@
--- The faults with which a live run doesn't begin.
-use Rattle.std.proofs.Common.{◌≡◌, Bool, true, false, refl, sym, subst}
-use Rattle.std.proofs.Common.{Result, Ok, Err}
+-- The faults with which a live run doesn't begin, and with what it begins.
+use Rattle.std.proofs.Common.{◌≡◌, ◌∙◌, Bool, true, false, ap, refl, sym, subst}
+use Rattle.std.proofs.Common.{None, Option, Result, Ok, Err}
+use Rattle.gateway.specs.Config.{Settings}
+use Rattle.gateway.specs.Log.{Log}
 use Rattle.runlog.specs.Logging.{Book}
+use Rattle.sqlite_disk.specs.declared.Disk.{Ghosts}
+use Rattle.state.specs.Beginnings.{moment_at}
+use Rattle.state.specs.Origins.{IsBegun}
+use Rattle.state.specs.declared.beginning.Origin.{Origin}
+use Rattle.state.specs.declared.opened.Opened.{Opened}
+use Rattle.state.specs.declared.start.Beginning.{Beginning}
 use Rattle.telegate.specs.Asked.{Asked, UnclockedIfErr}
 use Rattle.telegate.specs.Kept.{IsEndFault, IsKeptFault}
 use Rattle.telegate.specs.Logged.{IsUnkept, fault_of}
+use Rattle.telegate.specs.Starts.{Found, IsWithout, StartsIn, Without}
 use Rattle.telegate.specs.declared.fault.Fault.{Fault}
 use Rattle.telegate.specs.declared.fault.Fault.TheVariants.{NoMemory, StateInUse, StateUnusable}
+use Rattle.telegate.specs.declared.host.Wishes.{Wishes}
 
 pub end_is_kept : (fault : Fault) → IsEndFault fault → IsKeptFault fault
 end_is_kept StateInUse is = tt
@@ -38,3 +48,26 @@ pub still_unclocked : {A E : Type 0} (result : Result A E) (old new : Asked)
     → new.clocks ≡ old.clocks → UnclockedIfErr result old new
 still_unclocked (Ok value) old new is = tt
 still_unclocked (Err fault) old new is = is
+
+-- with what a directory has, whose log so far goes by another name
+pub found_in : {D : Type 0} (g : Ghosts D) (wishes : Wishes) (c : Settings) (one log : Log)
+    (mark : Option Bool) (opened : Opened D g) (o : Origin) → one ≡ log
+    → IsBegun c one mark opened o → StartsIn g wishes c log o
+found_in g wishes c one log mark opened o same begun =
+    Found (record {
+      mark = mark;
+      opened = opened;
+      begun = subst (λ (l : Log). IsBegun c l mark opened o) same begun;
+    })
+
+-- or without that
+pub without_in : {D : Type 0} (g : Ghosts D) (wishes : Wishes) (c : Settings) (log : Log)
+    (o : Origin) → IsWithout wishes c o → StartsIn g wishes c log o
+without_in g wishes c log o none = Without none
+
+-- the clock goes on where the gateway does
+pub moment_in : {D : Type 0} (g : Ghosts D) (wishes : Wishes) (c : Settings) (log : Log)
+    (o : Origin) → StartsIn g wishes c log o → o.moment ≡ moment_at o.beginning o.gateway.moment
+moment_in g wishes c log o (Found begins) = begins.begun.moment
+moment_in g wishes c log o (Without none) =
+    none.moment ∙ sym (ap (λ (b : Beginning). moment_at b o.gateway.moment) none.anew)

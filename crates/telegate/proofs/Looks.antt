@@ -10,9 +10,9 @@ use Rattle.gateway.specs.Runs.{MoreEvents}
 use Rattle.gateway.specs.State.{State}
 use Rattle.live.specs.declared.watched.Failure.{Failure}
 use Rattle.live.specs.declared.watched.Notice.{Notice}
-use Rattle.lookout.specs.Looking.{looked, turned_after}
-use Rattle.lookout.specs.Looks.{Look}
-use Rattle.lookout.specs.declared.lookout.Lookout.{Lookout}
+use Rattle.status.specs.Looking.{looked, turned_after}
+use Rattle.status.specs.Looks.{Look}
+use Rattle.status.specs.declared.lookout.Lookout.{Lookout}
 use Rattle.status.specs.declared.streams.Stream.{Ghosts}
 use Rattle.telegate.specs.Turns.{AllLooked, AreShown, EndsInTurn, HasGoneOn, HasServed, HaveLooked}
 use Rattle.telegate.specs.Turns.{RunStanding, TakesEvent, stands, Begun, Turned, InATurn}

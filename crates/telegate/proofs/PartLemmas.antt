@@ -28,7 +28,7 @@ use Rattle.telegate.specs.Source.{Gives}
 use Rattle.telegate.specs.declared.fault.Fault.{Fault}
 use Rattle.telegate.specs.declared.fault.Fault.TheVariants.{Trace, NoMemory}
 use Rattle.telegate.proofs.Kept.{keeps_same}
-use Rattle.pages.proofs.Poured.{appends_none, poured_begun}
+use Rattle.traces.proofs.Poured.{appends_none, poured_begun}
 use Rattle.traces.proofs.JoinedLemmas.{events_joined, lines_joined, wrong_behind, wrong_before}
 use Rattle.traces.proofs.JoinedLemmas.{none_wrong_from}
 use Rattle.record.specs.Lines.{event_lines, whole_lines}

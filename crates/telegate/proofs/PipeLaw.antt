@@ -5,8 +5,8 @@ use Rattle.std.specs.Prelude.{Contains, Result, Ok, Err, ◌++◌}
 use Rattle.std.proofs.lemmas.List.Elements.{Contains-append_left, Contains-append_right}
 use Rattle.std.proofs.lemmas.List.Elements.{Contains-push}
 use Rattle.std.specs.List.{AllByRecursion}
-use Rattle.show.specs.declared.condition.Condition.{Condition}
-use Rattle.show.specs.declared.condition.Condition.TheVariants.{Good, Faulty}
+use Rattle.words.specs.declared.facts.condition.Condition.{Condition}
+use Rattle.words.specs.declared.facts.condition.Condition.TheVariants.{Good, Faulty}
 use Rattle.traces.specs.Trace.{lines_of}
 use Rattle.words.specs.Described.{both}
 use Rattle.words.specs.Pipes.{octets_in}

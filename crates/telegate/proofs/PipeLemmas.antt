@@ -5,9 +5,9 @@ use Rattle.std.proofs.lemmas.List.{append-nil}
 use Rattle.std.specs.Prelude.{IfSome, Result, Ok, Err}
 use Rattle.std.specs.Io.KnownBytes.{Appends, Keeps}
 use Rattle.traces.specs.Blocks.{IsGiven, Reading}
-use Rattle.show.specs.declared.condition.Condition.{Condition}
-use Rattle.show.specs.declared.condition.Shown.{Shown}
-use Rattle.show.specs.declared.condition.Condition.TheVariants.{Good, Faulty}
+use Rattle.words.specs.declared.facts.condition.Condition.{Condition}
+use Rattle.words.specs.declared.facts.condition.Shown.{Shown}
+use Rattle.words.specs.declared.facts.condition.Condition.TheVariants.{Good, Faulty}
 use Rattle.sim.specs.Runs.{IsBegun}
 use Rattle.traces.proofs.JoinedLemmas.{lines_joined}
 use Rattle.traces.specs.Trace.{lines_of}
@@ -22,7 +22,7 @@ use Rattle.telegate.specs.declared.fault.Fault.TheVariants.{Device, Unread, NoMe
 use Rattle.telegate.specs.declared.piping.Piped.{Piped}
 use Rattle.telegate.proofs.PartLemmas.{IsRest, joined, rest_begins, rest_behind, rest_last}
 use Rattle.telegate.proofs.PartLemmas.{rest_some, cut_as}
-use Rattle.pages.proofs.Poured.{appends_more, appends_none, appends_begun, begun_behind}
+use Rattle.traces.proofs.Poured.{appends_more, appends_none, appends_begun, begun_behind}
 
 both_along : (a b c : Condition) → both (both a b) c ≡ both a (both b c)
 both_along Good b c = refl

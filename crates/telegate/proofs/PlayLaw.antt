@@ -5,7 +5,7 @@ use Rattle.gateway.specs.Config.{Settings}
 use Rattle.settings.specs.Settings.{IsLiveReadOfText}
 use Rattle.settings.specs.declared.fault.ConfigFault.{ConfigFault}
 use Rattle.settings.specs.declared.live.LiveSettings.{LiveSettings}
-use Rattle.stations.specs.Scenarios.{IsScenarioOf}
+use Rattle.sim.specs.Scenarios.{IsScenarioOf}
 use Rattle.telegate.specs.Playing.{ArePlayedBy, AreStaged, HavePlayed}
 use Rattle.telegate.specs.declared.fault.Fault.TheVariants.{Config, Script}
 use Rattle.traces.specs.declared.reading.TextFault.TheVariants.{Line as WrongLine}

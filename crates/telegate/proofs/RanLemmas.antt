@@ -1,15 +1,15 @@
 -- What came of a live run as it was wished.
 use Rattle.std.proofs.Common.{◌≡◌, ℕ, Bool, List, [], ◌∷◌, ◌++◌, false, true, Option, Some, None}
-use Rattle.std.proofs.Common.{Result, refl, sym, subst, ap, ◌∙◌, is_some}
+use Rattle.std.proofs.Common.{Result, refl, sym, subst, ap, ◌∙◌, ◌⊎◌, inl, inr, is_some}
 use Rattle.std.specs.Borrow.{Bor}
 use Rattle.std.specs.Prelude.{MatchOption}
 use Rattle.clap.specs.Words.{Text}
 use Rattle.gateway.specs.Config.{Settings}
 use Rattle.gateway.specs.Log.{Log}
 use Rattle.live.specs.Ends.{Fixture}
-use Rattle.settings.specs.Live.{Places}
+use Rattle.settings.specs.Live.{Places, places_of}
+use Rattle.settings.specs.declared.live.LiveSettings.{LiveSettings}
 use Rattle.sqlite_disk.specs.declared.Disk.{Ghosts}
-use Rattle.state.specs.Directories.{BeginsIn}
 use Rattle.state.specs.declared.beginning.Origin.{Origin}
 use Rattle.telegate.specs.AsWished.{IsAsWished}
 use Rattle.telegate.specs.Asked.{Asked, StateIn, asked_for, call_if, ends_asked, run_asked}
@@ -17,7 +17,10 @@ use Rattle.telegate.specs.Asked.{LineAt, ListenAt, LogAt, RecordAt, SiteCall, St
 use Rattle.telegate.specs.Asked.{scribes_asked}
 use Rattle.telegate.specs.Kept.{HasLivedFrom, first_moment}
 use Rattle.telegate.specs.Living.{HasLived}
-use Rattle.telegate.specs.Ran.{HasLivedAnew, HasLivedAs, HasLivedKept, IfOver, RunLeft}
+use Rattle.telegate.specs.Ran.{HasCome, HasLivedAnew, HasLivedAs, HasLivedKept, HasNotBegun}
+use Rattle.telegate.specs.Ran.{IfOver, IsOver, RunLeft}
+use Rattle.telegate.specs.Starts.{StartsIn}
+use Rattle.telegate.specs.declared.fault.Fault.{Fault}
 use Rattle.telegate.specs.declared.host.Wishes.{Wishes}
 use Rattle.telegate.specs.declared.living.Over.{Over}
 use Rattle.telegate.specs.declared.living.Over.TheVariants.{Anew, Kept}
@@ -62,19 +65,17 @@ pub by_state : {P A K : Type 0} (state : Option (Bor Text)) → (A → P) → (K
 by_state None anew kept h = anew h
 by_state (Some directory) anew kept h = kept h
 
--- a run that began anew, or one whose state is kept
-pub of_anew : {A K : Type 0} (anew : A → Type 0) (kept : K → Type 0) (over : Over A K) (run : A)
-    → over ≡ Anew run → IfOver over anew kept → anew run
-of_anew anew kept over run is h = subst (λ o. IfOver o anew kept) is h
-
-pub of_kept : {A K : Type 0} (anew : A → Type 0) (kept : K → Type 0) (over : Over A K) (run : K)
-    → over ≡ Kept run → IfOver over anew kept → kept run
-of_kept anew kept over run is h = subst (λ o. IfOver o anew kept) is h
+-- what holds of a run that began anew, and of one whose state is kept
+pub by_over : {A K C : Type 0} (over : Over A K) (P R : A → Type 0) (Q S : K → Type 0)
+    → IfOver over P Q → IfOver over R S → ((run : A) → P run → R run → C)
+    → ((run : K) → Q run → S run → C) → C
+by_over (Anew run) P R Q S p r anew kept = anew run p r
+by_over (Kept run) P R Q S q s anew kept = kept run q s
 
 -- the log so far under another name
-pub begins_by : {D : Type 0} (g : Ghosts D) (c : Settings) (one other : Log)
-    (o : Origin) → one ≡ other → BeginsIn g c one o → BeginsIn g c other o
-begins_by g c one other o same begun = subst (λ log. BeginsIn g c log o) same begun
+pub starts_by : {D : Type 0} (g : Ghosts D) (wishes : Wishes) (c : Settings) (one other : Log)
+    (o : Origin) → one ≡ other → StartsIn g wishes c one o → StartsIn g wishes c other o
+starts_by g wishes c one other o same starts = subst (λ log. StartsIn g wishes c log o) same starts
 
 -- a run that began so began in a way that follows from that
 pub begins_weaker : {E : Type 0} (strong weak : Origin → Type 0) (settings : Settings)
@@ -99,6 +100,27 @@ begins_weaker {E} strong weak settings wishes old new left ended h implies = by 
       wished = kept.wished;
       bears = kept.bears;
     }
+
+-- a run at a site with these places
+pub over_at : (strong weak : Origin → Type 0) (settings : Settings) (places : LiveSettings)
+    (wishes : Wishes) (old new : Asked) (answer : Result (Unit {0}) Fault)
+    → HasNotBegun answer ⊎ HasCome strong settings wishes old new answer
+    → old.places ≡ places_of places → ((o : Origin) → strong o → weak o)
+    → HasNotBegun answer ⊎ IsOver weak settings places wishes answer
+over_at strong weak settings places wishes old new answer (inl none) at implies = inl none
+over_at strong weak settings places wishes old new answer (inr come) at implies =
+    inr (record {
+      old = old;
+      at = at;
+      new = new;
+      come = record {
+        left = come.left;
+        ended = come.ended;
+        lived = begins_weaker strong weak settings wishes old new come.left come.ended come.lived
+            implies;
+        answered = come.answered;
+      };
+    })
 
 -- what is left of it is as it was wished
 pub as_wished : {E : Type 0} (begins : Origin → Type 0) (settings : Settings) (wishes : Wishes)

@@ -5,9 +5,9 @@ use Rattle.gateway.specs.Config.{Settings}
 use Rattle.gateway.specs.Log.{Log}
 use Rattle.gateway.specs.Setups.{setup_of}
 use Rattle.gateway.specs.Traffic.{IsFaithful}
-use Rattle.ladder.specs.Scribing.{Scribing}
-use Rattle.ladder.specs.Described.{IsLadder}
-use Rattle.ladder.specs.declared.rungs.Style.{Style}
+use Rattle.words.specs.Scribing.{Scribing}
+use Rattle.words.specs.Ladders.{IsLadder}
+use Rattle.words.specs.declared.ladder.rungs.Style.{Style}
 use Rattle.sim.specs.Lives.{Plan, plan_of}
 use Rattle.sim.specs.Losses.{turns_of}
 use Rattle.sim.specs.Played.{IsPlayed, Simulated, Stands}

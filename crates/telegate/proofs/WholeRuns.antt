@@ -4,7 +4,7 @@ use Rattle.gateway.specs.Log.{Log}
 use Rattle.gateway.specs.State.{State}
 use Rattle.live.specs.declared.watched.Failure.{Failure}
 use Rattle.live.specs.declared.watched.Notice.{Notice}
-use Rattle.lookout.specs.Looks.{Standing}
+use Rattle.status.specs.Looks.{Standing}
 use Rattle.record.specs.Recording.{Recording, log_of, logged_first}
 use Rattle.runlog.specs.Logging.{Book}
 use Rattle.telegate.specs.Lives.{behind}

@@ -6,12 +6,12 @@ use Rattle.std.specs.Borrow.{Bor}
 use Rattle.std.specs.declared.alloc.Global.{Global}
 use Rattle.clap.specs.Words.{Text}
 use Rattle.live.specs.declared.allow_list.AllowList.{AllowList}
-use Rattle.sitefile.specs.Site.{IsSiteOf, SiteNames, site_of, texts_in}
-use Rattle.sitefile.specs.declared.fault.SiteFault.TheVariants as why
+use Rattle.settings.specs.Site.{IsSiteOf, SiteNames, site_of, texts_in}
+use Rattle.settings.specs.declared.site.fault.SiteFault.TheVariants as why
 use Rattle.telegate.specs.AllowLists.{IsAllowListOf, IsAllowListFault}
 use Rattle.telegate.specs.Wishes.{IsNoSiteAllowList, AreWishes, IsFirstSiteFault, IsGoodSite}
 use Rattle.telegate.specs.Wishes.{IsWishFault, Said, nothing_said, said_in, said_of}
-use Rattle.sitefile.specs.declared.site.Site.{Site as SiteFile}
+use Rattle.settings.specs.declared.site.Site.{Site as SiteFile}
 use Rattle.telegate.specs.declared.fault.Fault.{Fault}
 use Rattle.telegate.specs.declared.fault.Fault.TheVariants.{Address, NoMemory, Site}
 use Rattle.telegate.specs.declared.host.Wishes.{Wishes}

@@ -3,10 +3,10 @@ use Rattle.std.specs.Prelude.{◌≡◌, ◌⊎◌, ℕ, Bool, List, ◌++◌, O
 use Rattle.std.specs.Prelude.{MatchResult, Vec}
 use Rattle.std.specs.Io.KnownBytes.{Appends, Keeps}
 use Rattle.std.specs.declared.alloc.Global.{Global}
-use Rattle.show.specs.Sizes.{sizes_of}
-use Rattle.show.specs.declared.sizes.LineSizes.{LineSizes}
-use Rattle.show.specs.declared.condition.Condition.{Condition}
-use Rattle.show.specs.declared.condition.Condition.TheVariants.{Good, Faulty}
+use Rattle.words.specs.Sizes.{sizes_of}
+use Rattle.words.specs.declared.facts.sizes.LineSizes.{LineSizes}
+use Rattle.words.specs.declared.facts.condition.Condition.{Condition}
+use Rattle.words.specs.declared.facts.condition.Condition.TheVariants.{Good, Faulty}
 use Rattle.traces.specs.Fields.{octets_of}
 use Rattle.words.specs.Described.{IsLineDescribed, IsTcpDescribed}
 use Rattle.traces.specs.Trace.{first_wrong}

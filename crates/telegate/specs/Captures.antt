@@ -1,9 +1,9 @@
 -- What came of the capture of a recorded run (this gateway's own profile).
 use Rattle.std.specs.Prelude.{◌⊎◌, ℕ, List, Option, Result, Ok, Err, MatchResult}
 use Rattle.std.specs.Io.KnownBytes.{Keeps}
-use Rattle.capture.specs.Texts.{IsPartly, IsWhole, IsWrongRecord}
-use Rattle.capture.specs.declared.whole.CaptureFault.{CaptureFault}
-use Rattle.capture.specs.declared.whole.CaptureFault.TheVariants as faults
+use Rattle.record.specs.Texts.{IsPartly, IsWhole, IsWrongRecord}
+use Rattle.record.specs.declared.capture.whole.CaptureFault.{CaptureFault}
+use Rattle.record.specs.declared.capture.whole.CaptureFault.TheVariants as faults
 use Rattle.gateway.specs.Config.{Settings}
 use Rattle.ft12.specs.declared.frame.LinkSize.{LinkSize}
 use Rattle.settings.specs.Settings.{IsReadOfText}

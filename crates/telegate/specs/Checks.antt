@@ -4,7 +4,7 @@ use Rattle.std.specs.declared.alloc.AllocError.{AllocError}
 use Rattle.std.specs.declared.alloc.Global.{Global}
 use Rattle.std.specs.Io.KnownBytes.{Appends, Keeps}
 use Rattle.gateway.specs.Config.{Settings}
-use Rattle.hints.specs.Explained.{IsExplained, IsSiteExplained}
+use Rattle.settings.specs.Explained.{IsExplained, IsSiteExplained}
 use Rattle.settings.specs.Settings.{IsLiveReadOfText, IsReadOfText}
 use Rattle.settings.specs.declared.live.LiveSettings.{LiveSettings}
 use Rattle.sim.specs.Runs.{IsBegun}

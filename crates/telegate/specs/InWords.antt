@@ -1,9 +1,9 @@
 -- A run that is printed in words, between two parts of its text.
 use Rattle.std.specs.Prelude.{◌≡◌, true}
 use Rattle.gateway.specs.Log.{Log}
-use Rattle.ladder.specs.Scribing.{Scribing}
-use Rattle.ladder.specs.Described.{IsLadder}
-use Rattle.ladder.specs.declared.rungs.Style.{Style}
+use Rattle.words.specs.Scribing.{Scribing}
+use Rattle.words.specs.Ladders.{IsLadder}
+use Rattle.words.specs.declared.ladder.rungs.Style.{Style}
 
 -- a scribe has written of all of a log so, and its page is clear
 pub record HasWritten (style : Style) (log : Log) (s : Scribing) : Type 0 where

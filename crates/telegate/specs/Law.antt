@@ -1,4 +1,4 @@
--- Words of the laws on how a live run begins.
+-- Notes that are logged one behind another.
 use Rattle.std.specs.Prelude.{◌≡◌, List, [], ◌∷◌}
 use Rattle.runlog.specs.Logging.{Book, LogsNote}
 use Rattle.runlog.specs.declared.note.Note.{Note}

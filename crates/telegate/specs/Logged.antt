@@ -1,17 +1,22 @@
 -- What is logged before a run begins (profile).
-use Rattle.std.specs.Prelude.{◌≡◌, ℕ, Bool, true, false, Option, Some, None}
+use Rattle.std.specs.Prelude.{◌≡◌, ℕ, Bool, true, false, Option, Some, None, map}
 use Rattle.std.specs.declared.net.socket_addr.SocketAddr.{SocketAddr}
 use Rattle.gateway.specs.Log.{GapOut}
 use Rattle.gateway.specs.State.{State}
 use Rattle.runlog.specs.Logging.{Book, LogsNote, LogsAction}
 use Rattle.runlog.specs.declared.note.Note.{Note}
 use Rattle.runlog.specs.declared.note.Note.TheVariants as note
+use Rattle.runlog.specs.declared.note.Obstacle.{Obstacle}
 use Rattle.runlog.specs.declared.note.Trouble.TheVariants as trouble
 use Rattle.state.specs.declared.beginning.Origin.{Origin}
-use Rattle.state_words.specs.Notes.{note_of, note_of_queue, note_of_settings}
+use Rattle.state_words.specs.Notes.{note_of, note_of_damage, note_of_given_up, note_of_queue}
+use Rattle.state_words.specs.Notes.{note_of_settings}
+use Rattle.telegate.specs.Law.{LogsAll}
 use Rattle.telegate.specs.declared.fault.Fault.{Fault}
 use Rattle.telegate.specs.declared.fault.Fault.TheVariants.{EndUnusable, NoMemory, StateInUse}
 use Rattle.telegate.specs.declared.fault.Fault.TheVariants.{StateUnusable}
+use Rattle.telegate.specs.declared.shelf.Shelf.{Shelf}
+use Rattle.telegate.specs.declared.shelf.Shelf.TheVariants.{Nowhere, Stored}
 use Rattle.telegate.specs.declared.site.EndRefusal.{EndRefusal}
 
 -- a note is logged, if there is one
@@ -36,13 +41,26 @@ LogsGap (Some moment) (Some gap) old new = LogsAction old moment (GapOut gap.0 g
 
 -- how a run begins is logged, in this order, and nothing else
 pub record LogsBeginning (o : Origin) (old new : Book) : Type 0 where
+  pub told : Book
+  pub damage : LogsNoteIf (note_of_damage o.damage) old told
   pub begun : Book
-  pub begins : LogsNoteIf (note_of o.beginning) old begun
+  pub begins : LogsNoteIf (note_of o.beginning) told begun
   pub moved : Book
   pub settings : LogsNoteIf (note_of_settings o.is_moved) begun moved
   pub noted : Book
   pub goes_on : LogsNoteIf (note_if_on o.moment o.gateway) moved noted
-  pub gap : LogsGap o.moment o.gap noted new
+  pub named : Book
+  pub gives_up : LogsAll (map note_of_given_up o.given_up.items) noted named
+  pub gap : LogsGap o.moment o.gap named new
+
+-- its directory can't be used, so that it begins without a state
+abbrev pub LogsWithout : (old new : Book) → Type 0
+LogsWithout old new = (why : Obstacle) × LogsNote old (note.StateUnused why) new
+
+-- with what the directory has, where there is a store for it, or without that
+abbrev pub LogsOpening : {S : Type 0} → Shelf S → Origin → (old new : Book) → Type 0
+LogsOpening (Stored store) o old new = LogsBeginning o old new
+LogsOpening Nowhere o old new = LogsWithout old new
 
 -- The state can't be had, which is logged, unless memory is refused.
 abbrev pub IsUnkept : Fault → (old new : Book) → Type 0

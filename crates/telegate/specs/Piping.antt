@@ -3,11 +3,11 @@ use Rattle.std.specs.Prelude.{◌≡◌, ◌⊎◌, ℕ, Bool, List, [], ◌∷�
 use Rattle.std.specs.Prelude.{Ok, Err, MatchResult, codes, string_bytes}
 use Rattle.std.specs.Fmt.{decimal}
 use Rattle.std.specs.Io.KnownBytes.{Appends, Keeps}
-use Rattle.show.specs.Sizes.{sizes_of}
-use Rattle.show.specs.declared.sizes.LineSizes.{LineSizes}
-use Rattle.show.specs.declared.condition.Condition.{Condition}
-use Rattle.show.specs.declared.condition.Shown.{Shown}
-use Rattle.show.specs.declared.condition.Condition.TheVariants.{Good, Faulty}
+use Rattle.words.specs.Sizes.{sizes_of}
+use Rattle.words.specs.declared.facts.sizes.LineSizes.{LineSizes}
+use Rattle.words.specs.declared.facts.condition.Condition.{Condition}
+use Rattle.words.specs.declared.facts.condition.Shown.{Shown}
+use Rattle.words.specs.declared.facts.condition.Condition.TheVariants.{Good, Faulty}
 use Rattle.sim.specs.Runs.{IsBegun}
 use Rattle.traces.specs.Trace.{lines_of}
 use Rattle.words.specs.Pipes.{octets_in}

@@ -5,9 +5,9 @@ use Rattle.live.specs.Timing.{Moments}
 use Rattle.live.specs.OctetStreams.{Attempts}
 use Rattle.settings.specs.Settings.{IsLiveReadOfText}
 use Rattle.settings.specs.declared.live.LiveSettings.{LiveSettings}
-use Rattle.stations.specs.Scenarios.{IsScenarioOf}
-use Rattle.stations.specs.TimedServers.{PlaysOn, TimedServer, first_server}
-use Rattle.stations.specs.declared.scenario.Scenario.{Scenario}
+use Rattle.sim.specs.Scenarios.{IsScenarioOf}
+use Rattle.sim.specs.TimedServers.{PlaysOn, TimedServer, first_server}
+use Rattle.sim.specs.declared.stations.scenario.Scenario.{Scenario}
 use Rattle.telegate.specs.declared.fault.Fault.{Fault}
 use Rattle.telegate.specs.declared.fault.Fault.TheVariants.{Config, Script, Device, NoMemory}
 use Rattle.traces.specs.declared.reading.TextFault.TheVariants.{Line as WrongLine}

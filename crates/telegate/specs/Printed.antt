@@ -1,7 +1,7 @@
 -- How the text of a run ends that is printed while it goes on.
 use Rattle.std.specs.Prelude.{ℕ, List, ◌++◌, Option, Result, Ok, Err}
 use Rattle.std.specs.Io.KnownBytes.{Appends}
-pub use Rattle.pages.specs.Pouring.{IsBegun, IsPoured}
+pub use Rattle.traces.specs.Pouring.{IsBegun, IsPoured}
 use Rattle.telegate.specs.declared.fault.Fault.{Fault}
 use Rattle.telegate.specs.declared.fault.Fault.TheVariants.{Device, NoMemory}
 

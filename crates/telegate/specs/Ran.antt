@@ -69,16 +69,21 @@ abbrev pub answer_to : Result (Unit {0}) DeviceFailed → Result (Unit {0}) Faul
 answer_to (Ok done) = Ok done
 answer_to (Err failed) = Err Device
 
--- a run with these settings is over, at a site with their places, and this is answered of it
+-- a run with these settings is over, as it was wished, and this is answered of it
+pub record HasCome (begins : Origin → Type 0) (settings : Settings) (wishes : Wishes)
+    (old new : Asked) (answer : Result (Unit {0}) Fault) : Type 0 where
+  pub left : RunLeft
+  pub ended : Result (Unit {0}) DeviceFailed
+  pub lived : HasLivedAs begins settings wishes old new left ended
+  pub answered : answer ≡ answer_to ended
+
+-- and it was at a site with the places of these settings
 pub record IsOver (begins : Origin → Type 0) (settings : Settings) (places : LiveSettings)
     (wishes : Wishes) (answer : Result (Unit {0}) Fault) : Type 0 where
   pub old : Asked
   pub at : old.places ≡ places_of places
   pub new : Asked
-  pub left : RunLeft
-  pub ended : Result (Unit {0}) DeviceFailed
-  pub lived : HasLivedAs begins settings wishes old new left ended
-  pub answered : answer ≡ answer_to ended
+  pub come : HasCome begins settings wishes old new answer
 
 -- it didn't begin: an end of it, or its state, can't be had
 abbrev pub HasNotBegun : Result (Unit {0}) Fault → Type 0

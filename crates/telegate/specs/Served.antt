@@ -8,7 +8,7 @@ use Rattle.gateway.specs.State.{State}
 use Rattle.live.specs.Ends.{Fixture, LiveEnds, failure_of, fixed_of}
 use Rattle.live.specs.declared.watched.Failure.{Failure}
 use Rattle.live.specs.declared.watched.Notice.{Notice}
-use Rattle.lookout.specs.Looks.{Standing}
+use Rattle.status.specs.Looks.{Standing}
 use Rattle.runlog.specs.Logging.{Book}
 use Rattle.state.specs.Both.{Both}
 use Rattle.state.specs.Keeping as keeping

@@ -3,7 +3,7 @@ use Rattle.std.specs.Prelude.{◌≡◌, ◌≤◌, ℕ, Bool, List, ◌++◌, O
 use Rattle.std.specs.Io.KnownBytes.{Appends}
 use Rattle.gateway.specs.Config.{Settings}
 use Rattle.gateway.specs.Log.{Log}
-use Rattle.ladder.specs.Described.{IsLadder}
+use Rattle.words.specs.Ladders.{IsLadder}
 use Rattle.ft12.specs.declared.frame.Frame.{Frame}
 use Rattle.gateway.specs.Setups.{setup_of}
 use Rattle.gateway.specs.Traffic.{IsFaithful}

@@ -8,9 +8,9 @@ use Rattle.gateway.specs.Runs.{AtMostEvents, MoreEvents}
 use Rattle.gateway.specs.State.{State}
 use Rattle.live.specs.declared.watched.Failure.{Failure}
 use Rattle.live.specs.declared.watched.Notice.{Notice}
-use Rattle.lookout.specs.Looking.{looked, turned_after}
-use Rattle.lookout.specs.Looks.{Look, Standing}
-use Rattle.lookout.specs.declared.lookout.Lookout.{Lookout}
+use Rattle.status.specs.Looking.{looked, turned_after}
+use Rattle.status.specs.Looks.{Look, Standing}
+use Rattle.status.specs.declared.lookout.Lookout.{Lookout}
 use Rattle.record.specs.Recording.{AreAgreed, RecordedFixture, Recording, recorded_fixture}
 use Rattle.runlog.specs.Logging.{Book, Closes, Tends}
 use Rattle.status.specs.declared.streams.Stream.{Ghosts}

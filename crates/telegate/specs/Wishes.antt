@@ -5,10 +5,10 @@ use Rattle.std.specs.Prelude.{Option, Some, None, MatchOption, Result, codes}
 use Rattle.std.specs.Option.{option_or}
 use Rattle.clap.specs.Words.{Text}
 use Rattle.live.specs.declared.allow_list.AllowList.{AllowList}
-use Rattle.sitefile.specs.Site.{IsFaultOfText, IsSiteOf, SiteNames, SiteValues, empty_site}
-use Rattle.sitefile.specs.Site.{names_of, site_of}
-use Rattle.sitefile.specs.declared.fault.SiteFault.TheVariants as why
-use Rattle.sitefile.specs.declared.site.Site.{Site as SiteFile}
+use Rattle.settings.specs.Site.{IsFaultOfText, IsSiteOf, SiteNames, SiteValues, empty_site}
+use Rattle.settings.specs.Site.{names_of, site_of}
+use Rattle.settings.specs.declared.site.fault.SiteFault.TheVariants as why
+use Rattle.settings.specs.declared.site.Site.{Site as SiteFile}
 use Rattle.telegate.specs.CommandLine.{text_of, texts_of}
 use Rattle.telegate.specs.Faults.{status_of, status_of_end}
 use Rattle.telegate.specs.AllowLists.{IsAllowListOf, IsAllowListFault, WritesNone}

@@ -7,9 +7,9 @@ ghost use Rattle.telegate.specs.Asking.{IsUnanswered, ShowsPage, ShowsStatus};
 use crate::fault::Fault;
 use crate::host::{Host, Unread};
 use crate::performing::write_fault;
-use pages::print;
 use status::{UNKNOWN, body_of, exit_status};
 use std::io::Write;
+use traces::print;
 
 /// A request for the table.
 const TABLE: &[u8] = b"GET /status.txt HTTP/1.0\r\n\r\n";

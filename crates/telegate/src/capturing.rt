@@ -6,7 +6,7 @@ use crate::check::read_config;
 use crate::fault::Fault;
 use crate::replay::open;
 use crate::source::Source;
-use capture::{CaptureFault, capture_text};
+use record::{CaptureFault, capture_text};
 use std::alloc::Global;
 use std::io::Write;
 

@@ -11,7 +11,7 @@ use centre::{
     tag_of,
 };
 use live::{LineSocket, RunClock, SystemClock};
-use pages::print;
+use traces::print;
 use settings::{is_address, read_config};
 use std::alloc::{AllocError, Global};
 use std::io;
@@ -124,7 +124,7 @@ fn addresses_of<H: Host, E: Write>(
     let octets = read_file(host, name, err)?;
     let config = match read_config(alloc, octets.as_slice(), false) {
         Ok(config) => config,
-        Err(fault) => return Err(write_fault(&Fault::from(fault), err)),
+        Err(fault) => return Err(write_fault(&Fault::Config(fault), err)),
     };
     for station in config.stations() {
         if addresses.push(station.ca).is_err() {

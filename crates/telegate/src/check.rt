@@ -10,14 +10,13 @@ use crate::fault::{DONE, Fault};
 use crate::living::read_live;
 use crate::performing::{give, write_fault};
 use gateway::Config;
-use hints::{explain, explain_site};
-use pages::print;
-use settings::{ConfigFault, is_here};
+use settings::{ConfigFault, explain, explain_site, is_here};
 use std::alloc::{AllocError, Global};
 use std::io::Write;
+use traces::print;
 
 /// How settings are judged.
-#[derive(Clone, Copy, PartialEq, Eq)]
+#[derive(Clone, Copy)]
 pub struct Checking {
     /// As for a live run, which needs the keys of `live`.
     pub live: bool,

@@ -9,7 +9,7 @@ use gateway::Gateway;
 use std::alloc::{AllocError, Global};
 
 /// Which lines a run ends with.
-#[derive(Clone, Copy, PartialEq, Eq)]
+#[derive(Clone, Copy)]
 pub(crate) struct Closing {
     /// A line for each piece that no connection has acknowledged, oldest first.
     pub(crate) left: bool,

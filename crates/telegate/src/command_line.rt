@@ -1,10 +1,10 @@
 //! The command line.
-ghost use Rattle.std.specs.Prelude.{◌≡◌, [], IfOk, codes, map, option_map, string_bytes};
+ghost use Rattle.std.specs.Prelude.{◌≡◌, IfOk, codes, map, option_map, string_bytes};
 ghost use Rattle.clap.specs.Words.{App, FailsBy, fault_of, found_of, first_of, rows_of};
 ghost use Rattle.clap.specs.Words.{subcommand_of, subcommand_rows_of, with_subcommand};
 ghost use Rattle.telegate.specs.CommandLine as line;
 ghost use Rattle.telegate.specs.CommandLine.{AreGiven, AreRunWords, texts_of, IsArgument, IsAsked};
-ghost use Rattle.telegate.specs.CommandLine.{IsCommand, IsFlag, IsRequestOf};
+ghost use Rattle.telegate.specs.CommandLine.{IsCommand, IsFlag, IsRequestOf, rule_in, with_all};
 
 use crate::centre::CentreWords;
 use crate::help;
@@ -13,7 +13,7 @@ use clap::{Arg, ArgAction, ArgMatches, Command, Error};
 use std::alloc::{AllocError, Global};
 
 /// What the words ask for.
-#[derive(Clone, Copy, PartialEq, Eq)]
+#[derive(Clone, Copy)]
 pub(crate) enum CommandRequest<'m, 'a> {
     /// The sizes of addresses, octets or `-`, and whether a frame is shown in one line of words.
     Show101 {
@@ -100,271 +100,281 @@ const IN_COLORS: &str = "Prints the words in colours, one for each side, also wh
 /// What octets are.
 const OCTETS: &str = "1 to 1,024 octets in hexadecimal; or - for lines of octets on standard input";
 
-fn word<'a>(alloc: Global, name: &'a str, help: &'a str) -> Arg<'a>
-    ensures { IsArgument (line.word name.entry.now) result }
-{
-    Arg::new(alloc, name)
-        .required(true)
-        .action(ArgAction::Set)
-        .help(help)
+/// A word that a command takes: its name, and what help says of it.
+#[derive(Clone, Copy)]
+pub(crate) enum CommandWord<'a> {
+    /// It has to be given, at its place.
+    Needed(&'a str, &'a str),
+    /// It may be given, at its place.
+    Further(&'a str, &'a str),
+    /// `--name`, at most once.
+    Flag(&'a str, &'a str),
+    /// `--name WORD`, at most once.
+    Single(&'a str, &'a str),
+    /// `--name WORD`, any number of times.
+    Repeated(&'a str, &'a str),
 }
 
-/// A word that need not be given.
-fn further_word<'a>(alloc: Global, name: &'a str, help: &'a str) -> Arg<'a>
-    ensures { IsArgument (line.further_word name.entry.now) result }
+fn argument<'a>(alloc: Global, word: CommandWord<'a>) -> Arg<'a>
+    ensures { IsArgument (rule_in word.entry) result }
 {
-    Arg::new(alloc, name).action(ArgAction::Set).help(help)
+    match word {
+        CommandWord::Needed(name, help) => Arg::new(alloc, name)
+            .required(true)
+            .action(ArgAction::Set)
+            .help(help),
+        CommandWord::Further(name, help) => {
+            Arg::new(alloc, name).action(ArgAction::Set).help(help)
+        }
+        CommandWord::Flag(name, help) => Arg::new(alloc, name)
+            .long(name)
+            .action(ArgAction::SetTrue)
+            .help(help),
+        CommandWord::Single(name, help) => Arg::new(alloc, name)
+            .long(name)
+            .action(ArgAction::Set)
+            .help(help),
+        CommandWord::Repeated(name, help) => Arg::new(alloc, name)
+            .long(name)
+            .action(ArgAction::Append)
+            .help(help),
+    }
 }
 
-fn flag<'a>(alloc: Global, name: &'a str, help: &'a str) -> Arg<'a>
-    ensures { IsArgument (line.flag name.entry.now) result }
+/// A command that takes these words too, in this order.
+fn with_words<'a>(
+    alloc: Global,
+    command: Command<'a>,
+    words: &[CommandWord<'a>],
+) -> Result<Command<'a>, AllocError>
+    ensures { IfOk result (λ r. (app : App) → IsCommand app command.entry →
+        IsCommand (with_all (map rule_in words.entry.now) app) r) }
 {
-    Arg::new(alloc, name)
-        .long(name)
-        .action(ArgAction::SetTrue)
-        .help(help)
-}
-
-fn single<'a>(alloc: Global, name: &'a str, help: &'a str) -> Arg<'a>
-    ensures { IsArgument (line.single name.entry.now) result }
-{
-    Arg::new(alloc, name)
-        .long(name)
-        .action(ArgAction::Set)
-        .help(help)
-}
-
-fn option<'a>(alloc: Global, name: &'a str, help: &'a str) -> Arg<'a>
-    ensures { IsArgument (line.option name.entry.now) result }
-{
-    Arg::new(alloc, name)
-        .long(name)
-        .action(ArgAction::Append)
-        .help(help)
+    let mut command = command;
+    for word in words {
+        command = command.arg(argument(alloc, *word))?;
+    }
+    Ok(command)
 }
 
 fn show101<'a>(alloc: Global) -> Result<Command<'a>, AllocError>
     ensures { IfOk result (IsCommand line.show101) }
 {
-    Command::new(alloc, "show101")
-        .about("Shows the line frame at the front of octets")
-        .arg(word(
-            alloc,
+    let command = Command::new(alloc, "show101").about(
+        "Shows the line frame at the front of octets",
+    );
+    let words = [
+        CommandWord::Needed(
             "SIZES",
-            "Four digits: how many octets the link address, the cause, the common address and the \
-            object address have, as 1112",
-        ))?
-        .arg(word(alloc, "HEX", OCTETS))?
-        .arg(flag(alloc, "words", IN_WORDS))
+            "Four digits: how many octets the link address, the cause, the common address and \
+            the object address have, as 1112",
+        ),
+        CommandWord::Needed("HEX", OCTETS),
+        CommandWord::Flag("words", IN_WORDS),
+    ];
+    with_words(alloc, command, &words)
 }
 
 fn show104<'a>(alloc: Global) -> Result<Command<'a>, AllocError>
     ensures { IfOk result (IsCommand line.show104) }
 {
-    Command::new(alloc, "show104")
-        .about("Shows the APDU at the front of octets")
-        .arg(word(alloc, "HEX", OCTETS))?
-        .arg(flag(alloc, "words", IN_WORDS))
+    let command = Command::new(alloc, "show104").about("Shows the APDU at the front of octets");
+    let words = [
+        CommandWord::Needed("HEX", OCTETS),
+        CommandWord::Flag("words", IN_WORDS),
+    ];
+    with_words(alloc, command, &words)
 }
 
 fn check<'a>(alloc: Global) -> Result<Command<'a>, AllocError>
     ensures { IfOk result (IsCommand line.check) }
 {
-    Command::new(alloc, "check")
+    let command = Command::new(alloc, "check")
         .about("Checks a file of settings, and that of a site")
-        .after_help(help::CHECK)
-        .arg(word(alloc, "CONFIG", "A file of settings"))?
-        .arg(flag(
-            alloc,
+        .after_help(help::CHECK);
+    let words = [
+        CommandWord::Needed("CONFIG", "A file of settings"),
+        CommandWord::Flag(
             "live",
             "Judges the keys of `live` as `run` does, and tells where the line is elsewhere",
-        ))?
-        .arg(flag(
-            alloc,
+        ),
+        CommandWord::Flag(
             "explain",
             "Prints behind a fault where it is, and what is wanted there",
-        ))?
-        .arg(single(
-            alloc,
+        ),
+        CommandWord::Single(
             "site",
             "A file of what belongs to this site, which is judged first",
-        ))
-}
-
-/// The command of a replay, without its words.
-fn bare_replay<'a>(alloc: Global) -> Command<'a>
-    ensures { IsCommand (line.command (codes "replay") []) result }
-{
-    Command::new(alloc, "replay")
-        .about("Runs the gateway over the events of a trace, and prints what it puts out")
-        .after_help(help::REPLAY)
+        ),
+    ];
+    with_words(alloc, command, &words)
 }
 
 fn replay<'a>(alloc: Global) -> Result<Command<'a>, AllocError>
     ensures { IfOk result (IsCommand line.replay) }
 {
-    bare_replay(alloc)
-        .arg(word(alloc, "CONFIG", "A file of settings"))?
-        .arg(word(alloc, "TRACE", "A file of events, one a line"))?
-        .arg(flag(
-            alloc,
+    let command = Command::new(alloc, "replay")
+        .about("Runs the gateway over the events of a trace, and prints what it puts out")
+        .after_help(help::REPLAY);
+    let words = [
+        CommandWord::Needed("CONFIG", "A file of settings"),
+        CommandWord::Needed("TRACE", "A file of events, one a line"),
+        CommandWord::Flag(
             "left",
             "Prints a line for each piece that was not acknowledged",
-        ))?
-        .arg(flag(
-            alloc,
+        ),
+        CommandWord::Flag(
             "counts",
             "Prints a line with what was dropped, given up or spoilt",
-        ))?
-        .arg(flag(alloc, "words", RUN_IN_WORDS))?
-        .arg(flag(alloc, "color", IN_COLORS))
+        ),
+        CommandWord::Flag("words", RUN_IN_WORDS),
+        CommandWord::Flag("color", IN_COLORS),
+    ];
+    with_words(alloc, command, &words)
 }
 
 fn sim<'a>(alloc: Global) -> Result<Command<'a>, AllocError>
     ensures { IfOk result (IsCommand line.sim) }
 {
-    Command::new(alloc, "sim")
+    let command = Command::new(alloc, "sim")
         .about(
             "Runs the gateway over simulated stations and a simulated control centre, and prints \
             what it puts out",
         )
-        .after_help(help::SIM)
-        .arg(word(alloc, "CONFIG", "A file of settings"))?
-        .arg(word(
-            alloc,
+        .after_help(help::SIM);
+    let words = [
+        CommandWord::Needed("CONFIG", "A file of settings"),
+        CommandWord::Needed(
             "SCRIPT",
             "A file of reports, losses, cuts and commands, one a line",
-        ))?
-        .arg(flag(alloc, "words", RUN_IN_WORDS))?
-        .arg(flag(alloc, "color", IN_COLORS))
+        ),
+        CommandWord::Flag("words", RUN_IN_WORDS),
+        CommandWord::Flag("color", IN_COLORS),
+    ];
+    with_words(alloc, command, &words)
 }
 
 fn audit<'a>(alloc: Global) -> Result<Command<'a>, AllocError>
     ensures { IfOk result (IsCommand line.audit) }
 {
-    Command::new(alloc, "audit")
+    let command = Command::new(alloc, "audit")
         .about("Runs the gateway over the events of a recorded run, and compares the actions")
-        .after_help(help::AUDIT)
-        .arg(word(alloc, "CONFIG", "A file of settings"))?
-        .arg(word(alloc, "RECORD", "A file of events and actions, one a line"))
-}
-
-/// The command of a live run, without its words.
-fn bare_run<'a>(alloc: Global) -> Command<'a>
-    ensures { IsCommand (line.command (codes "run") []) result }
-{
-    Command::new(alloc, "run")
-        .about("Runs the gateway between a line and a control centre, until the line ends")
-        .after_help(help::RUN)
+        .after_help(help::AUDIT);
+    let words = [
+        CommandWord::Needed("CONFIG", "A file of settings"),
+        CommandWord::Needed("RECORD", "A file of events and actions, one a line"),
+    ];
+    with_words(alloc, command, &words)
 }
 
 fn run<'a>(alloc: Global) -> Result<Command<'a>, AllocError>
     ensures { IfOk result (IsCommand line.run) }
 {
-    bare_run(alloc)
-        .arg(word(
-            alloc,
+    let command = Command::new(alloc, "run")
+        .about("Runs the gateway between a line and a control centre, until the line ends")
+        .after_help(help::RUN);
+    let words = [
+        CommandWord::Needed(
             "CONFIG",
             "A file of settings, whose table `live` says where the line is and where to listen",
-        ))?
-        .arg(flag(
-            alloc,
+        ),
+        CommandWord::Flag(
             "redial",
             "Reaches the line again where it ends, once a second, and goes on",
-        ))?
-        .arg(flag(
-            alloc,
-            "log",
-            "Tells on standard error what happens, one line each",
-        ))?
-        .arg(flag(alloc, "record", "Prints each event and each action"))?
-        .arg(single(
-            alloc,
+        ),
+        CommandWord::Flag("log", "Tells on standard error what happens, one line each"),
+        CommandWord::Flag("record", "Prints each event and each action"),
+        CommandWord::Single(
             "state",
             "A directory in which the state is kept, from which the run goes on; it is made where \
             it isn't there",
-        ))?
-        .arg(flag(
-            alloc,
+        ),
+        CommandWord::Flag(
             "state-or-stop",
-            "Ends the run where the state can't be kept any more, in place of going on without it",
-        ))?
-        .arg(option(
-            alloc,
+            "Ends the run where the state can't be kept, in place of going on without it",
+        ),
+        CommandWord::Repeated(
             "allow",
             "The address of a control centre that may connect; without it any may",
-        ))?
-        .arg(single(
-            alloc,
+        ),
+        CommandWord::Single(
             "status",
             "Where the run can be looked at by HTTP, as 127.0.0.1:8104",
-        ))?
-        .arg(single(
-            alloc,
+        ),
+        CommandWord::Single(
             "site",
             "A file of what belongs to this site: names, and what these words say too",
-        ))?
-        .arg(flag(
-            alloc,
+        ),
+        CommandWord::Flag(
             "log-severity",
             "Begins each line of the log with how severe it is, as systemd's journal takes it",
-        ))
+        ),
+    ];
+    with_words(alloc, command, &words)
 }
 
 fn status<'a>(alloc: Global) -> Result<Command<'a>, AllocError>
     ensures { IfOk result (IsCommand line.status) }
 {
-    Command::new(alloc, "status")
+    let command = Command::new(alloc, "status")
         .about("Asks a live run how it stands, and ends as a monitor wants it")
-        .after_help(help::STATUS)
-        .arg(word(
-            alloc,
+        .after_help(help::STATUS);
+    let words = [
+        CommandWord::Needed(
             "PLACE",
             "Where the run can be looked at (`run --status`), as 127.0.0.1:8104",
-        ))?
-        .arg(flag(alloc, "json", "Prints JSON in place of the table"))
+        ),
+        CommandWord::Flag("json", "Prints JSON in place of the table"),
+    ];
+    with_words(alloc, command, &words)
 }
 
 fn state<'a>(alloc: Global) -> Result<Command<'a>, AllocError>
     ensures { IfOk result (IsCommand line.state) }
 {
-    Command::new(alloc, "state")
+    let command = Command::new(alloc, "state")
         .about("Shows what a run would go on with, and changes nothing")
-        .after_help(help::STATE)
-        .arg(word(
-            alloc,
+        .after_help(help::STATE);
+    let words = [
+        CommandWord::Needed(
             "DIR",
             "A directory in which a run keeps its state (`run --state`)",
-        ))?
-        .arg(further_word(
-            alloc,
+        ),
+        CommandWord::Further(
             "CONFIG",
             "A file of settings, to tell whether the state was kept under others",
-        ))
+        ),
+    ];
+    with_words(alloc, command, &words)
 }
 
 fn capture<'a>(alloc: Global) -> Result<Command<'a>, AllocError>
     ensures { IfOk result (IsCommand line.capture) }
 {
-    Command::new(alloc, "capture")
+    let command = Command::new(alloc, "capture")
         .about("Writes a recorded run as a capture (pcapng) that Wireshark reads")
-        .after_help(help::CAPTURE)
-        .arg(word(alloc, "CONFIG", "A file of settings"))?
-        .arg(word(alloc, "RECORD", "A file of events and actions, one a line"))
+        .after_help(help::CAPTURE);
+    let words = [
+        CommandWord::Needed("CONFIG", "A file of settings"),
+        CommandWord::Needed("RECORD", "A file of events and actions, one a line"),
+    ];
+    with_words(alloc, command, &words)
 }
 
 fn stations<'a>(alloc: Global) -> Result<Command<'a>, AllocError>
     ensures { IfOk result (IsCommand line.stations) }
 {
-    Command::new(alloc, "stations")
+    let command = Command::new(alloc, "stations")
         .about("Plays outstations in real time, as behind a serial device server")
-        .after_help(help::STATIONS)
-        .arg(word(
-            alloc,
+        .after_help(help::STATIONS);
+    let words = [
+        CommandWord::Needed(
             "CONFIG",
             "A file of settings, whose key `live.line` says where to listen",
-        ))?
-        .arg(word(alloc, "SCRIPT", "A file of reports and losses, one a line"))
+        ),
+        CommandWord::Needed("SCRIPT", "A file of reports and losses, one a line"),
+    ];
+    with_words(alloc, command, &words)
 }
 
 fn centre<'a>(alloc: Global) -> Result<Command<'a>, AllocError>

@@ -3,8 +3,7 @@ ghost use Rattle.std.specs.Prelude.{◌≡◌};
 ghost use Rattle.telegate.specs.Faults.{status_of};
 ghost use Rattle.telegate.specs.declared.fault.Fault.TheVariants as fault;
 
-use settings::ConfigFault;
-use sitefile::SiteFault;
+use settings::{ConfigFault, SiteFault};
 use std::alloc::AllocError;
 use thiserror::Error;
 

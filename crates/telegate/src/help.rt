@@ -66,8 +66,8 @@ connect; without it anyone may. With --redial the run lives on if the line ends 
 With --state DIR the run keeps its state in that directory. Each event is on the disk before
 anything goes out that follows from it, and the next run there goes on where this one ended, however
 it ended. Without it a run begins with an empty queue, and what no control centre had acknowledged
-is lost with the process. If the state can't be kept any more, the run goes on without it, says so,
-and tries again; with --state-or-stop it ends.
+is lost with the process. If the state can't be kept, and what stands there can be marked as stale,
+the run goes on without it and says so each minute; with --state-or-stop it ends.
 
 With --log standard error gets a line for each thing that happens; with --log-severity each begins
 with syslog's number, <3> to <6>. With --status HOST:PORT a browser sees there how the run stands.

@@ -1,10 +1,11 @@
 //! What the program needs of the system that it runs on.
-ghost use Rattle.std.specs.Prelude.{◌≡◌, ℕ, Bool, List, Result, IfOk, IfErr};
-ghost use Rattle.stations.specs.Scenarios.{FitsScenario};
+ghost use Rattle.std.specs.Prelude.{◌≡◌, ◌⊎◌, ℕ, Bool, List, Result, IfOk, IfErr};
+ghost use Rattle.sim.specs.Scenarios.{FitsScenario};
 ghost use Rattle.telegate.specs.Playing.{ArePlayed};
-ghost use Rattle.telegate.specs.Ran.{answer_to};
+ghost use Rattle.telegate.specs.Ran.{HasNotBegun, IsOver};
 ghost use Rattle.state_files.specs.declared.looking.Stood.{Stood};
 ghost use Rattle.telegate.specs.Source.{Gives};
+ghost use Rattle.telegate.specs.Starts.{StartsIn};
 ghost use Rattle.telegate.specs.declared.fault.Fault.{Fault};
 ghost use Rattle.telegate.specs.declared.host.Unread.TheVariants as unread;
 ghost use Rattle.telegate.specs.declared.host.Wishes.{Wishes};
@@ -12,22 +13,20 @@ ghost use Rattle.telegate.specs.declared.host.Wishes.{Wishes};
 use crate::centre::{Errands, Uncontrolled, control_at};
 use crate::fault::Fault;
 use crate::inquiry::ask_at;
-use crate::living::{Over, read_live, run_at};
+use crate::living::{read_live, run_out};
 use crate::playing::{play_behind, scenario_of};
-use crate::running::DeviceFailed;
 use crate::site::Process;
 use crate::source::Source;
 use centre::Outcome;
 use gateway::{Config, History};
 use live::{AllowList, SystemClock};
 use runlog::{LogNames, NamedStation};
-use settings::LiveSettings;
-use sitefile::Names as SiteNames;
+use settings::{LiveSettings, Names as SiteNames};
+use sim::{LineListener, Scenario};
 use sqlite_disk::Disk;
 use sqlite_std_file::File as DiskFile;
 use state::Folder;
 use state_files::{Directory, Stood, stood_in};
-use stations::{LineListener, Scenario};
 use std::alloc::{AllocError, Global};
 use std::fs::File;
 use std::io;
@@ -41,7 +40,7 @@ pub(crate) const INPUT: &str = "-";
 const NOWHERE: &str = "/dev/null";
 
 /// Why the octets of a file, or of an answer, aren't had.
-#[derive(Clone, Copy, PartialEq, Eq)]
+#[derive(Clone, Copy)]
 pub(crate) enum Unread {
     /// There is no such file, or it can't be read; or nobody answers.
     Unreadable,
@@ -61,7 +60,7 @@ pub(crate) struct Wishes<'a> {
     pub(crate) record: bool,
     /// The name of the directory in which the state is kept, if it is to be.
     pub(crate) state: Option<&'a str>,
-    /// Where the state can't be kept any more the run goes on without it.
+    /// Where the state can't be kept the run goes on without it.
     pub(crate) bears_loss: bool,
     /// Who may connect.
     pub(crate) allow_list: AllowList,
@@ -171,11 +170,10 @@ impl Host for System<'_> {
 
     ghost lacks = { λ _ _. Unit {0} };
 
-    ghost use Rattle.state.specs.Directories.{BeginsIn};
     ghost use Rattle.telegate.specs.Ran.{HasRunBy};
 
-    ghost ran = { λ old _ text wishes ended. HasRunBy (λ settings. BeginsIn
-        ⟦<DiskFile as Disk>⟧ settings old.lineage.entries) text wishes ended };
+    ghost ran = { λ old _ text wishes ended. HasRunBy (λ settings. StartsIn
+        ⟦<DiskFile as Disk>⟧ wishes settings old.lineage.entries) text wishes ended };
 
     ghost use Rattle.telegate.specs.Playing.{ArePlayedBy};
 
@@ -224,21 +222,7 @@ impl Host for System<'_> {
 
     fn run(&mut self, config: &[u8], wishes: Wishes<'_>) -> Result<(), Fault> {
         let (settings, places) = read_live(self.rt.alloc(), config)?;
-        let Ok(stations) = names_of(self.rt.alloc(), wishes.names) else {
-            return Err(Fault::NoMemory);
-        };
-        // Held until the run is over.
-        let Ok(_held) = standard_descriptors(self.rt) else {
-            return Err(Fault::EndUnusable);
-        };
-        let names = named_by(wishes.names, stations.as_slice());
-        let lineage = self.lineage.again();
-        let mut site = process_of(self.rt, &places, names, wishes.log_severity, lineage);
-        match run_at(&mut site, &settings, config, wishes) {
-            Ok(Over::Anew(run)) => answer_to(run.ended),
-            Ok(Over::Kept(run)) => answer_to(run.ended),
-            Err(fault) => Err(fault),
-        }
+        run_process(self.rt, &settings, &places, config, wishes, &self.lineage)
     }
 
     fn play(&self, config: &[u8], script: &[u8]) -> Result<(), Fault> {
@@ -297,14 +281,30 @@ fn play_at(
     }
 }
 
-/// What is answered of a run that has ended so.
-fn answer_to(ended: Result<(), DeviceFailed>) -> Result<(), Fault>
-    ensures { result ≡ answer_to ended }
+/// Runs the gateway live with these settings and places, which were read from this text, in a
+/// process to whose state this has led.
+fn run_process(
+    rt: &HostRuntime,
+    settings: &Config,
+    places: &LiveSettings,
+    text: &[u8],
+    wishes: Wishes<'_>,
+    lineage: &History,
+) -> Result<(), Fault>
+    ensures { HasNotBegun result ⊎ IsOver (StartsIn ⟦<DiskFile as Disk>⟧ wishes.entry settings.now
+        lineage.now.entries) settings.now places.now wishes.entry result }
 {
-    match ended {
-        Ok(()) => Ok(()),
-        Err(DeviceFailed) => Err(Fault::Device),
-    }
+    let Ok(stations) = names_of(rt.alloc(), wishes.names) else {
+        return Err(Fault::NoMemory);
+    };
+    // Held until the run is over.
+    let Ok(_held) = standard_descriptors(rt) else {
+        return Err(Fault::EndUnusable);
+    };
+    let names = named_by(wishes.names, stations.as_slice());
+    let lineage = lineage.again();
+    let mut site = process_of(rt, places, names, wishes.log_severity, lineage);
+    run_out(&mut site, settings, text, wishes)
 }
 
 /// A process with these settings, names and form of its log, to whose state this has led.

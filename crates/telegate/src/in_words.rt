@@ -6,7 +6,7 @@ ghost use Rattle.telegate.specs.Printed.{IsPoured};
 ghost use Rattle.telegate.specs.Source.{Gives};
 ghost use Rattle.telegate.specs.InWords.{HasWritten};
 ghost use Rattle.telegate.specs.declared.manner.Manner.TheVariants.{Words};
-ghost use Rattle.ladder.specs.Described.{IsLadder};
+ghost use Rattle.words.specs.Ladders.{IsLadder};
 
 use crate::closing::Closing;
 use crate::fault::Fault;
@@ -15,10 +15,10 @@ use crate::recorded::{pause_before, read_part};
 use crate::replay::{advance, close, fault_in, turns_of};
 use delivery::nothing_is_lost;
 use gateway::{Config, End, Gateway, steps_keep_their_order};
-use ladder::{Ladder, Scribe, Style, drive_in_words};
 use std::alloc::Global;
 use std::io::{Read, Write};
 use traces::{Blocks, Pause};
+use words::{Ladder, Scribe, Style, drive_in_words};
 
 /// Runs the gateway over a trace or a record that was judged, and prints its events and actions in
 /// words. An output that fails is written to no more, and said at the end.

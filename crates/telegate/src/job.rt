@@ -3,7 +3,7 @@
 use crate::manner::Manner;
 
 /// A command whose files are read whole, with their octets in place of their names.
-#[derive(Clone, Copy, PartialEq, Eq)]
+#[derive(Clone, Copy)]
 pub enum Job<'a> {
     /// The frame at the front of octets of the line: the sizes of its addresses, the octets in
     /// hexadecimal, and whether it is shown in one line of words.

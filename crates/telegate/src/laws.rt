@@ -11,10 +11,9 @@ ghost use Rattle.gateway.specs.Restored.{IsSavable};
 ghost use Rattle.gateway.specs.Setups.{setup_of};
 ghost use Rattle.gateway.specs.State.{State, IsBetweenSteps};
 ghost use Rattle.settings.specs.Live.{Places};
-ghost use Rattle.sitefile.specs.Site.{SiteNames, SiteValues, names_of};
+ghost use Rattle.settings.specs.Site.{SiteNames, SiteValues, names_of};
 ghost use Rattle.state.specs.Both.{Both};
 ghost use Rattle.state.specs.Deeds.{AreRight, Deeds, heads};
-ghost use Rattle.state.specs.Directories.{BeginsIn};
 ghost use Rattle.state.specs.Keeping.{Keeping};
 ghost use Rattle.state.specs.Returns.{HasReturned};
 ghost use Rattle.state.specs.declared.beginning.Origin.{Origin};
@@ -30,6 +29,7 @@ ghost use Rattle.telegate.specs.CommandLine.{text_of, texts_of};
 ghost use Rattle.telegate.specs.ManyLives.{ComesBehind, HasKeptOn, IsHeadIn, IsHeadUpTo};
 ghost use Rattle.telegate.specs.ManyLives.{IsLastOfLives, IsUpTo};
 ghost use Rattle.telegate.specs.Ran.{HasLivedAs, RunLeft};
+ghost use Rattle.telegate.specs.Starts.{StartsIn};
 ghost use Rattle.telegate.specs.Turns.{AllLooked, HasGoneOn, PortOfLife, RunStanding};
 ghost use Rattle.telegate.specs.Wishes.{AreWishes, Said, said_by, said_in, said_of};
 ghost use Rattle.telegate.specs.declared.host.Wishes.{Wishes};
@@ -115,13 +115,13 @@ pub fn what_is_said_keeps_its_name()
 pub fn runs_are_as_they_were_wished<T: RunSite>()
     ensures all { (c : Settings) (w : Wishes) (old new : Asked) (left : RunLeft)
         (ended : Result (Unit {0}) DeviceFailed) →
-        HasLivedAs (BeginsIn T.Folder.File.Disk c old.lineage) c w old new left ended →
+        HasLivedAs (StartsIn T.Folder.File.Disk w c old.lineage) c w old new left ended →
         (left.book.is_wished ≡ w.log) × (left.pen.is_wished ≡ w.record)
         × (left.book.is_watching ≡ is_some w.status) × (left.is_shown ≡ is_some w.status)
         × (left.port.allow_list ≡ w.allow_list) }
     ensures bears { (c : Settings) (w : Wishes) (old new : Asked)
         (left : RunLeft) (ended : Result (Unit {0}) DeviceFailed) (directory : Bor Text) →
-        HasLivedAs (BeginsIn T.Folder.File.Disk c old.lineage) c w old new left ended →
+        HasLivedAs (StartsIn T.Folder.File.Disk w c old.lineage) c w old new left ended →
         w.state ≡ Some directory →
         left.bears_loss ≡ Some w.bears_loss }
 {}
@@ -135,7 +135,7 @@ pub fn runs_ask_for_the_places_of_their_settings<T: RunSite>()
     ensures { (c : Settings) (w : Wishes) (places : Places) (lineage : Log)
         (before : List SiteCall) (moments : List ℕ) (new : Asked) (left : RunLeft)
         (ended : Result (Unit {0}) DeviceFailed) →
-        HasLivedAs (BeginsIn T.Folder.File.Disk c lineage) c w (record {
+        HasLivedAs (StartsIn T.Folder.File.Disk w c lineage) c w (record {
           places = places;
           lineage = lineage;
           calls = Some before;
@@ -155,7 +155,7 @@ pub fn the_clock_of_a_run_begins_where_its_gateway_stands<T: RunSite>()
     ensures anew { (c : Settings) (w : Wishes) (places : Places) (lineage : Log)
         (before : List SiteCall) (moments : List ℕ) (new : Asked) (left : RunLeft)
         (ended : Result (Unit {0}) DeviceFailed) →
-        HasLivedAs (BeginsIn T.Folder.File.Disk c lineage) c w (record {
+        HasLivedAs (StartsIn T.Folder.File.Disk w c lineage) c w (record {
           places = places;
           lineage = lineage;
           calls = Some before;
@@ -164,13 +164,13 @@ pub fn the_clock_of_a_run_begins_where_its_gateway_stands<T: RunSite>()
     ensures kept { (c : Settings) (w : Wishes) (places : Places) (lineage : Log)
         (before : List SiteCall) (moments : List ℕ) (new : Asked) (left : RunLeft)
         (ended : Result (Unit {0}) DeviceFailed) (directory : Bor Text) →
-        HasLivedAs (BeginsIn T.Folder.File.Disk c lineage) c w (record {
+        HasLivedAs (StartsIn T.Folder.File.Disk w c lineage) c w (record {
           places = places;
           lineage = lineage;
           calls = Some before;
           clocks = Some moments;
         }) new left ended → w.state ≡ Some directory →
-        (o : Origin) × BeginsIn T.Folder.File.Disk c lineage o
+        (o : Origin) × StartsIn T.Folder.File.Disk w c lineage o
         × (left.before ≡ o.before.entries)
         × ((o.beginning ≡ Beginning.GoesOn) ⊎ (o.beginning ≡ Beginning.LinksReset) →
         new.clocks ≡ Some (o.gateway.moment ∷ moments))

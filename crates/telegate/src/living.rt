@@ -1,6 +1,6 @@
 //! The command that runs the gateway between a line and a control centre.
-ghost use Rattle.std.specs.Prelude.{◌≡◌, ◌+◌, IfOk, IfErr, Some, None, Option, is_some, []};
-ghost use Rattle.std.specs.Prelude.{false, not, true, ◌∷◌};
+ghost use Rattle.std.specs.Prelude.{◌≡◌, ◌⊎◌, ◌+◌, IfOk, IfErr, Some, None, Option, is_some, []};
+ghost use Rattle.std.specs.Prelude.{false, map, not, true, ◌∷◌};
 ghost use Rattle.std.specs.declared.net.socket_addr.SocketAddr.{SocketAddr};
 ghost use Rattle.gateway.specs.Agrees.{Follows};
 ghost use Rattle.gateway.specs.Setups.{setup_of};
@@ -8,36 +8,44 @@ ghost use Rattle.live.specs.OctetStreams.{IsNew};
 ghost use Rattle.live.specs.Passed.{HasNoAttempts};
 ghost use Rattle.record.specs.Recording.{log_of, logged_first};
 ghost use Rattle.runlog.specs.Logging.{book_fixture};
-ghost use Rattle.state.specs.Directories.{BeginsIn};
-ghost use Rattle.state.specs.Origins.{IsBegun};
+ghost use Rattle.state.specs.Origins.{IsBegun, IsNew};
 ghost use Rattle.state.specs.Standings.{Renews};
 ghost use Rattle.state.specs.declared.beginning.Origin.{Origin};
+ghost use Rattle.state.specs.declared.start.Beginning.TheVariants as beginning;
 ghost use Rattle.telegate.specs.AsWished.{IsAsWished};
 ghost use Rattle.telegate.specs.Asked.{RecordAt, StateIn, StatusAt, UnclockedIfErr, asked_for};
 ghost use Rattle.telegate.specs.Asked.{call_if, ends_asked, listen_asked, scribes_asked};
+ghost use Rattle.state_words.specs.Notes.{note_of_given_up};
 ghost use Rattle.telegate.specs.Kept.{HasLivedFrom, HasLivedOn, IsEndFault, IsKeptFault};
 ghost use Rattle.telegate.specs.Kept.{first_moment};
+ghost use Rattle.telegate.specs.Law.{LogsAll};
 ghost use Rattle.telegate.specs.Living.{HasLived, IsPortOf};
-ghost use Rattle.telegate.specs.Ran.{HasLivedAs, IfOver};
+ghost use Rattle.telegate.specs.Ran.{HasCome, HasLivedAs, HasNotBegun, IfOver, answer_to};
 ghost use Rattle.telegate.specs.Running.{IsReadLiveConfig};
 ghost use Rattle.telegate.specs.Served.{HasServedAnew, HasServedOn};
+ghost use Rattle.telegate.specs.Shelves.{IfNowhere, IfStored};
+ghost use Rattle.telegate.specs.Starts.{IsWithout, StartsIn};
 ghost use Rattle.telegate.specs.Turns.{in_life, shown_to};
 ghost use Rattle.telegate.specs.Logged.{IsRefused, IsUnkept, LogsNoteIf, LogsBeginning, LogsGap};
-ghost use Rattle.telegate.specs.Logged.{note_if_on, note_of_address};
+ghost use Rattle.telegate.specs.Logged.{LogsOpening, LogsWithout, note_if_on, note_of_address};
 
 use crate::fault::Fault;
 use crate::help::VERSION;
 use crate::host::Wishes;
-use crate::running::{Lived, Scribes, live};
+use crate::running::{DeviceFailed, Lived, Scribes, live};
+use crate::shelf::Shelf;
 use crate::site::{EndRefusal, RunSite};
-use gateway::{Action, Config, Gateway, History};
+use gateway::{Action, Config, Gateway, History, NoMemory};
 use live::{AllowList, Listener, Live, OctetStream, RunPort};
-use lookout::Lookout;
 use record::{Pen, RecordSheet};
-use runlog::{LogSink, Logger, Note, Trouble, Watch};
+use runlog::{LogSink, Logger, Note, Obstacle, Trouble, Watch};
 use settings::{ConfigFault, LiveSettings, read_live_config};
-use state::{Begun, DiskStore, FolderFault, Keeper, Origin, Pair, ReportedGap, begin};
-use state_words::{note_of, note_of_queue, note_of_settings};
+use state::{
+    Beginning, Begun, DiskStore, Folder, FolderFault, GivenUp, Keeper, Origin, Pair, ReportedGap,
+    begin,
+};
+use state_words::{note_of, note_of_damage, note_of_given_up, note_of_queue, note_of_settings};
+use status::Lookout;
 use std::alloc::Global;
 use std::net::SocketAddr;
 
@@ -276,7 +284,7 @@ pub(crate) fn run_at<T: RunSite>(
     // before the next one came.
     ensures lived { IfOk result (λ over. IfOver over
         (λ anew. HasLivedAs
-        (BeginsIn T.Folder.File.Disk config.now (T.asked site.old).lineage)
+        (StartsIn T.Folder.File.Disk wishes.entry config.now (T.asked site.old).lineage)
         config.now wishes.entry (T.asked site.old) (T.asked site.new) (record {
           before = anew.run_log.port.before.entries;
           port = anew.run_log.port.port.port;
@@ -286,7 +294,7 @@ pub(crate) fn run_at<T: RunSite>(
           bears_loss = None;
         }) anew.ended)
         (λ kept. HasLivedAs (λ origin.
-        BeginsIn T.Folder.File.Disk config.now (T.asked site.old).lineage origin
+        StartsIn T.Folder.File.Disk wishes.entry config.now (T.asked site.old).lineage origin
         × HasServedOn origin (in_life kept.run_log.port.before.entries kept.run_log.port.port.pen
         kept.run_log.port.port.port) kept.run_log.logger (shown_to kept.lookout) kept.ended)
         config.now wishes.entry (T.asked site.old) (T.asked site.new) (record {
@@ -309,6 +317,45 @@ pub(crate) fn run_at<T: RunSite>(
     match wishes.state {
         None => Ok(Over::Anew(run_anew(site, config, wishes)?)),
         Some(directory) => Ok(Over::Kept(run_kept(site, config, text, directory, wishes)?)),
+    }
+}
+
+/// How a run ended that is over.
+fn ended_of<T: RunSite>(over: &RunOver<T>) -> Result<(), DeviceFailed>
+    ensures { IfOver over.now (λ anew. result ≡ anew.ended) (λ kept. result ≡ kept.ended) }
+{
+    match over {
+        Over::Anew(run) => run.ended,
+        Over::Kept(run) => run.ended,
+    }
+}
+
+/// What is answered of a run that has ended so.
+fn answer_to(ended: Result<(), DeviceFailed>) -> Result<(), Fault>
+    ensures { result ≡ answer_to ended }
+{
+    match ended {
+        Ok(()) => Ok(()),
+        Err(DeviceFailed) => Err(Fault::Device),
+    }
+}
+
+/// Runs the gateway live with these settings, which were read from this text, until it ends, and
+/// lets its ends go.
+pub(crate) fn run_out<T: RunSite>(
+    site: &mut T,
+    config: &Config,
+    text: &[u8],
+    wishes: Wishes<'_>,
+) -> Result<(), Fault>
+    requires severity { T.severe site.old ≡ wishes.log_severity }
+    ensures { HasNotBegun result ⊎ HasCome (StartsIn T.Folder.File.Disk wishes.entry config.now
+        (T.asked site.old).lineage) config.now wishes.entry (T.asked site.old)
+        (T.asked site.new) result }
+{
+    match run_at(site, config, text, wishes) {
+        Ok(over) => answer_to(ended_of::<T>(&over)),
+        Err(fault) => Err(fault),
     }
 }
 
@@ -371,18 +418,18 @@ fn run_new<T: RunSite>(
 pub(crate) type Kept<T> = Keeper<
     Pair<
         RunPort<<T as RunSite>::Line, <T as RunSite>::Listener, <T as RunSite>::Clock>,
-        DiskStore<<T as RunSite>::Folder>,
+        Shelf<DiskStore<<T as RunSite>::Folder>>,
     >,
 >;
 
-/// The port of a run between these ends, whose events are kept in this store. A loss is borne as
-/// wished.
+/// The port of a run between these ends, whose events are kept in this store, if there is one. A
+/// loss is borne as wished.
 fn keeper_between<T: RunSite>(
     site: &T,
     config: &Config,
     ends: RunEnds<T::Line, T::Listener, T::Clock>,
     goes_on: bool,
-    store: DiskStore<T::Folder>,
+    shelf: Shelf<DiskStore<T::Folder>>,
     gateway: &Gateway,
     wishes: Wishes<'_>,
 ) -> Kept<T>
@@ -396,13 +443,14 @@ fn keeper_between<T: RunSite>(
 {
     let port = port_between(config, ends, wishes.allow_list, goes_on);
     Keeper::new(
-        Pair::new(site.alloc(), port, store),
+        Pair::new(site.alloc(), port, shelf),
         gateway,
         wishes.bears_loss,
     )
 }
 
-/// Runs the gateway with the state that this directory has, or anew, and keeps it there.
+/// Runs the gateway with the state that this directory has, or anew, and keeps it there. If the
+/// directory can't be used, and that is borne, it may run without a state.
 #[tactic(auto, using(crate::proofs::KeptLemmas::end_is_kept, crate::proofs::KeptLemmas::unkept_is_kept, crate::proofs::KeptLemmas::still_unclocked))]
 fn run_kept<T: RunSite>(
     site: &mut T,
@@ -411,9 +459,9 @@ fn run_kept<T: RunSite>(
     directory: &str,
     wishes: Wishes<'_>,
 ) -> Result<Lived<Kept<T>, T::Sheet, T::Sink, T::Glass>, Fault>
-    // It went on from what the directory had, and all looked behind each of its events.
+    // It began so, went on from there, and all looked behind each of its events.
     ensures lived { IfOk result (λ lived. HasLivedFrom (λ origin.
-        BeginsIn T.Folder.File.Disk config.now (T.asked site.old).lineage origin
+        StartsIn T.Folder.File.Disk wishes.entry config.now (T.asked site.old).lineage origin
         × HasServedOn origin (in_life lived.run_log.port.before.entries
         lived.run_log.port.port.pen lived.run_log.port.port.port) lived.run_log.logger
         (shown_to lived.lookout) lived.ended) config.now wishes.entry.allow_list
@@ -431,10 +479,10 @@ fn run_kept<T: RunSite>(
     ensures fault { IfErr result IsKeptFault }
 {
     let mut scribes = scribes_of(site, config, &wishes)?;
-    let begun = begun_in(site, config, text, directory, &mut scribes.logger)?;
-    let moment = first_moment(begun.origin.moment);
+    let opening = opening_in(site, config, text, directory, &wishes, &mut scribes.logger)?;
+    let moment = first_moment(opening.origin.moment);
     let ends = opened(site, &wishes, moment, &mut scribes.logger)?;
-    Ok(run_from(site, config, begun, ends, wishes, scribes))
+    Ok(run_from(site, config, opening, ends, wishes, scribes))
 }
 
 /// Where the clock begins, in ms.
@@ -444,33 +492,40 @@ fn first_moment(moment: Option<u64>) -> u64
     moment.unwrap_or(0)
 }
 
+/// With what a run begins, and where its state is kept.
+#[derive(Drop)]
+struct Opening<F: Folder + Drop> {
+    origin: Origin,
+    shelf: Shelf<DiskStore<F>>,
+}
+
 /// Runs the gateway between these ends from where a run begins, and keeps its state. Their clock
 /// goes on where the gateway does.
 #[tactic(auto, using(crate::proofs::RunPorts::port_of_run))]
 fn run_from<T: RunSite>(
     site: &T,
     config: &Config,
-    begun: Begun<T::Folder>,
+    opening: Opening<T::Folder>,
     ends: RunEnds<T::Line, T::Listener, T::Clock>,
     wishes: Wishes<'_>,
     scribes: Scribes<T::Sink, T::Sheet, T::Glass>,
 ) -> Lived<Kept<T>, T::Sheet, T::Sink, T::Glass>
     requires new { logged_first (log_of scribes.pen) (Some []) ≡ Some [] }
-    requires clock { T.begins_at ends.clock (first_moment begun.origin.moment) }
+    requires clock { T.begins_at ends.clock (first_moment opening.origin.moment) }
     requires line { IsNew (T.Line.history ends.line) }
     requires listener { HasNoAttempts (T.Listener.attempts ends.listener) }
-    ensures lived { HasLivedOn config.now wishes.entry.allow_list begun.origin
+    ensures lived { HasLivedOn config.now wishes.entry.allow_list opening.origin
         result.run_log.port.before.entries result.run_log.port.port.port.ends.port
         result.run_log.port.port.pen result.ended }
     ensures logged { book_fixture result.run_log.logger ≡ book_fixture scribes.logger }
     ensures recorded { result.run_log.port.port.pen.is_wished ≡ scribes.pen.is_wished }
     ensures looked { is_some result.lookout ≡ is_some scribes.lookout }
     ensures bears { result.run_log.port.port.port.bears_loss ≡ wishes.entry.bears_loss }
-    ensures served { HasServedOn begun.origin (in_life result.run_log.port.before.entries
+    ensures served { HasServedOn opening.origin (in_life result.run_log.port.before.entries
         result.run_log.port.port.pen result.run_log.port.port.port) result.run_log.logger
         (shown_to result.lookout) result.ended }
 {
-    let Begun { origin, store } = begun;
+    let Opening { origin, shelf } = opening;
     let Origin {
         gateway,
         moment,
@@ -478,23 +533,32 @@ fn run_from<T: RunSite>(
         ..
     } = origin;
     let goes_on = moment.is_some();
-    let keeper = keeper_between(site, config, ends, goes_on, store, &gateway, wishes);
+    let keeper = keeper_between(site, config, ends, goes_on, shelf, &gateway, wishes);
     live(gateway, keeper, before, scribes)
 }
 
-/// What this directory has, or a new state, which is logged.
-#[tactic(auto, using(crate::proofs::KeptLemmas::memory_is_unkept, crate::proofs::KeptLemmas::still_unclocked))]
-fn begun_in<T: RunSite>(
+/// What this directory has, or a new state, which is logged, and where the state is kept.
+#[tactic(auto, using(crate::proofs::KeptLemmas::found_in, crate::proofs::KeptLemmas::without_in, crate::proofs::KeptLemmas::memory_is_unkept, crate::proofs::KeptLemmas::still_unclocked))]
+fn opening_in<T: RunSite>(
     site: &mut T,
     config: &Config,
     text: &[u8],
     directory: &str,
+    wishes: &Wishes<'_>,
     logger: &mut Logger<T::Sink>,
-) -> Result<Begun<T::Folder>, Fault>
-    ensures begun { IfOk result (λ b. IsBegun config.now (T.asked site.old).lineage
-        (T.Folder.mark b.store.folder) b.store.opened b.origin) }
-    ensures settings { IfOk result (λ b. b.store.settings.items ≡ text.now) }
-    ensures logged { IfOk result (λ b. LogsBeginning b.origin logger.old logger.new) }
+) -> Result<Opening<T::Folder>, Fault>
+    ensures starts { IfOk result (λ opening. StartsIn T.Folder.File.Disk wishes.now config.now
+        (T.asked site.old).lineage opening.origin) }
+    ensures begun { IfOk result (λ opening. IfStored (λ store. IsBegun config.now
+        (T.asked site.old).lineage (T.Folder.mark store.folder) store.opened opening.origin)
+        opening.shelf) }
+    ensures settings { IfOk result (λ opening.
+        IfStored (λ store. store.settings.items ≡ text.now) opening.shelf) }
+    // Without a store a later start finds the mark.
+    ensures marked { IfOk result (λ opening.
+        IfNowhere (T.is_marked site.new) opening.shelf) }
+    ensures logged { IfOk result (λ opening.
+        LogsOpening opening.shelf opening.origin logger.old logger.new) }
     ensures fixed { IfOk result (λ _. book_fixture logger.new ≡ book_fixture logger.old) }
     ensures unkept { IfErr result (λ fault. IsUnkept fault logger.old logger.new) }
     ensures asked { IfOk result (λ _. T.asked site.new
@@ -503,29 +567,76 @@ fn begun_in<T: RunSite>(
 {
     let folder = site.folder(directory)?;
     match begin(site.alloc(), config, text, folder) {
-        Ok(begun) => {
-            log_beginning(&begun.origin, logger);
-            Ok(begun)
+        Ok(Begun { origin, store }) => {
+            log_beginning(&origin, logger);
+            Ok(Opening {
+                origin,
+                shelf: Shelf::Stored(store),
+            })
         }
-        Err(fault) => Err(unkept(fault, logger)),
+        Err(fault) => match origin_without(site, config, fault, wishes, logger) {
+            Ok(origin) => Ok(Opening {
+                origin,
+                shelf: Shelf::Nowhere,
+            }),
+            Err(fault) => Err(fault),
+        },
     }
 }
 
-/// The state can't be had, which is logged.
-fn unkept<S: LogSink + Drop>(fault: FolderFault, logger: &mut Logger<S>) -> Fault
-    ensures { IsUnkept result logger.old logger.new }
+/// The directory of the state can't be used. If that is borne, and what stands there is marked as
+/// stale beside it, the run begins without it. Either is logged.
+#[tactic(auto, using(crate::proofs::KeptLemmas::memory_is_unkept))]
+fn origin_without<T: RunSite>(
+    site: &mut T,
+    config: &Config,
+    fault: FolderFault,
+    wishes: &Wishes<'_>,
+    logger: &mut Logger<T::Sink>,
+) -> Result<Origin, Fault>
+    ensures without { IfOk result (IsWithout wishes.now config.now) }
+    ensures marked { IfOk result (λ _. T.is_marked site.new) }
+    ensures logged { IfOk result (λ _. LogsWithout logger.old logger.new) }
+    ensures fixed { IfOk result (λ _. book_fixture logger.new ≡ book_fixture logger.old) }
+    ensures unkept { IfErr result (λ fault. IsUnkept fault logger.old logger.new) }
+    ensures asked { T.asked site.new ≡ T.asked site.old }
 {
-    match fault {
+    let obstacle = match fault {
+        FolderFault::Foreign => Obstacle::Foreign,
+        FolderFault::Device => Obstacle::Device,
         FolderFault::InUse => {
             logger.note(Note::Trouble(Trouble::StateInUse));
-            Fault::StateInUse
+            return Err(Fault::StateInUse);
         }
-        FolderFault::Foreign | FolderFault::Device => {
-            logger.note(Note::Trouble(Trouble::StateUnusable));
-            Fault::StateUnusable
-        }
-        FolderFault::NoMemory => Fault::NoMemory,
+        FolderFault::NoMemory => return Err(Fault::NoMemory),
+    };
+    // Else a later start would take what stands there for what came last (docs/DECISIONS.md, "A
+    // disk that fails").
+    if !wishes.bears_loss || !site.mark_beside() {
+        logger.note(Note::Trouble(Trouble::StateUnusable));
+        return Err(Fault::StateUnusable);
     }
+    let origin = new_origin(site.alloc(), config)?;
+    logger.note(Note::StateUnused(obstacle));
+    Ok(origin)
+}
+
+/// With what a run begins that has no state.
+fn new_origin(alloc: Global, config: &Config) -> Result<Origin, NoMemory>
+    ensures new { IfOk result (IsNew config.now) }
+    ensures anew { IfOk result (λ origin. origin.beginning ≡ beginning.Anew) }
+    ensures moment { IfOk result (λ origin. origin.moment ≡ None) }
+{
+    Ok(Origin {
+        gateway: Gateway::new(alloc, config)?,
+        moment: None,
+        beginning: Beginning::Anew,
+        gap: None,
+        damage: None,
+        given_up: Vec::new(alloc),
+        before: History::new(),
+        is_moved: false,
+    })
 }
 
 /// What is logged of the pieces with which a run goes on, if it does.
@@ -552,13 +663,28 @@ fn log_gap<S: LogSink + Drop>(moment: Option<u64>, gap: Option<ReportedGap>, log
     logger.put(moment, &Action::Gap { station, session });
 }
 
-/// Logs how a run begins, and the gap that may not have been seen.
+/// Logs what a start gives up of the connection before it, one line for each.
+fn log_given_up<S: LogSink + Drop>(given_up: &[GivenUp], logger: &mut Logger<S>)
+    ensures logs { LogsAll (map note_of_given_up given_up.now) logger.old logger.new }
+    ensures fixed { book_fixture logger.new ≡ book_fixture logger.old }
+{
+    let mut left = given_up;
+    while let [first, more @ ..] = left {
+        logger.note(note_of_given_up(first));
+        left = more;
+    }
+}
+
+/// Logs how a run begins: what of its log is damaged, what is given up for it, and the gap that may
+/// not have been seen.
 fn log_beginning<S: LogSink + Drop>(origin: &Origin, logger: &mut Logger<S>)
     ensures logs { LogsBeginning origin.now logger.old logger.new }
     ensures fixed { book_fixture logger.new ≡ book_fixture logger.old }
 {
+    log(note_of_damage(origin.damage), logger);
     log(note_of(origin.beginning), logger);
     log(note_of_settings(origin.is_moved), logger);
     log(note_if_on(origin.moment, &origin.gateway), logger);
+    log_given_up(origin.given_up.as_slice(), logger);
     log_gap(origin.moment, origin.gap, logger);
 }

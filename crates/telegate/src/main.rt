@@ -52,6 +52,7 @@ mod replay;
 mod run_laws;
 mod run_words;
 mod running;
+mod shelf;
 mod shell;
 mod showing;
 mod simulating;

@@ -3,12 +3,11 @@ ghost use Rattle.std.specs.Prelude.{◌≡◌};
 ghost use Rattle.telegate.specs.Manners.{is_set, manner_of, shows_colours, style_of};
 
 use gateway::Config;
-use ladder::Style;
-use show::LineSizes;
 use std::env::VarError;
+use words::{LineSizes, Style};
 
 /// How what passes in a run is printed.
-#[derive(Clone, Copy, PartialEq, Eq)]
+#[derive(Clone, Copy)]
 pub enum Manner {
     /// A line for each action, as a trace has them.
     Lines,

@@ -9,9 +9,9 @@ use crate::fault::{DONE, Fault};
 use crate::job::Job;
 use crate::showing::{show101, show104};
 use crate::simulating::simulate;
-use pages::print;
 use std::alloc::Global;
 use std::io::Write;
+use traces::print;
 
 /// Does a command: its answer goes to `out`, or the line of a fault to `err`. Answers the exit
 /// status: 0 done, 1 a bad frame or a file with wrong content, 3 where the output can't be written

@@ -13,16 +13,16 @@ use crate::fault::{BAD_CONTENT, DONE, Fault};
 use crate::performing::write_fault;
 use crate::replay::{advance, open};
 use crate::source::Source;
-use pages::print;
-use show::{Condition, LineSizes, Shown};
 use std::alloc::{AllocError, Global};
 use std::io;
 use std::io::{Read, Write};
-use traces::{Blocks, cut};
-use words::{both, describe_apdus, describe_line_frames, read_line_of_octets};
+use traces::{Blocks, cut, print};
+use words::{
+    Condition, LineSizes, Shown, both, describe_apdus, describe_line_frames, read_line_of_octets,
+};
 
 /// What frames come by a pipe.
-#[derive(Clone, Copy, PartialEq, Eq)]
+#[derive(Clone, Copy)]
 pub(crate) enum Piped {
     /// Those of a line whose addresses have these sizes.
     Line(LineSizes),

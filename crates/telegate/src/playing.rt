@@ -1,15 +1,14 @@
 //! The command that plays the outstations of a script, to try a control centre with.
 ghost use Rattle.std.specs.Prelude.{◌≡◌, IfErr, IfOk};
 ghost use Rattle.gateway.specs.Config.{Settings};
-ghost use Rattle.stations.specs.Scenarios.{FitsScenario};
+ghost use Rattle.sim.specs.Scenarios.{FitsScenario};
 ghost use Rattle.telegate.specs.Playing.{ArePlayed, IsRead};
 ghost use Rattle.telegate.specs.declared.fault.Fault.TheVariants.{NoMemory};
 
 use crate::fault::Fault;
 use gateway::Config;
 use live::{Listener, RunClock};
-use sim::TextFault;
-use stations::{Scenario, read_scenario, serve};
+use sim::{Scenario, TextFault, read_scenario, serve};
 use std::alloc::Global;
 
 /// What a text says to stations of these settings.

@@ -3,9 +3,9 @@ ghost use Rattle.std.specs.Prelude.{ℕ, List, Option};
 ghost use Rattle.telegate.specs.Printed.{IsPoured, IsClosedBy};
 
 use crate::fault::Fault;
-use pages::print;
-pub(crate) use pages::{blank_if, drive_printed, show_percent};
 use std::io::Write;
+use traces::print;
+pub(crate) use traces::{blank_if, drive_printed, show_percent};
 
 /// Prints the lines with which a run ends, where all others were printed.
 pub(crate) fn print_closing<W: Write>(

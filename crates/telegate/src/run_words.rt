@@ -3,7 +3,7 @@ ghost use Rattle.std.specs.Prelude.{◌≡◌};
 ghost use Rattle.telegate.specs.Wishes.{nothing_said, said_by};
 
 /// What the words of a live run say beside the name of its settings.
-#[derive(Clone, Copy, PartialEq, Eq)]
+#[derive(Clone, Copy)]
 pub(crate) struct RunWords<'m, 'a> {
     /// The name of the file of the site, if there is one.
     pub(crate) site: Option<&'a str>,

@@ -14,13 +14,12 @@ ghost use Rattle.telegate.specs.Turns.{script_in_life, shown_to, stands, tends_i
 use crate::life::Life;
 use gateway::{End, Gateway, History, drive_on};
 use live::{EndsSight, Watched};
-use lookout::Lookout;
 use record::{Pen, RecordSheet, Recorder};
 use runlog::{LogSink, Logger, RunLog};
-use status::StreamSource;
+use status::{Lookout, StreamSource};
 
 /// A run has stopped: its line has ended, or its state can't be kept where that isn't borne.
-#[derive(Clone, Copy, PartialEq, Eq)]
+#[derive(Clone, Copy)]
 pub(crate) struct DeviceFailed;
 
 /// What comes of a run beside its work: the log, the record, and how it stands, for who looks.

@@ -37,7 +37,7 @@ use crate::stood::answer_stood;
 use crate::wishes::{judge_site, site_in, wishes_of};
 use clap::Error;
 use clap::error::ErrorKind;
-use sitefile::Site;
+use settings::Site;
 use std::alloc::Global;
 use std::io;
 use std::io::Write;
@@ -254,7 +254,7 @@ fn pipe_line<H: Host, W: Write, E: Write>(
     ensures { PipesLine sizes.now words (H.has host.now input)
         (W.contents out.old) (W.contents out.new) result }
 {
-    match show::read_sizes(sizes) {
+    match words::read_sizes(sizes) {
         Some(sizes) => pipe_frames(alloc, host, Piped::Line(sizes), words, out, err),
         None => write_fault(&Fault::Sizes, err),
     }

@@ -4,9 +4,8 @@ ghost use Rattle.telegate.specs.Answers.{IsReadOctets, IsShown101, IsShown104, s
 
 use crate::answer::CommandAnswer;
 use crate::fault::{BAD_CONTENT, DONE, Fault};
-use show::{Condition, Shown};
 use std::alloc::Global;
-use words::{describe_apdu, describe_line};
+use words::{Condition, Shown, describe_apdu, describe_line};
 
 /// Shows the line frame at the front of octets, in one line of words or with a fact a line. The
 /// sizes are judged before the octets.
@@ -18,7 +17,7 @@ pub(crate) fn show101(
 ) -> Result<CommandAnswer, Fault>
     ensures { IsShown101 words sizes.now hex.now result }
 {
-    let Some(sizes) = show::read_sizes(sizes) else {
+    let Some(sizes) = words::read_sizes(sizes) else {
         return Err(Fault::Sizes);
     };
     let octets = read_octets(alloc, hex)?;

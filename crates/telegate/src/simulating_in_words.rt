@@ -3,7 +3,7 @@ ghost use Rattle.std.specs.Prelude.{◌≡◌, ℕ, Bool, List, Option};
 ghost use Rattle.gateway.specs.Config.{AreStations, Settings};
 ghost use Rattle.gateway.specs.Setups.{setup_of};
 ghost use Rattle.gateway.specs.Traffic.{HasRested, IsFaithful};
-ghost use Rattle.ladder.specs.Described.{IsLadder};
+ghost use Rattle.words.specs.Ladders.{IsLadder};
 ghost use Rattle.sim.specs.Calls.{calls_in};
 ghost use Rattle.sim.specs.Lives.{plan_of};
 ghost use Rattle.sim.specs.Losses.{turns_of};
@@ -18,10 +18,10 @@ use crate::fault::Fault;
 use crate::manner::style_of;
 use crate::printed::print_closing;
 use gateway::{Config, End, Gateway};
-use ladder::{Ladder, Scribe, drive_in_words};
 use sim::{Script, Sim};
 use std::alloc::Global;
 use std::io::Write;
+use words::{Ladder, Scribe, drive_in_words};
 
 /// Runs the gateway as a script says, and prints its events and actions in words, and then the
 /// closing lines.

@@ -15,7 +15,7 @@ use record::{RecordSheet, StandardOutput};
 use runlog::{LogNames, LogSink, StandardError, Trouble};
 use settings::LiveSettings;
 use state::Folder;
-use state_files::Directory;
+use state_files::{Directory, mark_beside};
 use status::VisitorListener;
 use std::alloc::{AllocError, Global};
 use std::io;
@@ -24,7 +24,7 @@ use std::net::{Net, SocketAddr, TcpStream};
 use std::rt::Clock;
 
 /// Why an end can't be had.
-#[derive(Clone, Copy, PartialEq, Eq)]
+#[derive(Clone, Copy)]
 pub(crate) struct EndRefusal {
     pub(crate) trouble: Trouble,
     /// For want of memory.
@@ -47,7 +47,7 @@ impl From<EndRefusal> for Fault {
 /// for. Nothing runs without a clock, and who has none but of a site can have no other.
 pub(crate) trait RunSite {
     ghost use Rattle.std.specs.Result.{is_ok};
-    ghost use Rattle.std.specs.Prelude.{◌∷◌, []};
+    ghost use Rattle.std.specs.Prelude.{◌∷◌, [], true};
     ghost use Rattle.telegate.specs.Asked.{Asked, LogAt, RecordAt, StateIn, StatusAt, asked_for};
     ghost use Rattle.telegate.specs.Asked.{clock_asked, line_asked, listen_asked};
     ghost use Rattle.telegate.specs.Sites as sites;
@@ -79,6 +79,9 @@ pub(crate) trait RunSite {
 
     // So it is to be with each log here.
     ghost severe: { Self → Bool };
+
+    // The state of its directory is marked as stale beside that.
+    ghost is_marked: { Self → Type 0 } = { λ _. Unit {0} };
 
     // Its places, and what it was asked for so far, the newest first.
     ghost asked: { Self → Asked };
@@ -126,6 +129,12 @@ pub(crate) trait RunSite {
             Self.Folder.lineage folder ≡ (asked self.old).lineage) }
         ensures asked { asked self.new
             ≡ asked_for (StateIn name.now (is_ok result) ∷ []) (asked self.old) };
+
+    /// Marks the state of its directory as stale beside that, for a run without it. `false`: it
+    /// couldn't be done.
+    fn mark_beside(&mut self) -> bool
+        ensures marked { result ≡ true → is_marked self.new }
+        ensures asked { asked self.new ≡ asked self.old };
 }
 
 /// The ends that a process has at these places.
@@ -287,6 +296,10 @@ impl<'r> RunSite for Process<'r> {
     fn folder(&mut self, name: &str) -> Result<Directory, AllocError> {
         let path = String::from_str(self.rt.alloc(), name)?;
         Ok(Directory::new(*self.rt, path, self.lineage.again()))
+    }
+
+    fn mark_beside(&mut self) -> bool {
+        mark_beside(*self.rt)
     }
 }
 

@@ -1,10 +1,10 @@
 //! In which sizes frames are read.
 ghost use Rattle.std.specs.Prelude.{◌≡◌, ◌++◌, ℕ, Bool, List, Option, Ok, Err};
 ghost use Rattle.std.specs.Io.KnownBytes.{Appends};
-ghost use Rattle.capture.specs.Texts.{IsWhole, IsWrongRecord};
+ghost use Rattle.record.specs.Texts.{IsWhole, IsWrongRecord};
 ghost use Rattle.gateway.specs.Config.{Settings};
 ghost use Rattle.gateway.specs.Log.{Log};
-ghost use Rattle.ladder.specs.Described.{IsLadder};
+ghost use Rattle.words.specs.Ladders.{IsLadder};
 ghost use Rattle.settings.specs.Settings.{IsReadOfText};
 ghost use Rattle.telegate.specs.Answers.{IsReplayed, IsSimulatedBy};
 ghost use Rattle.telegate.specs.Captures.{IsCapturedBy};

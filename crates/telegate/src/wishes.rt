@@ -1,7 +1,7 @@
 //! What is wished of a live run, by its words and by the file of its site.
 ghost use Rattle.std.specs.Prelude.{◌≡◌, IfErr, IfOk, MatchResult, option_map, string_bytes};
 ghost use Rattle.std.specs.Option.{option_or};
-ghost use Rattle.sitefile.specs.Site.{IsSiteOf, names_of, site_of, texts_in};
+ghost use Rattle.settings.specs.Site.{IsSiteOf, names_of, site_of, texts_in};
 ghost use Rattle.telegate.specs.CommandLine.{text_of, texts_of};
 ghost use Rattle.telegate.specs.Wishes.{IsNoAllowList, IsNoSiteAllowList, AreWishes, IsGoodSite};
 ghost use Rattle.telegate.specs.Wishes.{IsFirstSiteFault, IsSiteFault};
@@ -13,7 +13,7 @@ use crate::fault::Fault;
 use crate::host::Wishes;
 use crate::run_words::RunWords;
 use live::AllowList;
-use sitefile::{Site, SiteFault, read_site};
+use settings::{Site, SiteFault, read_site};
 use std::alloc::Global;
 
 /// What belongs to a site, by the octets of its file.

@@ -12,3 +12,5 @@ pub mod FirstLines
 pub mod Blocks
 pub mod Saying
 pub mod LineByLine
+pub mod Percent
+pub mod Pouring

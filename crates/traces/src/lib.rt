@@ -21,11 +21,20 @@
 //!
 //! `Blocks` reads a text on, block by block, each of whole lines: the blocks are the text, and one
 //! line feed parts two of them.
+//!
+//! A [`Paged`] port puts the lines of a run's actions on a page. [`drive_printed`] drives a gateway
+//! over one, as `gateway::drive_on` does, and takes the lines off the page from time to time and
+//! prints them, so that a run of any length takes the room of a part of its lines. If it is
+//! watched, it shows how far it has come. [`print`] writes one text whole, and [`print_behind`] one
+//! behind others. Proved: what `drive_on` promises of the run; that what was printed is the lines
+//! of all actions of the log, in their order, and nothing else, or, where the output failed, a
+//! beginning of them. That the percent are shown isn't proved, nor what a terminal makes of them.
 #![tactic(auto)]
 
 mod actions;
 mod blocks;
 mod decimal;
+mod driving;
 mod event;
 mod health;
 mod judging;
@@ -34,17 +43,21 @@ mod lines;
 mod moments;
 mod octets;
 mod page;
+mod paged;
 mod port;
 mod printing;
 mod printout;
+mod progress;
 mod reading;
 mod readings;
 mod recorded;
 mod text_port;
+mod writing;
 
 pub use actions::{append_line, print_action, print_action_at};
 pub use blocks::{BlockFault, Blocks};
 pub use decimal::decimal as read_decimal;
+pub use driving::drive_printed;
 pub use judging::judge;
 pub use laws::{
     each_line_gives_its_own_event, lines_say_what_they_log, numbers_are_read_digit_by_digit,
@@ -55,9 +68,12 @@ pub use lines::{cut, is_skipped, parts};
 pub use moments::Moment;
 pub use octets::{hex_digits, read_octets};
 pub use page::Page;
+pub use paged::Paged;
 pub use port::{HeldBefore, Trace};
 pub use printout::Printout;
+pub use progress::{blank_if, show_percent};
 pub use reading::{TextFault, read_trace};
 pub use readings::trace_lines_by_example;
 pub use recorded::{append_event, print_event};
 pub use text_port::{Pause, TextPort, first_event};
+pub use writing::{print, print_behind};

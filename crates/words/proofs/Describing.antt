@@ -2,8 +2,8 @@
 use Rattle.std.proofs.Common.{◌≡◌, ℕ, ◌<◌, ◌≤◌, ◌-◌, List, [], ◌∷◌, ◌++◌, length, take, drop, refl}
 use Rattle.std.proofs.Common.{sym, subst, ap, ◌∙◌, append_assoc, arith}
 use Rattle.std.proofs.lemmas.List.{append-nil, length-drop, take_all}
-use Rattle.show.specs.declared.condition.Condition.{Condition}
-use Rattle.show.specs.declared.condition.Condition.TheVariants.{Good, Faulty}
+use Rattle.words.specs.declared.facts.condition.Condition.{Condition}
+use Rattle.words.specs.declared.facts.condition.Condition.TheVariants.{Good, Faulty}
 use Rattle.words.specs.Described.{AreFramesDescribed, both, no_octets, frame_first}
 
 both_along : (a b c : Condition) → both a (both b c) ≡ both (both a b) c

@@ -1,3 +1,6 @@
 pub mod Ends
 pub mod Opened
 pub mod Describing
+pub mod Noting
+pub mod Pages
+pub mod Driven

@@ -9,8 +9,8 @@ use Rattle.apci.specs.declared.apdu.Front.{Front}
 use Rattle.apci.specs.declared.apdu.Front.TheVariants.{Whole, More, Never}
 use Rattle.apci.specs.Reading.{IsFront}
 use Rattle.asdu.specs.Sizes.{tcp}
-use Rattle.show.specs.declared.condition.Condition.{Condition}
-use Rattle.show.specs.Tcp.{function_text, front_condition}
+use Rattle.words.specs.declared.facts.condition.Condition.{Condition}
+use Rattle.words.specs.TcpFacts.{function_text, front_condition}
 use Rattle.words.specs.Faults.{rest_words, no_frame, cut_off}
 use Rattle.words.specs.Units.{data_words}
 
@@ -37,7 +37,7 @@ front_words n (Whole apdu len) = apdu_words apdu ++ rest_words (n - len)
 front_words n More = cut_off n
 front_words n (Never place w) = no_frame (fault_of w) place
 
--- the text is that of the front of the octets, and the condition is that of `show`
+-- the text is that of the front of the octets, and the condition is that of `show_tcp`
 pub record AreConnectionWords (octets text : List ℕ) (result : Condition) : Type 0 where
   pub front : Front
   pub is_front : IsFront octets front

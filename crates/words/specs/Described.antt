@@ -1,10 +1,10 @@
 -- Octets described frame by frame (this gateway's own profile).
 use Rattle.std.specs.Prelude.{ℕ, ◌<◌, Bool, true, false, List, [], ◌++◌, take, drop}
-use Rattle.show.specs.Line.{IsLineShown}
-use Rattle.show.specs.Tcp.{IsTcpShown}
-use Rattle.show.specs.declared.sizes.LineSizes.{LineSizes}
-use Rattle.show.specs.declared.condition.Condition.{Condition}
-use Rattle.show.specs.declared.condition.Condition.TheVariants.{Good, Faulty}
+use Rattle.words.specs.LineFacts.{IsLineShown}
+use Rattle.words.specs.TcpFacts.{IsTcpShown}
+use Rattle.words.specs.declared.facts.sizes.LineSizes.{LineSizes}
+use Rattle.words.specs.declared.facts.condition.Condition.{Condition}
+use Rattle.words.specs.declared.facts.condition.Condition.TheVariants.{Good, Faulty}
 use Rattle.words.specs.Connections.{AreConnectionWords}
 use Rattle.words.specs.Lines.{AreLineWords}
 use Rattle.words.specs.Pipes.{IsApduEnd, IsLineEnd}

@@ -1,3 +1,9 @@
+pub mod Bits
+pub mod Sizes
+pub mod Condition
+pub mod UnitFacts
+pub mod LineFacts
+pub mod TcpFacts
 pub mod Numbers
 pub mod Quality
 pub mod Tags
@@ -9,3 +15,6 @@ pub mod Connections
 pub mod Pipes
 pub mod Described
 pub mod Told
+pub mod Rungs
+pub mod Ladders
+pub mod Scribing

@@ -10,9 +10,9 @@ use Rattle.ft12.specs.declared.frame.Front.{Front}
 use Rattle.ft12.specs.declared.frame.Front.TheVariants.{Whole, More, Never}
 use Rattle.ft12.specs.Reading.{IsFront}
 use Rattle.link.specs.Control.{is_primary, fcb_bit, fcv_bit, acd_bit, dfc_bit, function_code}
-use Rattle.show.specs.declared.condition.Condition.{Condition}
-use Rattle.show.specs.declared.sizes.LineSizes.{LineSizes}
-use Rattle.show.specs.Line.{front_condition}
+use Rattle.words.specs.declared.facts.condition.Condition.{Condition}
+use Rattle.words.specs.declared.facts.sizes.LineSizes.{LineSizes}
+use Rattle.words.specs.LineFacts.{front_condition}
 use Rattle.words.specs.Faults.{rest_words, no_frame, cut_off}
 use Rattle.words.specs.Units.{data_words}
 
@@ -91,7 +91,7 @@ front_words s n (Whole frame len) = frame_words s frame ++ rest_words (n - len)
 front_words s n More = cut_off n
 front_words s n (Never place w) = no_frame (fault_of w) place
 
--- the text is that of the front of the octets, and the condition is that of `show`
+-- the text is that of the front of the octets, and the condition is that of `show_line`
 pub record AreLineWords (s : LineSizes) (octets text : List ℕ) (result : Condition) : Type 0 where
   pub front : Front
   pub is_front : IsFront s.link octets front

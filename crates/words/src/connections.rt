@@ -1,16 +1,16 @@
 //! APDUs of the connection in words.
 ghost use Rattle.std.specs.Prelude.{◌≡◌, ◌++◌, IfOk, OnOk, length, string_bytes};
 ghost use Rattle.apci.specs.Borrowed.{owned, owned_front};
-ghost use Rattle.show.specs.Tcp.{apdu_condition, front_condition, function_text as function_words};
+ghost use Rattle.words.specs.TcpFacts.{apdu_condition, front_condition, function_text as function_words};
 ghost use Rattle.words.specs.Faults.{no_frame};
 ghost use Rattle.words.specs.Connections.{apdu_words, fault_of as fault_in, front_words};
 ghost use Rattle.words.specs.Connections.{numbers_words, AreConnectionWords};
 
+use crate::facts::{Condition, Shown};
 use crate::faults::{push_cut_off, push_no_frame, push_rest, with_rest};
 use crate::units::push_data;
 use apci::{ApduRef, FrontRef, Uf, Why, front_ref};
 use asdu::Sizes;
-use show::{Condition, Shown};
 use std::alloc::{AllocError, Global};
 
 /// Says in words, on one line, what stands at the front of octets of the connection: the APDU and

@@ -5,9 +5,9 @@ ghost use Rattle.words.specs.Described.{IsLineDescribed};
 ghost use Rattle.words.specs.Described.{IsTcpDescribed};
 
 use crate::connections::words_of_connection;
+use crate::facts::{Condition, LineSizes, Shown, show_line, show_tcp};
 use crate::lines::words_of_line;
 use crate::pipes::{apdu_end, line_end};
-use show::{Condition, LineSizes, Shown, show_line, show_tcp};
 use std::alloc::{AllocError, Global};
 
 /// What stands at the front of octets of the line, in one line of words or with a fact a line.

@@ -1,9 +1,9 @@
 //! What octets are that are no whole frame, or more than one.
 ghost use Rattle.std.specs.Prelude.{◌≡◌, ◌++◌, OnOk, string_bytes};
-ghost use Rattle.show.specs.Condition.{with_rest as condition_with};
+ghost use Rattle.words.specs.Condition.{with_rest as condition_with};
 ghost use Rattle.words.specs.Faults.{cut_off, no_frame, rest_words};
 
-use show::Condition;
+use crate::facts::Condition;
 use std::alloc::AllocError;
 
 /// Appends how many octets follow a frame, where there are any.

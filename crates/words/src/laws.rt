@@ -22,7 +22,7 @@ ghost use Rattle.elements.specs.TimeTag.{verdict_of};
 ghost use Rattle.elements.specs.Types.{value_shown};
 ghost use Rattle.elements.specs.declared.types.TypeId.{TypeId};
 ghost use Rattle.elements.specs.declared.types.TypeId.TheVariants as types;
-ghost use Rattle.show.specs.declared.sizes.LineSizes.{LineSizes};
+ghost use Rattle.words.specs.declared.facts.sizes.LineSizes.{LineSizes};
 ghost use Rattle.words.specs.Connections.{apdu_words, fault_of as apdu_fault};
 ghost use Rattle.words.specs.Connections.{front_words as apdu_front};
 ghost use Rattle.words.specs.Faults.{rest_words};

@@ -1,6 +1,7 @@
-//! Frames in the field's words, as a protocol analyser has them: one line for a frame.
+//! Frames in words: one line for a frame in the field's words, as a protocol analyser has them, or
+//! a fact a line (`facts`); and a run in these words, line by line (`ladder`).
 //!
-//! `words_of_line` and `words_of_connection` answer a `show::Shown` for what stands at the front of
+//! `words_of_line` and `words_of_connection` answer a `Shown` for what stands at the front of
 //! octets: the frame and its ASDU with the standard's names, values with their units, quality and
 //! time tags in words; or why the octets are no such frame, and the first wrong place. The
 //! condition is that of `show_line` and `show_tcp`. `push_line_frame` and `push_apdu` append a
@@ -16,9 +17,11 @@
 mod commands;
 mod connections;
 mod described;
+mod facts;
 mod faults;
 mod floats;
 mod forms;
+mod ladder;
 mod laws;
 mod lines;
 mod monitored;
@@ -31,7 +34,12 @@ mod units;
 
 pub use connections::{push_apdu, push_apdu_refusal, words_of_connection};
 pub use described::{both, describe_apdu, describe_apdus, describe_line, describe_line_frames};
+pub use facts::{
+    Condition, LineSizes, Shown, asdus_are_shown, fields_are_shown,
+    octets_that_are_no_frame_are_a_fault, read_sizes, show_line, show_tcp,
+};
 pub use faults::push_cut_off;
+pub use ladder::{Ladder, Scribe, Style, drive_in_words};
 pub use laws::{
     apdus_are_told_field_by_field, asdus_are_told_field_by_field, commands_are_told_bit_by_bit,
     frames_are_told_field_by_field, tags_are_told_field_by_field, values_are_told_bit_by_bit,

@@ -2,7 +2,7 @@
 ghost use Rattle.std.specs.Prelude.{◌≡◌, ◌++◌, IfOk, OnOk, length, string_bytes};
 ghost use Rattle.ft12.specs.Borrowed.{owned, owned_front};
 ghost use Rattle.link.specs.Control.{primary_code, secondary_code};
-ghost use Rattle.show.specs.Line.{frame_condition, front_condition};
+ghost use Rattle.words.specs.LineFacts.{frame_condition, front_condition};
 ghost use Rattle.words.specs.Faults.{no_frame};
 ghost use Rattle.words.specs.Lines.{answered_words, asked_words, control_words};
 ghost use Rattle.words.specs.Lines.{demand_text as demand_words, fault_of as fault_in};
@@ -10,11 +10,11 @@ ghost use Rattle.words.specs.Lines.{fcb_text as fcb_words, frame_words, front_wo
 ghost use Rattle.words.specs.Lines.{primary_name as primary_name_of};
 ghost use Rattle.words.specs.Lines.{secondary_name as secondary_name_of, AreLineWords};
 
+use crate::facts::{Condition, LineSizes, Shown};
 use crate::faults::{push_cut_off, push_no_frame, push_rest, with_rest};
 use crate::units::push_data;
 use ft12::{FrameRef, FrontRef, Why, front_ref};
 use link::{Control, PrimaryFunction, SecondaryFunction};
-use show::{Condition, LineSizes, Shown};
 use std::alloc::{AllocError, Global};
 
 /// Says in words, on one line, what stands at the front of octets of the line: the frame and its

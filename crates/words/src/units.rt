@@ -4,17 +4,17 @@ ghost use Rattle.std.specs.Option.{option_copied};
 ghost use Rattle.asdu.specs.Asdu.{IsAsdu};
 ghost use Rattle.asdu.specs.Fields.{IsHeadOf};
 ghost use Rattle.asdu.specs.Reading.{value_of};
-ghost use Rattle.show.specs.Units.{unit_condition};
+ghost use Rattle.words.specs.UnitFacts.{unit_condition};
 ghost use Rattle.words.specs.Units.{asdu_words, ca_text, cause_text, cause_words, content_words};
 ghost use Rattle.words.specs.Units.{data_words, header_words, kind_words, named, objects_words};
 ghost use Rattle.words.specs.Units.{originator_text, parting as parting_of, place_words};
 ghost use Rattle.words.specs.Units.{reason as reason_of, reason_words, type_text};
 
+use crate::facts::Condition;
 use crate::numbers::push_mark;
 use crate::objects::push_object;
 use asdu::{Asdu, Head, Refused, Sizes};
 use elements::{cause_name, type_name};
-use show::Condition;
 use std::alloc::{AllocError, Global};
 
 /// Appends the data of a frame, if it has any, and says whether they are as they should be.

@@ -50,7 +50,7 @@ enum LineKind {
 }
 
 /// Whether a line was cut short: it has the mark with which such a line is ended.
-pub fn is_cut(line: &[u8]) -> bool
+pub(crate) fn is_cut(line: &[u8]) -> bool
     ensures { result ≡ is_cut line.now }
 {
     // Half an event can't be completed (docs/DECISIONS.md, "A line with `!`").

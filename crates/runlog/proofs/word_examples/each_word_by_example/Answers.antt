@@ -12,4 +12,5 @@ returns-clause-fates c = (refl, refl, refl, refl, refl, refl, refl)
 
 pub returns-clause-states : goal.returns-clause-states
 unfolding digits
-returns-clause-states c = (refl, refl, refl, refl, refl, refl, refl, refl)
+returns-clause-states c =
+    (refl, refl, refl, refl, refl, refl, refl, refl, refl, refl, refl, refl)

@@ -1,4 +1,4 @@
-use Rattle.std.proofs.Common.{◌≡◌, ◌∙◌, ◌≤◌, ap, List, ℕ, ◌++◌, drop, arith, length, subst}
+use Rattle.std.proofs.Common.{◌≡◌, ◌∙◌, ◌≤◌, ◌+◌, ◌*◌, refl, ap, List, ℕ, ◌++◌, drop, arith, length, subst}
 use Rattle.segments.specs.Crashes.{AreShutOr}
 use Rattle.segments.proofs.SegmentLemmas.{has_text, text_or_shut, whole_open}
 use Rattle.segments.proofs.HeldLemmas.{published_length, published_text}
@@ -62,10 +62,15 @@ returns-clause-mixed g c mixing =
     let some : 87 ≤ c.in_ok-end.end = omega (arith, p.end, c.requires.behind) in
     let within : c.in_ok-end.end ≤ length (g.D.Disk.seen c.prepare.new.file) =
     omega (arith, p.size, p.sized) in
-    text_or_shut (g.D.Disk.may_leave c.publish.new.file)
+    text_or_shut (g.D.Disk.may_leave c.publish.new.file) _
     (c.in_ok-end.head.items ++ drop 87 (g.D.Disk.seen c.prepare.new.file)) _
-    (has_text c.in_ok-end.end c.in_ok-end.head.items (g.D.Disk.seen c.prepare.new.file) _
-    p.head some within p.blank p.text)
+    (
+      has_text c.in_ok-end.end c.in_ok-end.head.items (g.D.Disk.seen c.prepare.new.file) _
+          p.head some within p.blank p.text,
+      published_length c.in_ok-end.head.items _ _ c.in_ok-end.size c.in_ok-end.end p.head some
+          (omega (arith, p.size)) p.sized refl
+          ∙ p.size ∙ ap (λ (n : ℕ). n + c.args.blocks * 4096) p.end,
+    )
     (subst (λ (h : List ℕ). AreShutOr (g.D.Disk.may_leave c.publish.new.file)
     (λ (file : List ℕ). file ≡ h ++ drop 87 (g.D.Disk.seen c.prepare.new.file)))
     c.deref-2.ensures.value (c.publish.ensures.mixed mixing))

@@ -3,7 +3,7 @@ use Rattle.std.specs.Prelude.{string_bytes}
 use Rattle.sim.specs.Runs.{IsRun}
 use Rattle.traces.specs.Actions.{lines_of_actions}
 use Rattle.sim.specs.Simulations.{IsClosedBy}
-use Rattle.pages.proofs.Poured.{poured_begun}
+use Rattle.traces.proofs.Poured.{poured_begun}
 use Rattle.sim.proofs.SimulationLemmas.{at_ok, ended, stopped}
 use Rattle.sim.proofs.simulating.close.Goals as goal
 

@@ -1,6 +1,6 @@
 use Rattle.std.proofs.Common.{Bool, subst}
-use Rattle.pages.specs.Pouring.{IsPoured}
-use Rattle.pages.proofs.Poured.{begun_longer, begun_behind}
+use Rattle.traces.specs.Pouring.{IsPoured}
+use Rattle.traces.proofs.Poured.{begun_longer, begun_behind}
 use Rattle.sim.proofs.simulating.print_closing.Goals as goal
 
 pub returns-then-not-is_whole : goal.returns-then-not-is_whole

@@ -6,7 +6,7 @@ use Rattle.sim.specs.Lives.{Plan, plan_of}
 use Rattle.sim.specs.Losses.{turns_of}
 use Rattle.sim.specs.Played.{Simulated}
 use Rattle.traces.specs.Actions.{lines_of_actions}
-use Rattle.pages.proofs.Poured.{poured_all, poured_begun}
+use Rattle.traces.proofs.Poured.{poured_all, poured_begun}
 use Rattle.sim.proofs.SimulationLemmas.{at_turns, at_finish, begun_blank, at_first_call, run_turns}
 use Rattle.sim.proofs.SimulationLemmas.{ended_calls, stopped}
 use Rattle.sim.proofs.simulating.run.Goals as goal

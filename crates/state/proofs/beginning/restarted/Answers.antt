@@ -7,6 +7,6 @@ pub returns-clause-follows : goal.returns-clause-follows
 returns-clause-follows c p follows rests =
     subst (λ (log : Log). Follows p c.restart.new.self (Some log))
     (sym (c.restarted-before.ensures
-    ∙ ap (λ (moment : ℕ). Came moment Restarted ∷ c.args.resumed.before.entries)
+    ∙ ap (λ (moment : ℕ). Came moment Restarted ∷ c.args.arrived.before.entries)
     c.moment-moment.ensures))
-    (c.restart.ensures.follows p c.args.resumed.before.entries follows rests)
+    (c.restart.ensures.follows p c.args.arrived.before.entries follows rests)

@@ -27,7 +27,7 @@ returns-clause-goes_on g c =
     moved_from c.args.goes_on c.are_same-is_same.result r.is_moved c.args.config.now
     g.K.Lineage.log
     (g.D.Disk.seen c.move_on.new.start.newest) c.move_on.new.start.at written lines r.gap
-    r.before.entries r.gateway
+    r.given_up.items r.before.entries r.gateway
     (subst (λ (at : ℕ). IsHeadOf (g.D.Disk.seen c.move_on.new.start.newest) at written lines)
     (sym c.move_on.ensures.same)
     (subst (λ (file : List ℕ). IsHeadOf file c.read_opening.new.start.at written lines)

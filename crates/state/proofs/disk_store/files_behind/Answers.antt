@@ -1,5 +1,5 @@
 use Rattle.std.proofs.Common.{subst, sym}
-use Rattle.segments.specs.Crashes.{AreOlder}
+use Rattle.segments.specs.Crashes.{AreOlder, StandsIn}
 use Rattle.segments.specs.Segment.{file_of}
 use Rattle.state.specs.Doubts.{AreUndoubted}
 use Rattle.state.proofs.Surviving.{stands_older, stands_sound}
@@ -11,7 +11,8 @@ returns-then-may_be_used-clause-older g c _ =
     subst (λ file. AreOlder (g.D.Disk.may_leave file) c.args.number)
     (sym c.into_file-newest.ensures)
     (stands_older (g.D.Disk.may_leave (file_of current.segment)) current.number c.args.number
-    (c.survives.ensures.stands current.number current.head current.within current.whole)
+    (subst (StandsIn (g.D.Disk.may_leave (file_of current.segment))) current.own
+    c.survives.ensures.stands)
     c.if-own-number.false)
 
 pub returns-then-may_be_used-clause-sound : goal.returns-then-may_be_used-clause-sound
@@ -19,4 +20,5 @@ returns-then-may_be_used-clause-sound g c _ _ =
     let current = c.args.current in
     subst (λ file. AreUndoubted (g.D.Disk.may_leave file)) (sym c.into_file-newest.ensures)
     (stands_sound (g.D.Disk.may_leave (file_of current.segment)) current.number
-    (c.survives.ensures.stands current.number current.head current.within current.whole))
+    (subst (StandsIn (g.D.Disk.may_leave (file_of current.segment))) current.own
+    c.survives.ensures.stands))

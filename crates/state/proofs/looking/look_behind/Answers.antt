@@ -1,33 +1,23 @@
-use Rattle.std.proofs.Common.{◌∙◌, IsTrue, inl, inr, ap, refl, subst, sym}
-use Rattle.std.specs.Option.{is_some}
-use Rattle.state.specs.Beginnings.{AreLinesRead}
-use Rattle.state.specs.Sights.{IsSeen, IsSight}
-use Rattle.state.specs.Unread.{HasState}
-use Rattle.state.proofs.Looked.{aside_of, sight_of}
+use Rattle.std.proofs.Common.{IsTrue, refl, subst, sym}
+use Rattle.state.specs.Sights.{IsSight}
+use Rattle.state.proofs.Looked.{aside_of, distrusted_by, sight_of, whole_seen}
 use Rattle.state.proofs.looking.look_behind.Goals as goal
 
-pub returns-in-Ok-see-clause-sight : goal.returns-in-Ok-see-clause-sight
-returns-in-Ok-see-clause-sight g c is_stale first second placed trusted untrusted =
-    let seen = c.may_go_on.ensures.seen in
+pub returns-in-Ok-clause-sight : goal.returns-in-Ok-clause-sight
+returns-in-Ok-clause-sight g c is_stale first second placed trusted untrusted =
+    let e = c.would_go_on-goes_on.ensures in
     subst (IsSight g.K.Lineage.log is_stale first second) (sym c.with_log.ensures)
-    (sight_of g.K.Lineage.log is_stale c.in-Ok.goes_on first second
+    (sight_of g.K.Lineage.log is_stale c.would_go_on-goes_on.result first second
     (g.D.Disk.seen c.args.start.newest) (g.D.Disk.seen c.args.start.other) c.args.start.side
-    c.with_past.result c.in-Ok-see.seen placed
-    (c.in-Ok-see.ensures.side ∙ ap (λ n. n.0) c.may_go_on.ensures.next)
-    (subst (λ file. IsSeen g.K.Lineage.log file c.in-Ok-see.seen) seen
-    c.in-Ok-see.ensures.log)
+    c.with_past.result c.in-Ok.seen placed c.in-Ok.ensures.side c.in-Ok.ensures.log
     c.with_past.ensures.past c.with_past.ensures.trusted c.requires.newest
-    (λ on. c.requires.sure (c.in-Ok.ensures.trusted on))
-    (λ on. subst AreLinesRead seen (c.in-Ok.ensures.read on (c.requires.honest _)))
-    (λ on. trusted (c.in-Ok.ensures.trusted on))
-    (λ off. elim (c.in-Ok.ensures.reset off) [
-      | inl distrusted ↦ elim (untrusted distrusted) [
-        | inl stale ↦ inl stale
-        | inr torn ↦ inr (λ older read. torn older)
-      ]
-      | inr rotten ↦ inr (λ older read. rotten (c.requires.honest _)
-          (subst AreLinesRead (sym seen) read))
-    ]))
+    (λ on. c.requires.sure (e.trusted on))
+    (λ on. whole_seen g.K.Lineage.log (g.D.Disk.seen c.args.start.newest) c.in-Ok.seen
+    c.in-Ok.ensures.log (e.whole on).0 (e.whole on).1)
+    (λ on. trusted (e.trusted on))
+    (λ off. distrusted_by c.args.is_trusted is_stale g.K.Lineage.log
+    (g.D.Disk.seen c.args.start.newest) (g.D.Disk.seen c.args.start.other) c.in-Ok.seen
+    c.in-Ok.ensures.log untrusted (e.others off)))
 
 pub returns-in-Err-Wrong-clause-sight : goal.returns-in-Err-Wrong-clause-sight
 returns-in-Err-Wrong-clause-sight g c is_stale first second placed trusted untrusted =
@@ -41,8 +31,6 @@ returns-in-Err-Wrong-clause-sight g c is_stale first second placed trusted untru
           (g.D.Disk.seen c.args.start.newest) (g.D.Disk.seen c.args.start.other)
           c.args.start.checkpoint c.args.start.at c.requires.found c.args.start.stands
           (c.requires.honest _) c.requires.backed
-          (λ state. c.in-Err-Wrong.ensures.wrong c.in-Err-Wrong.field-0-is
-          (ap is_some c.may_go_on.ensures.taken ∙ c.requires.found)
-          (subst HasState (sym c.may_go_on.ensures.seen) state));
+          (c.in-Err-Wrong.ensures.wrong c.in-Err-Wrong.field-0-is c.requires.found);
       shown = refl;
     })

@@ -1,8 +1,10 @@
-use Rattle.std.proofs.Common.{◌≡◌, List, ℕ, Ok, ap₂, drop, subst, sym}
-use Rattle.segments.specs.Starts.{before_zero}
+use Rattle.std.proofs.Common.{◌≡◌, ◌∙◌, List, ℕ, Ok, ap, ap₂, drop, subst, sym}
+use Rattle.segments.specs.Room.{damage_in, log_in}
+use Rattle.gateway.specs.declared.settings.LineSettings.{LineSettings}
 use Rattle.settings.specs.Settings.{IsReadOfText}
 use Rattle.statetext.specs.Text.{lines_in}
 use Rattle.state.specs.Beginnings.{IsRead}
+use Rattle.state.specs.GivenUps.{given_up_by}
 use Rattle.state.specs.Replays.{whole_lines}
 use Rattle.state.specs.Sights.{AreCounted}
 use Rattle.state.proofs.UnreadLemmas.{err_of}
@@ -12,28 +14,33 @@ pub returns-clause-log : goal.returns-clause-log
 returns-clause-log g c =
     let lines : List (List ℕ) =
     lines_in (drop c.args.opening.lines.at c.args.opening.lines.text.items) in
-    let same : before_zero (drop c.replayed.new.start.at
-    (g.D.Disk.seen c.replayed.new.start.newest))
-    ≡ before_zero (drop c.args.start.now.at (g.D.Disk.seen c.args.start.now.newest)) =
-    ap₂ (λ (at : ℕ) (file : List ℕ). before_zero (drop at file)) c.replayed.ensures.same
-    c.replayed.ensures.seen in
+    let same : log_in c.replayed.new.start.at (g.D.Disk.seen c.replayed.new.start.newest)
+    ≡ log_in c.args.start.now.at (g.D.Disk.seen c.args.start.now.newest) =
+    ap₂ log_in c.replayed.ensures.same c.replayed.ensures.seen in
+    let damage : damage_in c.replayed.new.start.at (g.D.Disk.seen c.replayed.new.start.newest)
+    ≡ damage_in c.args.start.now.at (g.D.Disk.seen c.args.start.now.newest) =
+    ap₂ damage_in c.replayed.ensures.same c.replayed.ensures.seen in
     record {
       number = c.requires.number;
       begins = c.args.start.now.at;
       lines = lines;
       head = c.requires.head;
-      said = c.in_ok-resumed.ensures.said;
+      said = c.in_ok-arrived.ensures.said;
       wrote = c.in_ok-wrote.wrote;
       readable = subst (λ (text : List ℕ). IsReadOfText text (Ok c.in_ok-wrote.wrote))
           c.deref.ensures.value c.in_ok-wrote.ensures.read;
       counted = subst (λ (events : List ℕ). AreCounted (whole_lines events)
           c.in_ok-count.count.logged c.in_ok-count.count.all) same c.in_ok-count.ensures.counted;
-      gap = c.in_ok-resumed.resumed.gap;
-      whole = c.in_ok-resumed.resumed.before.entries;
+      gap = c.in_ok-arrived.arrived.gap;
+      whole = c.in_ok-arrived.arrived.before.entries;
       read = subst (λ (events : List ℕ). IsRead c.in_ok-wrote.wrote g.K.Lineage.log lines events
-          c.in_ok-resumed.resumed.gap c.in_ok-resumed.resumed.before.entries
-          c.in_ok-resumed.resumed.gateway) same
-          (c.in_ok-resumed.ensures.read (c.requires.honest _));
+          c.in_ok-arrived.arrived.gap c.in_ok-arrived.arrived.before.entries
+          c.in_ok-arrived.arrived.gateway) same
+          (c.in_ok-arrived.ensures.read (c.requires.honest _));
+      damaged = c.in_ok-arrived.ensures.damage (c.requires.honest _) ∙ damage;
+      named = c.in-Ok.ensures
+          ∙ ap (λ (l : LineSettings). given_up_by l.sizes c.in_ok-arrived.arrived.gateway)
+          c.line.ensures;
     }
 
 pub returns-in_err-wrote-clause-wrong : goal.returns-in_err-wrote-clause-wrong

@@ -19,8 +19,8 @@ append-requires g c =
     let line : FitsLine c.args.next = search rules in
     let long : 1024 ≤ length c.args.buf.now = search rules in
     record {
-      short = short_appended c.append_event.result c.args.next c.args.buf.now _ _ _
-          (sym c.is_err.ensures.value ∙ c.if-is_err.false) c.append_event.ensures.line
-          c.append_event.ensures.printable c.new-line.ensures.bytes c.as_bytes.ensures.value
+      short = short_appended c.put_line.result c.args.next c.args.buf.now _ _ _
+          (sym c.is_err.ensures.value ∙ c.if-is_err.false) c.put_line.ensures.line
+          c.put_line.ensures.printable c.clear.ensures c.octets.ensures
           c.requires line long;
     }

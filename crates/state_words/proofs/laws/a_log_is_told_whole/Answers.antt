@@ -43,14 +43,14 @@ queued_line s = line (codes "state: goes on, " ++ decimal (taken_in s.gateway) +
 
 kept_lines : (s : Seen) → seen_lines false (Some s) ≡ rest_of_log s
 kept_lines s =
-    apart [] (queued_line s) (place_lines s) (standing_lines s.gateway)
+    apart [] (queued_line s) (place_lines s) (standing_lines s)
     (codes "kept under these settings:") (10 ∷ []) s.settings.items
 
 moved_lines : (s : Seen)
     → seen_lines true (Some s) ≡ line (codes "state: settings have changed") ++ rest_of_log s
 moved_lines s =
     apart (line (codes "state: settings have changed")) (queued_line s) (place_lines s)
-    (standing_lines s.gateway) (codes "kept under these settings:") (10 ∷ []) s.settings.items
+    (standing_lines s) (codes "kept under these settings:") (10 ∷ []) s.settings.items
 
 -- settings that both texts say are no change
 unmoved : (written text : List ℕ) (is_moved : Bool) (c : Settings) → IsReadOfText text (Ok c)

@@ -1,8 +1,8 @@
 use Rattle.std.proofs.Common.{◌⊎◌, subst}
 use Rattle.std.specs.Io.KnownBytes.{Keeps}
 use Rattle.gateway.specs.Setups.{setup_of}
-use Rattle.ladder.specs.Described.{IsLadder}
-use Rattle.ladder.specs.declared.rungs.Style.{Style}
+use Rattle.words.specs.Ladders.{IsLadder}
+use Rattle.words.specs.declared.ladder.rungs.Style.{Style}
 use Rattle.telegate.specs.Answers.{IsEndOf}
 use Rattle.telegate.specs.Parts.{IsStoppedOver}
 use Rattle.telegate.specs.Source.{Gives}

@@ -3,14 +3,14 @@ use Rattle.gateway.specs.Accounts.{IsAccounted}
 use Rattle.gateway.specs.Agrees.{Follows}
 use Rattle.gateway.specs.Log.{events_of}
 use Rattle.gateway.specs.Traffic.{HasRested}
-use Rattle.ladder.specs.Scribing.{Climbing, Scribing}
-use Rattle.ladder.specs.Described.{IsLadder}
-use Rattle.ladder.specs.declared.rungs.Style.{Style}
+use Rattle.words.specs.Scribing.{Climbing, Scribing}
+use Rattle.words.specs.Ladders.{IsLadder}
+use Rattle.words.specs.declared.ladder.rungs.Style.{Style}
 use Rattle.traces.specs.Progress.{Progress, coming_in, script_of, is_through}
 use Rattle.traces.specs.Trace.{first_wrong, lines_of}
 use Rattle.telegate.specs.Printed.{IsPoured}
 use Rattle.telegate.proofs.PartLemmas.{part_run, standing_of, turns_left}
-use Rattle.pages.proofs.Poured.{poured_begun}
+use Rattle.traces.proofs.Poured.{poured_begun}
 use Rattle.telegate.proofs.RunLemmas.{at_finish}
 use Rattle.telegate.proofs.InWordsLemmas.{writing_stopped}
 use Rattle.telegate.proofs.in_words.write_part.Goals as goal

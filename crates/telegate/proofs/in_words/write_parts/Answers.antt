@@ -1,7 +1,7 @@
 use Rattle.std.proofs.Common.{Bool, ap, sym, subst, inl, inr, ◌∙◌}
 use Rattle.traces.specs.Blocks.{Reading}
-use Rattle.ladder.specs.Described.{IsLadder}
-use Rattle.ladder.specs.declared.rungs.Style.{Style}
+use Rattle.words.specs.Ladders.{IsLadder}
+use Rattle.words.specs.declared.ladder.rungs.Style.{Style}
 use Rattle.telegate.specs.Parts.{IsPartRead, IsPartStopped, RunsOver}
 use Rattle.telegate.specs.InWords.{HasWritten}
 use Rattle.telegate.proofs.PartLemmas.{ran_to, block_run, all_run, block_left}

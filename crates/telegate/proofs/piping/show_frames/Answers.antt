@@ -1,6 +1,6 @@
 use Rattle.std.proofs.Common.{subst, sym}
 use Rattle.std.specs.Prelude.{IfOk, string_bytes}
-use Rattle.show.specs.declared.condition.Shown.{Shown}
+use Rattle.words.specs.declared.facts.condition.Shown.{Shown}
 use Rattle.telegate.specs.Piping.{AreFrames}
 use Rattle.telegate.specs.declared.piping.Piped.{Piped}
 use Rattle.telegate.proofs.piping.show_frames.Goals as goal

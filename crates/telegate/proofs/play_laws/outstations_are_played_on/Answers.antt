@@ -1,5 +1,5 @@
 use Rattle.std.proofs.Common.{ℕ, subst}
-use Rattle.stations.specs.TimedServers.{PlaysOn, first_server}
+use Rattle.sim.specs.TimedServers.{PlaysOn, first_server}
 use Rattle.telegate.proofs.PlayLaw.{config_refused, played_by, script_refused}
 use Rattle.telegate.proofs.play_laws.outstations_are_played_on.Goals as goal
 

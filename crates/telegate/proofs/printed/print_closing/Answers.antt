@@ -1,6 +1,6 @@
 use Rattle.std.proofs.Common.{Bool, subst}
 use Rattle.telegate.specs.Printed.{IsPoured}
-use Rattle.pages.proofs.Poured.{begun_longer, begun_behind}
+use Rattle.traces.proofs.Poured.{begun_longer, begun_behind}
 use Rattle.telegate.proofs.printed.print_closing.Goals as goal
 
 pub returns-then-not-is_whole : goal.returns-then-not-is_whole

@@ -4,7 +4,7 @@ use Rattle.gateway.specs.Agrees.{Follows}
 use Rattle.gateway.specs.Traffic.{HasRested}
 use Rattle.traces.specs.Actions.{lines_of_actions}
 use Rattle.telegate.proofs.PartLemmas.{part_run, part_stopped, part_poured, turns_left}
-use Rattle.pages.proofs.Poured.{poured_all, poured_begun}
+use Rattle.traces.proofs.Poured.{poured_all, poured_begun}
 use Rattle.telegate.proofs.RunLemmas.{at_finish}
 use Rattle.telegate.proofs.replay.run_part.Goals as goal
 

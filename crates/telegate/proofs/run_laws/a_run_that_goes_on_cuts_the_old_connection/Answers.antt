@@ -1,4 +1,5 @@
 use Rattle.std.proofs.Common.{is_some}
+use Rattle.telegate.proofs.KeptLemmas.{moment_in}
 use Rattle.telegate.proofs.RunLaw.{cut_of, kept_of, moment_there, wall_first}
 use Rattle.telegate.proofs.run_laws.a_run_that_goes_on_cuts_the_old_connection.Goals as goal
 
@@ -14,5 +15,5 @@ returns-clause-cut g c settings wishes old new left ended directory h named =
       k.lived.begun,
       k.lived.on.behind,
       λ on. cut_of settings wishes (is_some o.moment) left.port k.lived.on.port_is
-          (moment_there o k.lived.begun.begun.moment on),
+          (moment_there o (moment_in _ wishes settings old.lineage o k.lived.begun) on),
     )

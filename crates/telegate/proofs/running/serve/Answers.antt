@@ -4,8 +4,8 @@ use Rattle.runlog.specs.Logging.{Book, Closes, LoggedFixture}
 use Rattle.runlog.specs.Watching.{Watching}
 use Rattle.telegate.specs.Turns.{HasGoneOn, Begun, Turned, InATurn, WithoutEnd}
 use Rattle.telegate.specs.Turns.{shown_to, stands}
-use Rattle.lookout.specs.Looking.{looked, turned_after}
-use Rattle.lookout.specs.Looks.{Look}
+use Rattle.status.specs.Looking.{looked, turned_after}
+use Rattle.status.specs.Looks.{Look}
 use Rattle.telegate.proofs.Looks.{none_shown, shown_there}
 use Rattle.telegate.proofs.Turning.{lasting_logged, no_events_yet, one_more_event}
 use Rattle.telegate.proofs.running.serve.Goals as goal

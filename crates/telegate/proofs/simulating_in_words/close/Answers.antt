@@ -3,7 +3,7 @@ use Rattle.std.specs.Prelude.{string_bytes}
 use Rattle.sim.specs.Runs.{IsRun}
 use Rattle.sim.proofs.SimulationLemmas.{at_ok}
 use Rattle.telegate.specs.Printed.{IsClosedBy}
-use Rattle.pages.proofs.Poured.{poured_begun}
+use Rattle.traces.proofs.Poured.{poured_begun}
 use Rattle.telegate.proofs.SimInWordsLemmas.{words_ended, words_stopped}
 use Rattle.telegate.proofs.simulating_in_words.close.Goals as goal
 

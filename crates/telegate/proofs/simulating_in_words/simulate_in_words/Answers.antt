@@ -1,9 +1,9 @@
 use Rattle.std.proofs.Common.{◌≡◌, Some, true, ap, sym, subst, ◌∙◌}
 use Rattle.gateway.specs.Setups.{setup_of}
 use Rattle.gateway.specs.Traffic.{HasRested, IsFaithful}
-use Rattle.ladder.specs.Scribing.{Climbing, Scribing}
-use Rattle.ladder.specs.Described.{IsLadder}
-use Rattle.ladder.specs.declared.rungs.Style.{Style}
+use Rattle.words.specs.Scribing.{Climbing, Scribing}
+use Rattle.words.specs.Ladders.{IsLadder}
+use Rattle.words.specs.declared.ladder.rungs.Style.{Style}
 use Rattle.sim.specs.Calls.{calls_in}
 use Rattle.sim.specs.Lives.{Plan, plan_of}
 use Rattle.sim.specs.Losses.{turns_of}
@@ -11,7 +11,7 @@ use Rattle.sim.specs.Played.{Simulated, Stands}
 use Rattle.sim.proofs.SimulationLemmas.{at_turns, at_finish, at_first_call, run_turns, ended_calls}
 use Rattle.telegate.specs.Manners.{style_of}
 use Rattle.telegate.specs.Printed.{IsPoured}
-use Rattle.pages.proofs.Poured.{appends_none, poured_begun}
+use Rattle.traces.proofs.Poured.{appends_none, poured_begun}
 use Rattle.telegate.proofs.SimInWordsLemmas.{words_of_all, words_stopped}
 use Rattle.telegate.proofs.simulating_in_words.simulate_in_words.Goals as goal
 

@@ -1,4 +1,4 @@
-use Rattle.sitefile.specs.Site.{names_of}
+use Rattle.settings.specs.Site.{names_of}
 use Rattle.telegate.specs.Wishes.{said_by}
 use Rattle.telegate.proofs.Wished.{can_be, unfit}
 use Rattle.telegate.proofs.wishes.judge_site.Goals as goal

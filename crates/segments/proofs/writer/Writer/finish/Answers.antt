@@ -2,8 +2,8 @@ use Rattle.std.proofs.Common.{◌≡◌, ◌∙◌, ◌+◌, ◌*◌, ◌<◌, �
 use Rattle.std.proofs.Common.{ap, sym, arith}
 use Rattle.std.proofs.Common.{length, length-append}
 use Rattle.std.specs.Prelude.{◌⊎◌}
-use Rattle.std.proofs.lemmas.List.{length-drop, length-take}
-use Rattle.segments.specs.Crash.{HasText, IsShut, IsTextIfOpen}
+use Rattle.std.proofs.lemmas.List.{length-drop, length-take, length-take-le}
+use Rattle.segments.specs.Crash.{IsShut, IsTextIfOpen, IsTextTo}
 use Rattle.segments.specs.Crashes.{AreShutOr}
 use Rattle.segments.specs.Head.{Fits, head_for, head_of, whole_text}
 use Rattle.statetext.specs.Sum.{remainder_after}
@@ -18,6 +18,16 @@ at_page : (number end stored : ℕ) (seen old held page : List ℕ) → held ≡
 at_page number end stored seen old held page is text =
     subst (λ (p : List ℕ). text_in end seen []
     ≡ whole_text number (drop 87 (text_in stored old p))) is text
+
+page_length : (stored : ℕ) (seen page : List ℕ) → length seen ≡ stored → 87 ≤ stored
+    → stored + length page ≡ 87 + length (drop 87 (text_in stored seen page))
+page_length stored seen page sized some = omega (
+  arith,
+  length-drop 87 (text_in stored seen page),
+  length-append (take stored seen) page,
+  length-take-le stored seen (omega (arith, sized)),
+  some,
+)
 
 pub returns-clause-crash : goal.returns-clause-crash
 returns-clause-crash g c =
@@ -39,12 +49,18 @@ returns-clause-mixed g c mixing =
       length-take s.stored (g.D.Disk.seen s.file),
     ) in
     few_or_shut (g.D.Disk.may_leave c.fill.new.file) c.args.number
-    (s.stored + length s.page.items) c.value-sum.result s.sum.remainder body number long few
+    (s.stored + length s.page.items) c.value-sum.result s.sum.remainder body
+    (s.stored + length s.page.items + c.args.blocks * 4096) number long few
     c.value-sum.ensures s.summed
     (subst (λ (h : List ℕ). IsShut (g.D.Disk.may_leave c.fill.new.file)
     ⊎ (s.stored + length h < 2 ^ 64)) c.deref.ensures.value c.in-Err.ensures.few)
+    (blocks_so c.args.blocks (87 + length body)
+    (s.stored + length s.page.items + c.args.blocks * 4096) c.requires
+    (ap (λ (n : ℕ). n + c.args.blocks * 4096)
+    (page_length s.stored (g.D.Disk.seen s.file) s.page.items (s.sized c.if-not-is_open.false) s.behind)))
     (subst (λ (h : List ℕ). AreShutOr (g.D.Disk.may_leave c.fill.new.file)
-    (HasText (whole_text c.args.number (drop 87 (text_in s.stored (g.D.Disk.seen s.file) h)))))
+    (IsTextTo (s.stored + length h + c.args.blocks * 4096)
+    (whole_text c.args.number (drop 87 (text_in s.stored (g.D.Disk.seen s.file) h)))))
     c.deref.ensures.value (c.in-Err.ensures.mixed mixing))
 
 pub begun-requires-clause-whole : goal.begun-requires-clause-whole

@@ -1,5 +1,5 @@
 use Rattle.std.proofs.Common.{rules, ◌≡◌, subst, sym}
-use Rattle.segments.specs.Crashes.{HasNoZero}
+use Rattle.statetext.specs.Sealed.{AreLines}
 use Rattle.state.specs.Logs.{SurvivesAsLogged, stored_in}
 use Rattle.state.specs.declared.opened.Opened.TheVariants as opens
 use Rattle.state.proofs.Surviving.{current_survives}
@@ -9,5 +9,5 @@ pub returns-in-Current : goal.returns-in-Current
 returns-in-Current g c _ none =
     let is : c.args.self.now.opened ≡ opens.Current c.in-Current.current = search rules in
     subst (λ opened. SurvivesAsLogged opened) (sym is)
-    (current_survives c.in-Current.current c.survives.ensures.durable c.survives.ensures.start
-    c.survives.ensures.mixed (subst (λ opened. HasNoZero (stored_in opened).text) is none))
+    (current_survives c.in-Current.current c.survives.ensures.survives c.survives.ensures.mixed
+    (subst (λ opened. AreLines (stored_in opened).safe) is none))

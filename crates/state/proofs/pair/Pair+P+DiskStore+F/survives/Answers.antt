@@ -1,6 +1,6 @@
 use Rattle.std.proofs.Common.{◌≡◌, ℕ, List, [], subst}
 use Rattle.std.specs.Prelude.{◌⊎◌}
-use Rattle.segments.specs.Crashes.{HasNoZero}
+use Rattle.statetext.specs.Sealed.{AreLines}
 use Rattle.state.specs.Logs.{HasFreshLog, IsOlderBeside, SurvivesAsLogged, leaves_amid}
 use Rattle.state.specs.Logs.{leaves_both, stored_in}
 use Rattle.state.proofs.Surviving.{kept_head, kept_in}
@@ -10,7 +10,7 @@ pub returns-clause-kept : goal.returns-clause-kept
 returns-clause-kept g c =
     kept_in c.args.self.now.store.opened c.args.self.now.store.settings.items
     c.args.self.now.deeds c.store-store.ensures.stored c.store-store.ensures.writable
-    (subst (λ s. ((stored_in s.opened).head ≡ [] → ⊥) → HasNoZero (stored_in s.opened).text →
+    (subst (λ s. ((stored_in s.opened).head ≡ [] → ⊥) → AreLines (stored_in s.opened).safe →
     SurvivesAsLogged s.opened) c.store-store.ensures.store c.survives.ensures)
 
 pub returns-clause-older : goal.returns-clause-older

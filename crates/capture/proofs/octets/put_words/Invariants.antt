@@ -1,7 +1,0 @@
-use Rattle.std.proofs.Common.{◌≡◌, ◌++◌, take}
-use Rattle.std.specs.List.{flat_map}
-use Rattle.capture.specs.Octets.{word}
-use Rattle.capture.proofs.octets.put_words.Given as goal
-
-abbrev pub invariant-loop-number : goal.invariant-loop-number
-invariant-loop-number l = l.page ≡ l.initial.page ++ flat_map word (take l.number-index l.words)

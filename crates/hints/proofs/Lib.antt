@@ -1,2 +1,0 @@
-pub mod StationLemmas
-pub mod TwinLemmas

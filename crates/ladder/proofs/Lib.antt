@@ -1,3 +1,0 @@
-pub mod Describing
-pub mod Pages
-pub mod Driven

@@ -1,3 +1,0 @@
-pub mod Rungs
-pub mod Described
-pub mod Scribing

@@ -1,4 +1,0 @@
-pub mod Shown
-pub mod Looking
-pub mod Looks
-pub mod Sights

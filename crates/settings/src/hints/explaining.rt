@@ -1,0 +1,181 @@
+//! A fault of settings, or of a site's file, explained.
+ghost use Rattle.std.specs.Prelude.{◌≡◌, IfOk};
+ghost use Rattle.toml.specs.Data.{get_member};
+ghost use Rattle.toml.specs.View.{table_view, view};
+ghost use Rattle.settings.specs.Settings.{IsDocument};
+ghost use Rattle.settings.specs.Explained.{IsExplained, IsKeyExplained, IsSpotOf, IsTextExplained};
+ghost use Rattle.settings.specs.Explained.{IsItemOf, IsSiteExplained, IsTwin, is_scalar, is_single};
+ghost use Rattle.settings.specs.Changes.{IsWithin};
+
+use crate::fault::ConfigFault;
+use crate::hints::file::File;
+use crate::hints::finding::find;
+use crate::hints::lines::{found_line, place_words, twin_line, wanted_line};
+use crate::hints::stations::{station_with, twin_station};
+use crate::keys::given;
+use crate::places::{Span, Spot, find_value};
+use crate::site::SiteFault;
+use std::alloc::{AllocError, Global};
+use toml::{Table, Value};
+
+/// The lines behind a fault of the settings that these octets are: where the value stands, or the
+/// key belongs; what is wanted; and where another station has the number. Of octets that are no
+/// document: where reading stopped, and why. None, where memory was refused to the reader.
+pub fn explain(alloc: Global, text: &[u8], fault: &ConfigFault) -> Result<Vec<u8>, AllocError>
+    ensures { IfOk result (λ lines. IsExplained text.now fault.now lines.items) }
+{
+    match fault {
+        ConfigFault::NotToml => explain_text(alloc, text),
+        ConfigFault::Key(path) => explain_key(alloc, File::Settings, text, *path),
+        ConfigFault::Unknown(path) => explain_key(alloc, File::Settings, text, path.as_str()),
+        ConfigFault::NoMemory => Ok(Vec::new(alloc)),
+    }
+}
+
+/// The same lines behind a fault of the site's file that these octets are.
+pub fn explain_site(alloc: Global, text: &[u8], fault: &SiteFault) -> Result<Vec<u8>, AllocError>
+    ensures { IfOk result (λ lines. IsSiteExplained text.now fault.now lines.items) }
+{
+    match fault {
+        SiteFault::NotToml => explain_text(alloc, text),
+        SiteFault::Key(path) => explain_key(alloc, File::Site, text, *path),
+        SiteFault::Unknown(path) => explain_key(alloc, File::Site, text, path.as_str()),
+        SiteFault::NoMemory => Ok(Vec::new(alloc)),
+    }
+}
+
+/// Where octets are no document, and why.
+fn explain_text(alloc: Global, text: &[u8]) -> Result<Vec<u8>, AllocError>
+    ensures { IfOk result (λ lines. IsTextExplained text.now lines.items) }
+{
+    let Err(fault) = toml::table_from_slice(alloc, text) else {
+        return Ok(Vec::new(alloc));
+    };
+    let Some(span) = fault.span() else {
+        return Err(AllocError);
+    };
+    let mut line = place_words(alloc, text, span.start)?;
+    line.push_str(": ")?;
+    line.push_str(fault.message())?;
+    line.push_str("\n")?;
+    Ok(line.into_bytes())
+}
+
+/// Where the value of a key stands, or the key belongs, and what is wanted.
+fn explain_key(alloc: Global, file: File, text: &[u8], path: &str) -> Result<Vec<u8>, AllocError>
+    ensures { IfOk result (λ lines. IsKeyExplained file text.now path.now lines.items) }
+{
+    match toml::table_from_slice(alloc, text) {
+        Ok(root) => explain_under(alloc, file, text, &root, path),
+        Err(fault) if fault.is_memory() => Err(AllocError),
+        Err(_) => Ok(Vec::new(alloc)),
+    }
+}
+
+fn explain_under(
+    alloc: Global,
+    file: File,
+    text: &[u8],
+    root: &Table,
+    path: &str,
+) -> Result<Vec<u8>, AllocError>
+    requires { IsDocument text.now (table_view root.now) }
+    ensures { IfOk result (λ lines. IsKeyExplained file text.now path.now lines.items) }
+{
+    let item = item_of(alloc, file, root, path)?;
+    let spot = spot_of(root, path, item);
+    let found = find(alloc, text, &spot)?;
+    let twin = twin_of(alloc, text, root, &spot)?;
+    let mut lines = found_line(alloc, text, found)?;
+    let wanted = wanted_line(alloc, file, path)?;
+    lines.extend_from_slice(wanted.as_bytes())?;
+    let taken = twin_line(alloc, text, twin)?;
+    lines.extend_from_slice(taken.as_bytes())?;
+    Ok(lines)
+}
+
+/// Which station is meant, counted from 0, if one is.
+fn item_of(alloc: Global, file: File, root: &Table, path: &str) -> Result<Option<usize>, AllocError>
+    ensures { IfOk result (IsItemOf file path.now (table_view root.now)) }
+{
+    match file {
+        File::Settings => match path {
+            "station.address" | "station.ca" | "station.select" => {
+                crate::config::wrong_station(alloc, root)
+            }
+            _ => Ok(station_with(root, path)),
+        },
+        File::Site => match path {
+            "station.link" | "station.name" => crate::site::wrong_station(alloc, root),
+            _ => Ok(station_with(root, path)),
+        },
+    }
+}
+
+/// The key of a dotted path, of this station. Where its table is none, the key of that.
+fn spot_of<'a>(root: &Table, path: &'a str, item: Option<usize>) -> Spot<'a>
+    ensures of { IsSpotOf (table_view root.now) path.entry.now result }
+    ensures item { result.item ≡ item }
+{
+    let Some((table, key)) = path.split_once('.') else {
+        return Spot {
+            table: None,
+            item,
+            key: path,
+        };
+    };
+    if is_scalar(root, table) {
+        return Spot {
+            table: None,
+            item,
+            key: table,
+        };
+    }
+    Spot {
+        table: Some(table),
+        item,
+        key,
+    }
+}
+
+/// Whether there is such a key, whose value is neither a table nor an array.
+fn is_scalar(root: &Table, key: &str) -> bool
+    ensures { result ≡ is_scalar (get_member key.now (table_view root.now)) }
+{
+    match given(Some(root), key) {
+        Some(value) => is_single(value),
+        None => false,
+    }
+}
+
+fn is_single(value: &Value) -> bool
+    ensures { result ≡ is_single (view value.now) }
+{
+    !value.is_table() && !value.is_array()
+}
+
+/// Where another station has the number of this one, if one has.
+fn twin_of(
+    alloc: Global,
+    text: &[u8],
+    root: &Table,
+    spot: &Spot<'_>,
+) -> Result<Option<Span>, AllocError>
+    ensures twin { IfOk result (IsTwin (table_view root.now) spot.now text.now) }
+    ensures within { IfOk result (IsWithin text.now) }
+{
+    let Some(item) = spot.item else {
+        return Ok(None);
+    };
+    match twin_station(root, item, spot.key) {
+        Some(other) => {
+            let twin = Spot {
+                table: spot.table,
+                item: Some(other),
+                key: spot.key,
+            };
+            find_value(alloc, text, &twin)
+        }
+        None => Ok(None),
+    }
+}

@@ -1,0 +1,30 @@
+//! Where a value stands, or belongs.
+ghost use Rattle.std.specs.Prelude.{IfOk};
+ghost use Rattle.settings.specs.Explained.{IsInside, IsPlace};
+
+use crate::places::{Span, Spot, find_gap, find_value};
+use std::alloc::{AllocError, Global};
+
+/// Where the value of a key stands.
+#[derive(Clone, Copy, PartialEq, Eq)]
+pub(crate) enum KeyPlace {
+    /// These octets write it.
+    Value(Span),
+    /// It isn't there, and belongs behind this place.
+    Gap(Span),
+    /// Neither is known.
+    Nowhere,
+}
+
+pub(crate) fn find(alloc: Global, text: &[u8], spot: &Spot<'_>) -> Result<KeyPlace, AllocError>
+    ensures place { IfOk result (IsPlace spot.now text.now) }
+    ensures inside { IfOk result (IsInside text.now) }
+{
+    if let Some(span) = find_value(alloc, text, spot)? {
+        return Ok(KeyPlace::Value(span));
+    }
+    match find_gap(alloc, text, spot)? {
+        Some(span) => Ok(KeyPlace::Gap(span)),
+        None => Ok(KeyPlace::Nowhere),
+    }
+}

@@ -1,7 +1,0 @@
-use Rattle.std.proofs.Common.{◌≡◌, drop}
-use Rattle.stations.specs.Late.{delay_of}
-use Rattle.stations.proofs.late.delay_of.Given as goal
-
-abbrev pub invariant-loop-cue : goal.invariant-loop-cue
-invariant-loop-cue l =
-    delay_of l.request (drop l.cue-index l.cues) ≡ delay_of l.request l.cues

@@ -1,5 +1,0 @@
-use Rattle.stations.specs.Reporting.{LinesReport}
-use Rattle.stations.proofs.outstations.Outstations.give_reports.Given as goal
-
-abbrev pub invariant-loop-line : goal.invariant-loop-line
-invariant-loop-line l = LinesReport l.passed l.line l.initial.self l.self

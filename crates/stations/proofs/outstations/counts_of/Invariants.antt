@@ -1,6 +1,0 @@
-use Rattle.std.proofs.Common.{◌≡◌}
-use Rattle.stations.specs.Exchanges.{first_counts}
-use Rattle.stations.proofs.outstations.counts_of.Given as goal
-
-abbrev pub invariant-loop-station : goal.invariant-loop-station
-invariant-loop-station l = l.counts.items ≡ first_counts l.station l.script
