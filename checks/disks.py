@@ -4,9 +4,11 @@ without a gap, nothing is operated twice, and the line is polled on.
 
     checks/disks.py [--program FILE] [--only NAME] [--part NAME] [--seed N]
 
-- In a state that a killed run left a bit is turned, a sector reads as zeros, the file ends early, two
-  sectors are exchanged, or an older copy of the directory is put back. Each start goes on without a
-  loss, or says what is wrong with the state and tells a gap of each station that lost a report.
+- In a state that a killed run left a bit is turned, a sector reads as zeros, the file ends early, or
+  two sectors are exchanged. Each start goes on without a loss, or says what is wrong with the state
+  and tells a gap of each station that lost a report.
+- A copy of the directory takes its place: it is stale by itself. Kills and power cuts, also amid a
+  first start, never make it so.
 - A library in front of the C library's lets each call for a file of the state fail, from a moment
   on: with an error of the disk, because the file system is read-only, for want of space or of
   permission. Or a file of the state is none. The run goes on as long as the mark can be made, on that
@@ -19,7 +21,7 @@ import errno
 import os
 import random
 import re
-import shutil
+import subprocess
 import tempfile
 import time
 
@@ -190,33 +192,79 @@ def damaged(count, program, damage, cases):
     print(f"{damage.__name__.replace('_', ' ')}: {seen}", flush=True)
 
 
-def older_copy(count, program, is_clone):
-    """A copy of the directory from before is put back, or a run goes on in a copy of it."""
+# How a copy of the directory is kept, and put in its place.
+COPIES = {
+    "copied and moved back": ("cp -a {state} {copy}", "rm -r {state} && mv {copy} {state}"),
+    "out of an archive": ("tar -C {state} -cf {copy} .", "rm -r {state} && mkdir {state} && tar -C {state} -xf {copy}"),
+    "out of an archive, over what stands": ("tar -C {state} -cf {copy} .", "tar -C {state} -xf {copy}"),
+    "copied file by file": ("cp -a {state} {copy}", "for name in {copy}/*; do cp -a --remove-destination $name {state}; done"),
+}
+
+
+def a_copy(count, program, way, lives):
+    """Behind so many more lives a copy takes the directory's place: it is stale by itself, once."""
+    keep, put_back = COPIES[way]
     with tempfile.TemporaryDirectory() as folder:
         life = Life(program, folder)
-        state, copy = life.gateway.state, os.path.join(folder, "older")
-        shutil.copytree(state, copy)
-        if not is_clone:
+        gateway = life.gateway
+        places = {"state": gateway.state, "copy": os.path.join(folder, "copy")}
+        subprocess.run(keep.format(**places), shell=True, check=True)
+        for _ in range(lives):
             life.live()
-        shutil.rmtree(state)
-        if is_clone:
-            # Another file of the same name and number has taken the place.
-            os.rename(copy, os.path.join(folder, "first"))
-            shutil.copytree(os.path.join(folder, "first"), state)
-        else:
-            os.rename(copy, state)
-            copy_again(state)
+        subprocess.run(put_back.format(**places), shell=True, check=True)
+        lines, _, _ = looked(gateway, gateway.state)
+        count.judge("a look at it tells that", "state is stale: each link is reset" in lines, lines)
+        before = len(gateway.said)
         faults, says = life.goes_on()
-        count.judge("a copy: what came of it", not faults, (faults, says))
-        count.compare("a copy is stale by itself", says, "stale")
+        count.judge("what came of it", not faults, (faults, says))
+        told = gateway.said[before:]
+        count.compare("it is stale by itself", says, "stale")
+        count.judge("each station's gap is told", gaps(told) == [1, 2], told)
+        lines, _, _ = looked(gateway, gateway.state)
+        count.judge("and then no longer", lines[0].startswith("state: goes on"), lines)
 
 
-def copy_again(folder):
-    """Each file is copied, as a backup that is put back is."""
-    for name in os.listdir(folder):
-        path = os.path.join(folder, name)
-        shutil.copy2(path, path + ".new")
-        os.rename(path + ".new", path)
+def no_copy(told):
+    """Whether a start says nothing of a copy, or of a state that isn't kept."""
+    return not [text for text in ("stale", "put aside", "isn't kept") if text in told]
+
+
+def killed_often(count, program):
+    """Killed 12 times amid a start or a run, at half of them with a power cut: never stale."""
+    with tempfile.TemporaryDirectory() as folder:
+        gateway = quiet(program, folder, environment=kept.shadowed(folder), **SHORT)
+        chance = random.Random(count.options.seed)
+        for life in range(12):
+            gateway.start()
+            if life % 3 == 2:
+                gateway.waits("station 2 up")
+            time.sleep(0.3 * chance.random())
+            gateway.end(chance.choice(["kill", "power"]))
+        gateway.start()
+        count.judge("it goes on", gateway.waits("goes on", "listening"), gateway.logged())
+        gateway.kill()
+        count.judge("and was never stale", no_copy(gateway.said), gateway.said)
+        gateway.field.server.close()
+
+
+def first_start_cut(count, program):
+    """The power is cut in front of each of the first 30 calls that change a file of the state."""
+    for call in range(1, 31):
+        with tempfile.TemporaryDirectory() as folder:
+            usual = kept.shadowed(folder)
+            gateway = quiet(program, folder, environment={**usual, "CUT_AT": str(call)}, **SHORT)
+            gateway.start()
+            until(lambda: gateway.process.poll() is not None)
+            gateway.end("power")
+            gateway.environment = usual
+            gateway.start()
+            is_up = gateway.waits("station 2 up")
+            gateway.end("power")
+            gateway.start()
+            is_on = gateway.waits("goes on", "listening")
+            gateway.kill()
+            count.judge(f"cut at call {call}", is_up and is_on and no_copy(gateway.said), gateway.said)
+            gateway.field.server.close()
 
 
 # Each call that changes a file of the state fails with ERRNO, or each sync lasts for SLOW ms, from the moment on at which TRIGGER is there.
@@ -599,13 +647,14 @@ def damage_part(name, damage, cases):
 
 
 PARTS = [
-    damage_part("disk bits", turn_a_bit, 12),
+    damage_part("damaged bits", turn_a_bit, 12),
     damage_part("disk sectors", zero_a_sector, 8),
-    damage_part("disk short files", cut_short, 8),
+    damage_part("short files", cut_short, 8),
     damage_part("shortened behind its last line", cut_to_used, 2),
     damage_part("sectors exchanged", exchange, 6),
-    alone("disk older copy", older_copy, False),
-    alone("disk clone", older_copy, True),
+    *(alone(f"{kind} {way}", a_copy, way, lives) for way in COPIES for kind, lives in (("the same,", 0), ("an older one,", 1))),
+    alone("killed often", killed_often),
+    alone("first start cut", first_start_cut),
     *(alone(f"fails amid a run: {name}", fails_amid_a_run, name) for name in FAULTS),
     # A full disk can be read: checks/state.py has a start on one.
     *(alone(f"fails at a start: {name}", fails_at_a_start, name) for name in FAULTS if name != "no space"),
@@ -614,7 +663,7 @@ PARTS = [
     *(alone(f"or stop: {name}", stops, name) for name in ("EIO", "read-only")),
     alone("FIFO", no_file),
     alone("disk slow", slow_syncs),
-    alone("disk each octet once", each_octet_once),
+    alone("each octet once", each_octet_once),
     alone("mark that can't be looked for", mark_unseen),
 ]
 

@@ -14,6 +14,8 @@ and `--allow`.
   refused, with the rule. Of many at once the last is logged, and how many came before it.
 - A skipped report is logged with its type and the reason.
 - A station whose answers last longer than `answer_ms` is logged, once a minute; a silent one isn't.
+- What comes in the place of an answer is told apart: an echo, a late answer, a frame of another
+  station, a device server's own text, noise and the beginning of a frame.
 - An answer to a command that comes while data transfer isn't running is logged, once a minute.
 - With --allow a host of another address is sent away, and the open connection stays.
 - A run that can't begin says why. A second run by mistake ends at the port, and leaves the line of
@@ -488,12 +490,86 @@ def late(count, program, folder):
     station = Late()
     with Run(program, folder, station, "--log", settings=HELD) as run:
         log = run.log
-        for line in ("answers of station 7 come late: answer_ms is short", "station 7 answer spoilt: octets came, but no answer"):
-            count.judge(line, log.waits(line) is not None, log.lines)
+        spoilt = "station 7 answer spoilt: octets 686868"
+        for words in ("answers of station 7 come late, ", spoilt):
+            count.judge(words, log.waits(words) is not None, log.lines)
+        told = [line for line in log.lines if re.fullmatch(r"answers of station 7 come late, \d+ ms behind their request: answer_ms is short", line)]
+        is_over = [int(re.search(r", (\d+) ms", line)[1]) >= 150 for line in told]
+        count.judge("how late they come", told and all(is_over), log.lines)
         time.sleep(2)
         for words in ("answers of station 7 ", "station 7 answer spoilt"):
             told = [line for line in log.lines if line.startswith(words)]
             count.judge(f"{words} is told once a minute", len(told) == 1, log.lines)
+
+
+# What a station gives in the place of an answer to each request, and what stands in its line behind the colon. The text
+# is the front of what a device server says of a port that it can't open.
+ODD = {
+    "an echo": (lambda frame: frame, "its request came back"),
+    "an echo before the answer": (lambda frame: frame + ends.fixed(0x0B, 7), "its request came back"),
+    "a frame of another station": (lambda frame: ends.fixed(0x0B, 9), "a frame with link address 9"),
+    "a device server's text": (
+        lambda frame: b"Device open failure: no such port\r\n",
+        'octets 446576696365206F70656E206661696C ("Device open fail")',
+    ),
+    "a modem's text": (lambda frame: b"NO CARRIER\r\n", 'octets 4E4F20434152524945520D0A ("NO CARRIER")'),
+    "noise": (lambda frame: b"\x00\xff", "octets 00FF"),
+    "the beginning of a frame": (lambda frame: b"\x10\x0b", "octets 100B"),
+}
+
+
+class Odd(Station):
+    """An outstation that gives something else in the place of each answer."""
+
+    def __init__(self, gives):
+        self.gives = gives
+        super().__init__()
+
+    def run(self):
+        self.stream, _ = self.server.accept()
+        line = ends.Line(self.stream)
+        try:
+            while True:
+                line.answer(self.gives(line.request()[2]))
+        except (OSError, EOFError):
+            pass
+
+
+class Crossed(Station):
+    """Two outstations on a line: the answer of 7 to a poll comes when 8 is polled, 50 ms behind that."""
+
+    def run(self):
+        self.stream, _ = self.server.accept()
+        line = ends.Line(self.stream)
+        try:
+            while True:
+                function, address, _ = line.request()
+                if function == 9:
+                    line.answer(ends.fixed(0x0B, address))
+                elif function == 0:
+                    line.answer(ends.fixed(0x00, address))
+                elif address == 8:
+                    time.sleep(0.05)
+                    line.answer(ends.fixed(0x09, 7))
+        except (OSError, EOFError):
+            pass
+
+
+def told_apart(count, program, folder):
+    """What comes in the place of an answer is told apart."""
+    for name, (gives, words) in ODD.items():
+        with Run(program, folder, Odd(gives), "--log", settings=HELD) as run:
+            line = f"station 7 answer spoilt: {words}"
+            run.log.waits("station 7 answer spoilt: ")
+            told = [line for line in run.log.lines if " spoilt: " in line]
+            count.judge(name, told and told[0] == line, run.log.lines)
+    both = LINE.replace("retries = 1", "retries = 0") + STATION + STATION.replace("7", "8")
+    with Run(program, folder, Crossed(), "--log", settings=both) as run:
+        at = run.log.waits("station 8 answer spoilt: ")
+        line = run.log.lines[at - 1] if at else ""
+        told = re.fullmatch(r"station 8 answer spoilt: an answer of station 7, (\d+) ms behind its request: answer_ms is short", line)
+        # It lasts `answer_ms` until station 8 is polled, and as long again at most until the exchange is over.
+        count.judge("a late answer in the next exchange", told and 200 <= int(told[1]) <= 300, run.log.lines)
 
 
 def unheard(count, program, folder):
@@ -573,4 +649,4 @@ def troubles(count, program, folder):
 
 
 if __name__ == "__main__":
-    frame.main(a_run, held, mute, fickle, commands, skipped, late, unheard, allowed, troubles, second, closed)
+    frame.main(a_run, held, mute, fickle, commands, skipped, late, told_apart, unheard, allowed, troubles, second, closed)

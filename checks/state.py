@@ -674,7 +674,8 @@ def a_look(count, program):
         os.rename(os.path.join(gateway.state, "stale"), os.path.join(gateway.state, "kept"))
         octet = rot_a_line(gateway.state)
         lines, status, _ = looked(gateway, gateway.state)
-        count.judge("a rotten line", status == 0 and lines[:2] == [damaged_at(octet), "state is stale: each link is reset"], (octet, lines))
+        count.judge("a rotten line", status == 0 and lines[0] == "state is stale: each link is reset", lines)
+        count.judge("and which", damaged_at(octet) in lines, (octet, lines))
         for name in ("segments", "segments-wal"):
             with open(os.path.join(gateway.state, name), "r+b") as file:
                 if file.read(14) == b"telegate state":

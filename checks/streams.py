@@ -141,6 +141,13 @@ def records():
         yield f"line {line} is wrong, and one before it differs", "\n".join(wrong) + "\n", (1, "", f"record: line {line + 2}\n")
         comment = [*RECORD[:line], "# a comment", *RECORD[line:]]
         yield f"a comment before line {line}", "\n".join(comment) + "\n", differs
+        hole = [*RECORD[:line], "# left out: 2 lines", *RECORD[line + 2 :]]
+        told = f"line {line + 1}: lines are left out here; those before it are the same\n"
+        yield f"a hole before line {line}", "\n".join(hole) + "\n", (1, told, "")
+    for many in (1, BLOCK):
+        unfit = f"record: lines 1 to {many} are no state under these settings\n"
+        yield f"{many} lines that are no state", "# state: 7\n" * many + whole, (1, "", unfit)
+    yield "a state behind a line", "0 W 7\n# state: 7\n" + whole, (1, "line 2 differs\n", "")
     for end in (len(whole) // 2, BLOCK, 2 * BLOCK + 1):
         lines = whole[:end].count("\n")
         yield f"the first {end} octets", whole[:end], (0, f"same, {(lines + 1) // 2} events, {lines // 2} actions\n", "")

@@ -11,10 +11,12 @@ use Rattle.traces.specs.Printed.{lines_of_log}
 use Rattle.traces.specs.Progress.{events_in}
 use Rattle.traces.specs.Trace.{first_wrong}
 use Rattle.traces.proofs.LineByLineLemmas.{are_said, first_is}
-use Rattle.record.specs.Audit.{IsAudit, IsRunOver, IsWrongLine, OfGiven}
+use Rattle.record.specs.Audit.{IsAudit, IsRunOver, IsWrongLine, LeavesOut, OfGiven}
 use Rattle.record.specs.Law.{IsFirstUnknown, IsKnown, IsOtherRun, IsRunOf, IsSameRun, said_lines}
-use Rattle.record.specs.Lines.{event_line, event_lines, is_action, is_cut, whole_lines}
-use Rattle.record.specs.declared.audit.Comparison.TheVariants.{Differs, Same}
+use Rattle.record.specs.Lines.{event_line, event_lines, first_difference, first_state, is_action}
+use Rattle.record.specs.Lines.{is_cut, record_lines, whole_lines}
+use Rattle.record.specs.declared.audit.Comparison.{Comparison}
+use Rattle.record.specs.declared.audit.Comparison.TheVariants.{Differs, LeftOut, Same}
 use Rattle.record.proofs.DifferenceLaw.{none_is_same, some_is_off}
 
 -- ---- The events of a run
@@ -55,34 +57,36 @@ said_alone (line ∷ lines) entries said =
     by false false here so =
         said_more line (event_lines lines) (said_lines lines) entries here so
 
-run_is : (settings : Settings) (lines : List (List ℕ)) (log : Log)
-    → first_wrong 1 (event_lines lines) ≡ None
-    → IsRunOver settings (events_in (event_lines lines)) log → IsRunOf settings lines log
-run_is settings lines log right run = record {
-  faithful = run.faithful;
-  said = said_alone lines (events_of log) (subst (AreSaid (event_lines lines)) (sym run.events)
-      (are_said 1 (event_lines lines) right));
+run_is : (settings : Settings) (past : Log) (text : List ℕ) (log : Log)
+    → first_wrong 1 (event_lines (record_lines text)) ≡ None
+    → IsRunOver settings (first_state (whole_lines text)) past
+    (events_in (event_lines (record_lines text))) log → IsRunOf settings past text log
+run_is settings past text log right run = record {
+  faithful = λ begins. let keeps = run.keeps begins in keeps.faithful;
+  said = said_alone (record_lines text) (events_of log)
+      (subst (AreSaid (event_lines (record_lines text))) (sym run.events)
+      (are_said 1 (event_lines (record_lines text)) right));
 }
 
-same_run : (settings : Settings) (text : List ℕ) (events actions : ℕ)
-    → IsAudit settings text (Same events actions)
-    → IsSameRun settings (whole_lines text) events actions
-same_run settings text events actions audit = record {
+same_run : (settings : Settings) (past : Log) (text : List ℕ) (events actions : ℕ)
+    → IsAudit settings past text (Same events actions) → IsSameRun settings past text events actions
+same_run settings past text events actions audit = record {
   log = audit.log;
-  run = run_is settings (whole_lines text) audit.log audit.right audit.run;
-  begins = none_is_same 1 (whole_lines text) (whole_lines (lines_of_log audit.log))
+  run = run_is settings past text audit.log audit.right audit.run;
+  begins = none_is_same 1 (record_lines text) (whole_lines (lines_of_log audit.log))
       audit.comparison.0;
   came = audit.comparison.1;
   went = audit.comparison.2;
 }
 
-other_run : (settings : Settings) (text : List ℕ) (number : ℕ)
-    → IsAudit settings text (Differs number) → IsOtherRun settings (whole_lines text) number
-other_run settings text number audit = record {
+other_run : (settings : Settings) (past : Log) (text : List ℕ) (number : ℕ)
+    (found : Comparison) (audit : IsAudit settings past text found)
+    → first_difference 1 (record_lines text) (whole_lines (lines_of_log audit.log)) ≡ Some number
+    → IsOtherRun settings past text number
+other_run settings past text number found audit differs = record {
   log = audit.log;
-  run = run_is settings (whole_lines text) audit.log audit.right audit.run;
-  differs = some_is_off 1 (whole_lines text) (whole_lines (lines_of_log audit.log)) number
-      audit.comparison;
+  run = run_is settings past text audit.log audit.right audit.run;
+  differs = some_is_off 1 (record_lines text) (whole_lines (lines_of_log audit.log)) number differs;
 }
 
 -- ---- The first line that is wrong
@@ -172,20 +176,30 @@ first_unknown lines number first =
 pub of_known : (text : List ℕ) (IsSo : List ℕ → Type 0) → OfGiven (Some text) IsSo → IsSo text
 of_known text IsSo given = subst IsSo (sym given.given) given.so
 
-pub same_told : (settings : Settings) (text : List ℕ) (events actions : ℕ)
-    → OfGiven (Some text) (λ t. IsAudit settings t (Same events actions))
-    → IsSameRun settings (whole_lines text) events actions
-same_told settings text events actions given = same_run settings text events actions
-    (of_known text (λ t. IsAudit settings t (Same events actions)) given)
+pub same_told : (settings : Settings) (past : Log) (text : List ℕ) (events actions : ℕ)
+    → OfGiven (Some text) (λ t. IsAudit settings past t (Same events actions))
+    → IsSameRun settings past text events actions
+same_told settings past text events actions given = same_run settings past text events actions
+    (of_known text (λ t. IsAudit settings past t (Same events actions)) given)
 
-pub other_told : (settings : Settings) (text : List ℕ) (number : ℕ)
-    → OfGiven (Some text) (λ t. IsAudit settings t (Differs number))
-    → IsOtherRun settings (whole_lines text) number
-other_told settings text number given = other_run settings text number
-    (of_known text (λ t. IsAudit settings t (Differs number)) given)
+pub other_told : (settings : Settings) (past : Log) (text : List ℕ) (number : ℕ)
+    → OfGiven (Some text) (λ t. IsAudit settings past t (Differs number))
+    → IsOtherRun settings past text number
+other_told settings past text number given =
+    let audit = of_known text (λ t. IsAudit settings past t (Differs number)) given in
+    other_run settings past text number (Differs number) audit audit.comparison
+
+pub hole_told : (settings : Settings) (past : Log) (text : List ℕ) (number : ℕ)
+    → OfGiven (Some text) (λ t. IsAudit settings past t (LeftOut number))
+    → IsOtherRun settings past text number × LeavesOut (record_lines text) number
+hole_told settings past text number given =
+    let audit = of_known text (λ t. IsAudit settings past t (LeftOut number)) given in (
+      other_run settings past text number (LeftOut number) audit audit.comparison.0,
+      audit.comparison.1,
+    )
 
 pub wrong_told : (text : List ℕ) (number : ℕ) → OfGiven (Some text) (λ t. IsWrongLine t number)
-    → IsFirstUnknown (whole_lines text) number
-wrong_told text number given = first_unknown (whole_lines text) number
-    (first_is 1 (event_lines (whole_lines text)) number
+    → IsFirstUnknown (record_lines text) number
+wrong_told text number given = first_unknown (record_lines text) number
+    (first_is 1 (event_lines (record_lines text)) number
     (of_known text (λ t. IsWrongLine t number) given))

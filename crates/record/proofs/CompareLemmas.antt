@@ -10,19 +10,72 @@ use Rattle.std.specs.Prelude.{Vec, ◌==◌, ◌||◌}
 use Rattle.std.specs.Str.{bytes_eq}
 use Rattle.std.specs.declared.alloc.Global.{Global}
 use Rattle.gateway.specs.Config.{Settings}
+use Rattle.gateway.specs.Log.{Log}
 use Rattle.gateway.specs.State.{State}
 use Rattle.traces.specs.Printed.{lines_of_log}
 use Rattle.traces.specs.Trace.{lines_of}
 use Rattle.record.proofs.LineLemmas.{both_whole, ended_whole, rest_whole, whole_joined}
-use Rattle.record.specs.Audit.{IsComparison}
-use Rattle.record.specs.Comparing.{AreWhole, GoesOn, IsBehind, IsCompared, IsOff}
-use Rattle.record.specs.Lines.{is_cut, is_first, behind_first, first_difference, whole_lines}
+use Rattle.record.specs.Audit.{IsComparison, comparison_at}
+use Rattle.record.specs.Comparing.{AreWhole, GoesOn, IsBehind, IsCompared, IsOff, Numbers}
+use Rattle.record.specs.Lines.{is_cut, is_first, behind_first, first_difference, leaves_out}
+use Rattle.record.specs.Lines.{whole_lines}
 use Rattle.record.specs.Rerunning.{Halted, IsHalted, Stands}
 use Rattle.record.specs.declared.audit.Comparison.TheVariants as Comparisons
 use Rattle.record.specs.declared.audit.Comparison.TheVariants.{Same}
 use Rattle.record.specs.declared.audit.comparing.Agreement.{Agreement}
 use Rattle.record.specs.declared.audit.comparing.Agreement.TheVariants.{Level, Behind, Differs}
 use Rattle.record.specs.declared.audit.passing.LineCounts.{LineCounts}
+
+-- ---- Numbers of lines
+
+-- these lines are left of others, and the first of them has this number
+pub record IsLeft (first : ℕ) (lines : List (List ℕ)) (n : ℕ) (left : List (List ℕ))
+    : Type 0 where
+  pub front : List (List ℕ)
+  pub parted : lines ≡ front ++ left
+  pub counted : n ≡ first + length front
+
+pub numbers_next : (first : ℕ) (lines : List (List ℕ)) (n : ℕ) (line : List ℕ)
+    (left rest : List (List ℕ)) → left ≡ line ∷ rest → IsLeft first lines n left
+    → Numbers first lines n line
+numbers_next first lines n line left rest is so = record {
+  front = so.front;
+  behind = rest;
+  parted = so.parted ∙ ap (λ ls. so.front ++ ls) is;
+  counted = so.counted;
+}
+
+pub left_next : (first : ℕ) (lines : List (List ℕ)) (n : ℕ) (line : List ℕ)
+    (left rest : List (List ℕ)) → left ≡ line ∷ rest → IsLeft first lines n left
+    → IsLeft first lines (n + 1) rest
+left_next first lines n line left rest is so = record {
+  front = so.front ++ line ∷ [];
+  parted = so.parted ∙ ap (λ ls. so.front ++ ls) is ∙ sym (append_assoc so.front (line ∷ []) rest);
+  counted = omega (arith, so.counted, length-append so.front (line ∷ []));
+}
+
+-- more lines behind them
+numbers_more : (first : ℕ) (lines more : List (List ℕ)) (n : ℕ) (line : List ℕ)
+    → Numbers first lines n line → Numbers first (lines ++ more) n line
+numbers_more first lines more n line so = record {
+  front = so.front;
+  behind = so.behind ++ more;
+  parted = ap (λ ls. ls ++ more) so.parted ∙ append_assoc so.front (line ∷ so.behind) more;
+  counted = so.counted;
+}
+
+-- or before them
+numbers_behind : (first : ℕ) (lines part : List (List ℕ)) (n : ℕ) (line : List ℕ)
+    → first ≡ 1 + length lines → Numbers first part n line → Numbers 1 (lines ++ part) n line
+numbers_behind first lines part n line counted so = record {
+  front = lines ++ so.front;
+  behind = so.behind;
+  parted = ap (λ ls. lines ++ ls) so.parted
+      ∙ sym (append_assoc lines so.front (line ∷ so.behind));
+  counted = omega (arith, so.counted, counted, length-append lines so.front);
+}
+
+-- ---- Line by line
 
 module _ (first : ℕ) (lines run : List (List ℕ)) (n : ℕ) (line : List ℕ)
     (left rest ahead : List (List ℕ))
@@ -52,8 +105,10 @@ module _ (first : ℕ) (lines run : List (List ℕ)) (n : ℕ) (line : List ℕ)
       else Some n) uncut
 
   -- the run has no line for it so far
-  pub goes_behind : is_cut line ≡ false → ahead ≡ [] → IsBehind first lines run n line
-  goes_behind uncut none = record {
+  pub goes_behind : IsLeft first lines n left → is_cut line ≡ false → ahead ≡ []
+      → IsBehind first lines run n line
+  goes_behind so uncut none = record {
+    numbers = numbers_next first lines n line left rest is so;
     uncut = uncut;
     others = rest;
     goes = λ more later. goes_to more later
@@ -71,12 +126,16 @@ module _ (first : ℕ) (lines run : List (List ℕ)) (n : ℕ) (line : List ℕ)
         else Some n) same
 
     -- it isn't
-    pub goes_off : is_cut line ≡ false → bytes_eq line other ≡ false → IsOff first lines run n
-    goes_off uncut differs more later = uncut_to uncut more later
-        ∙ ap (λ ls. if is_first line (ls ++ later) then first_difference (n + 1) (rest ++ more)
-        (behind_first (ls ++ later)) else Some n) next
-        ∙ ap (λ (b : Bool). if b then first_difference (n + 1) (rest ++ more) (further ++ later)
-        else Some n) differs
+    pub goes_off : IsLeft first lines n left → is_cut line ≡ false → bytes_eq line other ≡ false
+        → IsOff first lines run n line
+    goes_off so uncut differs = record {
+      numbers = numbers_next first lines n line left rest is so;
+      off = λ more later. uncut_to uncut more later
+          ∙ ap (λ ls. if is_first line (ls ++ later) then first_difference (n + 1) (rest ++ more)
+          (behind_first (ls ++ later)) else Some n) next
+          ∙ ap (λ (b : Bool). if b then first_difference (n + 1) (rest ++ more) (further ++ later)
+          else Some n) differs;
+    }
 
 -- What is compared later
 
@@ -115,11 +174,22 @@ none_more : (lines run : List (List ℕ)) (o : Option ℕ)
 none_more lines run o is = ap (λ ls. first_difference 1 ls run) (sym (append-nil lines))
     ∙ ap (λ ls. first_difference 1 (lines ++ []) ls) (sym (append-nil run)) ∙ is
 
-module _ (settings : Settings) (lines : List (List ℕ)) (state : State) (h : Halted)
+-- what is told of the first line that isn't the run's
+told_at : (lines : List (List ℕ)) (log : Log) (n : ℕ) (line : List ℕ)
+    → first_difference 1 lines (whole_lines (lines_of_log log)) ≡ Some n → Numbers 1 lines n line
+    → IsComparison lines log (comparison_at n line)
+told_at lines log n line is numbers = by (leaves_out line) refl
+  where
+    by : (b : Bool) → leaves_out line ≡ b
+        → IsComparison lines log (if b then Comparisons.LeftOut n else Comparisons.Differs n)
+    by true out = (is, (line, numbers, out))
+    by false other = is
+
+module _ (settings : Settings) (said : List ℕ) (lines : List (List ℕ)) (state : State) (h : Halted)
     (standing : Agreement) where
   pub logged_level : (ahead : Vec ℕ Global) → standing ≡ Level ahead → (tally : LineCounts)
       → tally ≡ h.tally → IsHalted h
-      → Stands settings lines state h standing
+      → Stands settings said lines state h standing
       → IsComparison lines h.log (Same tally.events tally.actions)
   logged_level ahead is tally same halted stands =
       let compared : IsCompared lines (whole_lines (lines_of_log h.log)) (Level ahead) =
@@ -130,20 +200,24 @@ module _ (settings : Settings) (lines : List (List ℕ)) (state : State) (h : Ha
       )
 
   pub logged_behind : (n : ℕ) (line : Vec ℕ Global) → standing ≡ Behind n line
-      → Stands settings lines state h standing → IsComparison lines h.log (Comparisons.Differs n)
+      → Stands settings said lines state h standing
+      → IsComparison lines h.log (comparison_at n line.items)
   logged_behind n line is stands =
       let behind : IsBehind 1 lines (whole_lines (lines_of_log h.log)) n line.items =
       subst (IsCompared lines (whole_lines (lines_of_log h.log))) is stands.compared in
-      none_more lines (whole_lines (lines_of_log h.log)) (Some n) (behind.goes [] []
+      told_at lines h.log n line.items
+      (none_more lines (whole_lines (lines_of_log h.log)) (Some n) (behind.goes [] []
       ∙ ap (λ (b : Bool). if b then first_difference (n + 1) (behind.others ++ []) [] else Some n)
-      behind.uncut)
+      behind.uncut)) behind.numbers
 
-  pub logged_off : (n : ℕ) → standing ≡ Differs n → Stands settings lines state h standing
-      → IsComparison lines h.log (Comparisons.Differs n)
-  logged_off n is stands =
-      let off : IsOff 1 lines (whole_lines (lines_of_log h.log)) n =
+  pub logged_off : (n : ℕ) (line : Vec ℕ Global) → standing ≡ Differs n line
+      → Stands settings said lines state h standing
+      → IsComparison lines h.log (comparison_at n line.items)
+  logged_off n line is stands =
+      let off : IsOff 1 lines (whole_lines (lines_of_log h.log)) n line.items =
       subst (IsCompared lines (whole_lines (lines_of_log h.log))) is stands.compared in
-      none_more lines (whole_lines (lines_of_log h.log)) (Some n) (off [] [])
+      told_at lines h.log n line.items
+      (none_more lines (whole_lines (lines_of_log h.log)) (Some n) (off.off [] [])) off.numbers
 
 -- A part more
 
@@ -187,26 +261,43 @@ module _ (lines run part : List (List ℕ)) (first : ℕ) (ahead page logged : L
       → IsBehind 1 (lines ++ part) (run ++ whole_lines page) n kept
   behind_on n line kept found same = subst (IsBehind 1 (lines ++ part) (run ++ whole_lines page) n)
       (sym same) (record {
+        numbers = numbers_behind first lines part n line counted found.numbers;
         uncut = found.uncut;
         others = found.others;
         goes = from_here n (line ∷ found.others) [] found.goes;
       })
 
-  pub off_on : (n : ℕ) → IsOff first part (whole_lines logged) n
-      → IsOff 1 (lines ++ part) (run ++ whole_lines page) n
-  off_on n off more later =
-      let all : whole_lines logged ≡ whole_lines ahead ++ whole_lines page = ap whole_lines is
-      ∙ whole page in
-      ap (λ ls. first_difference 1 ls ((run ++ whole_lines page) ++ later))
-      (append_assoc lines part more)
-      ∙ ap (λ ls. first_difference 1 (lines ++ (part ++ more)) ls)
-      (append_assoc run (whole_lines page) later)
-      ∙ goes (part ++ more) (whole_lines page ++ later)
-      ∙ ap (λ ls. first_difference (1 + length lines) (part ++ more) ls)
-      (sym (append_assoc (whole_lines ahead) (whole_lines page) later))
-      ∙ ap (λ k. first_difference k (part ++ more) ((whole_lines ahead ++ whole_lines page)
-      ++ later)) (sym counted)
-      ∙ ap (λ ls. first_difference first (part ++ more) (ls ++ later)) (sym all) ∙ off more later
+  pub off_on : (n : ℕ) (line kept : List ℕ) → IsOff first part (whole_lines logged) n line
+      → kept ≡ line → IsOff 1 (lines ++ part) (run ++ whole_lines page) n kept
+  off_on n line kept found same = subst (IsOff 1 (lines ++ part) (run ++ whole_lines page) n)
+      (sym same) (record {
+        numbers = numbers_behind first lines part n line counted found.numbers;
+        off = λ more later.
+            let all : whole_lines logged ≡ whole_lines ahead ++ whole_lines page =
+            ap whole_lines is ∙ whole page in
+            ap (λ ls. first_difference 1 ls ((run ++ whole_lines page) ++ later))
+            (append_assoc lines part more)
+            ∙ ap (λ ls. first_difference 1 (lines ++ (part ++ more)) ls)
+            (append_assoc run (whole_lines page) later)
+            ∙ goes (part ++ more) (whole_lines page ++ later)
+            ∙ ap (λ ls. first_difference (1 + length lines) (part ++ more) ls)
+            (sym (append_assoc (whole_lines ahead) (whole_lines page) later))
+            ∙ ap (λ k. first_difference k (part ++ more) ((whole_lines ahead ++ whole_lines page)
+            ++ later)) (sym counted)
+            ∙ ap (λ ls. first_difference first (part ++ more) (ls ++ later)) (sym all)
+            ∙ found.off more later;
+      })
+
+-- a line that isn't the run's stays so
+pub still_off : (lines run more page : List (List ℕ)) (n : ℕ) (line : List ℕ)
+    → IsOff 1 lines run n line → IsOff 1 (lines ++ more) (run ++ page) n line
+still_off lines run more page n line off = record {
+  numbers = numbers_more 1 lines more n line off.numbers;
+  off = λ rest later. ap (λ ls. first_difference 1 ls ((run ++ page) ++ later))
+      (append_assoc lines more rest)
+      ∙ ap (λ ls. first_difference 1 (lines ++ (more ++ rest)) ls) (append_assoc run page later)
+      ∙ off.off (more ++ rest) (page ++ later);
+}
 
 -- A run that goes on behind its record
 
@@ -228,6 +319,7 @@ module _ (lines run more : List (List ℕ)) (n : ℕ) (line : List ℕ) (page : 
   pub still_behind : whole_lines page ≡ []
       → IsBehind 1 (lines ++ more) (run ++ whole_lines page) n line
   still_behind none = record {
+    numbers = numbers_more 1 lines more n line behind.numbers;
     uncut = behind.uncut;
     others = behind.others ++ more;
     goes = λ rest later. behind_to rest later
@@ -237,16 +329,19 @@ module _ (lines run more : List (List ℕ)) (n : ℕ) (line : List ℕ) (page : 
 
   -- or another line
   pub off_now : (other : List ℕ) (further : List (List ℕ)) → whole_lines page ≡ other ∷ further
-      → bytes_eq line other ≡ false → IsOff 1 (lines ++ more) (run ++ whole_lines page) n
-  off_now other further is differs rest later = behind_to rest later
-      ∙ ap (λ ls. first_difference n (line ∷ ((behind.others ++ more) ++ rest)) (ls ++ later)) is
-      ∙ ap (λ (b : Bool). if b then first_difference (n + 1) ((behind.others ++ more) ++ rest)
-      ((other ∷ further) ++ later)
-      else if bytes_eq line other then first_difference (n + 1) ((behind.others ++ more) ++ rest)
-      (further ++ later)
-      else Some n) behind.uncut
-      ∙ ap (λ (b : Bool). if b then first_difference (n + 1) ((behind.others ++ more) ++ rest)
-      (further ++ later) else Some n) differs
+      → bytes_eq line other ≡ false → IsOff 1 (lines ++ more) (run ++ whole_lines page) n line
+  off_now other further is differs = record {
+    numbers = numbers_more 1 lines more n line behind.numbers;
+    off = λ rest later. behind_to rest later
+        ∙ ap (λ ls. first_difference n (line ∷ ((behind.others ++ more) ++ rest)) (ls ++ later)) is
+        ∙ ap (λ (b : Bool). if b then first_difference (n + 1) ((behind.others ++ more) ++ rest)
+        ((other ∷ further) ++ later)
+        else if bytes_eq line other then first_difference (n + 1) ((behind.others ++ more) ++ rest)
+        (further ++ later)
+        else Some n) behind.uncut
+        ∙ ap (λ (b : Bool). if b then first_difference (n + 1) ((behind.others ++ more) ++ rest)
+        (further ++ later) else Some n) differs;
+  }
 
 -- All lines at once
 

@@ -6,6 +6,7 @@ pub mod PassingLemmas
 pub mod CompareLemmas
 pub mod DifferenceLaw
 pub mod RunLemmas
+pub mod OpeningLemmas
 pub mod BlockLemmas
 pub mod Telling
 pub mod AuditLaw

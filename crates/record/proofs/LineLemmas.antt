@@ -27,7 +27,7 @@ use Rattle.record.specs.Lines.{is_cut, whole_lines}
 
 -- One line
 
-lines_some : (text : List ℕ) → (first : List ℕ)
+pub lines_some : (text : List ℕ) → (first : List ℕ)
     × ((rest : List (List ℕ)) × (lines_of text ≡ first ∷ rest))
 lines_some text = by (lines_of text) (length-slice_split (λ y. y == 10) text)
   where

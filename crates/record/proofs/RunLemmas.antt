@@ -25,7 +25,9 @@ use Rattle.record.proofs.LineLemmas.{page_lines}
 use Rattle.record.specs.Comparing.{IsCompared}
 use Rattle.record.specs.Passing.{IsNext}
 use Rattle.record.specs.Lines.{event_line, event_lines, is_action, whole_lines}
+use Rattle.record.specs.Opening.{BeginsBehind}
 use Rattle.record.specs.Rerunning.{Halted, IsHalted, Rerunning, IsRerunning, RunsSoFar, Stands}
+use Rattle.record.specs.Rerunning.{passed}
 use Rattle.record.specs.declared.audit.comparing.Agreement.{Agreement}
 use Rattle.record.specs.declared.audit.passing.LineCounts.{LineCounts}
 
@@ -66,7 +68,7 @@ both_all P (x ∷ xs) ys all more = (all.0, both_all P xs ys all.1 more)
 pub begun : (h : Halted) (part : Option (List ℕ)) (earlier : Log) → earlier ≡ h.log → IsHalted h
     → IsRerunning (record {
       part = part;
-      start = record { tally = h.tally; log = earlier };
+      start = record { tally = h.tally; log = earlier; past = h.past };
       left = part;
       now = h;
       page = [];
@@ -74,6 +76,7 @@ pub begun : (h : Halted) (part : Option (List ℕ)) (earlier : Log) → earlier 
     })
 begun h part earlier same halted = record {
   halted = halted;
+  past = refl;
   whole = ap (λ log. events_of log ++ events_in (event_lines (parts_after 10 part))) (sym same);
   right = λ all. all;
   lines = refl;
@@ -96,6 +99,7 @@ went r page now action holds printed printable = record {
     events = holds.halted.events;
     printable = (printable, holds.halted.printable);
   };
+  past = holds.past;
   whole = holds.whole;
   right = holds.right;
   lines = holds.lines;
@@ -114,7 +118,7 @@ pub came : (r : Rerunning) (page : List ℕ) (left : Option (List ℕ)) (tally :
     → AllByRecursion IsPrintable (logged_by next buf)
     → IsRerunning (record r {
       left = left;
-      now = record { tally = tally; log = logged_by next buf ++ r.now.log };
+      now = record { tally = tally; log = logged_by next buf ++ r.now.log; past = r.now.past };
       page = page;
     })
 came r page left tally next buf holds found printed printable = record {
@@ -129,6 +133,7 @@ came r page left tally next buf holds found printed printable = record {
     printable = both_all IsPrintable (logged_by next buf) r.now.log printable
         holds.halted.printable;
   };
+  past = holds.past;
   whole =
       let rest = events_in (event_lines (parts_after 10 left)) in
       ap (λ es. es ++ rest) (events_logged next buf r.now.log)
@@ -168,9 +173,24 @@ right_behind lines part before right =
 abbrev pub fixed_of : Rerunning → Option (List ℕ) × Halted
 fixed_of r = (r.part, r.start)
 
+-- what passed before the record stays
+pub same_past : (h : Halted) (start r : Rerunning) (part : Option (List ℕ))
+    → start ≡ record { part = part; start = h; left = part; now = h; page = []; failed = 0 }
+    → IsRerunning r → fixed_of r ≡ fixed_of start → r.now.past ≡ h.past
+same_past h start r part fresh holds fixed =
+    holds.past ∙ ap (λ (s : Option (List ℕ) × Halted). s.1.past) fixed
+    ∙ ap (λ (s : Rerunning). s.start.past) fresh
+
+past_so : (h : Halted) (start r : Rerunning) (part : Option (List ℕ))
+    → start ≡ record { part = part; start = h; left = part; now = h; page = []; failed = 0 }
+    → IsRerunning r → fixed_of r ≡ fixed_of start → (settings : Settings) (said : List ℕ)
+    → BeginsBehind settings said r.now.past → BeginsBehind settings said h.past
+past_so h start r part fresh holds fixed settings said begins =
+    subst (BeginsBehind settings said) (same_past h start r part fresh holds fixed) begins
+
 -- one part more was run to its end
-pub part_run : (settings : Settings) (lines : List (List ℕ)) (began ended : State) (h : Halted)
-    (start r : Rerunning)
+pub part_run : (settings : Settings) (said : List ℕ) (lines : List (List ℕ)) (began ended : State)
+    (h : Halted) (start r : Rerunning)
     (part : Option (List ℕ)) → start ≡ record {
       part = part;
       start = h;
@@ -180,11 +200,12 @@ pub part_run : (settings : Settings) (lines : List (List ℕ)) (began ended : St
           [];
       failed = 0;
     }
-    → RunsSoFar settings lines began h → IsRerunning r → fixed_of r ≡ fixed_of start
-    → is_none r.left ≡ true → Follows (setup_of settings) ended (Some r.now.log)
-    → HasRested (setup_of settings) r.now.log
-    → RunsSoFar settings (lines ++ parts_after 10 part) ended r.now
-part_run settings lines began ended h start r part fresh so holds fixed over follows rests =
+    → RunsSoFar settings said lines began h → IsRerunning r → fixed_of r ≡ fixed_of start
+    → is_none r.left ≡ true
+    → (BeginsBehind settings said h.past → Follows (setup_of settings) ended (Some (passed r.now)))
+    → (BeginsBehind settings said h.past → HasRested (setup_of settings) (passed r.now))
+    → RunsSoFar settings said (lines ++ parts_after 10 part) ended r.now
+part_run settings said lines began ended h start r part fresh so holds fixed over follows rests =
     let none : r.left ≡ None = none_left r.left over in
     let same_part : r.part ≡ part = ap (λ (s : Option (List ℕ) × Halted). s.0) fixed
     ∙ ap (λ (s : Rerunning). s.part) fresh in
@@ -224,8 +245,8 @@ part_run settings lines began ended h start r part fresh so holds fixed over fol
           ∙ events_joined (event_lines lines) (event_lines lines_part));
       passed = omega (arith, counted, so.passed, length-append lines lines_part);
       actions = omega (arith, acted, so.actions, count_joined lines lines_part);
-      follows = follows;
-      rests = rests;
+      follows = λ begins. follows (past_so h start r part fresh holds fixed settings said begins);
+      rests = λ begins. rests (past_so h start r part fresh holds fixed settings said begins);
     }
 
 -- the lines of the run are those before the part, and those on the page
@@ -240,21 +261,22 @@ run_lines start r h part fresh holds fixed =
     ∙ page_lines r.start.log r.now.log r.page holds.page
 
 -- and was compared
-pub part_stands : (settings : Settings) (lines : List (List ℕ)) (began ended : State) (h : Halted)
-    (start r : Rerunning)
+pub part_stands : (settings : Settings) (said : List ℕ) (lines : List (List ℕ))
+    (began ended : State) (h : Halted) (start r : Rerunning)
     (part : Option (List ℕ)) (standing stood : Agreement) (page : List ℕ)
     → start ≡ record { part = part; start = h; left = part; now = h; page = []; failed = 0 }
-    → Stands settings lines began h standing → IsRerunning r → fixed_of r ≡ fixed_of start
-    → is_none r.left ≡ true → Follows (setup_of settings) ended (Some r.now.log)
-    → HasRested (setup_of settings) r.now.log
+    → Stands settings said lines began h standing → IsRerunning r → fixed_of r ≡ fixed_of start
+    → is_none r.left ≡ true
+    → (BeginsBehind settings said h.past → Follows (setup_of settings) ended (Some (passed r.now)))
+    → (BeginsBehind settings said h.past → HasRested (setup_of settings) (passed r.now))
     → page ≡ r.page
     → IsCompared (lines ++ parts_after 10 part) (whole_lines (lines_of_log h.log)
     ++ whole_lines page) stood
-    → Stands settings (lines ++ parts_after 10 part) ended r.now stood
-part_stands settings lines began ended h start r part standing stood page fresh so holds fixed over
-    follows rests same compared =
+    → Stands settings said (lines ++ parts_after 10 part) ended r.now stood
+part_stands settings said lines began ended h start r part standing stood page fresh so holds fixed
+    over follows rests same compared =
     record {
-      runs = part_run settings lines began ended h start r part fresh so.runs holds fixed over
+      runs = part_run settings said lines began ended h start r part fresh so.runs holds fixed over
           follows rests;
       compared =
           subst (λ (run : List (List ℕ)). IsCompared (lines ++ parts_after 10 part) run stood)
@@ -264,14 +286,15 @@ part_stands settings lines began ended h start r part standing stood page fresh 
     }
 
 -- the run may go on over this part
-pub goes_on : (settings : Settings) (lines : List (List ℕ)) (state : State) (h : Halted)
-    (start : Rerunning) (part : Option (List ℕ))
+pub goes_on : (settings : Settings) (said : List ℕ) (lines : List (List ℕ)) (state : State)
+    (h : Halted) (start : Rerunning) (part : Option (List ℕ))
     → start ≡ record { part = part; start = h; left = part; now = h; page = []; failed = 0 }
-    → RunsSoFar settings lines state h
-    → Follows (setup_of settings) state (Some start.now.log)
-    × Rests (setup_of settings) (Some start.now.log)
-goes_on settings lines state h start part fresh so = (
-  subst (λ (r : Rerunning). Follows (setup_of settings) state (Some r.now.log)) (sym fresh)
-      so.follows,
-  subst (λ (r : Rerunning). Rests (setup_of settings) (Some r.now.log)) (sym fresh) so.rests,
+    → RunsSoFar settings said lines state h → BeginsBehind settings said h.past
+    → Follows (setup_of settings) state (Some (passed start.now))
+    × Rests (setup_of settings) (Some (passed start.now))
+goes_on settings said lines state h start part fresh so begins = (
+  subst (λ (r : Rerunning). Follows (setup_of settings) state (Some (passed r.now))) (sym fresh)
+      (so.follows begins),
+  subst (λ (r : Rerunning). Rests (setup_of settings) (Some (passed r.now))) (sym fresh)
+      (so.rests begins),
 )

@@ -19,13 +19,22 @@ GoesOn first lines run n left ahead = (more later : List (List ℕ))
     → first_difference first (lines ++ more) (run ++ later)
     ≡ first_difference n (left ++ more) (ahead ++ later)
 
--- the line of this number isn't the run's, whatever follows
-abbrev pub IsOff : (first : ℕ) → (lines run : List (List ℕ)) → (n : ℕ) → Type 0
-IsOff first lines run n = (more later : List (List ℕ))
-    → first_difference first (lines ++ more) (run ++ later) ≡ Some n
+-- this line has this number, where the first of these lines has another one
+pub record Numbers (first : ℕ) (lines : List (List ℕ)) (n : ℕ) (line : List ℕ) : Type 0 where
+  pub front : List (List ℕ)
+  pub behind : List (List ℕ)
+  pub parted : lines ≡ front ++ line ∷ behind
+  pub counted : n ≡ first + length front
+
+-- the line of this number, which is this one, isn't the run's, whatever follows
+pub record IsOff (first : ℕ) (lines run : List (List ℕ)) (n : ℕ) (line : List ℕ) : Type 0 where
+  pub numbers : Numbers first lines n line
+  pub off : (more later : List (List ℕ))
+      → first_difference first (lines ++ more) (run ++ later) ≡ Some n
 
 -- the run has no line so far for the first of these lines, which has this number
 pub record IsBehind (first : ℕ) (lines run : List (List ℕ)) (n : ℕ) (line : List ℕ) : Type 0 where
+  pub numbers : Numbers first lines n line
   pub uncut : is_cut line ≡ false
   pub others : List (List ℕ)
   pub goes : GoesOn first lines run n (line ∷ others) []
@@ -36,11 +45,11 @@ IsWalk first lines run (walks.Level ahead) =
     GoesOn first lines (whole_lines run) (first + length lines) [] (whole_lines ahead.now)
     × (AreWhole run → AreWhole ahead.now)
 IsWalk first lines run (walks.Behind n line) = IsBehind first lines (whole_lines run) n line.now
-IsWalk first lines run (walks.Differs n) = IsOff first lines (whole_lines run) n
+IsWalk first lines run (walks.Differs n line) = IsOff first lines (whole_lines run) n line.now
 
 -- how all lines so far stand beside those of the run so far
 abbrev pub IsCompared : (lines run : List (List ℕ)) → Agreement → Type 0
 IsCompared lines run (Level ahead) =
     GoesOn 1 lines run (1 + length lines) [] (whole_lines ahead.items) × AreWhole ahead.items
 IsCompared lines run (Behind n line) = IsBehind 1 lines run n line.items
-IsCompared lines run (Differs n) = IsOff 1 lines run n
+IsCompared lines run (Differs n line) = IsOff 1 lines run n line.items

@@ -8,7 +8,8 @@ use Rattle.gateway.specs.Setups.{setup_of}
 use Rattle.gateway.specs.Traffic.{IsFaithful}
 use Rattle.traces.specs.LineByLine.{AreSaid, IsGood}
 use Rattle.traces.specs.Printed.{lines_of_log}
-use Rattle.record.specs.Lines.{is_action, is_cut, whole_lines}
+use Rattle.record.specs.Lines.{first_state, is_action, is_cut, record_lines, whole_lines}
+use Rattle.record.specs.Opening.{BeginsBehind}
 use Rattle.record.specs.Recording.{Recording, text_of, added}
 
 -- Where the record goes on its text is the one before and this behind it; where it is over, the one
@@ -51,27 +52,29 @@ said_lines [] = []
 said_lines (line ∷ lines) =
     if is_cut line || is_action line then said_lines lines else line ∷ said_lines lines
 
--- A run that keeps every promise, of the events that the lines of a record say, each its own, in
--- their order.
-pub record IsRunOf (settings : Settings) (lines : List (List ℕ)) (log : Log) : Type 0 where
-  pub faithful : IsFaithful (setup_of settings) log
-  pub said : AreSaid (said_lines lines) (events_of log)
+-- A run of the events that the lines of a record say, each its own, in their order. It keeps every
+-- promise behind this log if the first lines lead there.
+pub record IsRunOf (settings : Settings) (past : Log) (text : List ℕ) (log : Log) : Type 0 where
+  pub faithful : BeginsBehind settings (first_state (whole_lines text)) past
+      → IsFaithful (setup_of settings) (log ++ past)
+  pub said : AreSaid (said_lines (record_lines text)) (events_of log)
 
 -- Such a run begins with the lines, but for those that were cut short, and so many of its events
 -- and actions stand in them.
-pub record IsSameRun (settings : Settings) (lines : List (List ℕ)) (events actions : ℕ)
+pub record IsSameRun (settings : Settings) (past : Log) (text : List ℕ) (events actions : ℕ)
     : Type 0 where
   pub log : Log
-  pub run : IsRunOf settings lines log
-  pub begins : BeginsWith (uncut lines) (whole_lines (lines_of_log log))
+  pub run : IsRunOf settings past text log
+  pub begins : BeginsWith (uncut (record_lines text)) (whole_lines (lines_of_log log))
   pub came : events ≡ length (events_of log)
-  pub went : actions ≡ count_by is_action lines
+  pub went : actions ≡ count_by is_action (record_lines text)
 
 -- Such a run differs first from the lines at the one of this number, counted from 1.
-pub record IsOtherRun (settings : Settings) (lines : List (List ℕ)) (number : ℕ) : Type 0 where
+pub record IsOtherRun (settings : Settings) (past : Log) (text : List ℕ) (number : ℕ)
+    : Type 0 where
   pub log : Log
-  pub run : IsRunOf settings lines log
-  pub differs : IsFirstOff 1 lines (whole_lines (lines_of_log log)) number
+  pub run : IsRunOf settings past text log
+  pub differs : IsFirstOff 1 (record_lines text) (whole_lines (lines_of_log log)) number
 
 -- a line that was cut short, is an action or an event, or is passed over
 abbrev pub IsKnown : (line : List ℕ) → Type 0

@@ -5,8 +5,10 @@ pub mod Examples
 pub mod Lines
 pub mod Passing
 pub mod Comparing
+pub mod Opening
 pub mod Rerunning
 pub mod Audit
+pub mod Steps
 pub mod Octets
 pub mod Blocks
 pub mod Segments

@@ -1,7 +1,7 @@
 -- The text of a recorded run, line by line (this gateway's own profile).
 use Rattle.std.specs.Prelude.{ℕ, ◌+◌, ◌-◌, ◌==◌, Bool, false, if◌then◌else◌, List, [], ◌∷◌, ◌++◌}
-use Rattle.std.specs.Prelude.{codes, length, map, take, Option, Some, None}
-use Rattle.std.specs.List.{slice_split, list_any}
+use Rattle.std.specs.Prelude.{codes, drop, length, map, take, nat_eq, Option, Some, None}
+use Rattle.std.specs.List.{slice_split, list_any, starts_with}
 use Rattle.std.specs.Str.{bytes_eq}
 
 -- the lines that a line feed ends, without it; what stands behind the last one was cut short
@@ -47,3 +47,29 @@ first_difference n (line ∷ lines) run =
     if is_cut line then first_difference (n + 1) lines run
     else if is_first line run then first_difference (n + 1) lines (behind_first run)
     else Some n
+
+-- a line that says that others are left out here
+abbrev pub leaves_out : List ℕ → Bool
+leaves_out line = starts_with nat_eq line (codes "# left out: ")
+
+-- ---- The state of a run that goes on
+
+-- a line that says state
+abbrev pub says_state : List ℕ → Bool
+says_state line = starts_with nat_eq line (codes "# state: ")
+
+-- what the first lines say that say state, each with a line feed
+abbrev pub first_state : List (List ℕ) → List ℕ
+first_state [] = []
+first_state (line ∷ lines) =
+    if says_state line then drop 9 line ++ 10 ∷ first_state lines else []
+
+-- these lines, where the first ones that say state stand as those that were cut short
+abbrev pub without_state : List (List ℕ) → List (List ℕ)
+without_state [] = []
+without_state (line ∷ lines) =
+    if says_state line then codes "!" ∷ without_state lines else line ∷ lines
+
+-- the whole lines of a record so
+abbrev pub record_lines : List ℕ → List (List ℕ)
+record_lines text = without_state (whole_lines text)

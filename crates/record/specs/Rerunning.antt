@@ -13,17 +13,23 @@ use Rattle.traces.specs.Printed.{IsPrintable, lines_of_log}
 use Rattle.traces.specs.Progress.{events_in, IsRight}
 use Rattle.traces.specs.Trace.{first_wrong}
 use Rattle.record.specs.Comparing.{IsCompared}
+use Rattle.record.specs.Opening.{BeginsBehind}
 use Rattle.record.specs.Passing.{IsTally}
 use Rattle.record.specs.Lines.{event_lines, is_action, whole_lines}
 use Rattle.record.specs.declared.audit.RecordFault.{RecordFault}
-use Rattle.record.specs.declared.audit.RecordFault.TheVariants.{Line, Unread, NoMemory}
+use Rattle.record.specs.declared.audit.RecordFault.TheVariants.{Line, Unfit, Unread, NoMemory}
 use Rattle.record.specs.declared.audit.comparing.Agreement.{Agreement}
 use Rattle.record.specs.declared.audit.passing.LineCounts.{LineCounts}
 
--- between two parts of a record: the lines that were passed, and the log
+-- between two parts of a record: the lines that were passed, the log, and the one before the record
 pub record Halted : Type 0 where
   pub tally : LineCounts
   pub log : Log
+  pub past : Log
+
+-- all that has passed
+abbrev pub passed : Halted → Log
+passed h = h.log ++ h.past
 
 pub record IsHalted (h : Halted) : Type 0 where
   pub few : IsTally h.tally
@@ -45,6 +51,7 @@ pub record Rerunning : Type 0 where
 -- that passed.
 pub record IsRerunning (r : Rerunning) : Type 0 where
   pub halted : IsHalted r.now
+  pub past : r.now.past ≡ r.start.past
   pub whole : events_of r.now.log ++ events_in (event_lines (parts_after 10 r.left))
       ≡ events_of r.start.log ++ events_in (event_lines (parts_after 10 r.part))
   pub right : AllByRecursion IsRight (event_lines (parts_after 10 r.left))
@@ -56,30 +63,34 @@ pub record IsRerunning (r : Rerunning) : Type 0 where
   pub page : lines_of_log r.start.log ++ r.page ≡ lines_of_log r.now.log
 
 -- What holds between two parts, of a run over these lines by a gateway with these settings: no line
--- is wrong, the events of the log are theirs, and the gateway agrees with the log.
-pub record RunsSoFar (settings : Settings) (lines : List (List ℕ)) (state : State) (h : Halted)
-    : Type 0 where
+-- is wrong, and the events of the log are theirs. If what was said first leads there, the gateway
+-- agrees with all that has passed.
+pub record RunsSoFar (settings : Settings) (said : List ℕ) (lines : List (List ℕ)) (state : State)
+    (h : Halted) : Type 0 where
   pub right : first_wrong 1 (event_lines lines) ≡ None
   pub events : events_of h.log ≡ events_in (event_lines lines)
   pub passed : h.tally.lines ≡ length lines
   pub actions : h.tally.actions ≡ count_by is_action lines
-  pub follows : Follows (setup_of settings) state (Some h.log)
-  pub rests : HasRested (setup_of settings) h.log
+  pub follows : BeginsBehind settings said h.past
+      → Follows (setup_of settings) state (Some (passed h))
+  pub rests : BeginsBehind settings said h.past → HasRested (setup_of settings) (passed h)
 
 -- the same, and the lines were compared with those of the run
-pub record Stands (settings : Settings) (lines : List (List ℕ)) (state : State) (h : Halted)
-    (standing : Agreement) : Type 0 where
-  pub runs : RunsSoFar settings lines state h
+pub record Stands (settings : Settings) (said : List ℕ) (lines : List (List ℕ)) (state : State)
+    (h : Halted) (standing : Agreement) : Type 0 where
+  pub runs : RunsSoFar settings said lines state h
   pub compared : IsCompared lines (whole_lines (lines_of_log h.log)) standing
 
 -- no more of a record is had
 abbrev pub IsReadFault : RecordFault → Type 0
 IsReadFault (Line n) = ⊥
+IsReadFault (Unfit n) = ⊥
 IsReadFault Unread = Unit {0}
 IsReadFault NoMemory = Unit {0}
 
 -- the first wrong line of a part, behind as many lines as were passed, or want of memory
 abbrev pub IsPartFault : (passed : ℕ) → (part : List (List ℕ)) → RecordFault → Type 0
 IsPartFault passed part (Line n) = first_wrong (passed + 1) (event_lines part) ≡ Some n
+IsPartFault passed part (Unfit n) = ⊥
 IsPartFault passed part Unread = ⊥
 IsPartFault passed part NoMemory = Unit {0}

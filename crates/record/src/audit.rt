@@ -3,13 +3,16 @@
 //!
 //! A record is a text of lines: each event as a trace has it, and each action as a run prints it,
 //! in the order in which they came and went out. A line with `!` was cut short and is left out.
-//! It is read block by block, so that an audit takes as much memory as a block and the lines of its
-//! run do, however long the record is. Proved of [`audit_text`]: it answers 'the same' exactly
-//! where the record's lines are the first of those of the run over its events, and else the first
-//! line that differs; and the log of that run keeps every promise of a gateway with these settings.
-//! What the lines of a record say has literal examples ([`record_lines_by_example`]).
+//! The record of a run that went on from a kept state begins with that state, line by line behind
+//! `# state: `. It is read block by block, so that an audit takes as much memory as a block, the
+//! lines of its run and the state do, however long the record is. Proved of [`audit_text`]: it
+//! answers 'the same' exactly where the record's lines are the first of those of the run over its
+//! events, and else the first line that differs; and the log of that run keeps every promise of a
+//! gateway with these settings, behind each log that leads to the state. What the lines of a record
+//! say has literal examples ([`record_lines_by_example`]).
 mod comparing;
 pub(crate) mod examples;
+mod opening;
 pub(crate) mod passing;
 mod rerun;
 
@@ -21,14 +24,17 @@ ghost use Rattle.gateway.specs.Setups.{setup_of};
 ghost use Rattle.gateway.specs.Traffic.{IsFaithful};
 ghost use Rattle.traces.specs.Fields.{parts_after};
 ghost use Rattle.gateway.specs.State.{State};
-ghost use Rattle.record.specs.Audit.{IsAudited, IsComparison};
-ghost use Rattle.record.specs.Rerunning.{IsHalted, IsPartFault, IsReadFault, Stands};
+ghost use Rattle.record.specs.Audit.{IsAudited, IsAuditFault, IsComparison, comparison_at};
+ghost use Rattle.record.specs.Opening.{BeginsBehind};
+ghost use Rattle.record.specs.Rerunning.{IsHalted, IsPartFault, IsReadFault, Stands, passed};
+ghost use Rattle.record.specs.Steps.{AuditsTo};
 
 use self::comparing::{Agreement, compare};
-use self::passing::{fault_among, part_of};
+use self::opening::FirstLines;
+use self::passing::{fault_among, leaves_out, part_of};
 use self::rerun::Halt;
 use delivery::nothing_is_lost;
-use gateway::{Config, End, Gateway, drive_on, steps_keep_their_order};
+use gateway::{Config, End, Gateway, History, drive_on, steps_keep_their_order};
 use std::alloc::{AllocError, Global};
 use std::io::Read;
 use thiserror::Error;
@@ -46,6 +52,8 @@ pub enum Comparison {
     },
     /// The first line, counted from 1, that isn't the run's.
     Differs(u64),
+    /// The same, where that line says that lines are left out.
+    LeftOut(u64),
 }
 
 /// Why there is no comparison.
@@ -54,6 +62,9 @@ pub enum RecordFault {
     /// The first line, counted from 1, that is neither an event nor an action.
     #[error("line {0}")]
     Line(u64),
+    /// So many first lines say a state, and no gateway with these settings has it.
+    #[error("lines 1 to {0} are no state under these settings")]
+    Unfit(u64),
     /// The record can't be read on.
     #[error("the record cannot be read")]
     Unread,
@@ -101,11 +112,14 @@ fn run_part(
     course: Course,
     part: Option<&[u8]>,
 ) -> Result<Course, RecordFault>
-    ensures ran { (settings : Settings) (lines : List (List ℕ)) →
-        Stands settings lines gateway.old course.halt course.standing →
-        IfOk result (λ after. Stands settings (lines ++ parts_after 10 (option_copied part.entry))
+    ensures ran { (settings : Settings) (said : List ℕ) (lines : List (List ℕ)) →
+        Stands settings said lines gateway.old course.halt course.standing →
+        IfOk result (λ after. Stands settings said
+        (lines ++ parts_after 10 (option_copied part.entry))
         gateway.new after.halt after.standing
-        × IsFaithful (setup_of settings) after.halt.log × IsHalted after.halt) }
+        × (BeginsBehind settings said after.halt.past →
+        IsFaithful (setup_of settings) (passed after.halt))
+        × IsHalted after.halt × (after.halt.past ≡ course.halt.past)) }
     ensures fault { IfErr result (IsPartFault course.halt.tally.lines
         (parts_after 10 (option_copied part.entry))) }
 {
@@ -133,10 +147,21 @@ fn run_part(
     }
 }
 
+/// What is told of the first line that isn't the run's.
+fn comparison_at(number: u64, line: &[u8]) -> Comparison
+    ensures { result ≡ comparison_at number line.now }
+{
+    if leaves_out(line) {
+        Comparison::LeftOut(number)
+    } else {
+        Comparison::Differs(number)
+    }
+}
+
 /// What an audit found that has come to the end of its record.
 fn comparison_of(course: &Course) -> Comparison
-    ensures { (settings : Settings) (lines : List (List ℕ)) (state : State) →
-        Stands settings lines state course.now.halt course.now.standing →
+    ensures { (settings : Settings) (said : List ℕ) (lines : List (List ℕ)) (state : State) →
+        Stands settings said lines state course.now.halt course.now.standing →
         IsComparison lines course.now.halt.log result }
 {
     match &course.standing {
@@ -147,41 +172,68 @@ fn comparison_of(course: &Course) -> Comparison
                 actions: tally.actions,
             }
         }
-        Agreement::Behind(number, _) => Comparison::Differs(*number),
-        Agreement::Differs(number) => Comparison::Differs(*number),
+        Agreement::Behind(number, line) => comparison_at(*number, line.as_slice()),
+        Agreement::Differs(number, line) => comparison_at(*number, line.as_slice()),
     }
 }
 
+/// Reads the first lines of a record, as far as they say state, and runs a gateway over the rest of
+/// their last block.
+fn opened<R: Read + Drop>(
+    alloc: Global,
+    config: &Config,
+    blocks: &mut Blocks<R>,
+    past: History,
+) -> Result<(Gateway, Course), RecordFault>
+    requires { blocks.old.is_over ≡ false }
+    ensures audits { IfOk result (λ began. AuditsTo config.now past.entries blocks.old.coming
+        blocks.new.coming blocks.new.is_over began.0 began.1.halt began.1.standing) }
+    ensures fault { IfErr result (IsAuditFault config.now blocks.old.coming) }
+{
+    let mut first = FirstLines::new(alloc);
+    'opening: for _ in 0..u64::MAX {
+        advance(blocks)?;
+        let part = part_of(blocks.lines(), blocks.is_over());
+        let left = first.take(part)?;
+        if left.is_some() || blocks.is_over() {
+            let halt = Halt::new(alloc, first.count, past);
+            let mut gateway = first.gateway(alloc, config)?;
+            let standing = Agreement::Level(Vec::new(alloc));
+            let course = run_part(alloc, &mut gateway, Course { halt, standing }, left)?;
+            return Ok((gateway, course));
+        }
+    }
+    // No memory holds so many blocks.
+    Err(RecordFault::NoMemory)
+}
+
 /// Runs a gateway with these settings over the events of a record, and compares what went out with
-/// the record's actions. The record is read once, block by block: a block and the lines of its run
-/// are held in memory, and no more. A last line that was cut short is left out. A line that is
-/// neither an event nor an action is a fault, whether or not a line before it differs.
+/// the record's actions. It begins with the state that the record's first lines say, or anew where
+/// these say none. Of what passed before, code knows nothing. The record is read once, block by
+/// block: a block and the lines of its run are held in memory, and no more. A last line that was
+/// cut short is left out. A line that is neither an event nor an action is a fault, whether or not
+/// a line before it differs.
 pub fn audit_text<R: Read + Drop>(
     alloc: Global,
     config: &Config,
     text: R,
+    past: History,
 ) -> Result<Comparison, RecordFault>
-    ensures { IsAudited config.now (R.remaining text) result }
+    ensures { IsAudited config.now past.entries (R.remaining text) result }
 {
     nothing_is_lost();
     steps_keep_their_order();
-    let Ok(mut gateway) = Gateway::new(alloc, config) else {
-        return Err(RecordFault::NoMemory);
-    };
     let mut blocks = Blocks::new(alloc, text);
-    let mut course = Course {
-        halt: Halt::new(alloc),
-        standing: Agreement::Level(Vec::new(alloc)),
-    };
+    let (mut gateway, mut course) = opened(alloc, config, &mut blocks, past)?;
     'auditing: for _ in 0..u64::MAX {
+        if blocks.is_over() {
+            return Ok(comparison_of(&course));
+        }
         // It is read once, and on after a line that differs: a wrong line behind that is reported
         // first (docs/DECISIONS.md, "`audit` reads its record once").
         advance(&mut blocks)?;
         let part = part_of(blocks.lines(), blocks.is_over());
         course = run_part(alloc, &mut gateway, course, part)?;
-        if blocks.is_over() {
-            return Ok(comparison_of(&course));
-        }
     }
     // No memory holds so many blocks.
     Err(RecordFault::NoMemory)

@@ -9,15 +9,17 @@ ghost use Rattle.gateway.specs.Ports.{logged_by};
 ghost use Rattle.gateway.specs.Setups.{setup_of};
 ghost use Rattle.gateway.specs.Traffic.{IsFaithful};
 ghost use Rattle.gateway.specs.declared.ports.Next.{Next};
-ghost use Rattle.record.specs.Audit.{IsAudited};
+ghost use Rattle.record.specs.Audit.{IsAudited, LeavesOut};
 ghost use Rattle.record.specs.Examples.{line};
 ghost use Rattle.record.specs.Law.{BeginsWith, HasNone, IsFirstOff, IsFirstUnknown, IsOtherRun};
 ghost use Rattle.record.specs.Law.{IsSameRun, grows_by, uncut};
-ghost use Rattle.record.specs.Lines.{event_line, first_difference, is_action, is_cut, whole_lines};
+ghost use Rattle.record.specs.Lines.{event_line, first_difference, first_state, is_action, is_cut};
+ghost use Rattle.record.specs.Lines.{record_lines, whole_lines};
+ghost use Rattle.record.specs.Opening.{BeginsBehind};
 ghost use Rattle.record.specs.Recording.{Recording, Gives, Receives, Notes, Puts, added, passed};
 ghost use Rattle.record.specs.Recording.{log_of, logged_first, text_of};
 ghost use Rattle.record.specs.Written.{log_in};
-ghost use Rattle.record.specs.declared.audit.Comparison.TheVariants.{Differs, Same};
+ghost use Rattle.record.specs.declared.audit.Comparison.TheVariants.{Differs, LeftOut, Same};
 ghost use Rattle.record.specs.declared.audit.RecordFault.TheVariants.{Line};
 ghost use Rattle.traces.specs.Printed.{lines_of_log};
 ghost use Rattle.traces.specs.Progress.{events_in};
@@ -85,22 +87,27 @@ pub fn comparisons_find_the_first_difference()
         first_difference n lines run ≡ Some number → IsFirstOff n lines run number }
 {}
 
-/// What an audit says, of every record whose text its reader gives. The run that it speaks of keeps
-/// every promise. Its events are those that the record's lines say, in their order. Where it says
-/// 'the same', the run begins with the record's lines, but for those that were cut short. It has so
-/// many events, and so many of the lines are actions. Else the run differs first at the line that
-/// is told, counted from 1. A wrong line that is told is the first that was not cut short and is
-/// neither an action, nor an event, nor passed over.
+/// What an audit says, of every record whose text its reader gives. If the first lines say a state,
+/// the run goes on with it. The run that an audit speaks of keeps every promise, behind each log
+/// that leads to this state. Its events are those that the record's lines say, in their order.
+/// Where it says 'the same', the run begins with the record's lines, but for those that were cut
+/// short. It has so many events, and so many of the lines are actions. Else the run differs first
+/// at the line that is told, counted from 1, and where that line says so, lines are left out there.
+/// A wrong line that is told is the first that was not cut short and is neither an action, nor an
+/// event, nor passed over.
 pub fn audits_say_what_a_record_has()
-    ensures same { (settings : Settings) (text : List ℕ) (events actions : ℕ) →
-        IsAudited settings (Some text) (Ok (Same events actions)) →
-        IsSameRun settings (whole_lines text) events actions }
-    ensures differs { (settings : Settings) (text : List ℕ) (number : ℕ) →
-        IsAudited settings (Some text) (Ok (Differs number)) →
-        IsOtherRun settings (whole_lines text) number }
-    ensures wrong { (settings : Settings) (text : List ℕ) (number : ℕ) →
-        IsAudited settings (Some text) (Err (Line number)) →
-        IsFirstUnknown (whole_lines text) number }
+    ensures same { (settings : Settings) (past : Log) (text : List ℕ) (events actions : ℕ) →
+        IsAudited settings past (Some text) (Ok (Same events actions)) →
+        IsSameRun settings past text events actions }
+    ensures differs { (settings : Settings) (past : Log) (text : List ℕ) (number : ℕ) →
+        IsAudited settings past (Some text) (Ok (Differs number)) →
+        IsOtherRun settings past text number }
+    ensures left_out { (settings : Settings) (past : Log) (text : List ℕ) (number : ℕ) →
+        IsAudited settings past (Some text) (Ok (LeftOut number)) →
+        IsOtherRun settings past text number × LeavesOut (record_lines text) number }
+    ensures wrong { (settings : Settings) (past : Log) (text : List ℕ) (number : ℕ) →
+        IsAudited settings past (Some text) (Err (Line number)) →
+        IsFirstUnknown (record_lines text) number }
 {}
 
 /// A record and its run are compared line by line, however many lines there are. A whole line has
@@ -119,20 +126,22 @@ pub fn records_are_compared_line_by_line()
         first_difference n (line ∷ lines) (other ∷ run) ≡ Some n }
     ensures missing { (n : ℕ) (line : List ℕ) (lines : List (List ℕ)) → is_cut line ≡ false →
         first_difference n (line ∷ lines) [] ≡ Some n }
-    ensures same { (settings : Settings) (text : List ℕ) (events actions : ℕ) →
-        IsAudited settings (Some text) (Ok (Same events actions)) →
-        let lines = whole_lines text in
-        (log : Log) × IsFaithful (setup_of settings) log
+    ensures same { (settings : Settings) (past : Log) (text : List ℕ) (events actions : ℕ) →
+        IsAudited settings past (Some text) (Ok (Same events actions)) →
+        let lines = record_lines text in
+        (log : Log) × (BeginsBehind settings (first_state (whole_lines text)) past →
+        IsFaithful (setup_of settings) (log ++ past))
         × (events_of log ≡ events_in (map event_line lines))
         × (first_difference 1 lines (whole_lines (lines_of_log log)) ≡ None)
         × (events ≡ length (events_of log)) × (actions ≡ count_by is_action lines) }
-    ensures differs { (settings : Settings) (text : List ℕ) (number : ℕ) →
-        IsAudited settings (Some text) (Ok (Differs number)) →
-        let lines = whole_lines text in
-        (log : Log) × IsFaithful (setup_of settings) log
+    ensures differs { (settings : Settings) (past : Log) (text : List ℕ) (number : ℕ) →
+        IsAudited settings past (Some text) (Ok (Differs number)) →
+        let lines = record_lines text in
+        (log : Log) × (BeginsBehind settings (first_state (whole_lines text)) past →
+        IsFaithful (setup_of settings) (log ++ past))
         × (events_of log ≡ events_in (map event_line lines))
         × (first_difference 1 lines (whole_lines (lines_of_log log)) ≡ Some number) }
-    ensures wrong { (settings : Settings) (text : List ℕ) (number : ℕ) →
-        IsAudited settings (Some text) (Err (Line number)) →
-        first_wrong 1 (map event_line (whole_lines text)) ≡ Some number }
+    ensures wrong { (settings : Settings) (past : Log) (text : List ℕ) (number : ℕ) →
+        IsAudited settings past (Some text) (Err (Line number)) →
+        first_wrong 1 (map event_line (record_lines text)) ≡ Some number }
 {}

@@ -9,10 +9,12 @@ ghost use Rattle.traces.specs.Actions.{line_of};
 ghost use Rattle.traces.specs.Printed.{IsPrintable, lines_of_log};
 
 use crate::record_sheet::RecordSheet;
-use gateway::{Action, Next};
+use checkpoint::StateFault;
+use gateway::{Action, Gateway, Next};
+use statetext::{Octets, TextSheet};
 use std::alloc::Global;
 use std::marker::Model;
-use traces::{Page, print_action, print_event, printed_lines_read_back};
+use traces::{Page, cut, print_action, print_event, printed_lines_read_back};
 
 /// Writes lines down, and gives them to its sheet, until that takes none any more. What it has
 /// written is always the lines of a log.
@@ -47,6 +49,30 @@ impl<W: RecordSheet + Drop> Model for Pen<W> {
       is_over = p.is_over;
       missed = W.missed p.sheet;
     }) };
+}
+
+/// The text of a state, in memory.
+#[derive(Drop)]
+struct StateText(Vec<u8>);
+
+impl Octets for StateText {
+    ghost use Rattle.std.specs.Prelude.{ℕ, List};
+
+    ghost appended = { λ text. text.0.items };
+
+    fn append(&mut self, octets: &[u8]) -> Result<(), StateFault> {
+        self.0.extend_from_slice(octets)?;
+        Ok(())
+    }
+}
+
+/// The state of a gateway as text, line by line.
+fn state_text(alloc: Global, gateway: &Gateway) -> Result<Vec<u8>, StateFault> {
+    let mut sheet = TextSheet::new(alloc, StateText(Vec::new(alloc)));
+    let mut line = Vec::new(alloc);
+    gateway.put_state(&mut sheet, &mut line)?;
+    let StateText(text) = sheet.into_octets();
+    Ok(text)
 }
 
 impl<W: RecordSheet + Drop> Pen<W> {
@@ -89,6 +115,42 @@ impl<W: RecordSheet + Drop> Pen<W> {
             is_wished: false,
             is_over: true,
         }
+    }
+
+    /// Writes first, line by line, the state of the gateway with which a run goes on.
+    pub fn begin_with(&mut self, gateway: &Gateway)
+        ensures { self.new ≡ self.old }
+    {
+        if self.is_over {
+            return;
+        }
+        if self.put_state(gateway).is_err() {
+            // Without memory an audit is told so (docs/DECISIONS.md, "A record begins with its
+            // state").
+            self.sheet.preface(b"# left out: the state\n");
+        }
+    }
+
+    /// Writes a state down, line by line.
+    fn put_state(&mut self, gateway: &Gateway) -> Result<(), StateFault>
+        ensures { self.new ≡ self.old }
+    {
+        let text = state_text(self.alloc, gateway)?;
+        let mut row = Vec::new(self.alloc);
+        let mut left = text.as_slice();
+        'putting: for _ in 0..text.len() {
+            let (line, rest) = cut(left, b'\n');
+            let Some(behind) = rest else {
+                return Ok(());
+            };
+            row.clear();
+            row.extend_from_slice(b"# state: ")?;
+            row.extend_from_slice(line)?;
+            row.extend_from_slice(b"\n")?;
+            self.sheet.preface(row.as_slice());
+            left = behind;
+        }
+        Ok(())
     }
 
     /// The record is over: nothing is written down any more.

@@ -34,6 +34,12 @@ pub trait RecordSheet {
             ≡ (if result then added (taken self.old) text.now else taken self.old) }
         ensures missed { missed self.new ≡ missed self.old };
 
+    /// A line of the state with which the run goes on, which is no event and no action.
+    fn preface(&mut self, _line: &[u8])
+        ensures text { taken self.new ≡ taken self.old }
+        ensures missed { missed self.new ≡ missed self.old }
+    {}
+
     /// The record is over: nothing is given to it any more.
     fn end(&mut self)
         ensures text { taken self.new ≡ taken self.old }
@@ -147,6 +153,12 @@ impl<R: Print + Eprint> RecordSheet for StandardOutput<'_, R> {
 
     fn take(&mut self, text: &[u8]) -> bool {
         self.give() && self.keep(text).is_ok() && self.give()
+    }
+
+    fn preface(&mut self, line: &[u8]) {
+        if !self.take(line) {
+            self.left_out = self.left_out.saturating_add(lines_in(line));
+        }
     }
 
     fn end(&mut self) {

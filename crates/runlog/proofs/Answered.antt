@@ -5,13 +5,14 @@ use Rattle.std.proofs.Common.{length, take, drop, min, Some, None, refl, sym, ap
 use Rattle.std.proofs.Common.{nat_lt, ◌%◌, ◌/◌}
 use Rattle.std.proofs.lemmas.List.{append_assoc, length-append, length-take, take_all}
 use Rattle.std.proofs.Math.Seq.{take-append_seam}
-use Rattle.std.specs.Prelude.{sum, if◌then◌else◌}
-use Rattle.std.specs.List.{slice_range}
+use Rattle.std.specs.Prelude.{◌==◌, Option, option_and_then, sum, if◌then◌else◌}
+use Rattle.std.specs.List.{slice_range, starts_with}
 use Rattle.ft12.specs.Fronts.{front_of}
 use Rattle.ft12.specs.Spelling.{address, user}
 use Rattle.ft12.specs.declared.frame.Frame.{Frame}
 use Rattle.ft12.specs.declared.frame.Frame.TheVariants.{Single, Fixed, Data}
 use Rattle.ft12.specs.declared.frame.Why.{Why}
+use Rattle.ft12.specs.declared.frame.Front.{Front}
 use Rattle.ft12.specs.declared.frame.Front.TheVariants as front
 use Rattle.ft12.specs.declared.frame.LinkSize.{LinkSize}
 use Rattle.ft12.specs.declared.frame.LinkSize.TheVariants.{One, Two}
@@ -22,10 +23,13 @@ use Rattle.link.specs.declared.service.Service.{Service}
 use Rattle.link.specs.declared.service.Service.TheVariants.{Class1, Class2, Command}
 use Rattle.runlog.specs.Answering.{awaited_for}
 use Rattle.runlog.specs.Exchange.{RequestWatch, answer_in, answer_by, answered_by, awaited_by}
-use Rattle.runlog.specs.Exchange.{awaited_of, received, received_by, user_data}
+use Rattle.runlog.specs.Exchange.{awaited_of, received, request_for, spoiling_at, spoiling_of}
+use Rattle.runlog.specs.Exchange.{user_data}
 use Rattle.runlog.specs.Orders.{octet}
 use Rattle.runlog.specs.declared.exchange.AwaitedAnswer.{AwaitedAnswer}
 use Rattle.runlog.specs.declared.exchange.AwaitedAnswer.TheVariants as awaited
+use Rattle.runlog.specs.declared.spoiling.Spoiling.{Spoiling}
+use Rattle.runlog.specs.declared.spoiling.Spoiling.TheVariants.{Echo}
 use Rattle.runlog.proofs.Addressed.{behind_lengths, begins, command_control, fifth, length_of}
 use Rattle.runlog.proofs.Addressed.{octets_of, tail_of}
 
@@ -96,47 +100,36 @@ two_pieces n had first second =
     left : (h f : ℕ) → n - (h + min (n - h) f) ≡ n - h - f
     left h f = omega arith
 
-abbrev with_octets : RequestWatch → List ℕ → RequestWatch
-with_octets e octets = record e { octets = octets }
+abbrev with_octets : LinkSize → (now : ℕ) → RequestWatch → List ℕ → RequestWatch
+with_octets size now e octets =
+    let v : RequestWatch = record e { octets = octets } in
+    record v { spoiling = spoiling_at size now v }
 
-pub pieces_so : (e : RequestWatch) (first second : List ℕ)
-    → received second (received first e) ≡ received (first ++ second) e
-pieces_so e first second = by e.awaited refl
-  where
-    joined : (what : AwaitedAnswer) → e.awaited ≡ what
-        → ((octets more : List ℕ) → received_by what more (with_octets e octets)
-        ≡ with_octets e (octets ++ take (261 - length octets) more))
-        → received second (received first e) ≡ received (first ++ second) e
-    joined what is so =
-        let had = e.octets ++ take (261 - length e.octets) first in
-        ap (λ w. received second (received_by w first e)) is
-        ∙ ap (received second) (so e.octets first)
-        ∙ ap (λ w. received_by w second (with_octets e had)) is ∙ so had second
-        ∙ ap (with_octets e) (two_pieces 261 e.octets first second)
-        ∙ sym (ap (λ w. received_by w (first ++ second) e) is ∙ so e.octets (first ++ second))
+-- what was told before of what came makes no difference
+told_anew : (is_echo : Bool) (f : Front) (now : ℕ) (e : RequestWatch) (told : Spoiling)
+    → (if is_echo then Echo else spoiling_of f now (record e { spoiling = told }))
+    ≡ (if is_echo then Echo else spoiling_of f now e)
+told_anew true f now e told = refl
+told_anew false (front.Whole frame n) now e told = refl
+told_anew false front.More now e told = refl
+told_anew false (front.Never place why) now e told = refl
 
-    by : (what : AwaitedAnswer) → e.awaited ≡ what
-        → received second (received first e) ≡ received (first ++ second) e
-    by awaited.Nothing is =
-        ap (λ w. received second (received_by w first e)) is
-        ∙ ap (λ w. received_by w second e) is
-        ∙ sym (ap (λ w. received_by w (first ++ second) e) is)
-    by awaited.Poll is = joined awaited.Poll is (λ octets more. refl)
-    by awaited.Command is = joined awaited.Command is (λ octets more. refl)
+pub pieces_so : (size : LinkSize) (now before : ℕ) (e : RequestWatch) (first second : List ℕ)
+    → received size second now (received size first before e)
+    ≡ received size (first ++ second) now e
+pieces_so size now before e first second =
+    let w : RequestWatch = received size first before e in
+    let both = w.octets ++ take (261 - length w.octets) second in
+    ap (λ (s : Spoiling). record e { octets = both; spoiling = s })
+    (told_anew (starts_with (λ a b. a == b) both e.request) (front_of size both) now
+    (record e { octets = both }) w.spoiling)
+    ∙ ap (with_octets size now e) (two_pieces 261 e.octets first second)
 
-pub joined_so : (e : RequestWatch) (octets : List ℕ) → (e.awaited ≡ awaited.Nothing → ⊥)
-    → length e.octets + length octets ≤ 261 → (received octets e).octets ≡ e.octets ++ octets
-joined_so e octets some fits = by e.awaited refl
-  where
-    taken : e.octets ++ take (261 - length e.octets) octets ≡ e.octets ++ octets
-    taken = ap (λ zs. e.octets ++ zs)
-        (take_all (261 - length e.octets) octets (omega (arith, fits)))
-
-    by : (what : AwaitedAnswer) → e.awaited ≡ what
-        → (received octets e).octets ≡ e.octets ++ octets
-    by awaited.Nothing is = absurd (some is)
-    by awaited.Poll is = ap (λ w. (received_by w octets e).octets) is ∙ taken
-    by awaited.Command is = ap (λ w. (received_by w octets e).octets) is ∙ taken
+pub joined_so : (size : LinkSize) (now : ℕ) (e : RequestWatch) (octets : List ℕ)
+    → length e.octets + length octets ≤ 261
+    → (received size octets now e).octets ≡ e.octets ++ octets
+joined_so size now e octets fits =
+    ap (λ zs. e.octets ++ zs) (take_all (261 - length e.octets) octets (omega (arith, fits)))
 
 -- ---- Its answer
 
@@ -183,12 +176,12 @@ answer_so size station fcb service frame n e what is =
 
 pub not_yet_so : (size : LinkSize) (station : ℕ) (e : RequestWatch)
     → front_of size e.octets ≡ front.More → answer_in size station e ≡ None
-not_yet_so size station e is = by e.awaited
+not_yet_so size station e is = by (request_for e.awaited)
   where
-    by : (what : AwaitedAnswer) → answer_by what size station e.octets ≡ None
-    by awaited.Nothing = refl
-    by awaited.Poll = ap (answered_by station (request.Counted false Class2)) is
-    by awaited.Command = ap (answered_by station (request.Counted false (Command []))) is
+    by : (r : Option Request)
+        → option_and_then (λ r. answered_by station r (front_of size e.octets)) r ≡ None
+    by None = refl
+    by (Some r) = ap (answered_by station r) is
 
 pub none_so : (size : LinkSize) (station place : ℕ) (why : Why) (e : RequestWatch)
     → (e.awaited ≡ awaited.Nothing → ⊥) → front_of size e.octets ≡ front.Never place why
@@ -198,6 +191,8 @@ none_so size station place why e some is = by e.awaited refl
     by : (what : AwaitedAnswer) → e.awaited ≡ what
         → answer_by what size station e.octets ≡ Some None
     by awaited.Nothing was = absurd (some was)
+    by awaited.Status was = ap (answered_by station request.Status) is
+    by awaited.Reset was = ap (answered_by station request.Reset) is
     by awaited.Poll was = ap (answered_by station (request.Counted false Class2)) is
     by awaited.Command was = ap (answered_by station (request.Counted false (Command []))) is
 

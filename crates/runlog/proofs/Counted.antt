@@ -57,9 +57,9 @@ pub mishap_so : (what : Mishap) (t : Traffic)
 mishap_so mishap.GivenUp t = fate_so fate.GivenUp t
 mishap_so mishap.MirrorDropped t =
     record { address = refl; reported = refl; at = refl; skips = refl; orders = refl }
-mishap_so mishap.Spoilt t =
+mishap_so (mishap.Spoilt by) t =
     record { address = refl; reported = refl; at = refl; skips = refl; orders = refl }
-mishap_so mishap.Late t =
+mishap_so (mishap.Late ms) t =
     record { address = refl; reported = refl; at = refl; skips = refl; orders = refl }
 
 pub command_so : (o : Option Order) (t : Traffic)

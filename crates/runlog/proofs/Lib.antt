@@ -4,6 +4,7 @@ pub mod Gatherings
 pub mod Inboxes
 pub mod Firsts
 pub mod RulesRead
+pub mod Letters
 pub mod Worded
 pub mod Apart
 pub mod Waits

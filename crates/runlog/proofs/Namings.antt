@@ -14,6 +14,7 @@ use Rattle.runlog.specs.Naming.{MirrorDropped, Spoilt, Late, Reached, ReachedAga
 use Rattle.runlog.specs.Naming.{SilentLine, StillSilent}
 use Rattle.runlog.specs.Notes.{line_text, skip_words, words}
 use Rattle.runlog.specs.OrderWords.{order_words, type_name}
+use Rattle.runlog.specs.Spoilings.{spoiling_words}
 use Rattle.runlog.specs.declared.fate.CommandFate.TheVariants as fate
 use Rattle.runlog.specs.declared.names.LogNames.{LogNames}
 use Rattle.runlog.specs.declared.names.NamedStation.{NamedStation}
@@ -89,12 +90,13 @@ says_so link what (Skipped _ kind why) = says_first link what _
     (type_name kind) (codes ": ") (skip_words why))
 says_so link what (MirrorDropped _) = says_first link what _
     (spaced link (codes "answer to a command dropped: data transfer isn't running"))
-says_so link what (Spoilt _) = says_first link what _
-    (spaced link (codes "answer spoilt: octets came, but no answer"))
-says_so link what (Late _) =
-    says_within link what [] (codes "answers of ") (codes " come late: answer_ms is short")
-    (append_assoc (codes "answers of station " ++ decimal link) (codes " come late")
-    (codes ": answer_ms is short"))
+says_so link what (Spoilt _ by) = says_first link what _
+    (append_assoc (station ++ decimal link) (codes " answer spoilt: ") (spoiling_words by))
+says_so link what (Late _ ms) =
+    let told = codes " come late, " in
+    let behind = decimal ms ++ codes " ms behind their request: answer_ms is short" in
+    says_within link what [] (codes "answers of ") (told ++ behind)
+    (append_assoc (codes "answers of station " ++ decimal link) told behind)
 
 -- ---- The name
 
@@ -110,8 +112,8 @@ subject_is link what (Gap _) = refl
 subject_is link what (OfCommand o _ fate) = refl
 subject_is link what (Skipped _ kind why) = refl
 subject_is link what (MirrorDropped _) = refl
-subject_is link what (Spoilt _) = refl
-subject_is link what (Late _) = refl
+subject_is link what (Spoilt _ by) = refl
+subject_is link what (Late _ ms) = refl
 
 line_subject : (what : Note) → IsAboutTheLine what → subject_of what ≡ subject.Line
 line_subject what Reached = refl
@@ -219,7 +221,6 @@ other_subject note.StateStale station line = refl
 other_subject note.StatePutAside station line = refl
 other_subject (note.StateDamaged place) station line = refl
 other_subject (note.StateUnused why) station line = refl
-other_subject (note.SlowSync ms) station line = refl
 other_subject (note.GivenUp a b c d) station line = refl
 other_subject (note.State a) station line = refl
 other_subject (note.Trouble a) station line = refl
@@ -228,8 +229,8 @@ other_subject (note.Refused a b c) station line = refl
 other_subject (note.Fate a b c) station line = absurd (station b (OfCommand a b c))
 other_subject (note.Skipped a b c) station line = absurd (station a (Skipped a b c))
 other_subject (note.MirrorDropped a) station line = absurd (station a (MirrorDropped a))
-other_subject (note.Spoilt a) station line = absurd (station a (Spoilt a))
-other_subject (note.Late a) station line = absurd (station a (Late a))
+other_subject (note.Spoilt a by) station line = absurd (station a (Spoilt a by))
+other_subject (note.Late a ms) station line = absurd (station a (Late a ms))
 other_subject (note.LeftOut a) station line = refl
 
 pub others_so : (names : LogNames) (l : LogLine) → ((link : ℕ) → IsAbout link l.note → ⊥)

@@ -8,6 +8,7 @@ use Rattle.std.proofs.lemmas.List.Sums.{position_or_len_is}
 use Rattle.std.specs.List.{position_or_len}
 use Rattle.std.specs.Prelude.{if◌then◌else◌, slice_get, slice_set}
 use Rattle.ft12.specs.Spelling.{spelling}
+use Rattle.ft12.specs.declared.frame.LinkSize.{LinkSize}
 use Rattle.gateway.specs.Log.{LineOut}
 use Rattle.gateway.specs.declared.counts.Counts.{Counts}
 use Rattle.link.specs.Requests.{request_frame}
@@ -106,9 +107,13 @@ sent_by_exchange (Some t) place octets w =
 sent_exchange : (place : Option ℕ) (what : AwaitedAnswer) (octets : List ℕ) (w : Watching)
     → (sent_at place what octets w).exchange ≡ w.exchange
 sent_exchange None awaited.Nothing octets w = refl
+sent_exchange None awaited.Status octets w = refl
+sent_exchange None awaited.Reset octets w = refl
 sent_exchange None awaited.Poll octets w = refl
 sent_exchange None awaited.Command octets w = refl
 sent_exchange (Some place) awaited.Nothing octets w = refl
+sent_exchange (Some place) awaited.Status octets w = refl
+sent_exchange (Some place) awaited.Reset octets w = refl
 sent_exchange (Some place) awaited.Poll octets w = refl
 sent_exchange (Some place) awaited.Command octets w =
     sent_by_exchange (slice_get w.traffic place) place octets w
@@ -121,7 +126,7 @@ asked_so w r now before behind t is none =
     let place = place_of (address_of w.link octets) w.traffic in
     ap (λ (e : RequestWatch). e.place)
     (sent_exchange place (awaited_of octets) octets
-    (record w { exchange = exchange.asked place (awaited_of octets) now w.exchange }))
+    (record w { exchange = exchange.asked w.link octets place (awaited_of octets) now w.exchange }))
     ∙ ap (λ a. place_of a w.traffic) (address_is w.link t.address r)
     ∙ place_here t.address before behind t w.traffic is none refl
 
@@ -139,7 +144,7 @@ command_here w fcb asdu now before behind t is none new =
     let r : Request = request.Counted fcb (Command asdu) in
     let octets = octets_of w.link t.address r in
     let begun : Option ℕ → AwaitedAnswer → Watching =
-    λ place what. record w { exchange = exchange.asked place what now w.exchange } in
+    λ place what. record w { exchange = exchange.asked w.link octets place what now w.exchange } in
     ap (λ place. (sent_at place (awaited_of octets) octets
     (begun place (awaited_of octets))).traffic)
     (ap (λ a. place_of a w.traffic) (address_is w.link t.address r)
@@ -162,10 +167,10 @@ command_here w fcb asdu now before behind t is none new =
 module _ (w : Watching) (octets : List ℕ) (before behind : List Traffic) (t : Traffic)
     (is : IsInPlace before behind t w) (asked : w.exchange.place ≡ Some (length before)) where
   abbrev heard : Watching
-  heard = record w { exchange = received octets w.exchange }
+  heard = record w { exchange = received w.link octets w.moment w.exchange }
 
   noted_by : (answer : Option (Option Answer))
-      → answer_in w.link t.address (received octets w.exchange) ≡ answer
+      → answer_in w.link t.address (received w.link octets w.moment w.exchange) ≡ answer
       → (line_received octets w).traffic ≡ (answered_by answer t (length before) heard).traffic
   noted_by answer found =
       ap (λ place. (answer_noted_at place heard).traffic) asked
@@ -174,13 +179,13 @@ module _ (w : Watching) (octets : List ℕ) (before behind : List Traffic) (t : 
       ∙ ap (λ a. (answered_by a t (length before) heard).traffic) found
 
   pub answer_here : (answer : Option Answer)
-      → answer_in w.link t.address (received octets w.exchange) ≡ Some answer
+      → answer_in w.link t.address (received w.link octets w.moment w.exchange) ≡ Some answer
       → IsInPlace before behind (traffic_after answer w.sizes w.moment t) (line_received octets w)
   answer_here answer found =
       noted_by (Some answer) found
       ∙ changed_here before behind t (traffic_after answer w.sizes w.moment t) w.traffic is
 
-  pub no_answer_here : answer_in w.link t.address (received octets w.exchange) ≡ None
+  pub no_answer_here : answer_in w.link t.address (received w.link octets w.moment w.exchange) ≡ None
       → IsInPlace before behind t (line_received octets w)
   no_answer_here found = noted_by None found ∙ is
 
@@ -201,8 +206,8 @@ stayed n m same = grind (arith, same)
 -- which of the three counts grew
 abbrev noted_as : (spoilt mirrors lost : Bool) → Counts → Watching → Watching
 noted_as spoilt mirrors lost counts w =
-    as_seen counts (suffered_if spoilt mishap.Spoilt (suffered_if mirrors mishap.MirrorDropped
-    (suffered_if lost mishap.GivenUp w)))
+    as_seen counts (suffered_if spoilt (mishap.Spoilt w.exchange.spoiling)
+    (suffered_if mirrors mishap.MirrorDropped (suffered_if lost mishap.GivenUp w)))
 
 counted_as : (spoilt mirrors lost : Bool) (counts : Counts) (w : Watching)
     → nat_lt w.seen.spoilt counts.spoilt ≡ spoilt → nat_lt w.seen.mirrors counts.mirrors ≡ mirrors
@@ -236,11 +241,12 @@ dropped_here counts w before behind t is asked more lost spoilt =
 pub spoilt_here : (counts : Counts) (w : Watching) (before behind : List Traffic) (t : Traffic)
     → IsInPlace before behind t w → w.exchange.before ≡ Some (length before)
     → w.seen.spoilt < counts.spoilt → w.seen.lost ≡ counts.lost → w.seen.mirrors ≡ counts.mirrors
-    → IsInPlace before behind (suffered mishap.Spoilt t) (counts_noted counts w)
+    → IsInPlace before behind (suffered (mishap.Spoilt w.exchange.spoiling) t)
+    (counts_noted counts w)
 spoilt_here counts w before behind t is asked more lost mirrors =
     ap (λ (v : Watching). v.traffic)
     (counted_as true false false counts w (below _ _ more) (stayed _ _ mirrors) (stayed _ _ lost))
-    ∙ suffered_here w.exchange.before mishap.Spoilt w before behind t is asked
+    ∙ suffered_here w.exchange.before (mishap.Spoilt w.exchange.spoiling) w before behind t is asked
 
 pub nothing_befell : (counts : Counts) (w : Watching) → w.seen.lost ≡ counts.lost
     → w.seen.mirrors ≡ counts.mirrors → w.seen.spoilt ≡ counts.spoilt
@@ -256,18 +262,21 @@ counts_seen counts w = refl
 
 -- ---- What came late
 
+abbrev came_late : Watching → Mishap
+came_late w = mishap.Late (exchange.lag w.exchange)
+
 late_as : (b : Bool) (late : ℕ) (w : Watching) → nat_lt w.late late ≡ b
     → late_noted late w
-    ≡ as_late late (if b then suffered_at w.exchange.overdue mishap.Late w else w)
+    ≡ as_late late (if b then suffered_at w.exchange.overdue (came_late w) w else w)
 late_as b late w is =
-    ap (λ x. as_late late (if x then suffered_at w.exchange.overdue mishap.Late w else w)) is
+    ap (λ x. as_late late (if x then suffered_at w.exchange.overdue (came_late w) w else w)) is
 
 pub late_here : (late : ℕ) (w : Watching) (before behind : List Traffic) (t : Traffic)
     → IsInPlace before behind t w → w.exchange.overdue ≡ Some (length before) → w.late < late
-    → IsInPlace before behind (suffered mishap.Late t) (late_noted late w)
+    → IsInPlace before behind (suffered (came_late w) t) (late_noted late w)
 late_here late w before behind t is asked more =
     ap (λ (v : Watching). v.traffic) (late_as true late w (below _ _ more))
-    ∙ suffered_here w.exchange.overdue mishap.Late w before behind t is asked
+    ∙ suffered_here w.exchange.overdue (came_late w) w before behind t is asked
 
 no_more : (n m : ℕ) → n ≤ m → nat_lt m n ≡ false
 no_more n m none = grind (arith, none)
@@ -284,13 +293,15 @@ in_time_by : (since ms now : ℕ) → since ≤ now → now < since + ms
     → nat_le ms (now - since) ≡ false
 in_time_by since ms now behind early = grind (arith, behind, early)
 
-pub overdue_so : (place : Option ℕ) (what : AwaitedAnswer) (now : ℕ) (e : RequestWatch)
-    → e.since + e.answer_ms ≤ now → (exchange.asked place what now e).overdue ≡ e.place
-overdue_so place what now e past =
+pub overdue_so : (size : LinkSize) (request : List ℕ) (place : Option ℕ) (what : AwaitedAnswer)
+    (now : ℕ) (e : RequestWatch)
+    → e.since + e.answer_ms ≤ now → (exchange.asked size request place what now e).overdue ≡ e.place
+overdue_so size request place what now e past =
     ap (λ b. if b then e.place else None) (over_by e.since e.answer_ms now past)
 
-pub in_time_so : (place : Option ℕ) (what : AwaitedAnswer) (now : ℕ) (e : RequestWatch)
+pub in_time_so : (size : LinkSize) (request : List ℕ) (place : Option ℕ) (what : AwaitedAnswer)
+    (now : ℕ) (e : RequestWatch)
     → e.since ≤ now → now < e.since + e.answer_ms
-    → (exchange.asked place what now e).overdue ≡ None
-in_time_so place what now e behind early =
+    → (exchange.asked size request place what now e).overdue ≡ None
+in_time_so size request place what now e behind early =
     ap (λ b. if b then e.place else None) (in_time_by e.since e.answer_ms now behind early)

@@ -110,9 +110,9 @@ suffered_at_same None what w = same w
 suffered_at_same (Some place) what w = suffered_by_same (slice_get w.traffic place) place what w
     refl
 
-late_same_by : (b : Bool) (late : ℕ) (place : Option ℕ) (w : Watching)
-    → Same (as_late late (if b then suffered_at place mishap.Late w else w)) w
-late_same_by true late place w = let x = suffered_at_same place mishap.Late w in
+late_same_by : (b : Bool) (late ms : ℕ) (place : Option ℕ) (w : Watching)
+    → Same (as_late late (if b then suffered_at place (mishap.Late ms) w else w)) w
+late_same_by true late ms place w = let x = suffered_at_same place (mishap.Late ms) w in
     record {
       connection = x.connection;
       wall = x.wall;
@@ -121,7 +121,7 @@ late_same_by true late place w = let x = suffered_at_same place mishap.Late w in
       stations = x.stations;
       addresses = x.addresses;
     }
-late_same_by false late place w = record {
+late_same_by false late ms place w = record {
   connection = refl;
   wall = refl;
   moment = refl;
@@ -131,7 +131,8 @@ late_same_by false late place w = record {
 }
 
 pub late_same : (late : ℕ) (w : Watching) → Same (late_noted late w) w
-late_same late w = late_same_by (nat_lt w.late late) late w.exchange.overdue w
+late_same late w =
+    late_same_by (nat_lt w.late late) late (exchange.lag w.exchange) w.exchange.overdue w
 
 suffered_if_same : (b : Bool) (what : Mishap) (w : Watching) → Same (suffered_if b what w) w
 suffered_if_same true what w = suffered_at_same w.exchange.before what w
@@ -144,7 +145,8 @@ counts_same counts w =
     let b = suffered_if (nat_lt w.seen.mirrors counts.mirrors) mishap.MirrorDropped a in
     let x = suffered_if_same (nat_lt w.seen.lost counts.lost) mishap.GivenUp w in
     let y = suffered_if_same (nat_lt w.seen.mirrors counts.mirrors) mishap.MirrorDropped a in
-    let z = suffered_if_same (nat_lt w.seen.spoilt counts.spoilt) mishap.Spoilt b in record {
+    let z = suffered_if_same (nat_lt w.seen.spoilt counts.spoilt)
+    (mishap.Spoilt w.exchange.spoiling) b in record {
       connection = z.connection ∙ y.connection ∙ x.connection;
       wall = z.wall ∙ y.wall ∙ x.wall;
       moment = z.moment ∙ y.moment ∙ x.moment;
@@ -178,7 +180,8 @@ answer_at_same (Some place) w = answer_noted_same (slice_get w.traffic place) pl
 
 pub line_received_same : (octets : List ℕ) (w : Watching) → Same (line_received octets w) w
 line_received_same octets w =
-    let v : Watching = record w { exchange = exchange.received octets w.exchange } in
+    let v : Watching =
+    record w { exchange = exchange.received w.link octets w.moment w.exchange } in
     let x = answer_at_same w.exchange.place v in
     record {
       connection = x.connection;
@@ -233,10 +236,14 @@ sent_at_same : (place : Option ℕ) (what : AwaitedAnswer) (octets : List ℕ) (
 sent_at_same None awaited.Command octets w = same w
 sent_at_same None awaited.Poll octets w = same w
 sent_at_same None awaited.Nothing octets w = same w
+sent_at_same None awaited.Status octets w = same w
+sent_at_same None awaited.Reset octets w = same w
 sent_at_same (Some place) awaited.Command octets w =
     sent_by_same (slice_get w.traffic place) place octets w refl
 sent_at_same (Some place) awaited.Poll octets w = same w
 sent_at_same (Some place) awaited.Nothing octets w = same w
+sent_at_same (Some place) awaited.Status octets w = same w
+sent_at_same (Some place) awaited.Reset octets w = same w
 
 -- a request changes the stations, and nothing else of these
 pub asked_same : (octets : List ℕ) (now : ℕ) (w : Watching)
@@ -244,7 +251,8 @@ pub asked_same : (octets : List ℕ) (now : ℕ) (w : Watching)
 asked_same octets now w =
     let place = exchange.place_of (stations.address_of w.link octets) w.traffic in
     let what = exchange.awaited_of octets in
-    let v : Watching = record w { exchange = exchange.asked place what now w.exchange } in
+    let v : Watching =
+    record w { exchange = exchange.asked w.link octets place what now w.exchange } in
     let x = sent_at_same place what octets v in
     record {
       connection = x.connection;
@@ -262,7 +270,8 @@ pub asked_stations : (octets : List ℕ) (now : ℕ) (w : Watching)
 asked_stations octets now w =
     let place = exchange.place_of (stations.address_of w.link octets) w.traffic in
     let what = exchange.awaited_of octets in
-    let v : Watching = record w { exchange = exchange.asked place what now w.exchange } in
+    let v : Watching =
+    record w { exchange = exchange.asked w.link octets place what now w.exchange } in
     let x = sent_at_same place what octets v in
     let away = is_away w.line.presence in
     let ws = (sent_at place what octets v).stations in

@@ -15,8 +15,8 @@ awaited_of_service Class2 = awaited.Poll
 awaited_of_service (Command asdu) = awaited.Command
 
 abbrev pub awaited_for : Request → AwaitedAnswer
-awaited_for request.Status = awaited.Nothing
-awaited_for request.Reset = awaited.Nothing
+awaited_for request.Status = awaited.Status
+awaited_for request.Reset = awaited.Reset
 awaited_for (request.Counted fcb service) = awaited_of_service service
 
 -- so much is counted of this station now, and it is the one that it was

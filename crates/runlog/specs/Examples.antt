@@ -9,11 +9,12 @@ use Rattle.gateway.specs.Log.{LineOut}
 use Rattle.gateway.specs.declared.counts.Counts.{Counts}
 use Rattle.live.specs.declared.ends.Presence.{Presence}
 use Rattle.runlog.specs.Ends.{line_seen}
-use Rattle.runlog.specs.Exchange.{RequestWatch, new_exchange}
+use Rattle.runlog.specs.Exchange.{RequestWatch, asked as request_sent, new_exchange, received}
 use Rattle.runlog.specs.Gathering.{GatheringCall, Add, Look, nothing, added, line_of}
 use Rattle.runlog.specs.Stations.{asked, asking_of, new_station, station_asked, standing_of}
 use Rattle.runlog.specs.Traffic.{first_line, new_traffic, suffered, traffic_line}
 use Rattle.runlog.specs.Watching.{Watching, put}
+use Rattle.runlog.specs.declared.exchange.AwaitedAnswer.TheVariants.{Poll}
 use Rattle.runlog.specs.declared.fate.Mishap.{Mishap}
 use Rattle.runlog.specs.declared.gathered.Gathered.{Gathered}
 use Rattle.runlog.specs.declared.order.OrderKind.{OrderKind}
@@ -23,6 +24,8 @@ use Rattle.runlog.specs.declared.stations.StationStanding.{StationStanding}
 use Rattle.runlog.specs.declared.ends.LineWatch.{LineWatch}
 use Rattle.runlog.specs.declared.note.LogLine.{LogLine}
 use Rattle.runlog.specs.declared.note.Note.{Note}
+use Rattle.runlog.specs.declared.spoiling.Spoiling.{Spoiling}
+use Rattle.runlog.specs.declared.spoiling.Spoiling.TheVariants.{Frame as FrameOf}
 use Rattle.runlog.specs.declared.stations.StationWatch.{StationWatch}
 use Rattle.runlog.specs.declared.traffic.Traffic.{Traffic}
 
@@ -78,7 +81,7 @@ two_stations = new_traffic 7 ∷ new_traffic 8 ∷ []
 
 -- the station at this place was asked last before the latest event
 abbrev pub asked_before : (place : ℕ) → RequestWatch
-asked_before place = record (new_exchange 150) { before = Some place }
+asked_before place = record (new_exchange 150) { before = Some place; spoiling = FrameOf 9 }
 
 -- so many answers to commands were dropped, and so many exchanges were spoilt
 abbrev pub counting : (mirrors spoilt : ℕ) → Counts
@@ -121,6 +124,24 @@ poll_of_8 = 0x10 ∷ 0x5B ∷ 0x08 ∷ 0x63 ∷ 0x16 ∷ []
 
 abbrev pub busy_8 : List ℕ
 busy_8 = 0x10 ∷ 0x11 ∷ 0x08 ∷ 0x19 ∷ 0x16 ∷ []
+
+-- a poll of station 7, and that it has no data
+abbrev pub poll_of_7 : List ℕ
+poll_of_7 = 0x10 ∷ 0x5B ∷ 0x07 ∷ 0x62 ∷ 0x16 ∷ []
+
+abbrev pub none_of_7 : List ℕ
+none_of_7 = 0x10 ∷ 0x09 ∷ 0x07 ∷ 0x10 ∷ 0x16 ∷ []
+
+-- station 7 is polled at 0, and station 8 at this moment
+abbrev pub polled_at : (now : ℕ) → RequestWatch → RequestWatch
+polled_at now e =
+    request_sent One poll_of_8 (Some 1) Poll now (request_sent One poll_of_7 (Some 0) Poll 0 e)
+
+-- what stands in the place of an answer of station 8, by octets that come at this moment, if it was
+-- polled at 100
+abbrev pub spoiling_behind : (now : ℕ) → (octets : List ℕ) → Spoiling
+spoiling_behind now octets =
+    (received One octets now (polled_at 100 (new_exchange 150))).spoiling
 
 -- the command has gone out to station 8, and that was logged
 abbrev pub commanded : Watching → Watching

@@ -3,6 +3,7 @@ pub mod LineLines
 pub mod Orders
 pub mod OrderWords
 pub mod Wordings
+pub mod Spoilings
 pub mod Notes
 pub mod Severities
 pub mod SeverityRows

@@ -10,7 +10,7 @@ use Rattle.live.specs.declared.watched.Failure.{Failure}
 use Rattle.live.specs.declared.watched.Notice.{Notice}
 use Rattle.live.specs.declared.watched.EndsSight.{EndsSight}
 use Rattle.runlog.specs.Watching.{Watching, event_noted, put, is_look_due, looked_at, judged}
-use Rattle.runlog.specs.Watching.{unless_line, line_of, sum_line, sync_noted, failed}
+use Rattle.runlog.specs.Watching.{unless_line, line_of, sum_line, failed}
 use Rattle.runlog.specs.declared.note.LogLine.{LogLine}
 use Rattle.runlog.specs.declared.note.Note.{Note}
 use Rattle.runlog.specs.declared.note.Note.TheVariants as note
@@ -146,11 +146,6 @@ pub record IsLogged (line : Option LogLine) (old new : Book) : Type 0 where
 pub record LogsNote (old : Book) (note : Note) (new : Book) : Type 0 where
   pub taken : Bool
   pub done : new ≡ unless_over old (logged (Some (line_of note old.watching)) taken old)
-
--- a sync of the state took so many ms
-pub record LogsSync (old : Book) (ms : ℕ) (new : Book) : Type 0 where
-  pub taken : Bool
-  pub done : new ≡ unless_over old (after (sync_noted ms old.watching) taken old)
 
 -- the line of what there is to log of the state on the disk
 abbrev pub line_of_notice : Option Notice → Watching → Option LogLine

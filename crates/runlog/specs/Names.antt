@@ -27,8 +27,8 @@ subject_of (note.Gap address) = subject.Station address
 subject_of (note.Fate order station what) = subject.Station station
 subject_of (note.Skipped station kind why) = subject.Station station
 subject_of (note.MirrorDropped address) = subject.Station address
-subject_of (note.Spoilt address) = subject.Station address
-subject_of (note.Late address) = subject.Station address
+subject_of (note.Spoilt address what) = subject.Station address
+subject_of (note.Late address ms) = subject.Station address
 subject_of _ = subject.Other
 
 -- the name of the station with this link address, if it has one

@@ -9,6 +9,7 @@ use Rattle.runlog.specs.declared.names.NamedStation.{NamedStation}
 use Rattle.runlog.specs.declared.note.Note.{Note}
 use Rattle.runlog.specs.declared.note.Note.TheVariants as note
 use Rattle.runlog.specs.declared.order.Order.{Order}
+use Rattle.runlog.specs.declared.spoiling.Spoiling.{Spoiling}
 
 -- the lines about the station with this link address
 pub data IsAbout : (link : ℕ) → Note → Type 0 where
@@ -23,8 +24,8 @@ pub data IsAbout : (link : ℕ) → Note → Type 0 where
       → IsAbout link (note.Fate order link what)
   Skipped : (link kind : ℕ) (why : Skip) → IsAbout link (note.Skipped link kind why)
   MirrorDropped : (link : ℕ) → IsAbout link (note.MirrorDropped link)
-  Spoilt : (link : ℕ) → IsAbout link (note.Spoilt link)
-  Late : (link : ℕ) → IsAbout link (note.Late link)
+  Spoilt : (link : ℕ) (what : Spoiling) → IsAbout link (note.Spoilt link what)
+  Late : (link ms : ℕ) → IsAbout link (note.Late link ms)
 
 -- and those about the line
 pub data IsAboutTheLine : Note → Type 0 where

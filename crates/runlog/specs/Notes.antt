@@ -10,8 +10,10 @@ use Rattle.live.specs.declared.ends.CutCause.TheVariants as cut
 use Rattle.live.specs.declared.watched.Notice.{Notice}
 use Rattle.live.specs.declared.watched.Notice.TheVariants as notices
 use Rattle.runlog.specs.OrderWords.{order_words, reason_words, fate_words, type_name}
+use Rattle.runlog.specs.Spoilings.{spoiling_words}
 use Rattle.runlog.specs.declared.content.Skip.{Skip}
 use Rattle.runlog.specs.declared.content.Skip.TheVariants as skip
+use Rattle.runlog.specs.declared.spoiling.Spoiling.{Spoiling}
 use Rattle.runlog.specs.declared.note.LogLine.{LogLine}
 use Rattle.runlog.specs.declared.note.RunCounts.{RunCounts}
 use Rattle.runlog.specs.declared.note.Obstacle.{Obstacle}
@@ -112,10 +114,14 @@ given_up_words what kind ca object =
 abbrev pub of_station : (address : ℕ) → (words : List ℕ) → List ℕ
 of_station address words = codes "station " ++ decimal address ++ codes " " ++ words
 
-abbrev pub late_words : (address : ℕ) → List ℕ
-late_words address =
-    (codes "answers of station " ++ decimal address ++ codes " come late")
-    ++ codes ": answer_ms is short"
+abbrev pub spoilt_words : (address : ℕ) → Spoiling → List ℕ
+spoilt_words address what =
+    (codes "station " ++ decimal address ++ codes " answer spoilt: ") ++ spoiling_words what
+
+abbrev pub late_words : (address ms : ℕ) → List ℕ
+late_words address ms =
+    (codes "answers of station " ++ decimal address ++ codes " come late, ")
+    ++ (decimal ms ++ codes " ms behind their request: answer_ms is short")
 
 abbrev pub words : Note → List ℕ
 words note.LineReached = codes "line reached"
@@ -151,7 +157,6 @@ words note.StatePutAside = codes "state can't be read: put aside"
 words (note.StateDamaged place) = damaged_words place
 words (note.StateUnused why) =
     codes "state: its directory can't be used, the run goes on without it: " ++ obstacle_words why
-words (note.SlowSync ms) = codes "state: a sync took " ++ decimal ms ++ codes " ms"
 words (note.GivenUp what kind ca object) = given_up_words what kind ca object
 words (note.State notice) = notice_words notice
 words (note.Trouble why) = trouble_words why
@@ -162,9 +167,8 @@ words (note.Fate order station fate) = order_words order ++ fate_words fate stat
 words (note.Skipped station kind why) = skipped_words station kind why
 words (note.MirrorDropped address) =
     of_station address (codes "answer to a command dropped: data transfer isn't running")
-words (note.Spoilt address) =
-    of_station address (codes "answer spoilt: octets came, but no answer")
-words (note.Late address) = late_words address
+words (note.Spoilt address what) = spoilt_words address what
+words (note.Late address ms) = late_words address ms
 words (note.LeftOut count) = decimal count ++ codes " lines left out: nobody read them in time"
 
 abbrev pub left_out_words : ℕ → List ℕ

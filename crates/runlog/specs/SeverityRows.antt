@@ -16,6 +16,7 @@ use Rattle.runlog.specs.declared.note.Remnant.{Remnant}
 use Rattle.runlog.specs.declared.note.RunCounts.{RunCounts}
 use Rattle.runlog.specs.declared.note.Trouble.{Trouble}
 use Rattle.runlog.specs.declared.order.Order.{Order}
+use Rattle.runlog.specs.declared.spoiling.Spoiling.{Spoiling}
 
 -- a line, and the number that stands before it
 pub data HasRow : Note → ℕ → Type 0 where
@@ -29,7 +30,6 @@ pub data HasRow : Note → ℕ → Type 0 where
   QueueFull : HasRow note.QueueFull 3
   -- look at the disk
   NotKept : HasRow (note.State notices.NotKept) 3
-  SlowSync : (ms : ℕ) → HasRow (note.SlowSync ms) 4
   PutAside : HasRow note.StatePutAside 3
   Unused : (why : Obstacle) → HasRow (note.StateUnused why) 3
   -- why a run can't begin, or go on
@@ -47,10 +47,10 @@ pub data HasRow : Note → ℕ → Type 0 where
   Skipped : (a kind : ℕ) (why : Skip) → HasRow (note.Skipped a kind why) 4
   -- the centre stopped: let it start again
   MirrorDropped : (a : ℕ) → HasRow (note.MirrorDropped a) 4
-  -- look at parity, noise and echo
-  Spoilt : (a : ℕ) → HasRow (note.Spoilt a) 4
+  -- look at what came: an echo, a late answer, another device or noise
+  Spoilt : (a : ℕ) (what : Spoiling) → HasRow (note.Spoilt a what) 4
   -- give stations longer to answer
-  Late : (a : ℕ) → HasRow (note.Late a) 4
+  Late : (a ms : ℕ) → HasRow (note.Late a ms) 4
   -- find out why nobody reads the log
   LeftOut : (n : ℕ) → HasRow (note.LeftOut n) 4
   -- a command that comes to nothing

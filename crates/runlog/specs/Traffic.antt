@@ -113,8 +113,9 @@ abbrev pub suffered : Mishap → Traffic → Traffic
 suffered mishap.GivenUp t = ended fate.GivenUp t
 suffered mishap.MirrorDropped t =
     record t { mirrors = added (note.MirrorDropped t.address) t.mirrors }
-suffered mishap.Spoilt t = record t { spoilt = added (note.Spoilt t.address) t.spoilt }
-suffered mishap.Late t = record t { late = added (note.Late t.address) t.late }
+suffered (mishap.Spoilt by) t =
+    record t { spoilt = added (note.Spoilt t.address by) t.spoilt }
+suffered (mishap.Late ms) t = record t { late = added (note.Late t.address ms) t.late }
 
 abbrev pub replied_by : Option CommandFate → Option Order → Traffic → Traffic
 replied_by (Some what) (Some o) t = fate_noted what o t

@@ -99,8 +99,6 @@ pub record Watching : Type 0 where
   pub seen : Counts
   -- how many octets of the line were dropped before requests, as far as that was seen
   pub late : ℕ
-  -- when a slow sync of the state was logged last, and how many were left out since
-  pub syncs : Limit
   -- when a line was sought among what is gathered
   pub sought : ℕ
   -- what the wall clock showed last
@@ -127,7 +125,6 @@ new_watching c = record {
   exchange = new_exchange c.line.answer_ms;
   seen = record { skipped = 0; mirrors = 0; lost = 0; spoilt = 0 };
   late = 0;
-  syncs = new_limit;
   sought = 0;
   wall = None;
   traffic = new_traffics c.stations;
@@ -192,7 +189,8 @@ answer_noted_at (Some place) w = answer_noted place w
 -- octets came from the line
 abbrev pub line_received : List ℕ → Watching → Watching
 line_received octets w =
-    answer_noted_at w.exchange.place (record w { exchange = exchange.received octets w.exchange })
+    answer_noted_at w.exchange.place
+    (record w { exchange = exchange.received w.link octets w.moment w.exchange })
 
 abbrev pub is_repeat_by : Option StationWatch → List ℕ → Bool
 is_repeat_by None octets = false
@@ -220,7 +218,8 @@ sent_at place what octets w = w
 
 abbrev pub exchanged : Option ℕ → AwaitedAnswer → List ℕ → (now : ℕ) → Watching → Watching
 exchanged place what octets now w =
-    sent_at place what octets (record w { exchange = exchange.asked place what now w.exchange })
+    sent_at place what octets
+    (record w { exchange = exchange.asked w.link octets place what now w.exchange })
 
 -- a request goes out
 -- While the line is away a request reaches no station: nothing is noted or logged of one.
@@ -260,7 +259,8 @@ as_seen counts w = record w { seen = counts }
 -- event.
 unfoldable pub counts_noted : Counts → Watching → Watching
 counts_noted counts w =
-    as_seen counts (suffered_if (nat_lt w.seen.spoilt counts.spoilt) mishap.Spoilt
+    as_seen counts (suffered_if (nat_lt w.seen.spoilt counts.spoilt)
+    (mishap.Spoilt w.exchange.spoiling)
     (suffered_if (nat_lt w.seen.mirrors counts.mirrors) mishap.MirrorDropped
     (suffered_if (nat_lt w.seen.lost counts.lost) mishap.GivenUp w)))
 
@@ -272,7 +272,8 @@ as_late late w = record w { late = late }
 abbrev pub late_noted : (late : ℕ) → Watching → Watching
 late_noted late w =
     as_late late
-    (if nat_lt w.late late then suffered_at w.exchange.overdue mishap.Late w else w)
+    (if nat_lt w.late late
+    then suffered_at w.exchange.overdue (mishap.Late (exchange.lag w.exchange)) w else w)
 
 -- the wall clock shows this at that moment
 abbrev pub walled : (now shown : ℕ) → Watching → Watching
@@ -342,16 +343,6 @@ abbrev pub failed : Option Failure → Watching → Watching × Option LogLine
 failed None w = (w, None)
 failed (Some failure.Line) w = with_line (line_seen Away w.moment w.line) w
 failed (Some failure.State) w = (w, Some (line_of (note.Trouble StateUnusable) w))
-
-abbrev pub with_syncs : Limit × Option LogLine → Watching → Watching × Option LogLine
-with_syncs logged w = (record w { syncs = logged.0 }, logged.1)
-
--- a sync of the state took so many ms: a line a minute says so, and how many were left out
-abbrev pub sync_noted : (ms : ℕ) → Watching → Watching × Option LogLine
-sync_noted ms w =
-    with_syncs (if is_minute_after w.syncs.logged w.moment
-    then happened (note.SlowSync ms) w.syncs w.moment
-    else (record w.syncs { left_out = one_more w.syncs.left_out }, None)) w
 
 abbrev pub sum_line : Counts → (taken : ℕ) → Watching → LogLine
 sum_line counts taken w = line_of (note.Counts (tally counts taken w)) w

@@ -1,11 +1,12 @@
 //! Laws of the station that answers, commands and mishaps are noted of, of what passes a run that
 //! is watched, of APDUs that come in a step, and of how a run ends.
 ghost use Rattle.std.specs.Prelude.{◌≡◌, ℕ, ◌+◌, ◌%◌, ◌<◌, ◌≤◌, Bool, List, ◌∷◌, ◌++◌, length};
-ghost use Rattle.std.specs.Prelude.{drop, Option, Some, None, true, false, ◌≢◌, ◌⊎◌};
+ghost use Rattle.std.specs.Prelude.{◌-◌, drop, Option, Some, None, true, false, ◌≢◌, ◌⊎◌};
 ghost use Rattle.std.specs.declared.net.ip_addr.IpAddr.{IpAddr};
 ghost use Rattle.asdu.specs.Sizes.{tcp};
 ghost use Rattle.asdu.specs.declared.sizes.Sizes.{Sizes};
 ghost use Rattle.ft12.specs.Spelling.{spelling};
+ghost use Rattle.ft12.specs.declared.frame.LinkSize.{LinkSize};
 ghost use Rattle.gateway.specs.Counting.{counted, one_skipped};
 ghost use Rattle.gateway.specs.Log.{LineOut, Output};
 ghost use Rattle.gateway.specs.State.{State, counts_of};
@@ -22,7 +23,7 @@ ghost use Rattle.live.specs.declared.watched.Failure.{Failure};
 ghost use Rattle.live.specs.declared.watched.Failure.TheVariants as failure;
 ghost use Rattle.runlog.specs.Befallen.{IsFollowed, IsInPlace, IsWatched, NoneHas, place_asked};
 ghost use Rattle.runlog.specs.Examples.{at};
-ghost use Rattle.runlog.specs.Exchange.{RequestWatch, answer_in, asked, begun, received};
+ghost use Rattle.runlog.specs.Exchange.{RequestWatch, answer_in, asked, begun, lag, received};
 ghost use Rattle.runlog.specs.Exchange.{traffic_after};
 ghost use Rattle.runlog.specs.Inbox as inbox;
 ghost use Rattle.runlog.specs.Inbox.{Inbox, Orders, apdu_noted, judged, order_noted};
@@ -55,13 +56,13 @@ pub fn answers_are_noted_of_the_station_that_was_asked()
     ensures answer { (w : Watching) (octets : List ℕ) (before behind : List Traffic)
         (t : Traffic) (answer : Option Answer) → IsInPlace before behind t w →
         w.exchange.place ≡ Some (length before) →
-        answer_in w.link t.address (received octets w.exchange) ≡ Some answer →
+        answer_in w.link t.address (received w.link octets w.moment w.exchange) ≡ Some answer →
         IsInPlace before behind (traffic_after answer w.sizes w.moment t)
         (line_received octets w) }
     ensures not_yet { (w : Watching) (octets : List ℕ) (before behind : List Traffic)
         (t : Traffic) → IsInPlace before behind t w →
         w.exchange.place ≡ Some (length before) →
-        answer_in w.link t.address (received octets w.exchange) ≡ None →
+        answer_in w.link t.address (received w.link octets w.moment w.exchange) ≡ None →
         IsInPlace before behind t (line_received octets w) }
     ensures command { (w : Watching) (fcb : Bool) (asdu : List ℕ) (now : ℕ)
         (before behind : List Traffic) (t : Traffic) → IsInPlace before behind t w →
@@ -91,7 +92,8 @@ pub fn mishaps_are_noted_of_the_station_that_was_asked()
         (t : Traffic) → IsInPlace before behind t w →
         w.exchange.before ≡ Some (length before) → w.seen.spoilt < counts.spoilt →
         w.seen.lost ≡ counts.lost → w.seen.mirrors ≡ counts.mirrors →
-        IsInPlace before behind (suffered mishap.Spoilt t) (counts_noted counts w) }
+        IsInPlace before behind (suffered (mishap.Spoilt w.exchange.spoiling) t)
+        (counts_noted counts w) }
     ensures none { (counts : Counts) (w : Watching) → w.seen.lost ≡ counts.lost →
         w.seen.mirrors ≡ counts.mirrors → w.seen.spoilt ≡ counts.spoilt →
         (counts_noted counts w).traffic ≡ w.traffic }
@@ -100,21 +102,27 @@ pub fn mishaps_are_noted_of_the_station_that_was_asked()
 {}
 
 /// Octets that were dropped before a request came late from the station that was asked before it,
-/// where that exchange had lasted as long as an answer is awaited. They are noted once.
+/// where that exchange had lasted as long as an answer is awaited. They are noted once, with how
+/// long that was.
 pub fn late_octets_are_of_the_station_asked_before()
     ensures late { (late : ℕ) (w : Watching) (before behind : List Traffic) (t : Traffic) →
         IsInPlace before behind t w → w.exchange.overdue ≡ Some (length before) →
-        w.late < late → IsInPlace before behind (suffered mishap.Late t) (late_noted late w) }
+        w.late < late → IsInPlace before behind (suffered (mishap.Late (lag w.exchange)) t)
+        (late_noted late w) }
     ensures not_late { (late : ℕ) (w : Watching) → late ≤ w.late →
         (late_noted late w).traffic ≡ w.traffic }
     ensures late_once { (late : ℕ) (w : Watching) → (late_noted late w).late ≡ late }
-    ensures overdue { (place : Option ℕ) (what : AwaitedAnswer) (now : ℕ) (e : RequestWatch) →
-        e.since + e.answer_ms ≤ now → (asked place what now e).overdue ≡ e.place }
-    ensures in_time { (place : Option ℕ) (what : AwaitedAnswer) (now : ℕ) (e : RequestWatch) →
+    ensures overdue { (size : LinkSize) (request : List ℕ) (place : Option ℕ)
+        (what : AwaitedAnswer) (now : ℕ) (e : RequestWatch) →
+        e.since + e.answer_ms ≤ now → (asked size request place what now e).overdue ≡ e.place }
+    ensures in_time { (size : LinkSize) (request : List ℕ) (place : Option ℕ)
+        (what : AwaitedAnswer) (now : ℕ) (e : RequestWatch) →
         e.since ≤ now → now < e.since + e.answer_ms →
-        (asked place what now e).overdue ≡ None }
-    ensures since { (place : Option ℕ) (what : AwaitedAnswer) (now : ℕ) (e : RequestWatch) →
-        ((asked place what now e).since ≡ now) × ((asked place what now e).place ≡ place) }
+        (asked size request place what now e).overdue ≡ None }
+    ensures since { (size : LinkSize) (request : List ℕ) (place : Option ℕ)
+        (what : AwaitedAnswer) (now : ℕ) (e : RequestWatch) →
+        let after = asked size request place what now e in
+        (after.since ≡ now) × (after.place ≡ place) × (lag after ≡ now - e.since) }
 {}
 
 /// A report is logged and counted as skipped just where the gateway counts it as skipped, whatever

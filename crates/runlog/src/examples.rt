@@ -1,5 +1,5 @@
 //! What is logged, by worked examples: literal octets, moments and lines.
-ghost use Rattle.std.specs.Prelude.{◌≡◌, ◌∷◌, [], codes, true, false, Some, None};
+ghost use Rattle.std.specs.Prelude.{◌≡◌, ◌∷◌, ◌++◌, [], codes, true, false, Some, None};
 ghost use Rattle.ft12.specs.declared.frame.LinkSize.TheVariants.{One, Two};
 ghost use Rattle.gateway.specs.declared.counts.Counts.{Counts};
 ghost use Rattle.live.specs.declared.ends.CutCause.TheVariants as cut;
@@ -13,6 +13,7 @@ ghost use Rattle.command.specs.declared.refusal.Refusal.TheVariants as refusal;
 ghost use Rattle.runlog.specs.Examples.{at, lines_of_calls, lines_of_looks, lines_of_requests};
 ghost use Rattle.runlog.specs.Examples.{asked_before, counting, lines_of_mishaps, order};
 ghost use Rattle.runlog.specs.Examples.{standings_of, two_stations};
+ghost use Rattle.runlog.specs.Examples.{none_of_7, poll_of_8, polled_at, spoiling_behind};
 ghost use Rattle.runlog.specs.Exchange.{asked as request_sent, new_exchange};
 ghost use Rattle.runlog.specs.Gathering.{Add, Look};
 ghost use Rattle.runlog.specs.Orders.{order_of};
@@ -24,6 +25,7 @@ ghost use Rattle.runlog.specs.declared.order.OrderKind.TheVariants as act;
 ghost use Rattle.runlog.specs.declared.order.Value.TheVariants as value;
 ghost use Rattle.runlog.specs.declared.stations.StationStanding.TheVariants as standing;
 ghost use Rattle.runlog.specs.Notes.{line_text, words};
+ghost use Rattle.runlog.specs.Spoilings.{first_of};
 ghost use Rattle.runlog.specs.Stations.{address_of, asking_of, new_station, asked, gap};
 ghost use Rattle.runlog.specs.Stations.{standing_of};
 ghost use Rattle.runlog.specs.Traffic.{first_line};
@@ -33,6 +35,8 @@ ghost use Rattle.runlog.specs.declared.exchange.AwaitedAnswer.TheVariants.{Poll}
 ghost use Rattle.runlog.specs.declared.fate.Mishap.TheVariants as mishap;
 ghost use Rattle.runlog.specs.declared.note.Note.TheVariants as note;
 ghost use Rattle.runlog.specs.declared.note.Trouble.TheVariants as trouble;
+ghost use Rattle.runlog.specs.declared.spoiling.Spoiling.TheVariants.{Echo, Late};
+ghost use Rattle.runlog.specs.declared.spoiling.Spoiling.TheVariants.{Frame as FrameOf, Octets};
 ghost use Rattle.runlog.specs.declared.stations.Asking.TheVariants.{Status, Reset, Counted, Other};
 
 /// What is logged of stations, by the octets of requests to them (IEC 60870-5-2, 5.1.2): whose they
@@ -267,36 +271,54 @@ pub fn standings_by_example()
 /// before the event. And the lines of what befell a station: at once, and then once a minute for
 /// each kind, with how many came before.
 pub fn late_answers_by_example()
-    ensures late { (request_sent (Some 1) Poll 150 (request_sent (Some 0) Poll 0
-        (new_exchange 150))).overdue ≡ Some 0 }
-    ensures answered { (request_sent (Some 1) Poll 149 (request_sent (Some 0) Poll 0
-        (new_exchange 150))).overdue ≡ None }
-    ensures first { (request_sent (Some 0) Poll 9000 (new_exchange 150)).overdue ≡ None }
+    ensures late { (polled_at 150 (new_exchange 150)).overdue ≡ Some 0 }
+    ensures answered { (polled_at 149 (new_exchange 150)).overdue ≡ None }
+    ensures first { (request_sent One poll_of_8 (Some 0) Poll 9000 (new_exchange 150)).overdue
+        ≡ None }
     ensures nothing_new { (w : Watching) →
         late_noted 5 (record w { late = 5 }) ≡ record w { late = 5 } }
     ensures whose { (w : Watching) → (first_line 200 (late_noted 6 (record w {
       late = 5;
-      exchange = request_sent (Some 1) Poll 150 (request_sent (Some 0) Poll 0 (new_exchange 150));
+      exchange = polled_at 150 (new_exchange 150);
       traffic = two_stations;
-    })).traffic).1 ≡ Some (at 200 (note.Late 7)) }
+    })).traffic).1 ≡ Some (at 200 (note.Late 7 150)) }
     ensures spoilt { (w : Watching) → (first_line 200 (counts_noted (counting 0 1) (record w {
       seen = counting 0 0;
       exchange = asked_before 1;
       traffic = two_stations;
-    })).traffic).1 ≡ Some (at 200 (note.Spoilt 8)) }
+    })).traffic).1 ≡ Some (at 200 (note.Spoilt 8 (FrameOf 9))) }
+    // Octets that come behind a poll of station 8, before which station 7 was polled: the poll
+    // itself; an answer to the poll before, once 150 ms are over, and earlier; a frame of station
+    // 9; the beginning of a frame; and a device server's own text.
+    ensures kinds { (spoiling_behind 212 (poll_of_8 ++ 0xE5 ∷ []) ≡ Echo)
+        × (spoiling_behind 212 none_of_7 ≡ Late 7 212)
+        × (spoiling_behind 150 none_of_7 ≡ Late 7 150)
+        × (spoiling_behind 149 none_of_7 ≡ FrameOf 7)
+        × (spoiling_behind 212 (0x10 ∷ 0x09 ∷ 0x09 ∷ 0x12 ∷ 0x16 ∷ []) ≡ FrameOf 9)
+        × (spoiling_behind 212 (0x68 ∷ 0x09 ∷ []) ≡ Octets (first_of (0x68 ∷ 0x09 ∷ [])))
+        × (spoiling_behind 212 (codes "Device open failure: no such port")
+        ≡ Octets (first_of (codes "Device open fail"))) }
     ensures mirrors { (w : Watching) → (first_line 200 (counts_noted (counting 3 1) (record w {
       seen = counting 2 1;
       exchange = asked_before 0;
       traffic = two_stations;
     })).traffic).1 ≡ Some (at 200 (note.MirrorDropped 7)) }
-    ensures logged { lines_of_mishaps ((0, mishap.Late) ∷ (100, mishap.Late) ∷ (200, mishap.Spoilt)
-        ∷ (300, mishap.MirrorDropped) ∷ (60000, mishap.Late) ∷ []) 7
-        ≡ at 0 (note.Late 7) ∷ at 200 (note.Spoilt 7) ∷ at 300 (note.MirrorDropped 7)
-        ∷ record { moment = 60000; note = note.Late 7; left_out = 1 } ∷ [] }
-    ensures words { (words (note.Late 7)
-        ≡ codes "answers of station 7 come late: answer_ms is short")
-        × (words (note.Spoilt 7)
-        ≡ codes "station 7 answer spoilt: octets came, but no answer")
+    ensures logged { lines_of_mishaps ((0, mishap.Late 212) ∷ (100, mishap.Late 213)
+        ∷ (200, mishap.Spoilt Echo) ∷ (300, mishap.MirrorDropped) ∷ (60000, mishap.Late 214) ∷ [])
+        7 ≡ at 0 (note.Late 7 212) ∷ at 200 (note.Spoilt 7 Echo) ∷ at 300 (note.MirrorDropped 7)
+        ∷ record { moment = 60000; note = note.Late 7 214; left_out = 1 } ∷ [] }
+    ensures words { (words (note.Late 7 212)
+        ≡ codes "answers of station 7 come late, 212 ms behind their request: answer_ms is short")
+        × (words (note.Spoilt 7 Echo) ≡ codes "station 7 answer spoilt: its request came back")
+        × (words (note.Spoilt 8 (Late 7 212)) ≡ codes "station 8 answer spoilt: an answer of "
+        ++ codes "station 7, 212 ms behind its request: answer_ms is short")
+        × (words (note.Spoilt 7 (FrameOf 9))
+        ≡ codes "station 7 answer spoilt: a frame with link address 9")
+        × (words (note.Spoilt 7 (Octets (first_of (0x68 ∷ 0x09 ∷ []))))
+        ≡ codes "station 7 answer spoilt: octets 6809")
+        × (words (note.Spoilt 7 (Octets (first_of (codes "Device open failure"))))
+        ≡ codes "station 7 answer spoilt: octets 446576696365206F70656E206661696C "
+        ++ codes "(\"Device open fail\")")
         × (words (note.MirrorDropped 7)
         ≡ codes "station 7 answer to a command dropped: data transfer isn't running") }
 {}

@@ -25,21 +25,22 @@ ghost use Rattle.runlog.specs.declared.fate.Mishap.{Mishap};
 ghost use Rattle.runlog.specs.declared.order.Order.{Order};
 ghost use Rattle.runlog.specs.declared.traffic.Traffic.{Traffic};
 
-/// An answer is awaited of a poll for class 1 or 2 and of a command, and of no other request. A
-/// command is read as it went out. What comes is joined in any pieces, up to as many octets as a
-/// frame can have (261). Once a whole frame stands at its front, that is what the link procedures
-/// make of it as an answer to this very request.
+/// An answer is awaited of each request. A command is read as it went out. What comes is joined in
+/// any pieces, up to as many octets as a frame can have (261), and what stands in the place of an
+/// answer is told by all of it. Once a whole frame stands at its front, that is what the link
+/// procedures make of it as an answer to this very request.
 pub fn answers_are_read_as_of_their_request()
     ensures awaited { (size : LinkSize) (address : ℕ) (request : Request) →
         awaited_of (spelling size (request_frame address request)) ≡ awaited_for request }
     ensures command { (size : LinkSize) (address : ℕ) (fcb : Bool) (asdu : List ℕ) →
         user_data size (spelling size (request_frame address (Counted fcb (Command asdu))))
         ≡ asdu }
-    ensures pieces { (e : RequestWatch) (first second : List ℕ) →
-        received second (received first e) ≡ received (first ++ second) e }
-    ensures joined { (e : RequestWatch) (octets : List ℕ) → (e.awaited ≡ Nothing → ⊥) →
+    ensures pieces { (size : LinkSize) (now before : ℕ) (e : RequestWatch)
+        (first second : List ℕ) → received size second now (received size first before e)
+        ≡ received size (first ++ second) now e }
+    ensures joined { (size : LinkSize) (now : ℕ) (e : RequestWatch) (octets : List ℕ) →
         length e.octets + length octets ≤ 261 →
-        (received octets e).octets ≡ e.octets ++ octets }
+        (received size octets now e).octets ≡ e.octets ++ octets }
     ensures answer { (size : LinkSize) (station : ℕ) (fcb : Bool) (service : Service)
         (frame : Frame) (n : ℕ) (e : RequestWatch) → e.awaited ≡ awaited_for (Counted fcb service) →
         front_of size e.octets ≡ front.Whole frame n →

@@ -1,5 +1,6 @@
 //! What becomes of a command.
 
+use crate::spoiling::Spoiling;
 use command::Refusal;
 
 /// Why a command of the control centre doesn't go on to its station.
@@ -35,8 +36,8 @@ pub(crate) enum Mishap {
     GivenUp,
     /// Its answer to a command was dropped, since data transfer wasn't running.
     MirrorDropped,
-    /// Octets came in its exchange, but no answer.
-    Spoilt,
-    /// Octets came behind its exchange, and were dropped.
-    Late,
+    /// This came in its exchange, and no answer.
+    Spoilt(Spoiling),
+    /// Octets came behind its exchange, and were dropped so many ms behind its request.
+    Late(u64),
 }

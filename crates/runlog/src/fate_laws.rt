@@ -22,6 +22,7 @@ ghost use Rattle.runlog.specs.declared.fate.Reason.TheVariants as reason;
 ghost use Rattle.runlog.specs.declared.fate.Mishap.TheVariants as mishap;
 ghost use Rattle.runlog.specs.declared.note.Note.TheVariants as note;
 ghost use Rattle.runlog.specs.declared.order.Order.{Order};
+ghost use Rattle.runlog.specs.declared.spoiling.Spoiling.{Spoiling};
 ghost use Rattle.runlog.specs.declared.order.OrderKind.TheVariants as act;
 ghost use Rattle.runlog.specs.declared.order.Value.TheVariants as value;
 ghost use Rattle.runlog.specs.declared.traffic.Traffic.{Traffic};
@@ -49,10 +50,11 @@ pub fn what_becomes_of_commands_is_logged()
     ensures mishaps { (address now : ℕ) →
         (first_alone now (suffered mishap.MirrorDropped (new_traffic address))
         ≡ Some (at now (note.MirrorDropped address)))
-        × (first_alone now (suffered mishap.Spoilt (new_traffic address))
-        ≡ Some (at now (note.Spoilt address)))
-        × (first_alone now (suffered mishap.Late (new_traffic address))
-        ≡ Some (at now (note.Late address))) }
+        × ((by : Spoiling) →
+        first_alone now (suffered (mishap.Spoilt by) (new_traffic address))
+        ≡ Some (at now (note.Spoilt address by)))
+        × ((ms : ℕ) → first_alone now (suffered (mishap.Late ms) (new_traffic address))
+        ≡ Some (at now (note.Late address ms))) }
     ensures given_up { (t : Traffic) → suffered mishap.GivenUp t ≡ ended fate.GivenUp t }
 {}
 

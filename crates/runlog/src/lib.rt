@@ -76,6 +76,7 @@ mod port;
 mod queue;
 mod severity;
 mod sink;
+mod spoiling;
 mod station_laws;
 mod stations;
 mod system_laws;
@@ -132,6 +133,7 @@ pub use order_laws::{
 pub use port::RunLog;
 pub use severity::Severity;
 pub use sink::{LogSink, StandardError};
+pub use spoiling::{FirstOctets, Spoiling};
 pub use station_laws::{
     a_station_is_logged_where_it_goes_and_where_it_is_back, a_station_stands_as_its_requests_say,
     each_station_has_its_own_watch, requests_are_noted_of_their_own_station,

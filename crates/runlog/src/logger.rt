@@ -5,7 +5,7 @@ ghost use Rattle.gateway.specs.Ports.{FitsBuffer, output_of};
 ghost use Rattle.runlog.specs.Logging.{book_fixture, counted, looked_if_due, LogsEventSeeing};
 ghost use Rattle.runlog.specs.Logging.{LogsAction};
 ghost use Rattle.runlog.specs.Logging.{LogsLook, Closes};
-ghost use Rattle.runlog.specs.Logging.{LogsNote, LogsSync, Fails, Sums, LogsNotice, IsLogged};
+ghost use Rattle.runlog.specs.Logging.{LogsNote, Fails, Sums, LogsNotice, IsLogged};
 
 use crate::note::{LogLine, Note};
 use crate::sink::LogSink;
@@ -163,18 +163,6 @@ impl<S: LogSink + Drop> Logger<S> {
         if let Some(notice) = notice {
             self.note(Note::State(notice));
         }
-    }
-
-    /// A sync of the state took so many ms.
-    pub(crate) fn note_sync(&mut self, ms: u64)
-        ensures logs { LogsSync self.old ms self.new }
-        ensures fixed { book_fixture self.new ≡ book_fixture self.old }
-    {
-        if self.is_idle() {
-            return;
-        }
-        let line = self.watch.note_sync(ms);
-        self.log(line);
     }
 
     /// Looks at the gateway between two steps.

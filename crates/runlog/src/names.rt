@@ -43,7 +43,7 @@ pub(crate) fn subject_of(note: &Note) -> Subject
         Note::Again(address) | Note::Down(address) | Note::Gap(address) => {
             Subject::Station(*address)
         }
-        Note::MirrorDropped(address) | Note::Spoilt(address) | Note::Late(address) => {
+        Note::MirrorDropped(address) | Note::Spoilt(address, _) | Note::Late(address, _) => {
             Subject::Station(*address)
         }
         Note::StillSilent(address) => Subject::Station(*address),

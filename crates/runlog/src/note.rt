@@ -5,12 +5,14 @@ ghost use Rattle.runlog.specs.Notes.{close_words, counts_words, cut_words, late_
 ghost use Rattle.runlog.specs.Notes.{left_out_words, line_text, notice_words, of_station};
 ghost use Rattle.runlog.specs.Notes.{given_up_words, peer_words, refused_peers_words};
 ghost use Rattle.runlog.specs.Notes.{damaged_words, obstacle_words, remnant_words};
-ghost use Rattle.runlog.specs.Notes.{skip_words, skipped_words, trouble_words, words};
+ghost use Rattle.runlog.specs.Notes.{skip_words, skipped_words, spoilt_words, trouble_words};
+ghost use Rattle.runlog.specs.Notes.{words};
 
 use crate::content::Skip;
 use crate::fate::{CommandFate, Reason};
 use crate::order::Order;
 use crate::order_words::{write_fate, write_order, write_reason, write_type_name};
+use crate::spoiling::{Spoiling, write_spoiling};
 use gateway::Counts;
 use live::{CutCause, Notice};
 use session::Close;
@@ -25,9 +27,6 @@ const MIRROR_DROPPED: &str = "answer to a command dropped: data transfer isn't r
 
 /// What stands behind a station whose link is held though it doesn't answer.
 const STILL_SILENT: &str = "still doesn't answer: if it was restarted, restart telegate too";
-
-/// What stands behind a station whose answer is spoilt.
-const SPOILT: &str = "answer spoilt: octets came, but no answer";
 
 /// What stands before the reason why a start can't use the directory of its state.
 const UNUSED: &str = "state: its directory can't be used, the run goes on without it: ";
@@ -146,8 +145,6 @@ pub enum Note {
     StateDamaged(u64),
     /// The run begins without the directory that was to have its state.
     StateUnused(Obstacle),
-    /// A sync of it took so many ms.
-    SlowSync(u64),
     /// A start gives up this of the connection before it: its type octet, its common address and
     /// the address of its object.
     GivenUp(Remnant, u8, u16, u32),
@@ -165,10 +162,11 @@ pub enum Note {
     Skipped(u16, u8, Skip),
     /// An answer of it to a command is dropped, since data transfer isn't running.
     MirrorDropped(u16),
-    /// Octets came in answer to a request to it, but no answer.
-    Spoilt(u16),
-    /// Octets came from it when its exchange was over, before the next request went out.
-    Late(u16),
+    /// This came in answer to a request to it, and no answer.
+    Spoilt(u16, Spoiling),
+    /// Octets came from it when its exchange was over, before the next request went out, so many ms
+    /// behind the request.
+    Late(u16, u64),
     /// So many lines of the log were left out, since there was no room for them.
     LeftOut(u64),
 }
@@ -356,11 +354,23 @@ fn write_of_station<W: fmt::Write>(
     write!(f, "station {address} {words}")
 }
 
-fn write_late<W: fmt::Write>(address: u16, f: &mut fmt::Formatter<W>) -> fmt::Result
-    ensures { WritesOnOk W.write_str_gives f.old result (late_words address) f.new }
+fn write_spoilt<W: fmt::Write>(
+    address: u16,
+    spoiling: &Spoiling,
+    f: &mut fmt::Formatter<W>,
+) -> fmt::Result
+    ensures { WritesOnOk W.write_str_gives f.old result (spoilt_words address spoiling.now)
+        f.new }
 {
-    write!(f, "answers of station {address} come late")?;
-    f.write_str(": answer_ms is short")
+    write!(f, "station {address} answer spoilt: ")?;
+    write_spoiling(spoiling, f)
+}
+
+fn write_late<W: fmt::Write>(address: u16, ms: u64, f: &mut fmt::Formatter<W>) -> fmt::Result
+    ensures { WritesOnOk W.write_str_gives f.old result (late_words address ms) f.new }
+{
+    write!(f, "answers of station {address} come late, ")?;
+    write!(f, "{ms} ms behind their request: answer_ms is short")
 }
 
 impl fmt::Display for Note {
@@ -409,7 +419,6 @@ impl fmt::Display for Note {
                 f.write_str(UNUSED)?;
                 f.write_str(obstacle_words(*obstacle))
             }
-            Note::SlowSync(ms) => write!(f, "state: a sync took {ms} ms"),
             Note::GivenUp(remnant, kind, ca, object) => {
                 write_given_up(*remnant, *kind, *ca, *object, f)
             }
@@ -431,8 +440,8 @@ impl fmt::Display for Note {
             }
             Note::Skipped(station, kind, why) => write_skipped(*station, *kind, *why, f),
             Note::MirrorDropped(address) => write_of_station(*address, MIRROR_DROPPED, f),
-            Note::Spoilt(address) => write_of_station(*address, SPOILT, f),
-            Note::Late(address) => write_late(*address, f),
+            Note::Spoilt(address, spoiling) => write_spoilt(*address, spoiling, f),
+            Note::Late(address, ms) => write_late(*address, *ms, f),
             Note::LeftOut(count) => write!(f, "{count} lines left out: nobody read them in time"),
         }
     }

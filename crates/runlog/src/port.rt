@@ -3,7 +3,7 @@ ghost use Rattle.std.specs.Prelude.{◌≡◌, ◌+◌, ◌<◌, ◌∷◌, [], 
 ghost use Rattle.gateway.specs.Log.{Went, with_news};
 ghost use Rattle.gateway.specs.Ports.{FitsBuffer, faults_of, output_of, logged_by};
 ghost use Rattle.gateway.specs.declared.ports.Next.TheVariants.{Done};
-ghost use Rattle.runlog.specs.Logging.{LogsEvent, LogsSync, PutsGone, Tends, Closes};
+ghost use Rattle.runlog.specs.Logging.{LogsEvent, PutsGone, Tends, Closes};
 ghost use Rattle.runlog.specs.Logging.{logged_fixture};
 
 use crate::logger::Logger;
@@ -56,16 +56,6 @@ impl<P: Watched + Drop, S: LogSink + Drop> RunLog<P, S> {
         self.logger.tend(notice);
         self.logger.look(gateway);
         notice
-    }
-
-    /// A sync of the state took so many ms, longer than it should: logs that once a minute.
-    pub fn note_sync(&mut self, ms: u64)
-        ensures port { self.new.port ≡ self.old.port }
-        ensures lasting { logged_fixture (P.lasting self.new.port) self.new.logger
-            ≡ logged_fixture (P.lasting self.old.port) self.old.logger }
-        ensures logs { LogsSync self.old.logger ms self.new.logger }
-    {
-        self.logger.note_sync(ms);
     }
 
     /// The run is over: logs what of the port's device has failed, if anything, and then what the

@@ -135,8 +135,8 @@ impl Traffic {
         match mishap {
             Mishap::GivenUp => self.end(CommandFate::GivenUp),
             Mishap::MirrorDropped => self.mirrors.add(Note::MirrorDropped(address)),
-            Mishap::Spoilt => self.spoilt.add(Note::Spoilt(address)),
-            Mishap::Late => self.late.add(Note::Late(address)),
+            Mishap::Spoilt(spoiling) => self.spoilt.add(Note::Spoilt(address, spoiling)),
+            Mishap::Late(ms) => self.late.add(Note::Late(address, ms)),
         }
     }
 

@@ -64,8 +64,6 @@ pub struct Watch {
     seen: Counts,
     /// How many octets of the line were dropped before requests, as far as that was seen.
     late: u64,
-    /// When a slow sync of the state was logged last, and how many have been left out since.
-    syncs: Limit,
     /// The moment at which a line was sought among what is gathered, in ms.
     sought: u64,
     /// What the wall clock showed last; none before it was given.
@@ -96,7 +94,6 @@ impl Model for Watch {
       exchange = w.exchange;
       seen = w.seen;
       late = w.late;
-      syncs = w.syncs;
       sought = w.sought;
       wall = w.wall;
       stations = w.stations.items;
@@ -153,7 +150,6 @@ impl Watch {
                 spoilt: 0,
             },
             late: 0,
-            syncs: Limit::new(),
             sought: 0,
             wall: None,
             traffic: traffic_of(alloc, config)?,
@@ -415,18 +411,6 @@ impl Watch {
             Failure::Line => self.line.see(Presence::Away, self.moment),
             Failure::State => Some(self.line(Note::Trouble(Trouble::StateUnusable))),
         }
-    }
-
-    /// A sync of the state took so many ms. A slow disk brings one with each event, so it is logged
-    /// once a minute.
-    pub(crate) fn note_sync(&mut self, ms: u64) -> Option<LogLine>
-        ensures { (self.new, result) ≡ spec.sync_noted ms self.old }
-    {
-        if !self.syncs.is_minute_after(self.moment) {
-            self.syncs.leave_out();
-            return None;
-        }
-        happened(Note::SlowSync(ms), &mut self.syncs, self.moment)
     }
 
     /// The line of the counts.

@@ -60,7 +60,6 @@ pub fn each_word_by_example()
         ++ codes "used, the run goes on without it: there are files of something else")
         × (words (note.StateUnused obstacle.Device) ≡ codes "state: its directory can't be "
         ++ codes "used, the run goes on without it: the disk failed")
-        × (words (note.SlowSync 812) ≡ codes "state: a sync took 812 ms")
         × (words (note.GivenUp remnant.Waiting 45 1 100)
         ≡ codes "waiting command of type 45 to 1/100, given up at a start")
         × (words (note.State notices.NotKept)

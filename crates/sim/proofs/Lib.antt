@@ -29,7 +29,7 @@ pub mod Commenting
 pub mod CueLines
 pub mod CueReading
 pub mod Delays
-pub mod Receiving
+pub mod RequestsReceived
 pub mod Placing
 pub mod Rounds
 pub mod BothReadings

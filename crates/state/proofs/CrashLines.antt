@@ -16,9 +16,12 @@ use Rattle.traces.specs.Trace.{lines_of}
 use Rattle.traces.proofs.EventLineLemmas.{event_logged}
 use Rattle.state.specs.Beginnings.{IsReadWhole, IsWhole}
 use Rattle.state.specs.Crashed.{AreLeft, HasLog, LogAll}
-use Rattle.state.specs.Lines.{IsWritable}
+use Rattle.state.specs.Deeds.{Deeds, Synced, grown, waiting}
+use Rattle.state.specs.Lines.{IsWritable, seal_octets}
 use Rattle.state.specs.Replays.{AreRead, before_those, events_in_front, whole_lines, whole_parts}
+use Rattle.state.specs.Stores.{IsStored, Stored, head, lines_of_head, safe}
 use Rattle.state.proofs.EventTexts.{parts_read}
+use Rattle.state.proofs.Histories.{all_written}
 use Rattle.state.proofs.LogLines.{behind_writable, front_writable, log_lines}
 
 -- One line
@@ -103,6 +106,31 @@ lines_joined [] earlier = sym (append-nil (lines_of_log earlier))
 lines_joined (event ∷ later) earlier =
     ap (λ (l : List ℕ). l ++ line_of_entry event) (lines_joined later earlier)
     ∙ append_assoc (lines_of_log earlier) (lines_of_log later) (line_of_entry event)
+
+-- all of them are synced
+pub synced_stored : (settings : List ℕ) (deeds : Deeds) (before after : Stored)
+    → IsStored settings deeds before
+    → after ≡ record before {
+      safe = before.safe ++ before.held;
+      held = [];
+      octets = before.octets + seal_octets;
+    }
+    → IsStored settings (Synced ∷ deeds) after
+synced_stored settings deeds before after stored synced kept =
+    synced ∙ ap (λ (s : Stored). record s {
+      safe = s.safe ++ s.held;
+      held = [];
+      octets = s.octets + seal_octets;
+    }) (stored kept)
+    ∙ ap stored_by (sym (ap lines_of_log (all_written deeds) ∙ lines_joined (waiting deeds) (safe deeds)))
+  where
+    stored_by : List ℕ → Stored
+    stored_by lines = record {
+      head = lines_of_head settings (head deeds);
+      safe = lines;
+      held = [];
+      octets = grown deeds + seal_octets;
+    }
 
 -- What a crash leaves
 

@@ -1,10 +1,9 @@
 -- Why a store may have failed.
-use Rattle.std.proofs.Common.{◌≡◌, ◌<◌, Bool, ◌∷◌, ◌++◌, length, sym, subst}
+use Rattle.std.proofs.Common.{◌≡◌, ◌<◌, Bool, ◌∷◌, ◌++◌, sym, subst}
 use Rattle.std.proofs.lemmas.Bool.{ltb-true}
 use Rattle.std.specs.List.{AllByRecursion}
 use Rattle.gateway.specs.Log.{Log, LogEntry}
-use Rattle.traces.specs.Printed.{lines_of_log}
-use Rattle.state.specs.Deeds.{Deeds, AreRight, GivenUp, arrived, latest, written}
+use Rattle.state.specs.Deeds.{Deeds, AreRight, GivenUp, arrived, grown, latest}
 use Rattle.state.specs.Lines.{IsWritable}
 use Rattle.state.specs.declared.loss.Loss.{Loss}
 use Rattle.state.specs.declared.loss.StoreFault.TheVariants.{Full, Unwritable}
@@ -12,9 +11,9 @@ use Rattle.state.proofs.Histories.{might_be}
 
 pub has_room : (bears : Bool) (later earlier : Deeds) (loss : Loss)
     → AreRight bears (later ++ GivenUp Full loss ∷ earlier)
-    → 3900000 < length (lines_of_log (written earlier))
+    → 3900000 < grown earlier
 has_room bears later earlier loss right =
-    ltb-true 3900000 (length (lines_of_log (written earlier)))
+    ltb-true 3900000 (grown earlier)
     (might_be bears later earlier _ right)
 
 pub holds_each : (bears : Bool) (later earlier : Deeds) (loss : Loss) (event : LogEntry) (log : Log)

@@ -3,7 +3,7 @@ use Rattle.std.proofs.Common.{◌≡◌, ◌∷◌, ℕ, Bool, true, false, List
 use Rattle.std.proofs.Common.{subst, Result, Ok, ap, ◌∙◌}
 use Rattle.std.specs.Prelude.{not, ◌&&◌}
 use Rattle.gateway.specs.Agrees.{Follows, Rests}
-use Rattle.gateway.specs.Carried.{restarted}
+use Rattle.gateway.specs.Carried.{carried, restarted}
 use Rattle.gateway.specs.Config.{Settings}
 use Rattle.gateway.specs.Log.{Came, Log, Restarted}
 use Rattle.gateway.specs.Reports.{Setup}
@@ -13,7 +13,7 @@ use Rattle.gateway.specs.State.{State}
 use Rattle.segments.specs.Room.{damage_in, log_in}
 use Rattle.settings.specs.Settings.{IsReadOfText, known_settings, values_of}
 use Rattle.state.specs.Beginnings.{GoesOnBy, GoesOnFrom, IsHeadOf, IsMoved, IsRead}
-use Rattle.state.specs.Beginnings.{MovedOn, SayState, WentOn}
+use Rattle.state.specs.Beginnings.{MovedOn, SayState, WentOn, gap_now}
 use Rattle.state.specs.GivenUps.{given_up_by}
 use Rattle.state.specs.Replays.{ReportedGap}
 use Rattle.state.specs.Sights.{AreChanged}
@@ -124,6 +124,28 @@ pub head_kept : (before after : List ℕ) (from at : ℕ) (written : List ℕ) (
 head_kept before after from at written lines place same head =
     subst (λ (n : ℕ). IsHeadOf after n written lines) (sym place)
     (subst (λ (file : List ℕ). IsHeadOf file from written lines) (sym same) head)
+
+-- what was moved had gone on so
+pub moved_so : (trusted was : Bool) (c wrote : Settings) (written : List ℕ) (log : Log)
+    (lines : List (List ℕ)) (events : List ℕ) (last gap : Option ReportedGap)
+    (list given_up : List GivenUp) (before whole : Log) (left s : State)
+    → IsReadOfText written (Ok wrote) → WentOn wrote log lines events last list before left
+    → given_up ≡ list → whole ≡ before → gap ≡ gap_now wrote.stations c.stations last
+    → s ≡ carried was wrote c left → trusted ≡ was
+    → MovedOn trusted c written log lines events gap given_up whole s
+moved_so trusted was c wrote written log lines events last gap list given_up before whole left s
+    read went same behind told moved on =
+    record {
+      wrote = wrote;
+      read = read;
+      left = left;
+      last = last;
+      went = subst (λ (l : List GivenUp). WentOn wrote log lines events last l whole left)
+          (sym same)
+          (subst (λ (l : Log). WentOn wrote log lines events last list l left) (sym behind) went);
+      told = told;
+      moved = moved ∙ ap (λ (t : Bool). carried t wrote c left) (sym on);
+    }
 
 -- it was moved
 pub moved_from : (trusted is_same is_moved : Bool) (damage : Option ℕ) (c : Settings) (log : Log)

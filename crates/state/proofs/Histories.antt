@@ -7,6 +7,7 @@ use Rattle.gateway.specs.Log.{Log, LogEntry}
 use Rattle.state.specs.Deeds.{Deed, Deeds, AreRight, IsAllOnDisk, IsSafe, MayBe, Received, Appended}
 use Rattle.state.specs.Deeds.{Synced, Begun, GivenUp, PutOut, IsInTime, appended, arrived, is_kept}
 use Rattle.state.specs.Deeds.{loss_of}
+use Rattle.state.specs.declared.loss.Loss.TheVariants.{Marked}
 use Rattle.state.specs.Deeds.{moment_of, oldest, on_disk, span, waiting, written}
 use Rattle.state.specs.Keeping.{IsOrderly}
 use Rattle.state.specs.Stores.{led_to_head, safe}
@@ -114,7 +115,7 @@ put_on_disk later earlier action right = on_it earlier (put_strictly later earli
 pub put_if_borne : (later earlier : Deeds) (action : LogEntry)
     → AreRight true (later ++ PutOut action ∷ earlier)
     → ((is_kept earlier ≡ true) × (arrived earlier ≡ safe earlier ++ led_to_head earlier))
-    ⊎ (is_some (loss_of earlier) ≡ true)
+    ⊎ (loss_of earlier ≡ Some Marked)
 put_if_borne later earlier action right = elim (put_safely true later earlier action right) [
   | inl disk ↦ inl (on_it earlier disk)
   | inr lost ↦ inr lost
@@ -124,13 +125,13 @@ put_if_borne later earlier action right = elim (put_safely true later earlier ac
 kept_or_borne : (bears : Bool) (action : LogEntry) (deeds : Deeds)
     → MayBe bears (PutOut action) deeds
     → ((is_kept deeds ≡ true) × (arrived deeds ≡ safe deeds ++ led_to_head deeds))
-    ⊎ ((is_some (loss_of deeds) ≡ true) × (bears ≡ true))
+    ⊎ ((loss_of deeds ≡ Some Marked) × (bears ≡ true))
 kept_or_borne bears action deeds (inl disk) = inl (on_it deeds disk)
 kept_or_borne bears action deeds (inr lost) = inr lost
 
 pub put_by_keeper : (bears : Bool) (standing : Standing) (later earlier : Deeds) (action : LogEntry)
     → IsOrderly bears standing (later ++ PutOut action ∷ earlier)
     → ((is_kept earlier ≡ true) × (arrived earlier ≡ safe earlier ++ led_to_head earlier))
-    ⊎ ((is_some (loss_of earlier) ≡ true) × (bears ≡ true))
+    ⊎ ((loss_of earlier ≡ Some Marked) × (bears ≡ true))
 put_by_keeper bears standing later earlier action orderly =
     kept_or_borne bears action earlier (might_be bears later earlier _ orderly.right)

@@ -22,6 +22,7 @@ use Rattle.state.specs.Stores.{IsStored, Stored}
 use Rattle.state.specs.declared.standing.Standing.{Standing}
 use Rattle.state.specs.declared.standing.Standing.TheVariants.{Synced, Waiting, Lost}
 use Rattle.state.specs.declared.loss.Loss.{Loss}
+use Rattle.state.specs.declared.loss.Loss.TheVariants.{Marked, Unmarked}
 use Rattle.state.specs.declared.loss.StoreFault.{StoreFault}
 use Rattle.state.specs.declared.loss.StoreFault.TheVariants as faults
 
@@ -130,8 +131,9 @@ may_put : (bears : Bool) (s : Standing) (action : LogEntry) (deeds : Deeds) → 
     → is_stopped s bears ≡ false → IsStanding s deeds → MayBe bears (PutOut action) deeds
 may_put bears Synced action deeds settled goes stands = inl stands.disk
 may_put bears (Waiting moment) action deeds settled goes stands = absurd settled
-may_put true (Lost loss) action deeds settled goes stands = inr (ap is_some stands, refl)
-may_put false (Lost loss) action deeds settled goes stands = absurd (cc)
+may_put true (Lost Marked) action deeds settled goes stands = inr (stands, refl)
+may_put false (Lost Marked) action deeds settled goes stands = absurd (cc)
+may_put bears (Lost Unmarked) action deeds settled goes stands = absurd (cc)
 
 pub put_orderly : (gone bears : Bool) (s : Standing) (action : LogEntry) (old new : Deeds)
     → new ≡ (if gone then PutOut action ∷ [] else []) ++ old → IsSettled s

@@ -6,8 +6,7 @@ use Rattle.std.proofs.lemmas.Bool.{le-ltb, lt-ltb}
 use Rattle.gateway.specs.Log.{Log}
 use Rattle.gateway.specs.State.{State}
 use Rattle.live.specs.declared.watched.Notice.{Notice}
-use Rattle.traces.specs.Printed.{lines_of_log}
-use Rattle.state.specs.Deeds.{Begun, Deeds, GivenUp, written}
+use Rattle.state.specs.Deeds.{Begun, Deeds, GivenUp, grown}
 use Rattle.state.specs.Keeping.{HasTended, Keeping}
 use Rattle.state.specs.Notices.{Asked, Call, Tried, patience_behind}
 use Rattle.state.specs.Renewals.{after_notice, after_try, is_try_due, notice_of}
@@ -27,7 +26,7 @@ module _ {E : Type 0} (log : E → Option Log) (deeds : E → Deeds) (old new : 
     at_end = subst (λ (d : Deeds). Renews (deeds old.ends) state d) same
 
     pub begun_grown : is_lost old.standing ≡ false
-        → 3900000 < length (lines_of_log (written (deeds old.ends)))
+        → 3900000 < grown (deeds old.ends)
         → (deeds new.ends ≡ Begun state ∷ deeds old.ends)
         ⊎ ((loss : Loss) × (deeds new.ends ≡ GivenUp Failed loss ∷ deeds old.ends))
     begun_grown kept more = at_end (tended.looks.renews kept (lt-ltb 3900000 _ more))
@@ -38,7 +37,7 @@ module _ {E : Type 0} (log : E → Option Log) (deeds : E → Deeds) (old new : 
     begun_lost lost due = at_end (tended.looks.tries lost due)
 
     pub kept_small : is_lost old.standing ≡ false
-        → length (lines_of_log (written (deeds old.ends))) ≤ 3900000
+        → grown (deeds old.ends) ≤ 3900000
         → deeds new.ends ≡ deeds old.ends
     kept_small kept few =
         sym same ∙ ap (λ (k : Keeping E). deeds k.ends)

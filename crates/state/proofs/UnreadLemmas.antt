@@ -88,10 +88,10 @@ pub if_ok_map : {T E : Type 0} {P Q : T → Type 0} (r : Result T E) → IfOk r 
 if_ok_map (Ok x) p all = all x p
 if_ok_map (Err e) p all = tt
 
-pub if_ok_both : {T E : Type 0} {P Q : T → Type 0} (r : Result T E) → IfOk r P → IfOk r Q
+pub if_ok_both : {T E : Type 0} (P Q : T → Type 0) (r : Result T E) → IfOk r P → IfOk r Q
     → IfOk r (λ x. P x × Q x)
-if_ok_both (Ok x) p q = (p, q)
-if_ok_both (Err e) p q = tt
+if_ok_both P Q (Ok x) p q = (p, q)
+if_ok_both P Q (Err e) p q = tt
 
 pub if_err_map : {T E : Type 0} {P Q : E → Type 0} (r : Result T E) → IfErr r P
     → ((e : E) → P e → Q e) → IfErr r Q

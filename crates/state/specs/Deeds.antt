@@ -11,6 +11,7 @@ use Rattle.gateway.specs.State.{State, IsBetweenSteps}
 use Rattle.traces.specs.Printed.{line_of_entry}
 use Rattle.state.specs.Lines.{IsRefusedBy, seal_octets}
 use Rattle.state.specs.declared.loss.Loss.{Loss}
+use Rattle.state.specs.declared.loss.Loss.TheVariants.{Marked}
 use Rattle.state.specs.declared.loss.StoreFault.{StoreFault}
 use Rattle.state.specs.declared.trail.Done.{Done}
 use Rattle.state.specs.declared.trail.Done.TheVariants as done
@@ -156,9 +157,9 @@ span (event ∷ log) = moment_of event - oldest event log
 abbrev pub IsAllOnDisk : Deeds → Type 0
 IsAllOnDisk deeds = (is_kept deeds ≡ true) × (on_disk deeds ≡ arrived deeds)
 
--- an action may go out: all received events are on the disk, or the store has failed
+-- an action may go out: all received events are on the disk, or the state there is marked as stale
 abbrev pub IsSafe : Deeds → Type 0
-IsSafe deeds = IsAllOnDisk deeds ⊎ (is_some (loss_of deeds) ≡ true)
+IsSafe deeds = IsAllOnDisk deeds ⊎ (loss_of deeds ≡ Some Marked)
 
 -- no event waits for the disk while others are received for a second
 abbrev pub IsInTime : Deeds → Type 0
@@ -170,13 +171,14 @@ latest [] = []
 latest (event ∷ log) = event ∷ []
 
 -- When a deed may be done, behind these. An action is handed out where all received events are on
--- the disk, or where the store has failed and that is borne. No event is received while one has waited for the disk for a second. A log whose store has
+-- the disk, or where the store has failed, the state on the disk is marked as stale and that is
+-- borne. No event is received while one has waited for the disk for a second. A log whose store has
 -- failed is neither appended to nor synced again, and none is synced for nothing. A log begins with
 -- the state of a gateway that can be read again, if it is between two steps. A store fails for
 -- want of room only where a new log is due, and for an event only if no line can hold the latest.
 abbrev pub MayBe : (bears : Bool) → Deed → Deeds → Type 0
 MayBe bears (PutOut action) deeds =
-    IsAllOnDisk deeds ⊎ ((is_some (loss_of deeds) ≡ true) × (bears ≡ true))
+    IsAllOnDisk deeds ⊎ ((loss_of deeds ≡ Some Marked) × (bears ≡ true))
 MayBe bears (Received event) deeds = IsInTime deeds
 MayBe bears (Appended event) deeds = is_kept deeds ≡ true
 MayBe bears Synced deeds = (is_kept deeds ≡ true) × (waiting deeds ≡ [] → ⊥)

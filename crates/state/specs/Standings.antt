@@ -8,6 +8,7 @@ use Rattle.state.specs.Deeds.{grown, is_kept}
 use Rattle.state.specs.Lines.{IsRefusedBy}
 use Rattle.state.specs.Deeds.{loss_of, moment_of, oldest, waiting}
 use Rattle.state.specs.declared.loss.Loss.{Loss}
+use Rattle.state.specs.declared.loss.Loss.TheVariants.{Marked, Unmarked}
 use Rattle.state.specs.declared.loss.StoreFault.{StoreFault}
 use Rattle.state.specs.declared.loss.StoreFault.TheVariants.{Failed}
 use Rattle.state.specs.declared.standing.Standing.{Standing}
@@ -35,11 +36,16 @@ IsStanding standings.Synced deeds = IsSynced deeds
 IsStanding (standings.Waiting since) deeds = IsWaiting since deeds
 IsStanding (standings.Lost loss) deeds = loss_of deeds ≡ Some loss
 
+-- a loss is borne where it may be and the state on the disk is marked as stale
+abbrev pub is_borne : Loss → (bears : Bool) → Bool
+is_borne Marked bears = bears
+is_borne Unmarked bears = false
+
 -- the store has failed, and that isn't borne
 abbrev pub is_stopped : Standing → (bears : Bool) → Bool
 is_stopped standings.Synced bears = false
 is_stopped (standings.Waiting moment) bears = false
-is_stopped (standings.Lost loss) bears = not bears
+is_stopped (standings.Lost loss) bears = not (is_borne loss bears)
 
 -- none waits
 abbrev pub IsSettled : Standing → Type 0

@@ -204,6 +204,17 @@ pub(crate) fn lines_of<D: Disk + Drop>(
     }
 }
 
+/// Whether a log was read whole: each line of it logs an event, and no damage ends it.
+fn is_read_whole(is_whole: bool, damage: Option<usize>) -> bool
+    ensures whole { result ≡ true → (is_whole ≡ true) × (damage ≡ None) }
+    ensures others { result ≡ false → is_whole ≡ true → damage ≡ None → ⊥ }
+{
+    match damage {
+        None => is_whole,
+        Some(_) => false,
+    }
+}
+
 /// The gateway with these settings that stood at the head of a log, behind the lines of its events.
 pub(crate) fn replayed<K: Lineage, D: Disk + Drop>(
     alloc: Global,
@@ -236,11 +247,12 @@ pub(crate) fn replayed<K: Lineage, D: Disk + Drop>(
     let mut gateway = read::<K>(alloc, config, lines)?;
     let LogText { lines, damage } = lines_of(alloc, start)?;
     let Replayed { gap, log, is_whole } = replay::<K, EventText>(alloc, &mut gateway, lines)?;
+    let is_read = is_read_whole(is_whole, damage);
     Ok(Arrived {
         gateway,
         gap,
         before: log,
-        is_whole: is_whole && damage.is_none(),
+        is_whole: is_read,
         damage,
     })
 }
@@ -283,6 +295,14 @@ pub(crate) fn read_opening<D: Disk + Drop>(
         settings,
         lines,
     })
+}
+
+/// Whether links go on: the state is trusted, and its log was read whole.
+fn links_go_on(is_trusted: bool, is_whole: bool) -> bool
+    ensures on { result ≡ true → (is_trusted ≡ true) × (is_whole ≡ true) }
+    ensures off { result ≡ false → (is_trusted ≡ false) ⊎ (is_whole ≡ false) }
+{
+    is_trusted && is_whole
 }
 
 /// It has ended the connection and given up this, and each command without an answer, which is the
@@ -358,7 +378,7 @@ fn go_on<K: Lineage, D: Disk + Drop>(
     let Ok(given_up) = given_up_by(alloc, config.line().sizes, &arrived.gateway) else {
         return Err(StateFault::NoMemory);
     };
-    let goes_on = is_trusted && arrived.is_whole;
+    let goes_on = links_go_on(is_trusted, arrived.is_whole);
     Ok(restarted(arrived, given_up, goes_on))
 }
 

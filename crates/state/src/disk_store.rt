@@ -64,7 +64,7 @@ impl<F: Folder + Drop> DiskStore<F> {
     ghost use Rattle.state.specs.Logs.{stored_in};
 
     /// One over a directory whose files aren't open. The next segment has this number.
-    pub(crate) fn new(alloc: Global, folder: F, settings: Vec<u8>, number: u64) -> DiskStore<F>
+    pub fn new(alloc: Global, folder: F, settings: Vec<u8>, number: u64) -> DiskStore<F>
         requires { F.is_locked folder ≡ true }
         ensures settings { result.settings ≡ settings }
         ensures folder { result.folder ≡ folder }
@@ -536,6 +536,7 @@ fn append_to<D: Disk + Drop>(current: &mut Current<D>, lines: &[u8]) -> Result<(
         return Err(StoreFault::Full);
     };
     current.octets = octets;
+    current.segment.survives();
     match current.segment.append(lines) {
         Ok(()) => Ok(()),
         Err(fault) => Err(refusal(fault)),

@@ -27,7 +27,7 @@ use std::marker::Model;
 /// A port that passes each event and each action of another one on unchanged. The line of each
 /// event goes to the log of a store before the gateway receives it. No action is handed out before
 /// all received events are on the disk. Where the store has failed, the run goes on without it, if
-/// that is borne, or else the port has failed.
+/// that is borne and the state on the disk is marked as stale, or else the port has failed.
 #[derive(Drop)]
 pub struct Keeper<E: Ends + Drop> {
     ends: E,

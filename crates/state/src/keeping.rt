@@ -84,13 +84,15 @@ pub(crate) fn keep<E: Ends>(
     }
 }
 
-/// The store has failed, and that isn't borne: the run is to end.
+/// The store has failed, and that isn't borne: the run is to end. It is never borne where the state
+/// on the disk couldn't be marked as stale.
 pub(crate) fn is_stopped(standing: Standing, bears_loss: bool) -> bool
     ensures { result ≡ is_stopped standing bears_loss }
 {
     match standing {
-        // Also if the state couldn't be marked as stale (docs/DECISIONS.md, "A disk that fails").
-        Standing::Lost(_) => !bears_loss,
+        Standing::Lost(Loss::Marked) => !bears_loss,
+        // Else the next start would trust an old state (docs/DECISIONS.md, "A disk that fails").
+        Standing::Lost(Loss::Unmarked) => true,
         Standing::Synced | Standing::Waiting(_) => false,
     }
 }

@@ -47,6 +47,7 @@ ghost use Rattle.state.specs.Stores.{led_to_head, safe};
 ghost use Rattle.state.specs.Unread.{IsUnread, WasAside};
 ghost use Rattle.state.specs.declared.beginning.Origin.{Origin};
 ghost use Rattle.state.specs.declared.loss.Loss.{Loss};
+ghost use Rattle.state.specs.declared.loss.Loss.TheVariants.{Marked, Unmarked};
 ghost use Rattle.state.specs.declared.looking.Sight.{Sight};
 ghost use Rattle.state.specs.declared.loss.StoreFault.TheVariants.{Failed, Full, Unwritable};
 ghost use Rattle.state.specs.declared.opened.Opened.{Opened};
@@ -62,8 +63,8 @@ use gateway::no_link_goes_on_but_of_a_station_as_it_was;
 use live::Failure;
 use sqlite_disk::Disk;
 
-/// Whatever action was handed out: when it was, all received events were on the disk, or the store
-/// had failed; and where a loss isn't borne, they were on the disk. There they led
+/// Whatever action was handed out: when it was, all received events were on the disk, or the state
+/// there was marked as stale; and where a loss isn't borne, they were on the disk. There they led
 /// to the state at the head of the log, or their lines behind it are synced. So it is in the
 /// history of each keeper ([`crate::Keeper::standing`]).
 pub fn nothing_goes_out_before_it_is_on_disk()
@@ -77,11 +78,11 @@ pub fn nothing_goes_out_before_it_is_on_disk()
     ensures borne { (later earlier : Deeds) (action : LogEntry) →
         AreRight true (later ++ PutOut action ∷ earlier) → ((is_kept earlier ≡ true)
         × (arrived earlier ≡ safe earlier ++ led_to_head earlier))
-        ⊎ (is_some (loss_of earlier) ≡ true) }
+        ⊎ (loss_of earlier ≡ Some Marked) }
     ensures kept { (bears : Bool) (standing : Standing) (later earlier : Deeds)
         (action : LogEntry) → IsOrderly bears standing (later ++ PutOut action ∷ earlier) →
         ((is_kept earlier ≡ true) × (arrived earlier ≡ safe earlier ++ led_to_head earlier))
-        ⊎ ((is_some (loss_of earlier) ≡ true) × (bears ≡ true)) }
+        ⊎ ((loss_of earlier ≡ Some Marked) × (bears ≡ true)) }
 {}
 
 /// No event waits for the disk for a second while others come: where the gateway is about to
@@ -180,15 +181,16 @@ pub fn a_keeper_remembers_what_it_tried_and_reported<E: Ends + Drop>()
         ∷ (Tried (is_lost new.standing) ∷ calls)))) }
 {}
 
-/// What becomes of a run whose store has failed, case by case. It goes on where the loss is borne,
-/// whether the state on the disk is marked as stale or not, and else it is stopped. Once it was stopped, what
+/// What becomes of a run whose store has failed, case by case. It goes on where the loss is borne
+/// and the state on the disk is marked as stale, and else it is stopped. Once it was stopped, what
 /// has failed is the state, whatever the port says. A store that has failed counts as lost, whether
 /// the mark stands or not, and no other does.
 pub fn losses_by_example()
     ensures kept { (moment : ℕ) (bears : Bool) → (is_stopped Standing.Synced bears ≡ false)
         × (is_stopped (Standing.Waiting moment) bears ≡ false) }
-    ensures borne { (loss : Loss) → (is_stopped (Standing.Lost loss) true ≡ false)
-        × (is_stopped (Standing.Lost loss) false ≡ true) }
+    ensures marked { (is_stopped (Standing.Lost Marked) true ≡ false)
+        × (is_stopped (Standing.Lost Marked) false ≡ true) }
+    ensures unmarked { (bears : Bool) → is_stopped (Standing.Lost Unmarked) bears ≡ true }
     ensures lost { (moment : ℕ) (loss : Loss) → (is_lost Standing.Synced ≡ false)
         × (is_lost (Standing.Waiting moment) ≡ false) × (is_lost (Standing.Lost loss) ≡ true) }
     ensures going { (of_port : Option Failure) → failure_of 0 of_port ≡ of_port }

@@ -1,7 +1,7 @@
 //! What of a log's two files is open.
 ghost use Rattle.std.specs.Prelude.{◌≡◌, ◌+◌, ◌≤◌, length, IsTrue};
-ghost use Rattle.segments.specs.Crashes.{AreOlder};
-ghost use Rattle.segments.specs.Segment.{body_of, is_open, octets_of, own_number, size_of};
+ghost use Rattle.segments.specs.Crashes.{AreOlder, log_text};
+ghost use Rattle.segments.specs.Segment.{body_of, open_of, own_number, size_of, writes_of};
 ghost use Rattle.state.specs.Doubts.{AreUndoubted};
 ghost use Rattle.state.specs.Lines.{longest_line, most_octets, seal_octets};
 
@@ -18,8 +18,8 @@ pub(crate) struct Current<D: Disk + Drop> {
     pub(crate) octets: usize,
     pub(crate) spare: D,
     pub(crate) ghost own: { own_number segment ≡ number },
-    pub(crate) ghost counted: { IsTrue (is_open segment) →
-        octets_of segment ≤ 87 + length (body_of segment) + octets },
+    pub(crate) ghost counted: { length (log_text (own_number segment) (body_of segment)
+        (writes_of segment)) + length (open_of segment) ≤ 87 + length (body_of segment) + octets },
     pub(crate) ghost room: { 87 + length (body_of segment) + most_octets + longest_line
         + seal_octets ≤ size_of segment },
     // Whatever a crash leaves of the other file, no start doubts it, and it has no segment as new.

@@ -1,6 +1,7 @@
 -- The mark in two places (this gateway's own profile).
 use Rattle.std.specs.Prelude.{◌≡◌, ◌||◌, Bool, true, false, Option, Some, None, codes}
-use Rattle.state_files.specs.Names.{HasNoneBeside, IsMarkedBeside, Sought, Steps, Synced, noted}
+use Rattle.state_files.specs.Names.{Compared, HasNoneBeside, IsMarkedBeside, Sought, Steps, Synced}
+use Rattle.state_files.specs.Names.{noted}
 use Rattle.state_files.specs.declared.beside.Beside.{Beside}
 
 module _ {N : Type 0} (steps : N → Steps) where
@@ -25,11 +26,14 @@ module _ {N : Type 0} (steps : N → Steps) where
   HasNoneThere (Some before) (Some after) =
       HasNoneBeside (steps before.names) (steps after.names)
 
-  -- The state is stale if the mark stands on the disk, whose names are synced before, or there.
+  -- The state is stale if the mark stands on the disk, whose names are synced before, if other
+  -- files were noted there than stand there, or if the mark stands in the second place.
   pub record IsFoundStale (before after : Steps) (old new : Option (Beside N)) (is_stale : Bool) :
       Type 0 where
     pub here : Bool
     pub there : Bool
-    pub disk : after ≡ noted (noted before (Synced true)) (Sought (codes "stale") (Some here))
+    pub is_copy : Bool
+    pub disk : after ≡ noted (noted (noted before (Synced true)) (Sought (codes "stale")
+        (Some here))) (Compared (Some is_copy))
     pub beside : SaysBeside old new there
-    pub is : is_stale ≡ (here || there)
+    pub is : is_stale ≡ ((here || is_copy) || there)

@@ -12,6 +12,8 @@ pub data NameStep : Type 0 where
   Made : (name : List ℕ) → (is_made : Bool) → NameStep
   Synced : (is_done : Bool) → NameStep
   Locked : (is_taken : Option Bool) → NameStep
+  Compared : (is_copy : Option Bool) → NameStep
+  Recorded : (is_done : Bool) → NameStep
 
 -- the calls so far, the newest first, where they are kept
 abbrev pub Steps : Type 0
@@ -47,6 +49,11 @@ IsMarkedAs from to before after =
 abbrev pub IsMarkedBeside : (before after : Steps) → Type 0
 IsMarkedBeside before after =
     after ≡ noted (noted before (Made (codes "stale") true)) (Synced true)
+
+-- The mark is taken away behind a note of which files stand here: that is on the disk before.
+abbrev pub IsMadeGood : (before after : Steps) → Type 0
+IsMadeGood before after =
+    IsMarkedAs (codes "stale") (codes "kept") (noted before (Recorded true)) after
 
 -- No mark stands there: there was none, or it got another name, and then the names were synced.
 pub data HasNoneBeside (before after : Steps) : Type 0 where

@@ -9,6 +9,9 @@
 //! - Where a disk takes no mark, `stale` is made in a second place: the directory that the
 //!   environment calls RUNTIME_DIRECTORY, as systemd gives it to a unit. A state is stale if either
 //!   place says so. That place may be lost when the machine is started again.
+//! - `origin` notes which files these two are. If it is a note of others, the directory is a copy,
+//!   and the state is stale as if the mark stood. If there is none, as in a directory of an older
+//!   version, the files count as the original.
 //! - `unread-1` to `unread-9`, each with a `-wal`, are files that couldn't be read.
 //!
 //! [`stood_in`] reads what stands in such a directory, beside a process that has it or alone, and
@@ -29,6 +32,7 @@ mod laws;
 mod looking;
 mod marks;
 mod names;
+mod origin;
 
 use crate::beside::Beside;
 use crate::marks::Marks;

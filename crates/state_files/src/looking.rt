@@ -5,6 +5,7 @@ ghost use Rattle.std.specs.Io.{ReadsAtMost};
 ghost use Rattle.sqlite_disk.specs.Memory.{memory_bytes, memory_is_usable};
 ghost use Rattle.state_files.specs.Copying.{IsCopied};
 
+use crate::origin::is_copy;
 use gateway::History;
 use sqlite_disk::{Disk, Files, Memory};
 use std::alloc::Global;
@@ -19,7 +20,7 @@ const PIECE: usize = 65_536;
 pub struct Stood {
     /// The two files; one that isn't there is empty.
     pub files: Files<Memory>,
-    /// The state is marked as stale.
+    /// The state is marked as stale, or the files are a copy.
     pub is_stale: bool,
     /// A process has the directory open.
     pub is_held: bool,
@@ -50,14 +51,14 @@ pub fn stood_in(rt: &HostRuntime, path: &str) -> io::Result<Stood>
     let db = held_in_memory(rt, path, "segments")?;
     Ok(Stood {
         files: Files { log, db },
-        is_stale: has(rt, path, "stale")?,
+        is_stale: has(rt, path, "stale")? || is_copy(rt, path)?,
         is_held,
         before: History::new(),
     })
 }
 
 /// The path of a file in a directory.
-fn path_of(alloc: Global, path: &str, name: &str) -> io::Result<String>
+pub(crate) fn path_of(alloc: Global, path: &str, name: &str) -> io::Result<String>
     ensures { IfOk result (λ text. string_bytes text ≡ path.now ++ 47 ∷ name.now) }
 {
     match format!(in alloc; "{path}/{name}") {
@@ -76,7 +77,7 @@ fn has(rt: &HostRuntime, path: &str, name: &str) -> io::Result<bool> {
 }
 
 /// A file in a directory, if it is there, opened for reading alone.
-fn opened(rt: &HostRuntime, path: &str, name: &str) -> io::Result<Option<fs::File>> {
+pub(crate) fn opened(rt: &HostRuntime, path: &str, name: &str) -> io::Result<Option<fs::File>> {
     match fs::File::open(rt, path_of(rt.alloc(), path, name)?.as_str()) {
         Ok(file) => Ok(Some(file)),
         Err(fault) if fault.kind() == ErrorKind::NotFound => Ok(None),
@@ -111,7 +112,7 @@ fn held_in_memory(rt: &HostRuntime, path: &str, name: &str) -> io::Result<Memory
 }
 
 /// So many octets.
-fn room(alloc: Global, octets: usize) -> io::Result<Vec<u8>>
+pub(crate) fn room(alloc: Global, octets: usize) -> io::Result<Vec<u8>>
     ensures { IfOk result (λ room. length room.items ≡ octets) }
 {
     match vec![in alloc; 0; octets] {

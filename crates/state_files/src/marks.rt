@@ -2,9 +2,9 @@
 ghost use Rattle.std.specs.Prelude.{◌≡◌, ◌⊎◌, ◌<◌, ◌≤◌, ◌++◌, codes, false, true, IfOk, None, Some};
 ghost use Rattle.std.specs.Prelude.{IsTrue};
 ghost use Rattle.state_files.specs.Beside.{HasNoneThere, IsFoundStale, IsMarkedThere, SaysBeside};
-ghost use Rattle.state_files.specs.Names.{AreRenamed, HasMark, IsFree, IsLockTaken, IsMarkedAs};
-ghost use Rattle.state_files.specs.Names.{IsPutAside, IsRenamed, Sought, Synced, noted};
-ghost use Rattle.state_files.specs.Names.{unread_name};
+ghost use Rattle.state_files.specs.Names.{AreRenamed, Compared, HasMark, IsFree, IsLockTaken};
+ghost use Rattle.state_files.specs.Names.{IsMadeGood, IsMarkedAs, IsPutAside, IsRenamed, Recorded};
+ghost use Rattle.state_files.specs.Names.{Sought, Synced, noted, unread_name};
 
 use crate::beside::Beside;
 use crate::names::{Names, named};
@@ -124,7 +124,8 @@ impl<N: Names> Marks<N> {
         }
     }
 
-    /// Whether the mark stands, on the disk or in the second place.
+    /// Whether the state is stale: the mark stands, on the disk or in the second place, or the
+    /// files are a copy. Both files are open.
     pub(crate) fn is_stale(&mut self) -> io::Result<bool>
         requires { IsTrue self.old.is_locked }
         ensures found { IfOk result (IsFoundStale N.steps (N.steps self.old.names)
@@ -134,8 +135,9 @@ impl<N: Names> Marks<N> {
     {
         self.names.sync()?;
         let is_here = self.names.has("stale")?;
+        let is_copy = self.names.is_copy()?;
         let is_there = self.is_marked_beside();
-        let is_stale = is_here || is_there;
+        let is_stale = is_here || is_copy || is_there;
         self.mark = Some(is_stale);
         Ok(is_stale)
     }
@@ -185,18 +187,21 @@ impl<N: Names> Marks<N> {
         is_made
     }
 
-    /// Takes the mark away, on the disk and in the second place. `false`: it couldn't be done.
+    /// Takes the mark away, on the disk and in the second place, where a new log stands. Before
+    /// that it notes which files have it. `false`: it couldn't be done.
     pub(crate) fn unmark(&mut self) -> bool
         requires { IsTrue self.old.is_locked }
-        ensures marked { result ≡ true → IsMarkedAs (codes "stale") (codes "kept")
-            (N.steps self.old.names) (N.steps self.new.names) }
+        ensures marked { result ≡ true →
+            IsMadeGood (N.steps self.old.names) (N.steps self.new.names) }
         ensures beside { result ≡ true → HasNoneThere N.steps self.old.beside self.new.beside }
         ensures mark { result ≡ true → self.new.mark ≡ Some false }
         ensures unknown { result ≡ false → self.new.mark ≡ None }
         ensures lock { self.new.is_locked ≡ self.old.is_locked }
     {
         self.mark = None;
-        let is_taken = self.mark_as("stale", "kept").is_ok() && self.unmark_beside();
+        let is_taken = self.names.note_origin().is_ok()
+            && self.mark_as("stale", "kept").is_ok()
+            && self.unmark_beside();
         if is_taken {
             self.mark = Some(false);
         }

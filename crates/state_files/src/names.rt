@@ -1,6 +1,7 @@
 //! The names of files in a directory.
 ghost use Rattle.std.specs.Prelude.{◌≡◌, ◌++◌, ◌∷◌, IfOk, None, Ok, string_bytes};
 
+use crate::origin;
 use std::alloc::AllocError;
 use std::fs::OpenOptions;
 use std::io::ErrorKind;
@@ -28,8 +29,8 @@ fn is_taken(file: &fs::File) -> io::Result<bool> {
 /// The names of files in a directory.
 pub(crate) trait Names: Drop {
     ghost use Rattle.std.specs.Prelude.{◌≡◌};
-    ghost use Rattle.state_files.specs.Names.{Locked, Made, Renamed, Sought, Steps, Synced};
-    ghost use Rattle.state_files.specs.Names.{answer_of, is_done, noted};
+    ghost use Rattle.state_files.specs.Names.{Compared, Locked, Made, Recorded, Renamed, Sought};
+    ghost use Rattle.state_files.specs.Names.{Steps, Synced, answer_of, is_done, noted};
 
     /// The calls that were made, where they are kept.
     ghost steps: { Self → Steps };
@@ -54,6 +55,14 @@ pub(crate) trait Names: Drop {
     /// Locks the directory, which is made where it isn't there. `false`: another process has it.
     fn try_lock(&mut self) -> io::Result<bool>
         ensures { steps self.new ≡ noted (steps self.old) (Locked (answer_of result)) };
+
+    /// Whether other files of the log were noted there than stand there.
+    fn is_copy(&mut self) -> io::Result<bool>
+        ensures { steps self.new ≡ noted (steps self.old) (Compared (answer_of result)) };
+
+    /// Notes which files of the log stand there.
+    fn note_origin(&mut self) -> io::Result<()>
+        ensures { steps self.new ≡ noted (steps self.old) (Recorded (is_done result)) };
 }
 
 /// A directory of the system.
@@ -125,5 +134,13 @@ impl Names for SystemNames {
         let answer = is_taken(&file);
         self.lock = Some(file);
         answer
+    }
+
+    fn is_copy(&mut self) -> io::Result<bool> {
+        origin::is_copy(&self.rt, self.path.as_str())
+    }
+
+    fn note_origin(&mut self) -> io::Result<()> {
+        origin::note(&self.rt, self.path.as_str())
     }
 }

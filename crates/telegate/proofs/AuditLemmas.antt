@@ -5,6 +5,7 @@ use Rattle.record.specs.declared.audit.RecordFault.{RecordFault}
 use Rattle.record.specs.declared.audit.RecordFault.TheVariants as faults
 use Rattle.record.specs.declared.audit.Comparison.{Comparison}
 use Rattle.gateway.specs.Config.{Settings}
+use Rattle.gateway.specs.Log.{Log}
 use Rattle.settings.specs.Settings.{IsReadOfText}
 use Rattle.telegate.specs.Audits.{IsComparisonAnswer, IsMemory, IsAuditedBy, fault_of_lem}
 use Rattle.telegate.specs.Audits as audits
@@ -13,13 +14,14 @@ use Rattle.telegate.specs.declared.answer.CommandAnswer.{CommandAnswer}
 use Rattle.telegate.specs.declared.fault.Fault.{Fault}
 use Rattle.telegate.specs.declared.fault.Fault.TheVariants.{Unread, NoMemory}
 
-module _ (config : List ℕ) (has : List ℕ → Type 0) (settings : Settings) (known : Option (List ℕ))
+module _ (config : List ℕ) (past : Log) (has : List ℕ → Type 0) (settings : Settings)
+    (known : Option (List ℕ))
     (read : IsReadOfText config (Ok settings)) (holds : (octets : List ℕ) → Gives known octets
     → has octets) where
   -- the answer to the command, where its files were read
   pub audited : (comparison : Comparison) (r : Result CommandAnswer Fault)
-      → OfGiven known (λ text. IsAudit settings text comparison)
-      → MatchResult r (IsComparisonAnswer comparison) IsMemory → IsAuditedBy config has r
+      → OfGiven known (λ text. IsAudit settings past text comparison)
+      → MatchResult r (IsComparisonAnswer comparison) IsMemory → IsAuditedBy config past has r
   audited comparison (Ok answer) found answered = record {
     settings = settings;
     text = found.text;
@@ -33,9 +35,11 @@ module _ (config : List ℕ) (has : List ℕ → Type 0) (settings : Settings) (
   audited comparison (Err other) found answered = absurd answered
 
   -- or there is no comparison
-  pub unaudited : (fault : RecordFault) → IsAuditFault known fault
+  pub unaudited : (fault : RecordFault) → IsAuditFault settings known fault
       → audits.IsAuditFault config has (fault_of_lem fault)
   unaudited (faults.Line n) wrong =
       ((settings, read), (wrong.text, holds wrong.text wrong.given, wrong.so))
+  unaudited (faults.Unfit n) wrong =
+      (settings, read, (wrong.text, holds wrong.text wrong.given, wrong.so))
   unaudited faults.Unread wrong = tt
   unaudited faults.NoMemory wrong = tt

@@ -39,6 +39,7 @@ module _ (old new : Option (List ℕ)) where
   never_0 (fault.Trace line) is = omega (arith, is)
   never_0 (fault.Script line) is = omega (arith, is)
   never_0 (fault.Record line) is = omega (arith, is)
+  never_0 (fault.Unfit lines) is = omega (arith, is)
   never_0 fault.Sizes is = omega (arith, is)
   never_0 fault.Octets is = omega (arith, is)
   never_0 fault.Address is = omega (arith, is)
@@ -57,6 +58,7 @@ module _ (old new : Option (List ℕ)) where
   not_refused explain text (fault.Trace line) h = never_0 (fault.Trace line) h.1
   not_refused explain text (fault.Script line) h = never_0 (fault.Script line) h.1
   not_refused explain text (fault.Record line) h = never_0 (fault.Record line) h.1
+  not_refused explain text (fault.Unfit lines) h = never_0 (fault.Unfit lines) h.1
   not_refused explain text fault.Sizes h = never_0 fault.Sizes h.1
   not_refused explain text fault.Octets h = never_0 fault.Octets h.1
   not_refused explain text fault.Address h = never_0 fault.Address h.1

@@ -12,7 +12,8 @@ use Rattle.state.specs.declared.opened.Opened.{Opened}
 use Rattle.state.specs.declared.start.Beginning.{Beginning}
 use Rattle.telegate.specs.Asked.{Asked, UnclockedIfErr}
 use Rattle.telegate.specs.Kept.{IsEndFault, IsKeptFault}
-use Rattle.telegate.specs.Logged.{IsUnkept, fault_of}
+use Rattle.telegate.specs.Logged.{IsUnkept, LogsBeginning, LogsFound, LogsStart, LogsUnused}
+use Rattle.telegate.specs.Logged.{LogsWithout, fault_of}
 use Rattle.telegate.specs.Starts.{Found, IsWithout, StartsIn, Without}
 use Rattle.telegate.specs.declared.fault.Fault.{Fault}
 use Rattle.telegate.specs.declared.fault.Fault.TheVariants.{NoMemory, StateInUse, StateUnusable}
@@ -64,6 +65,15 @@ found_in g wishes c one log mark opened o same begun =
 pub without_in : {D : Type 0} (g : Ghosts D) (wishes : Wishes) (c : Settings) (log : Log)
     (o : Origin) → IsWithout wishes c o → StartsIn g wishes c log o
 without_in g wishes c log o none = Without none
+
+-- that is logged
+pub logs_found : (marked : Type 0) (o : Origin) (old new : Book) → LogsBeginning o old new
+    → LogsStart marked o old new
+logs_found marked o old new logs = LogsFound logs
+
+pub logs_unused : (marked : Type 0) (o : Origin) (old new : Book) → LogsWithout old new → marked
+    → LogsStart marked o old new
+logs_unused marked o old new logs is = LogsUnused logs is
 
 -- the clock goes on where the gateway does
 pub moment_in : {D : Type 0} (g : Ghosts D) (wishes : Wishes) (c : Settings) (log : Log)

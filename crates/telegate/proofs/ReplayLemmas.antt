@@ -232,6 +232,8 @@ misjudged config manner r has closing settings known old read found gives (Site 
     absurd wrong
 misjudged config manner r has closing settings known old read found gives (Record n) wrong =
     absurd wrong
+misjudged config manner r has closing settings known old read found gives (Unfit n) wrong =
+    absurd wrong
 misjudged config manner r has closing settings known old read found gives NoState wrong =
     absurd wrong
 misjudged config manner r has closing settings known old read found gives StateInUse wrong =

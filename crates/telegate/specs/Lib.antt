@@ -35,5 +35,5 @@ pub mod Turns
 pub mod Served
 pub mod ManyLives
 pub mod Law
-pub mod Shelves
+pub mod Placed
 pub mod Starts

@@ -15,8 +15,6 @@ use Rattle.telegate.specs.Law.{LogsAll}
 use Rattle.telegate.specs.declared.fault.Fault.{Fault}
 use Rattle.telegate.specs.declared.fault.Fault.TheVariants.{EndUnusable, NoMemory, StateInUse}
 use Rattle.telegate.specs.declared.fault.Fault.TheVariants.{StateUnusable}
-use Rattle.telegate.specs.declared.shelf.Shelf.{Shelf}
-use Rattle.telegate.specs.declared.shelf.Shelf.TheVariants.{Nowhere, Stored}
 use Rattle.telegate.specs.declared.site.EndRefusal.{EndRefusal}
 
 -- a note is logged, if there is one
@@ -57,10 +55,10 @@ pub record LogsBeginning (o : Origin) (old new : Book) : Type 0 where
 abbrev pub LogsWithout : (old new : Book) → Type 0
 LogsWithout old new = (why : Obstacle) × LogsNote old (note.StateUnused why) new
 
--- with what the directory has, where there is a store for it, or without that
-abbrev pub LogsOpening : {S : Type 0} → Shelf S → Origin → (old new : Book) → Type 0
-LogsOpening (Stored store) o old new = LogsBeginning o old new
-LogsOpening Nowhere o old new = LogsWithout old new
+-- it begins with what its directory has, or without that, where it is marked so
+pub data LogsStart (marked : Type 0) (o : Origin) (old new : Book) : Type 0 where
+  LogsFound : LogsBeginning o old new → LogsStart marked o old new
+  LogsUnused : LogsWithout old new → marked → LogsStart marked o old new
 
 -- The state can't be had, which is logged, unless memory is refused.
 abbrev pub IsUnkept : Fault → (old new : Book) → Type 0

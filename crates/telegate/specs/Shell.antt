@@ -174,7 +174,7 @@ pub record HasReplayed (has : Text → List ℕ → Type 0) (config trace : Text
 -- the record of this name was audited by settings of these octets
 abbrev pub AuditsFile : (has : Text → List ℕ → Type 0) → (text : Text) → (config : List ℕ)
     → (old new : Option (List ℕ)) → (exit : ℕ) → Type 0
-AuditsFile has text config = GivesAnswer (IsAuditedBy config (has text))
+AuditsFile has text config = GivesAnswer (IsAuditedBy config [] (has text))
 
 -- the same by the octets of a file
 pub record HasAudited (has : Text → List ℕ → Type 0) (config text : Text)

@@ -8,9 +8,10 @@ ghost use Rattle.clap.specs.Words.{Text};
 ghost use Rattle.clap.specs.declared.error.kind.ErrorKind.{ErrorKind};
 ghost use Rattle.clap.specs.declared.error.kind.ErrorKind.TheVariants as kind;
 ghost use Rattle.record.specs.declared.capture.whole.CaptureFault.{CaptureFault};
+ghost use Rattle.gateway.specs.Log.{Log};
 ghost use Rattle.record.specs.declared.capture.whole.CaptureFault.TheVariants as captures;
 ghost use Rattle.record.specs.Law.{IsFirstUnknown};
-ghost use Rattle.record.specs.Lines.{whole_lines};
+ghost use Rattle.record.specs.Lines.{record_lines};
 ghost use Rattle.record.specs.declared.audit.RecordFault.{RecordFault};
 ghost use Rattle.record.specs.declared.audit.RecordFault.TheVariants as records;
 ghost use Rattle.settings.specs.declared.fault.ConfigFault.{ConfigFault};
@@ -44,8 +45,8 @@ pub fn exit_statuses_say_how_a_command_ended()
         ∷ fault.StateUnusable ∷ fault.EndUnusable ∷ fault.Device ∷ fault.Unread ∷ []) }
     ensures content { (config : ConfigFault) (site : SiteFault) (line : ℕ) →
         All (λ why. status_of_end (Err why) ≡ 1) (fault.Config config ∷ fault.Site site
-        ∷ fault.Trace line ∷ fault.Script line ∷ fault.Record line ∷ fault.Sizes ∷ fault.Octets
-        ∷ []) }
+        ∷ fault.Trace line ∷ fault.Script line ∷ fault.Record line ∷ fault.Unfit line
+        ∷ fault.Sizes ∷ fault.Octets ∷ []) }
     ensures help { (why : ErrorKind) → (status_of_kind why ≡ 0)
         ↔ (why ≡ kind.DisplayHelp) ⊎ (why ≡ kind.DisplayVersion) }
     ensures refused { (why : ErrorKind) → (status_of_kind why ≡ 4) ↔ (why ≡ kind.OutOfMemory) }
@@ -59,6 +60,7 @@ pub fn exit_statuses_say_how_a_command_ended()
 pub fn a_stop_over_a_record_keeps_its_reason()
     ensures audits { (why : RecordFault) (line : ℕ) →
         ((fault_of_lem why ≡ fault.Record line) ↔ (why ≡ records.Line line))
+        × ((fault_of_lem why ≡ fault.Unfit line) ↔ (why ≡ records.Unfit line))
         × ((fault_of_lem why ≡ fault.Unread) ↔ (why ≡ records.Unread))
         × ((fault_of_lem why ≡ fault.NoMemory) ↔ (why ≡ records.NoMemory)) }
     ensures captures { (why : CaptureFault) (line : ℕ) →
@@ -68,19 +70,20 @@ pub fn a_stop_over_a_record_keeps_its_reason()
         × ((fault_of_capture why ≡ fault.NoMemory) ↔ (why ≡ captures.NoMemory)) }
 {}
 
-/// What `audit` answers of a record. It ends with 0 where the run begins with the record's lines,
-/// and tells how many events and actions these are. It ends with 1 where the run differs, and tells
-/// at which line. A wrong line is told by its number, counted from 1.
+/// What `audit` answers of a record, behind each log that leads to the state that it begins with.
+/// It ends with 0 where the run begins with the record's lines, and tells how many events and
+/// actions these are. It ends with 1 where the run differs, and tells at which line, and whether
+/// lines are left out there. A wrong line is told by its number, counted from 1.
 pub fn an_audit_tells_what_the_record_has()
-    ensures same { (config text : List ℕ) (answer : CommandAnswer) →
-        IsAuditedBy config (λ octets. octets ≡ text) (Ok answer) → answer.status ≡ 0 →
-        TellsSame config text answer }
-    ensures differs { (config text : List ℕ) (answer : CommandAnswer) →
-        IsAuditedBy config (λ octets. octets ≡ text) (Ok answer) → answer.status ≡ 1 →
-        TellsOther config text answer }
-    ensures wrong { (config text : List ℕ) (number : ℕ) →
-        IsAuditedBy config (λ octets. octets ≡ text) (Err (fault.Record number)) →
-        IsFirstUnknown (whole_lines text) number }
+    ensures same { (config : List ℕ) (past : Log) (text : List ℕ) (answer : CommandAnswer) →
+        IsAuditedBy config past (λ octets. octets ≡ text) (Ok answer) → answer.status ≡ 0 →
+        TellsSame config past text answer }
+    ensures differs { (config : List ℕ) (past : Log) (text : List ℕ) (answer : CommandAnswer) →
+        IsAuditedBy config past (λ octets. octets ≡ text) (Ok answer) → answer.status ≡ 1 →
+        TellsOther config past text answer }
+    ensures wrong { (config : List ℕ) (past : Log) (text : List ℕ) (number : ℕ) →
+        IsAuditedBy config past (λ octets. octets ≡ text) (Err (fault.Record number)) →
+        IsFirstUnknown (record_lines text) number }
 {}
 
 /// Where a site's file is named it is read first. So a `check` that ends with 3 before it has

@@ -7,21 +7,24 @@ use crate::check::read_config;
 use crate::fault::{BAD_CONTENT, DONE, Fault};
 use crate::replay::open;
 use crate::source::Source;
+use gateway::History;
 use record::{Comparison, RecordFault, audit_text};
 use std::alloc::Global;
 
 /// Runs the gateway over the events of a record, and answers whether its actions are the record's.
-/// The settings are judged before the record, which is read once, block by block.
+/// The settings are judged before the record, which is read once, block by block. This log passed
+/// before the record, of which code knows nothing.
 pub(crate) fn audit<S: Source>(
     alloc: Global,
     config: &[u8],
     text: &S,
+    past: History,
 ) -> Result<CommandAnswer, Fault>
-    ensures { IsAuditedBy config.now (S.has text.now) result }
+    ensures { IsAuditedBy config.now past.entries (S.has text.now) result }
 {
     let text = open(text)?;
     let config = read_config(alloc, config)?;
-    match audit_text(alloc, &config, text) {
+    match audit_text(alloc, &config, text, past) {
         Ok(comparison) => answer_comparison(alloc, comparison),
         Err(fault) => Err(fault_of(fault)),
     }
@@ -33,6 +36,7 @@ fn fault_of(fault: RecordFault) -> Fault
 {
     match fault {
         RecordFault::Line(n) => Fault::Record(n),
+        RecordFault::Unfit(n) => Fault::Unfit(n),
         RecordFault::Unread => Fault::Unread,
         RecordFault::NoMemory => Fault::NoMemory,
     }
@@ -50,6 +54,13 @@ fn answer_comparison(alloc: Global, comparison: Comparison) -> Result<CommandAns
         }
         Comparison::Differs(number) => {
             writeln!(line, "line {number} differs")?;
+            BAD_CONTENT
+        }
+        Comparison::LeftOut(number) => {
+            writeln!(
+                line,
+                "line {number}: lines are left out here; those before it are the same"
+            )?;
             BAD_CONTENT
         }
     };

@@ -40,6 +40,9 @@ pub(crate) enum Fault {
     /// This line of the record is neither that of an event nor that of an action.
     #[error("record: line {0}")]
     Record(u64),
+    /// So many first lines of the record say a state, and no gateway with these settings has it.
+    #[error("record: lines 1 to {0} are no state under these settings")]
+    Unfit(u64),
     /// The sizes of a line's addresses are no such four digits.
     #[error("bad sizes")]
     Sizes,
@@ -98,6 +101,7 @@ impl Fault {
             | Fault::Trace(_)
             | Fault::Script(_)
             | Fault::Record(_)
+            | Fault::Unfit(_)
             | Fault::Sizes
             | Fault::Octets => BAD_CONTENT,
             Fault::Address | Fault::NoState => USAGE,

@@ -8,7 +8,7 @@ ghost use Rattle.live.specs.OctetStreams.{IsNew};
 ghost use Rattle.live.specs.Passed.{HasNoAttempts};
 ghost use Rattle.record.specs.Recording.{log_of, logged_first};
 ghost use Rattle.runlog.specs.Logging.{book_fixture};
-ghost use Rattle.state.specs.Origins.{IsBegun, IsNew};
+ghost use Rattle.state.specs.Origins as origins;
 ghost use Rattle.state.specs.Standings.{Renews};
 ghost use Rattle.state.specs.declared.beginning.Origin.{Origin};
 ghost use Rattle.state.specs.declared.start.Beginning.TheVariants as beginning;
@@ -23,17 +23,16 @@ ghost use Rattle.telegate.specs.Living.{HasLived, IsPortOf};
 ghost use Rattle.telegate.specs.Ran.{HasCome, HasLivedAs, HasNotBegun, IfOver, answer_to};
 ghost use Rattle.telegate.specs.Running.{IsReadLiveConfig};
 ghost use Rattle.telegate.specs.Served.{HasServedAnew, HasServedOn};
-ghost use Rattle.telegate.specs.Shelves.{IfNowhere, IfStored};
 ghost use Rattle.telegate.specs.Starts.{IsWithout, StartsIn};
 ghost use Rattle.telegate.specs.Turns.{in_life, shown_to};
 ghost use Rattle.telegate.specs.Logged.{IsRefused, IsUnkept, LogsNoteIf, LogsBeginning, LogsGap};
-ghost use Rattle.telegate.specs.Logged.{LogsOpening, LogsWithout, note_if_on, note_of_address};
+ghost use Rattle.telegate.specs.Logged.{LogsStart, LogsWithout, note_if_on, note_of_address};
 
 use crate::fault::Fault;
 use crate::help::VERSION;
 use crate::host::Wishes;
+use crate::place::Place;
 use crate::running::{DeviceFailed, Lived, Scribes, live};
-use crate::shelf::Shelf;
 use crate::site::{EndRefusal, RunSite};
 use gateway::{Action, Config, Gateway, History, NoMemory};
 use live::{AllowList, Listener, Live, OctetStream, RunPort};
@@ -418,18 +417,18 @@ fn run_new<T: RunSite>(
 pub(crate) type Kept<T> = Keeper<
     Pair<
         RunPort<<T as RunSite>::Line, <T as RunSite>::Listener, <T as RunSite>::Clock>,
-        Shelf<DiskStore<<T as RunSite>::Folder>>,
+        DiskStore<Place<<T as RunSite>::Folder>>,
     >,
 >;
 
-/// The port of a run between these ends, whose events are kept in this store, if there is one. A
-/// loss is borne as wished.
+/// The port of a run between these ends, whose events are kept in this store. A loss is borne as
+/// wished.
 fn keeper_between<T: RunSite>(
     site: &T,
     config: &Config,
     ends: RunEnds<T::Line, T::Listener, T::Clock>,
     goes_on: bool,
-    shelf: Shelf<DiskStore<T::Folder>>,
+    store: DiskStore<Place<T::Folder>>,
     gateway: &Gateway,
     wishes: Wishes<'_>,
 ) -> Kept<T>
@@ -443,7 +442,7 @@ fn keeper_between<T: RunSite>(
 {
     let port = port_between(config, ends, wishes.allow_list, goes_on);
     Keeper::new(
-        Pair::new(site.alloc(), port, shelf),
+        Pair::new(site.alloc(), port, store),
         gateway,
         wishes.bears_loss,
     )
@@ -479,10 +478,20 @@ fn run_kept<T: RunSite>(
     ensures fault { IfErr result IsKeptFault }
 {
     let mut scribes = scribes_of(site, config, &wishes)?;
-    let opening = opening_in(site, config, text, directory, &wishes, &mut scribes.logger)?;
-    let moment = first_moment(opening.origin.moment);
+    let begun = begun_in(site, config, text, directory, &wishes, &mut scribes.logger)?;
+    let moment = first_moment(begun.origin.moment);
     let ends = opened(site, &wishes, moment, &mut scribes.logger)?;
-    Ok(run_from(site, config, opening, ends, wishes, scribes))
+    begin_record(&begun.origin, &mut scribes.pen);
+    Ok(run_from(site, config, begun, ends, wishes, scribes))
+}
+
+/// The record of a run that goes on says first with which state it does, for its audit.
+fn begin_record<W: RecordSheet + Drop>(origin: &Origin, pen: &mut Pen<W>)
+    ensures { pen.new ≡ pen.old }
+{
+    if origin.moment.is_some() {
+        pen.begin_with(&origin.gateway);
+    }
 }
 
 /// Where the clock begins, in ms.
@@ -492,40 +501,33 @@ fn first_moment(moment: Option<u64>) -> u64
     moment.unwrap_or(0)
 }
 
-/// With what a run begins, and where its state is kept.
-#[derive(Drop)]
-struct Opening<F: Folder + Drop> {
-    origin: Origin,
-    shelf: Shelf<DiskStore<F>>,
-}
-
 /// Runs the gateway between these ends from where a run begins, and keeps its state. Their clock
 /// goes on where the gateway does.
 #[tactic(auto, using(crate::proofs::RunPorts::port_of_run))]
 fn run_from<T: RunSite>(
     site: &T,
     config: &Config,
-    opening: Opening<T::Folder>,
+    begun: Begun<Place<T::Folder>>,
     ends: RunEnds<T::Line, T::Listener, T::Clock>,
     wishes: Wishes<'_>,
     scribes: Scribes<T::Sink, T::Sheet, T::Glass>,
 ) -> Lived<Kept<T>, T::Sheet, T::Sink, T::Glass>
     requires new { logged_first (log_of scribes.pen) (Some []) ≡ Some [] }
-    requires clock { T.begins_at ends.clock (first_moment opening.origin.moment) }
+    requires clock { T.begins_at ends.clock (first_moment begun.origin.moment) }
     requires line { IsNew (T.Line.history ends.line) }
     requires listener { HasNoAttempts (T.Listener.attempts ends.listener) }
-    ensures lived { HasLivedOn config.now wishes.entry.allow_list opening.origin
+    ensures lived { HasLivedOn config.now wishes.entry.allow_list begun.origin
         result.run_log.port.before.entries result.run_log.port.port.port.ends.port
         result.run_log.port.port.pen result.ended }
     ensures logged { book_fixture result.run_log.logger ≡ book_fixture scribes.logger }
     ensures recorded { result.run_log.port.port.pen.is_wished ≡ scribes.pen.is_wished }
     ensures looked { is_some result.lookout ≡ is_some scribes.lookout }
     ensures bears { result.run_log.port.port.port.bears_loss ≡ wishes.entry.bears_loss }
-    ensures served { HasServedOn opening.origin (in_life result.run_log.port.before.entries
+    ensures served { HasServedOn begun.origin (in_life result.run_log.port.before.entries
         result.run_log.port.port.pen result.run_log.port.port.port) result.run_log.logger
         (shown_to result.lookout) result.ended }
 {
-    let Opening { origin, shelf } = opening;
+    let Begun { origin, store } = begun;
     let Origin {
         gateway,
         moment,
@@ -533,32 +535,25 @@ fn run_from<T: RunSite>(
         ..
     } = origin;
     let goes_on = moment.is_some();
-    let keeper = keeper_between(site, config, ends, goes_on, shelf, &gateway, wishes);
+    let keeper = keeper_between(site, config, ends, goes_on, store, &gateway, wishes);
     live(gateway, keeper, before, scribes)
 }
 
-/// What this directory has, or a new state, which is logged, and where the state is kept.
-#[tactic(auto, using(crate::proofs::KeptLemmas::found_in, crate::proofs::KeptLemmas::without_in, crate::proofs::KeptLemmas::memory_is_unkept, crate::proofs::KeptLemmas::still_unclocked))]
-fn opening_in<T: RunSite>(
+/// What this directory has, or a new state, or none where the directory can't be used. It is logged.
+#[tactic(auto, using(crate::proofs::KeptLemmas::found_in, crate::proofs::KeptLemmas::without_in, crate::proofs::KeptLemmas::logs_found, crate::proofs::KeptLemmas::logs_unused, crate::proofs::KeptLemmas::memory_is_unkept, crate::proofs::KeptLemmas::still_unclocked))]
+fn begun_in<T: RunSite>(
     site: &mut T,
     config: &Config,
     text: &[u8],
     directory: &str,
     wishes: &Wishes<'_>,
     logger: &mut Logger<T::Sink>,
-) -> Result<Opening<T::Folder>, Fault>
-    ensures starts { IfOk result (λ opening. StartsIn T.Folder.File.Disk wishes.now config.now
-        (T.asked site.old).lineage opening.origin) }
-    ensures begun { IfOk result (λ opening. IfStored (λ store. IsBegun config.now
-        (T.asked site.old).lineage (T.Folder.mark store.folder) store.opened opening.origin)
-        opening.shelf) }
-    ensures settings { IfOk result (λ opening.
-        IfStored (λ store. store.settings.items ≡ text.now) opening.shelf) }
-    // Without a store a later start finds the mark.
-    ensures marked { IfOk result (λ opening.
-        IfNowhere (T.is_marked site.new) opening.shelf) }
-    ensures logged { IfOk result (λ opening.
-        LogsOpening opening.shelf opening.origin logger.old logger.new) }
+) -> Result<Begun<Place<T::Folder>>, Fault>
+    ensures starts { IfOk result (λ b. StartsIn T.Folder.File.Disk wishes.now config.now
+        (T.asked site.old).lineage b.origin) }
+    ensures settings { IfOk result (λ b. b.store.settings.items ≡ text.now) }
+    ensures logged { IfOk result (λ b.
+        LogsStart (T.is_marked site.new) b.origin logger.old logger.new) }
     ensures fixed { IfOk result (λ _. book_fixture logger.new ≡ book_fixture logger.old) }
     ensures unkept { IfErr result (λ fault. IsUnkept fault logger.old logger.new) }
     ensures asked { IfOk result (λ _. T.asked site.new
@@ -566,21 +561,45 @@ fn opening_in<T: RunSite>(
     ensures none { UnclockedIfErr result (T.asked site.old) (T.asked site.new) }
 {
     let folder = site.folder(directory)?;
-    match begin(site.alloc(), config, text, folder) {
-        Ok(Begun { origin, store }) => {
-            log_beginning(&origin, logger);
-            Ok(Opening {
-                origin,
-                shelf: Shelf::Stored(store),
-            })
+    match begin(site.alloc(), config, text, Place::In(folder)) {
+        Ok(begun) => {
+            log_beginning(&begun.origin, logger);
+            Ok(begun)
         }
-        Err(fault) => match origin_without(site, config, fault, wishes, logger) {
-            Ok(origin) => Ok(Opening {
-                origin,
-                shelf: Shelf::Nowhere,
-            }),
+        Err(fault) => match begun_without(site, config, text, fault, wishes, logger) {
+            Ok(begun) => Ok(begun),
             Err(fault) => Err(fault),
         },
+    }
+}
+
+/// The directory of the state can't be used. A run that begins without it has a store that never
+/// begins a log.
+#[tactic(auto, using(crate::proofs::KeptLemmas::memory_is_unkept))]
+fn begun_without<T: RunSite>(
+    site: &mut T,
+    config: &Config,
+    text: &[u8],
+    fault: FolderFault,
+    wishes: &Wishes<'_>,
+    logger: &mut Logger<T::Sink>,
+) -> Result<Begun<Place<T::Folder>>, Fault>
+    ensures without { IfOk result (λ b. IsWithout wishes.now config.now b.origin) }
+    ensures settings { IfOk result (λ b. b.store.settings.items ≡ text.now) }
+    ensures marked { IfOk result (λ _. T.is_marked site.new) }
+    ensures logged { IfOk result (λ _. LogsWithout logger.old logger.new) }
+    ensures fixed { IfOk result (λ _. book_fixture logger.new ≡ book_fixture logger.old) }
+    ensures unkept { IfErr result (λ fault. IsUnkept fault logger.old logger.new) }
+    ensures asked { T.asked site.new ≡ T.asked site.old }
+{
+    let alloc = site.alloc();
+    let settings = Vec::from_slice(alloc, text)?;
+    match origin_without(site, config, fault, wishes, logger) {
+        Ok(origin) => Ok(Begun {
+            origin,
+            store: DiskStore::new(alloc, Place::Nowhere, settings, 1),
+        }),
+        Err(fault) => Err(fault),
     }
 }
 
@@ -623,7 +642,7 @@ fn origin_without<T: RunSite>(
 
 /// With what a run begins that has no state.
 fn new_origin(alloc: Global, config: &Config) -> Result<Origin, NoMemory>
-    ensures new { IfOk result (IsNew config.now) }
+    ensures new { IfOk result (origins.IsNew config.now) }
     ensures anew { IfOk result (λ origin. origin.beginning ≡ beginning.Anew) }
     ensures moment { IfOk result (λ origin. origin.moment ≡ None) }
 {

@@ -37,6 +37,7 @@ use crate::stood::answer_stood;
 use crate::wishes::{judge_site, site_in, wishes_of};
 use clap::Error;
 use clap::error::ErrorKind;
+use gateway::History;
 use settings::Site;
 use std::alloc::Global;
 use std::io;
@@ -339,7 +340,7 @@ fn audit_file<H: Host, W: Write, E: Write>(
     ensures { AuditsFile (H.has host.now) name.now config.now
         (W.contents out.old) (W.contents out.new) result }
 {
-    match audit(alloc, config, &HostFile { host, name }) {
+    match audit(alloc, config, &HostFile { host, name }, History::new()) {
         Err(Fault::Unread) => {
             let _ = write_unreadable(name, err);
             DEVICE_FAILED

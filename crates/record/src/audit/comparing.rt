@@ -17,8 +17,8 @@ pub(crate) enum Agreement {
     Level(Vec<u8>),
     /// The run has no line so far for the record's line of this number, which is this one.
     Behind(u64, Vec<u8>),
-    /// The line of this number isn't the run's.
-    Differs(u64),
+    /// The line of this number, which is this one, isn't the run's.
+    Differs(u64, Vec<u8>),
 }
 
 /// The same of the lines of one part.
@@ -26,7 +26,7 @@ pub(crate) enum Agreement {
 pub(crate) enum Walk<'a> {
     Level(&'a [u8]),
     Behind(u64, &'a [u8]),
-    Differs(u64),
+    Differs(u64, &'a [u8]),
 }
 
 /// Whether two lines are the same.
@@ -58,7 +58,7 @@ fn walk_along<'a>(lines: Option<&'a [u8]>, first: u64, run: &'a [u8]) -> Option<
             return Some(Walk::Behind(number, line));
         };
         if !is_same(line, other) {
-            return Some(Walk::Differs(number));
+            return Some(Walk::Differs(number, line));
         }
         ahead = later;
     }
@@ -119,7 +119,7 @@ fn go_on(
     match walk {
         Walk::Level(rest) => Ok(Agreement::Level(Vec::from_slice(alloc, rest)?)),
         Walk::Behind(n, line) => Ok(Agreement::Behind(n, Vec::from_slice(alloc, line)?)),
-        Walk::Differs(n) => Ok(Agreement::Differs(n)),
+        Walk::Differs(n, line) => Ok(Agreement::Differs(n, Vec::from_slice(alloc, line)?)),
     }
 }
 
@@ -137,7 +137,7 @@ fn catch_up(number: u64, line: Vec<u8>, page: &[u8]) -> Result<Agreement, AllocE
         // That can't be: a run goes on with an event, and this line logs none.
         return Err(AllocError);
     }
-    Ok(Agreement::Differs(number))
+    Ok(Agreement::Differs(number, line))
 }
 
 /// Compares the lines of one part more, of which the first has this number, with those of its run.
@@ -157,6 +157,6 @@ pub(crate) fn compare(
     match standing {
         Agreement::Level(ahead) => go_on(alloc, ahead, part, first, page),
         Agreement::Behind(number, line) => catch_up(number, line, page),
-        Agreement::Differs(number) => Ok(Agreement::Differs(number)),
+        Agreement::Differs(number, line) => Ok(Agreement::Differs(number, line)),
     }
 }

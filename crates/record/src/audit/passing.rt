@@ -5,7 +5,8 @@ ghost use Rattle.std.specs.Prelude.{◌≡◌, ◌==◌, Some, false, true};
 ghost use Rattle.traces.specs.Fields.{parts_after};
 ghost use Rattle.record.specs.Passing.{IsKind, IsLineJudged, IsNext, IsOneLine, IsTally};
 ghost use Rattle.record.specs.Passing.{IsWrongAmong};
-ghost use Rattle.record.specs.Lines.{event_line, is_action, is_cut, is_marked, whole_lines};
+ghost use Rattle.record.specs.Lines.{event_line, is_action, is_cut, is_marked, leaves_out};
+ghost use Rattle.record.specs.Lines.{whole_lines};
 
 use gateway::Next;
 use memchr::{memchr, memrchr};
@@ -68,6 +69,13 @@ fn is_marked(line: &[u8]) -> bool
             second == b">".as_slice()
         }
     }
+}
+
+/// Whether a line says that others are left out there.
+pub(crate) fn leaves_out(line: &[u8]) -> bool
+    ensures { result ≡ leaves_out line.now }
+{
+    line.starts_with(b"# left out: ")
 }
 
 /// Whether a line logs an action, and no event.

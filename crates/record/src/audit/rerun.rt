@@ -17,6 +17,8 @@ pub(crate) struct Halt {
     alloc: Global,
     tally: LineCounts,
     history: History,
+    /// What passed before the record.
+    past: History,
     /// It is empty, and keeps its room.
     page: Page,
     /// That of the latest action.
@@ -29,28 +31,37 @@ impl Model for Halt {
 
     ghost Value = { Halted };
 
-    ghost view = { λ h. record { tally = h.tally; log = h.history.entries } };
+    ghost view = { λ h. record {
+      tally = h.tally;
+      log = h.history.entries;
+      past = h.past.entries;
+    } };
 
-    ghost invariant = { λ h. (h.page ≡ [])
-        × IsHalted (record { tally = h.tally; log = h.history.entries }) };
+    ghost invariant = { λ h. (h.page ≡ []) × IsHalted (record {
+      tally = h.tally;
+      log = h.history.entries;
+      past = h.past.entries;
+    }) };
 }
 
 impl Halt {
-    /// A run that has not begun.
-    pub(crate) fn new(alloc: Global) -> Halt
+    /// A run that has not begun, behind so many lines and what passed before them.
+    pub(crate) fn new(alloc: Global, lines: u64, past: History) -> Halt
         ensures { result ≡ record {
-          tally = record { lines = 0; events = 0; actions = 0 };
+          tally = record { lines = lines; events = 0; actions = 0 };
           log = [];
+          past = past.entries;
         } }
     {
         Halt {
             alloc,
             tally: LineCounts {
-                lines: 0,
+                lines,
                 events: 0,
                 actions: 0,
             },
             history: History::new(),
+            past,
             page: Page::new(alloc),
             moment: Moment::new(0),
         }
@@ -79,6 +90,7 @@ impl Halt {
             alloc,
             tally,
             history,
+            past,
             page,
             moment,
         } = self;
@@ -90,6 +102,7 @@ impl Halt {
             tally,
             earlier: history.again(),
             history,
+            past,
             page,
             moment,
             failures: 0,
@@ -112,6 +125,8 @@ pub(crate) struct Rerun<'a> {
     /// The log before this part.
     earlier: History,
     history: History,
+    /// What passed before the record.
+    past: History,
     page: Page,
     /// That of the latest action.
     moment: Moment,
@@ -126,18 +141,18 @@ impl<'a> Model for Rerun<'a> {
 
     ghost view = { λ r. record {
       part = option_copied r.part;
-      start = record { tally = r.start; log = r.earlier.entries };
+      start = record { tally = r.start; log = r.earlier.entries; past = r.past.entries };
       left = option_copied r.left;
-      now = record { tally = r.tally; log = r.history.entries };
+      now = record { tally = r.tally; log = r.history.entries; past = r.past.entries };
       page = r.page;
       failed = r.failures;
     } };
 
     ghost invariant = { λ r. IsRerunning (record {
       part = option_copied r.part;
-      start = record { tally = r.start; log = r.earlier.entries };
+      start = record { tally = r.start; log = r.earlier.entries; past = r.past.entries };
       left = option_copied r.left;
-      now = record { tally = r.tally; log = r.history.entries };
+      now = record { tally = r.tally; log = r.history.entries; past = r.past.entries };
       page = r.page;
       failed = r.failures;
     }) };
@@ -164,6 +179,7 @@ impl<'a> Rerun<'a> {
             tally,
             earlier: _,
             history,
+            past,
             mut page,
             moment,
             failures: _,
@@ -173,6 +189,7 @@ impl<'a> Rerun<'a> {
             alloc,
             tally,
             history,
+            past,
             page,
             moment,
         }
@@ -181,9 +198,10 @@ impl<'a> Rerun<'a> {
 
 impl<'a> Port for Rerun<'a> {
     ghost use Rattle.std.specs.Prelude.{ℕ, List, Option, Some, is_none};
-    ghost use Rattle.record.specs.Rerunning.{Halted};
+    ghost use Rattle.record.specs.Rerunning.{Halted, passed};
 
-    ghost log = { λ r. Some r.now.log };
+    /// All that has passed, before the record too.
+    ghost log = { λ r. Some (passed r.now) };
 
     ghost failed = { λ r. r.failed };
 

@@ -15,7 +15,7 @@ impl Watch {
     pub(super) fn receive_line(&mut self, octets: &[u8])
         ensures { self.new ≡ spec.line_received octets.now self.old }
     {
-        self.exchange.receive(octets);
+        self.exchange.receive(self.link, octets, self.moment);
         if let Some(place) = self.exchange.place() {
             self.note_answer(place);
         }
@@ -43,7 +43,7 @@ impl Watch {
         let is_away = self.line.is_away();
         let place = place_of(&self.traffic, address_of(self.link, octets));
         let awaited = awaited_of(octets);
-        self.exchange.ask(place, awaited, now);
+        self.exchange.ask(self.link, octets, place, awaited, now);
         // Before the stations count the request: a repeat shows by the bit of the one before.
         if let (Some(place), AwaitedAnswer::Command) = (place, awaited) {
             self.send(place, octets);
@@ -83,9 +83,11 @@ impl Watch {
         ensures { self.new ≡ spec.counts_noted counts self.old }
     {
         let seen = self.seen;
+        // Nothing has come yet in the exchange of a request that went out in this event.
+        let spoiling = self.exchange.spoiling();
         self.suffer_if(seen.lost < counts.lost, Mishap::GivenUp);
         self.suffer_if(seen.mirrors < counts.mirrors, Mishap::MirrorDropped);
-        self.suffer_if(seen.spoilt < counts.spoilt, Mishap::Spoilt);
+        self.suffer_if(seen.spoilt < counts.spoilt, Mishap::Spoilt(spoiling));
         self.seen = counts;
     }
 
@@ -107,7 +109,8 @@ impl Watch {
     {
         if self.late < late {
             let place = self.exchange.overdue();
-            self.suffer(place, Mishap::Late);
+            let ms = self.exchange.lag();
+            self.suffer(place, Mishap::Late(ms));
         }
         self.late = late;
     }

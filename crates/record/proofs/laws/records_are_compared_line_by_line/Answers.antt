@@ -42,17 +42,21 @@ returns c = record {
   next = λ n line lines run is. next_one n line lines run is;
   other = λ n line other lines run is apart. off n line other lines run is apart;
   missing = λ n line lines is. none_left n line lines is;
-  same = λ settings text events actions given.
-      let audit = of_known text (λ t. IsAudit settings t (Same events actions)) given in (
+  same = λ settings past text events actions given.
+      let audit = of_known text (λ t. IsAudit settings past t (Same events actions)) given in (
         audit.log,
-        audit.run.faithful,
+        (λ begins. let keeps = audit.run.keeps begins in keeps.faithful),
         audit.run.events,
         audit.comparison.0,
         audit.comparison.1,
         audit.comparison.2,
       );
-  differs = λ settings text number given.
-      let audit = of_known text (λ t. IsAudit settings t (Differs number)) given in
-      (audit.log, audit.run.faithful, audit.run.events, audit.comparison);
-  wrong = λ settings text number given. of_known text (λ t. IsWrongLine t number) given;
+  differs = λ settings past text number given.
+      let audit = of_known text (λ t. IsAudit settings past t (Differs number)) given in (
+        audit.log,
+        (λ begins. let keeps = audit.run.keeps begins in keeps.faithful),
+        audit.run.events,
+        audit.comparison,
+      );
+  wrong = λ settings past text number given. of_known text (λ t. IsWrongLine t number) given;
 }

@@ -18,4 +18,4 @@ pub returns-clause-in_time : goal.returns-clause-in_time
 returns-clause-in_time c = in_time_so
 
 pub returns-clause-since : goal.returns-clause-since
-returns-clause-since c = λ place what now e. (refl, refl)
+returns-clause-since c = λ size request place what now e. (refl, refl, refl)

@@ -23,4 +23,4 @@ returns-clause-skips c = (
 )
 
 pub returns-clause-mishaps : goal.returns-clause-mishaps
-returns-clause-mishaps c address now = (refl, refl, refl)
+returns-clause-mishaps c address now = (refl, λ by. refl, λ ms. refl)

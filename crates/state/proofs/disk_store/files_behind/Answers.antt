@@ -1,5 +1,5 @@
 use Rattle.std.proofs.Common.{subst, sym}
-use Rattle.segments.specs.Crashes.{AreOlder, StandsIn}
+use Rattle.segments.specs.Crashes.{AreOlder, StandsIn, StaysBacked}
 use Rattle.segments.specs.Segment.{file_of}
 use Rattle.state.specs.Doubts.{AreUndoubted}
 use Rattle.state.proofs.Surviving.{stands_older, stands_sound}
@@ -22,3 +22,8 @@ returns-then-may_be_used-clause-sound g c _ _ =
     (stands_sound (g.D.Disk.may_leave (file_of current.segment)) current.number
     (subst (StandsIn (g.D.Disk.may_leave (file_of current.segment))) current.own
     c.survives.ensures.stands))
+
+pub returns-then-may_be_used-clause-backed : goal.returns-then-may_be_used-clause-backed
+returns-then-may_be_used-clause-backed g c _ clean =
+    subst (λ file. StaysBacked (g.D.Disk.may_leave file) (g.D.Disk.seen c.backs.new.other))
+    (sym c.into_file-newest.ensures) (c.in-Ok.ensures.backed c.in-Ok.zzz clean)

@@ -31,5 +31,6 @@ returns c = λ lines run so counted.
     off_on lines run part c.args.first c.args.ahead.items c.args.page.now
     c.as_slice.result.now so.0 so.1 counted (c.as_slice.ensures.value
     ∙ c.in_ok-extend_from_slice.ensures.items)
-    c.in-Differs.n (subst (IsWalk c.args.first part c.as_slice.result.now) c.in-Differs.is
-    c.in-Some.ensures)
+    c.in-Differs.n c.in-Differs.line.now c.in_ok-from_slice-in-Differs.field-0.items
+    (subst (IsWalk c.args.first part c.as_slice.result.now) c.in-Differs.is c.in-Some.ensures)
+    c.in_ok-from_slice-in-Differs.ensures.items

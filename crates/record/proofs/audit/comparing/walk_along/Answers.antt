@@ -3,7 +3,7 @@ use Rattle.std.specs.Option.{option_copied}
 use Rattle.traces.specs.Fields.{parts_after}
 use Rattle.record.specs.Lines.{is_cut, whole_lines}
 use Rattle.record.proofs.CompareLemmas.{counted_on, goes_behind, goes_cut, goes_off, goes_over}
-use Rattle.record.proofs.CompareLemmas.{goes_same}
+use Rattle.record.proofs.CompareLemmas.{goes_same, left_next}
 use Rattle.record.proofs.LineLemmas.{later_whole, whole_first, whole_none}
 use Rattle.record.proofs.audit.comparing.walk_along.Goals as goal
 
@@ -30,7 +30,7 @@ returns-in_default-behind c =
     goes_behind c.args.first (parts_after 10 (option_copied c.args.lines))
     (whole_lines c.args.run.now) c.walking.number
     c.cut.result.0.now left rest (whole_lines c.walking.ahead.now) is c.walking.invariant.goes
-    (sym c.is_cut.ensures ∙ c.if-is_cut.false) none
+    c.walking.invariant.left (sym c.is_cut.ensures ∙ c.if-is_cut.false) none
 
 pub returns-then-not-is_same : goal.returns-then-not-is_same
 returns-then-not-is_same c =
@@ -45,7 +45,7 @@ returns-then-not-is_same c =
     goes_off c.args.first (parts_after 10 (option_copied c.args.lines)) (whole_lines c.args.run.now)
     c.walking.number
     c.cut.result.0.now left rest (whole_lines c.walking.ahead.now) is c.walking.invariant.goes other
-    (whole_lines c.in-Some-behind.later.now) next (sym c.is_cut.ensures ∙ c.if-is_cut.false)
+    (whole_lines c.in-Some-behind.later.now) next c.walking.invariant.left (sym c.is_cut.ensures ∙ c.if-is_cut.false)
     (sym c.is_same.ensures ∙ c.if-not-is_same.true)
 
 pub walking-preserved : goal.walking-preserved
@@ -68,6 +68,8 @@ walking-preserved c =
           ∙ c.if-not-is_same.false);
       counted = counted_on c.walking.number _ c.cut.result.0.now left rest is
           c.walking.invariant.counted;
+      left = left_next c.args.first (parts_after 10 (option_copied c.args.lines)) c.walking.number
+          c.cut.result.0.now left rest is c.walking.invariant.left;
       whole = λ all. later_whole c.walking.ahead.now other c.in-Some-behind.later.now lines_are
           (c.walking.invariant.whole all);
     }

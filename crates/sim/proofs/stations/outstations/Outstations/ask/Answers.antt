@@ -6,7 +6,7 @@ use Rattle.sim.specs.Lives.{IsPutOut, arriving}
 use Rattle.sim.specs.Losses.{fate_of}
 use Rattle.sim.specs.declared.directive.RequestFate.{RequestFate}
 use Rattle.sim.specs.Exchanges.{OutstationsState, next_number}
-use Rattle.sim.proofs.Receiving.{comes_back_so}
+use Rattle.sim.proofs.RequestsReceived.{comes_back_so}
 use Rattle.sim.proofs.Sizes.{HaveSize, length_out, sizes_out, written_back}
 use Rattle.sim.proofs.stations.outstations.Outstations.ask.Goals as goal
 

@@ -3,7 +3,7 @@ use Rattle.gateway.specs.declared.settings.LineSettings.{LineSettings}
 use Rattle.link.specs.Secondary.{Secondary}
 use Rattle.std.specs.List.{AllByRecursion}
 use Rattle.sim.specs.Cues.{FitsLine}
-use Rattle.sim.proofs.Receiving.{listens}
+use Rattle.sim.proofs.RequestsReceived.{listens}
 use Rattle.sim.proofs.Sizes.{HaveSize, begun_sizes}
 use Rattle.sim.proofs.stations.outstations.Outstations.new.Goals as goal
 

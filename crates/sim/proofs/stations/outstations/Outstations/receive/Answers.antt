@@ -1,8 +1,8 @@
 use Rattle.std.proofs.Common.{true, ◌≡◌, ℕ, List, [], length, sym, subst, ◌∙◌}
 use Rattle.std.proofs.lemmas.Bool.{eqb-true}
 use Rattle.std.proofs.lemmas.List.{nil_from_length, take_rest}
-use Rattle.sim.proofs.Receiving.{IsReceiving, all_received, more_received, rest_received}
-use Rattle.sim.proofs.Receiving.{untaken_received}
+use Rattle.sim.proofs.RequestsReceived.{IsReceiving, all_received, more_received, rest_received}
+use Rattle.sim.proofs.RequestsReceived.{untaken_received}
 use Rattle.sim.proofs.stations.outstations.Outstations.receive.Goals as goal
 
 pub frames-preserved : goal.frames-preserved

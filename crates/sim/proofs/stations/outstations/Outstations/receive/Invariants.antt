@@ -1,5 +1,5 @@
 use Rattle.std.proofs.Common.{length, true}
-use Rattle.sim.proofs.Receiving.{IsReceiving}
+use Rattle.sim.proofs.RequestsReceived.{IsReceiving}
 use Rattle.sim.proofs.stations.outstations.Outstations.receive.Given as goal
 
 abbrev pub invariant-frames : goal.invariant-frames

@@ -1,5 +1,5 @@
 use Rattle.std.proofs.Common.{◌≤◌, arith}
-use Rattle.sim.proofs.Receiving.{begun_kept, front_received, none_kept}
+use Rattle.sim.proofs.RequestsReceived.{begun_kept, front_received, none_kept}
 use Rattle.sim.proofs.stations.outstations.Outstations.receive_front.Goals as goal
 
 pub returns-then-reply : goal.returns-then-reply
