@@ -355,8 +355,8 @@ def acknowledged(count, program, folder):
             gateway.stream.sendall(information(ns, 1, POINT))
             if ns in (6, 14):
                 count.compare(f"w: nothing behind {ns + 1}", gateway.frame(0.3), b"")
-        count.compare("w: behind eight", gateway.frame(), supervisory(8))
-        count.compare("w: behind eight more", gateway.frame(), supervisory(16))
+            if ns in (7, 15):
+                count.compare(f"w: behind {ns + 1}", gateway.frame(), supervisory(ns + 1))
         gateway.stream.sendall(ends.TEST)
         count.compare("TESTFR con", gateway.frame(), ends.TESTED)
         began = time.monotonic()

@@ -137,8 +137,8 @@ Otherwise the answers are waited for, and the last line says what became of it. 
   counters [CA]         counter interrogation, the same
   clock [CA]            sets clocks to this machine's UTC time
   select CA/IOA VALUE   or execute; operate is both, and deactivate takes a select back
-VALUE is one of: on, off (single command); double:on, double:off; up, down (regulating step); \
-normalized:0.5, scaled:-100, float:1.5 (set points).
-A file that is called as one of these words is ./FILE.
-Exit status: 0 confirmed, 1 refused, or wrong settings, 2 usage, 3 no answer in time, the connection \
-can't be had or is lost, or a file or the output failed, 4 no memory";
+VALUE is on or off (a single command), double:on or double:off, up or down (a regulating step
+command), normalized:0.5, scaled:-100 or float:1.5 (a set point).
+A file that has the name of one of these words is ./FILE.
+Exit status: 0 confirmed, 1 refused, or wrong settings, 2 usage, 3 no answer in time, no connection,
+or a file or the output failed, 4 no memory";
