@@ -14,13 +14,12 @@ use Rattle.session.specs.declared.kinds.Close.TheVariants.{Timeout}
 use Rattle.session.specs.declared.kinds.FrameOrigin.TheVariants.{Own}
 use Rattle.session.specs.declared.kinds.Taken.{Taken}
 use Rattle.session.specs.declared.kinds.Taken.TheVariants.{Nothing, Asdu, Close}
-use Rattle.centre.specs.Errands.{due_of, heard, lost, sent_off, waited}
+use Rattle.centre.specs.Errands.{Errand, due_of, heard, lost, sent_off, waited}
 use Rattle.centre.specs.Requests.{request_octets}
 use Rattle.centre.specs.declared.centre.Centre.{Centre}
 use Rattle.centre.specs.declared.centre.Phase.{Phase}
 use Rattle.centre.specs.declared.centre.Phase.TheVariants.{Opened, Starting, Running, Stopping}
 use Rattle.centre.specs.declared.centre.Phase.TheVariants.{Over}
-use Rattle.centre.specs.declared.errand.Errand.{Errand}
 use Rattle.centre.specs.declared.errand.Loss.{Loss}
 use Rattle.centre.specs.declared.errand.Loss.TheVariants.{Closed}
 use Rattle.centre.specs.declared.request.Request.{Request}

@@ -4,7 +4,6 @@ use Rattle.std.specs.Prelude.{ℕ, ◌+◌, ◌*◌, ◌-◌, ◌/◌, ◌%◌, 
 use Rattle.std.specs.Prelude.{if◌then◌else◌, List, length, slice_index, slice_get, Option, Some, None}
 use Rattle.std.specs.Prelude.{option_map}
 use Rattle.centre.specs.declared.errand.Answer.{Answer}
-use Rattle.centre.specs.declared.errand.Errand.{Errand}
 use Rattle.centre.specs.declared.errand.Loss.{Loss}
 use Rattle.centre.specs.declared.errand.Outcome.{Outcome}
 use Rattle.centre.specs.declared.errand.Outcome.TheVariants as outcome
@@ -16,6 +15,16 @@ use Rattle.centre.specs.declared.errand.Step.{Step}
 use Rattle.centre.specs.declared.errand.Until.{Until}
 use Rattle.centre.specs.declared.errand.Until.TheVariants as until
 use Rattle.centre.specs.declared.request.Request.{Request}
+
+-- requests, whether it goes on when they are through, how long a confirmation may take, whose turn it
+-- is, how far that one is, and what became of the errand
+pub record Errand : Type 0 where
+  pub steps : List Step
+  pub stays : Bool
+  pub wait : ℕ
+  pub at : ℕ
+  pub standing : Standing
+  pub outcome : Option Outcome
 
 -- type, cause, common address and object address in the sizes of IEC 60870-5-104
 abbrev pub answer_in : List ℕ → Option Answer
@@ -47,7 +56,7 @@ gathers a = nat_le 20 (a.cause % 64) && nat_le (a.cause % 64) 41
 
 -- whose turn it is
 abbrev pub turn_of : Errand → Option Step
-turn_of e = slice_get e.steps.items e.at
+turn_of e = slice_get e.steps e.at
 
 -- the request that is to go out next
 abbrev pub due_at : Standing → Errand → Option Request
@@ -63,7 +72,7 @@ abbrev pub passed : Outcome → Errand → Errand
 passed end e = record e {
   at = e.at + 1;
   standing = Unsent;
-  outcome = if not e.stays && nat_le (length e.steps.items) (e.at + 1) then Some end
+  outcome = if not e.stays && nat_le (length e.steps) (e.at + 1) then Some end
       else e.outcome;
 }
 

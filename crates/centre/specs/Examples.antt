@@ -41,14 +41,12 @@ course (m ∷ ms) c =
 -- a single command to object 100 of common address 1: on
 abbrev pub switch_on : Manner → Centre
 switch_on manner = first_centre 0 (record {
-  steps = record {
-    items = order_steps manner (record {
+  steps = order_steps manner (record {
       manner = manner;
       ca = 1;
       ioa = 100;
       value = Single true;
     }) None;
-  };
   stays = false;
   wait = 10000;
   at = 0;

@@ -1,8 +1,8 @@
 -- The requests of an errand (IEC 60870-5-101, 7.2.1.4 and 7.2.1.5, and what is waited for: profile).
 use Rattle.std.specs.Prelude.{◌≡◌, ℕ, ◌+◌, Bool, true, false, if◌then◌else◌, List, [], ◌∷◌, map}
 use Rattle.std.specs.Prelude.{Option, Some, None}
+use Rattle.centre.specs.Errands.{Errand}
 use Rattle.centre.specs.Requests.{command_type, content_of}
-use Rattle.centre.specs.declared.errand.Errand.{Errand}
 use Rattle.centre.specs.declared.errand.Standing.TheVariants.{Unsent}
 use Rattle.centre.specs.declared.errand.Step.{Step}
 use Rattle.centre.specs.declared.errand.Until.{Until}
@@ -85,7 +85,7 @@ stays (Command o) = false
 
 -- the errand, before its first request
 pub record IsErrandOf (w : Wish) (t : Terms) (e : Errand) : Type 0 where
-  pub steps : e.steps.items ≡ steps_of w t
+  pub steps : e.steps ≡ steps_of w t
   pub watch : e.stays ≡ stays w
   pub patience : e.wait ≡ t.wait
   pub first : e.at ≡ 0

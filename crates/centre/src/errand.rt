@@ -5,6 +5,7 @@ ghost use Rattle.centre.specs.Errands.{is_for, lost, obeyed, passed, prolonged, 
 ghost use Rattle.centre.specs.Errands.{turn_of, waited};
 
 use crate::request::{GLOBAL, Request};
+use std::marker::Model;
 
 /// How long what was sent is waited for.
 #[derive(Clone, Copy, Debug, PartialEq, Eq)]
@@ -92,6 +93,21 @@ pub struct Errand {
     outcome: Option<Outcome>,
 }
 
+impl Model for Errand {
+    ghost use Rattle.centre.specs.Errands.{Errand as AsErrand};
+
+    ghost Value = { AsErrand };
+
+    ghost view = { λ e. record {
+      steps = e.steps.items;
+      stays = e.stays;
+      wait = e.wait;
+      at = e.at;
+      standing = e.standing;
+      outcome = e.outcome;
+    } };
+}
+
 /// What stands at the front of the octets of an ASDU in the sizes of IEC 60870-5-104.
 pub(crate) fn answer_in(octets: &[u8]) -> Option<Answer>
     ensures { result ≡ answer_in octets.now }
@@ -152,7 +168,7 @@ impl Errand {
     /// through. Each confirmation may take so many ms.
     pub fn new(steps: Vec<Step>, stays: bool, wait: u64) -> Errand
         ensures { result ≡ record {
-          steps = steps;
+          steps = steps.items;
           stays = stays;
           wait = wait;
           at = 0;
@@ -189,7 +205,7 @@ impl Errand {
 
     /// It is the next one's turn. Behind the last one the errand has ended so, unless it stays.
     fn pass(&mut self, end: Outcome)
-        requires { self.old.at < length self.old.steps.items }
+        requires { self.old.at < length self.old.steps }
         ensures { self.new ≡ passed end self.old }
     {
         self.at += 1;
@@ -245,7 +261,7 @@ impl Errand {
 
     /// An answer to the request whose turn it is came.
     fn obey(&mut self, until: Until, reply: Reply, cause: u8, now: u64)
-        requires { self.old.at < length self.old.steps.items }
+        requires { self.old.at < length self.old.steps }
         ensures { self.new ≡ obeyed now until cause reply self.old }
     {
         // One that comes before the request has gone out is none to it.
