@@ -50,6 +50,9 @@ reply_in asked cause =
     else (if cause / 64 % 2 == 1 then Some Refuses
     else (if cause % 64 == 10 then Some Terminates else Some Confirms)))
 
+abbrev pub reply_to : Request → Answer → Option Reply
+reply_to r a = if is_for r a then reply_in r.cause a.cause else None
+
 -- 20 to 36 are the causes of what an interrogation asked for, 37 to 41 of counters
 abbrev pub gathers : Answer → Bool
 gathers a = nat_le 20 (a.cause % 64) && nat_le (a.cause % 64) 41
@@ -125,7 +128,7 @@ replied now u a (Some reply) e = obeyed now u a.cause reply e
 abbrev pub heard_at : (now : ℕ) → Answer → Option Step → Errand → Errand
 heard_at now a None e = e
 heard_at now a (Some s) e =
-    replied now s.until a (if is_for s.request a then reply_in s.request.cause a.cause else None) e
+    replied now s.until a (reply_to s.request a) e
 
 abbrev pub heard_by : (now : ℕ) → Option Answer → Option Outcome → Errand → Errand
 heard_by now None end e = e

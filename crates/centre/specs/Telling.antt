@@ -32,10 +32,15 @@ numbers_json (I ns nr asdu) = answer_json (answer_in asdu.items)
 numbers_json (S nr) = []
 numbers_json (U f) = []
 
+unfoldable pub way_json : Way → (now : ℕ) → List ℕ
+way_json way now =
+    codes "{\"ms\":" ++ (decimal now ++ (codes ",\"way\":\"" ++ (way_words way ++ codes "\"")))
+
+unfoldable pub words_json : Apdu → List ℕ
+words_json a = codes ",\"words\":\"" ++ (apdu_words a ++ codes "\"}\n")
+
 unfoldable pub json_line : Way → (now : ℕ) → Apdu → List ℕ
-json_line way now a =
-    codes "{\"ms\":" ++ (decimal now ++ (codes ",\"way\":\"" ++ (way_words way ++ (codes "\""
-    ++ (numbers_json a ++ (codes ",\"words\":\"" ++ (apdu_words a ++ codes "\"}\n")))))))
+json_line way now a = way_json way now ++ (numbers_json a ++ words_json a)
 
 abbrev pub told : Style → Way → (now : ℕ) → Apdu → List ℕ
 told style.Words way now a = word_line way now a

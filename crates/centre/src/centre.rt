@@ -1,6 +1,7 @@
 //! The controlling station of one connection.
-ghost use Rattle.std.specs.Prelude.{◌≡◌, ◌+◌, min, None, Some, IfOk, IfSome, true};
+ghost use Rattle.std.specs.Prelude.{◌≡◌, ◌<◌, ◌≤◌, IfOk, IfSome, length};
 ghost use Rattle.apci.specs.Spelling.{Fits};
+ghost use Rattle.apci.specs.declared.apdu.Apdu.TheVariants.{I};
 ghost use Rattle.session.specs.Session.{new_session, opened};
 ghost use Rattle.centre.specs.Centres.{after_sending, begun, cut_off, due_running, due_starting};
 ghost use Rattle.centre.specs.Centres.{due_stopping, ended, is_over, first_centre, kept, next_of};
@@ -9,6 +10,7 @@ ghost use Rattle.centre.specs.declared.centre.Phase.TheVariants as phase;
 
 use crate::errand::{Errand, Loss, Outcome};
 use apci::{Apdu, Uf};
+use arrayvec::ArrayVec;
 use session::{Close, FrameOrigin, NoMemory, Session, Taken};
 use std::alloc::Global;
 
@@ -49,6 +51,16 @@ pub struct Centre {
     session: Session,
     errand: Errand,
     phase: Phase,
+}
+
+/// An I frame.
+fn information(ns: u16, nr: u16, asdu: ArrayVec<u8, 249>) -> Apdu
+    requires counters { (ns < 32768) × (nr < 32768) }
+    requires long { 9 ≤ length asdu.items }
+    ensures frame { result ≡ I ns nr asdu }
+    ensures fits { Fits result }
+{
+    Apdu::I { ns, nr, asdu }
 }
 
 impl Centre {
@@ -208,7 +220,7 @@ impl Centre {
         }
         let (ns, nr) = self.session.sent(FrameOrigin::Own, now);
         self.errand.sent(now);
-        Some(Apdu::I { ns, nr, asdu })
+        Some(information(ns, nr, asdu))
     }
 
     /// All that came is acknowledged, and then STOPDT act goes out.

@@ -1,7 +1,7 @@
 //! What a control centre is to do, and how far it is with that.
 ghost use Rattle.std.specs.Prelude.{◌≡◌, ◌<◌, length, option_map};
 ghost use Rattle.centre.specs.Errands.{answer_in, done_without, due_of, gathers, heard, heard_at};
-ghost use Rattle.centre.specs.Errands.{is_for, lost, obeyed, passed, prolonged, reply_in, sent_off};
+ghost use Rattle.centre.specs.Errands.{is_for, lost, obeyed, passed, prolonged, reply_in, reply_to, sent_off};
 ghost use Rattle.centre.specs.Errands.{turn_of, waited};
 
 use crate::request::{GLOBAL, Request};
@@ -134,14 +134,13 @@ fn is_for(request: &Request, answer: Answer) -> bool
 
 /// What a cause octet says to a request with this cause.
 fn reply_in(asked: u8, cause: u8) -> Option<Reply>
-    requires { asked < 64 }
     ensures { result ≡ reply_in asked cause }
 {
     let said = cause % 64;
     if said >= 44 && said <= 47 {
         return Some(Reply::Refuses);
     }
-    if said != asked + 1 && said != 10 {
+    if u16::from(said) != u16::from(asked) + 1 && said != 10 {
         return None;
     }
     if cause / 64 % 2 == 1 {
@@ -151,6 +150,16 @@ fn reply_in(asked: u8, cause: u8) -> Option<Reply>
         return Some(Reply::Terminates);
     }
     Some(Reply::Confirms)
+}
+
+/// What an ASDU says to a request.
+fn reply_to(request: &Request, answer: Answer) -> Option<Reply>
+    ensures { result ≡ reply_to request.now answer }
+{
+    if is_for(request, answer) {
+        return reply_in(request.cause, answer.cause);
+    }
+    None
 }
 
 /// Whether it was asked for by an interrogation, of objects or of counters.
@@ -248,12 +257,7 @@ impl Errand {
             return;
         };
         let until = step.until;
-        let reply = if is_for(&step.request, answer) {
-            reply_in(step.request.cause, answer.cause)
-        } else {
-            None
-        };
-        match reply {
+        match reply_to(&step.request, answer) {
             Some(reply) => self.obey(until, reply, answer.cause, now),
             None => self.prolong(answer, now),
         }

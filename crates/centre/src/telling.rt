@@ -2,7 +2,8 @@
 ghost use Rattle.std.specs.Prelude.{◌≡◌, ◌++◌, OnOk, string_bytes};
 ghost use Rattle.std.specs.Fmt.{decimal};
 ghost use Rattle.apci.specs.Borrowed.{owned};
-ghost use Rattle.centre.specs.Telling.{json_line, numbers_json, told, word_line, way_words};
+ghost use Rattle.centre.specs.Telling.{json_line, numbers_json, told, way_json, way_words, word_line};
+ghost use Rattle.centre.specs.Telling.{words_json};
 
 use crate::errand::{Answer, answer_in};
 use apci::ApduRef;
@@ -71,7 +72,7 @@ fn way_words(way: Way) -> &'static str
     }
 }
 
-/// Appends it as a JSON object. Its words have neither a quote nor a backslash.
+/// Appends it as a JSON object.
 #[tactic(auto, unfolding(crate::specs::Telling::json_line))]
 fn push_json(
     alloc: Global,
@@ -83,12 +84,33 @@ fn push_json(
     ensures { OnOk result (string_bytes text.new
         ≡ string_bytes text.old ++ json_line way now (owned apdu.entry)) }
 {
+    push_way(text, way, now)?;
+    push_numbers(text, apdu)?;
+    push_worded(alloc, text, apdu)
+}
+
+/// Appends the moment, and who sends it.
+#[tactic(auto, unfolding(crate::specs::Telling::way_json))]
+fn push_way(text: &mut String, way: Way, now: u64) -> Result<(), AllocError>
+    ensures { OnOk result (string_bytes text.new ≡ string_bytes text.old ++ way_json way now) }
+{
     text.push_str("{\"ms\":")?;
     write!(text, "{now}")?;
     text.push_str(",\"way\":\"")?;
     text.push_str(way_words(way))?;
-    text.push_str("\"")?;
-    push_numbers(text, apdu)?;
+    text.push_str("\"")
+}
+
+/// Appends the words, which have neither a quote nor a backslash.
+#[tactic(auto, unfolding(crate::specs::Telling::words_json))]
+fn push_worded(
+    alloc: Global,
+    text: &mut String,
+    apdu: ApduRef<'_>,
+) -> Result<(), AllocError>
+    ensures { OnOk result (string_bytes text.new
+        ≡ string_bytes text.old ++ words_json (owned apdu.entry)) }
+{
     text.push_str(",\"words\":\"")?;
     let _condition = push_apdu(alloc, text, apdu)?;
     text.push_str("\"}\n")
