@@ -13,7 +13,8 @@ use Rattle.centre.specs.declared.centre.Centre.{Centre}
 use Rattle.centre.specs.declared.errand.Loss.TheVariants.{Closed}
 
 -- one APDU more goes out
-pub one_more : (now n : ℕ) (first : Scene) (seen view : Desk) (text : List ℕ) (a : Apdu) (c : Centre)
+pub one_more : (now n : ℕ) (first : Scene) (seen view : Desk) (text : List ℕ) (a : Apdu)
+    (c : Centre)
     (new : Scene) → Sends now first n (scene seen text) → view ≡ seen
     → (Some a, c) ≡ next_of now view.centre
     → IsPut now a (scene (record view { centre = c }) text) new → Sends now first (n + 1) new
@@ -55,4 +56,37 @@ more_taken now n octets text seen view arrived fed is feeds kind =
       feeds = feeds;
       takes = subst (λ (r : Received). IsArrived now r fed (scene view text)
           (scene (record view { assembly = fed }) text)) (sym kind) refl;
+    })
+
+-- Octets that begin no APDU end the connection.
+pub never_taken : (now n : ℕ) (octets text : List ℕ) (seen view : Desk) (arrived : Received)
+    (fed : Assembly) (lost : Centre) (place : ℕ) (why : Why) → view ≡ seen
+    → IsFed view.assembly octets n arrived fed → arrived ≡ Never place why
+    → lost ≡ cut_off (Closed Grammar) view.centre → IsFrontTaken now octets n (scene seen text)
+    (scene (record view { assembly = fed; centre = lost }) text)
+never_taken now n octets text seen view arrived fed lost place why is feeds kind cut =
+    subst (λ (d : Desk). IsFrontTaken now octets n (scene d text)
+    (scene (record view { assembly = fed; centre = lost }) text)) is (record {
+      arrived = arrived;
+      fed = fed;
+      feeds = feeds;
+      takes = subst (λ (r : Received). IsArrived now r fed (scene view text)
+          (scene (record view { assembly = fed; centre = lost }) text)) (sym kind)
+          (ap (λ (c : Centre). scene (record view { assembly = fed; centre = c }) text) cut);
+    })
+
+pub deaf_taken : (now n : ℕ) (octets text : List ℕ) (seen view : Desk) (arrived : Received)
+    (fed : Assembly) (lost : Centre) → view ≡ seen
+    → IsFed view.assembly octets n arrived fed → arrived ≡ Deaf
+    → lost ≡ cut_off (Closed Grammar) view.centre → IsFrontTaken now octets n (scene seen text)
+    (scene (record view { assembly = fed; centre = lost }) text)
+deaf_taken now n octets text seen view arrived fed lost is feeds kind cut =
+    subst (λ (d : Desk). IsFrontTaken now octets n (scene d text)
+    (scene (record view { assembly = fed; centre = lost }) text)) is (record {
+      arrived = arrived;
+      fed = fed;
+      feeds = feeds;
+      takes = subst (λ (r : Received). IsArrived now r fed (scene view text)
+          (scene (record view { assembly = fed; centre = lost }) text)) (sym kind)
+          (ap (λ (c : Centre). scene (record view { assembly = fed; centre = c }) text) cut);
     })

@@ -1,5 +1,6 @@
 -- Whole exchanges, worked by hand from IEC 60870-5-104, 5 and IEC 60870-5-101, 7.2 and 7.3.
-use Rattle.std.specs.Prelude.{◌≡◌, ℕ, zero, suc, true, false, List, [], ◌∷◌, ◌++◌, Option, Some, None}
+use Rattle.std.specs.Prelude.{◌≡◌, ℕ, zero, suc, true, false, List, [], ◌∷◌, ◌++◌, Option, Some}
+use Rattle.std.specs.Prelude.{None}
 use Rattle.apci.specs.Spelling.{spelling}
 use Rattle.apci.specs.declared.apdu.Apdu.{Apdu}
 use Rattle.apci.specs.declared.apdu.Apdu.TheVariants.{I}
@@ -42,11 +43,11 @@ course (m ∷ ms) c =
 abbrev pub switch_on : Manner → Centre
 switch_on manner = first_centre 0 (record {
   steps = order_steps manner (record {
-      manner = manner;
-      ca = 1;
-      ioa = 100;
-      value = Single true;
-    }) None;
+    manner = manner;
+    ca = 1;
+    ioa = 100;
+    value = Single true;
+  }) None;
   stays = false;
   wait = 10000;
   at = 0;

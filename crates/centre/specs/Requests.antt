@@ -7,7 +7,8 @@ use Rattle.centre.specs.declared.request.Value.{Value}
 use Rattle.centre.specs.declared.request.Value.TheVariants.{Single, Double, Step, Normalised}
 use Rattle.centre.specs.declared.request.Value.TheVariants.{Scaled, Float}
 
--- type, one object, cause, originator 0, common address and object address, the low octet first, and
+-- type, one object, cause, originator 0, common address and object address, the low octet first,
+-- and
 -- the object
 abbrev pub request_octets : Request → List ℕ
 request_octets r =

@@ -54,12 +54,14 @@ pub struct Centre {
 }
 
 /// An I frame.
-fn information(ns: u16, nr: u16, asdu: ArrayVec<u8, 249>) -> Apdu
+fn information(ns: u16, nr: u16, asdu: &[u8]) -> Apdu
     requires counters { (ns < 32768) × (nr < 32768) }
-    requires long { 9 ≤ length asdu.items }
-    ensures frame { result ≡ I ns nr asdu }
+    requires long { 9 ≤ length asdu.now }
+    requires short { length asdu.now ≤ 249 }
+    ensures frame { result ≡ I ns nr (record { items = asdu.now }) }
     ensures fits { Fits result }
 {
+    let asdu = ArrayVec::try_from(asdu).unwrap();
     Apdu::I { ns, nr, asdu }
 }
 
@@ -220,7 +222,7 @@ impl Centre {
         }
         let (ns, nr) = self.session.sent(FrameOrigin::Own, now);
         self.errand.sent(now);
-        Some(information(ns, nr, asdu))
+        Some(information(ns, nr, asdu.as_slice()))
     }
 
     /// All that came is acknowledged, and then STOPDT act goes out.

@@ -1,5 +1,6 @@
 //! A control centre over a stream of octets, with what passes on a page.
-ghost use Rattle.std.specs.Prelude.{◌≡◌, ◌≤◌, ◌<◌, IfOk, None, OnOk, Some, [], length, string_bytes};
+ghost use Rattle.std.specs.Prelude.{◌≡◌, ◌≤◌, ◌<◌, IfOk, None, OnOk, Some, [], length};
+ghost use Rattle.std.specs.Prelude.{string_bytes};
 ghost use Rattle.apci.specs.Spelling.{Fits};
 ghost use Rattle.centre.specs.Centres.{is_over};
 ghost use Rattle.centre.specs.Desks.{HasReceived, HasSent, IsFrontTaken, IsPut, IsRound, IsTakenIn};
@@ -122,7 +123,8 @@ impl<S: OctetStream + Drop> Desk<S> {
                 }
             }
             Received::More => {}
-            Received::Never(..) | Received::Deaf => self.centre.lose(Loss::Closed(Close::Grammar)),
+            Received::Never(..) => self.centre.lose(Loss::Closed(Close::Grammar)),
+            Received::Deaf => self.centre.lose(Loss::Closed(Close::Grammar)),
         }
         Ok(taken)
     }

@@ -1,13 +1,14 @@
 //! A control centre in time.
-ghost use Rattle.std.specs.Prelude.{◌≡◌, IfOk};
+ghost use Rattle.std.specs.Prelude.{[], IfOk, string_bytes};
 ghost use Rattle.centre.specs.Courses.{HasGoneOn};
+ghost use Rattle.centre.specs.Desks.{IsRound, scene};
 
 use crate::desk::Desk;
 use crate::errand::Outcome;
 use live::{OctetStream, RunClock};
-use traces::print;
-use std::alloc::Global;
+use std::alloc::{AllocError, Global};
 use std::io::Write;
+use traces::print;
 
 /// Why what passes isn't told any more.
 #[derive(Clone, Copy, Debug, PartialEq, Eq)]
@@ -32,13 +33,26 @@ pub fn converse<C: RunClock, S: OctetStream + Drop, W: Write>(
             break;
         }
         let now = clock.now_ms();
-        let mut text = String::new(alloc);
-        if desk.round(now, &mut text).is_err() {
+        let Ok(text) = round_at(alloc, desk, now) else {
             return Err(Untold::NoMemory);
-        }
+        };
         if !text.is_empty() && print(text.as_bytes(), out).is_err() {
             return Err(Untold::Device);
         }
     }
     Ok(desk.outcome())
+}
+
+/// A round, and the text of what passed in it.
+fn round_at<S: OctetStream + Drop>(
+    alloc: Global,
+    desk: &mut Desk<S>,
+    now: u64,
+) -> Result<String, AllocError>
+    ensures { IfOk result (λ text. IsRound now (scene desk.old [])
+        (scene desk.new (string_bytes text))) }
+{
+    let mut text = String::new(alloc);
+    desk.round(now, &mut text)?;
+    Ok(text)
 }

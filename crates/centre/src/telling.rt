@@ -2,7 +2,8 @@
 ghost use Rattle.std.specs.Prelude.{◌≡◌, ◌++◌, OnOk, string_bytes};
 ghost use Rattle.std.specs.Fmt.{decimal};
 ghost use Rattle.apci.specs.Borrowed.{owned};
-ghost use Rattle.centre.specs.Telling.{json_line, numbers_json, told, way_json, way_words, word_line};
+ghost use Rattle.centre.specs.Telling.{json_line, numbers_json, told, way_json, way_words};
+ghost use Rattle.centre.specs.Telling.{word_line};
 ghost use Rattle.centre.specs.Telling.{words_json};
 
 use crate::errand::{Answer, answer_in};
@@ -103,11 +104,7 @@ fn push_way(text: &mut String, way: Way, now: u64) -> Result<(), AllocError>
 
 /// Appends the words, which have neither a quote nor a backslash.
 #[tactic(auto, unfolding(crate::specs::Telling::words_json))]
-fn push_worded(
-    alloc: Global,
-    text: &mut String,
-    apdu: ApduRef<'_>,
-) -> Result<(), AllocError>
+fn push_worded(alloc: Global, text: &mut String, apdu: ApduRef<'_>) -> Result<(), AllocError>
     ensures { OnOk result (string_bytes text.new
         ≡ string_bytes text.old ++ words_json (owned apdu.entry)) }
 {
