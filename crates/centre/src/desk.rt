@@ -87,8 +87,8 @@ impl<S: OctetStream + Drop> Desk<S> {
         self.send(now, text)
     }
 
-    /// Octets came, in any piece. What is due is sent behind each APDU among them. Octets that begin
-    /// no APDU end the connection.
+    /// Octets came, in any piece. What is due is sent behind each APDU among them. Octets that
+    /// begin no APDU end the connection.
     fn receive(&mut self, octets: &[u8], now: u64, text: &mut String) -> Result<(), AllocError>
         ensures { OnOk result (HasReceived now octets.now (scene self.old (string_bytes text.old))
             (scene self.new (string_bytes text.new))) }

@@ -139,7 +139,8 @@ fn command(order: Order, selects: bool, cause: u8, tag: Option<[u8; 7]>, until: 
 /// The commands of an order.
 fn commands(alloc: Global, order: Order, terms: Terms<'_>) -> Result<Vec<Step>, AllocError>
     ensures { IfOk result (λ steps.
-        steps.items ≡ order_steps order.manner order (tag_if terms.entry.is_tagged terms.entry.tag)) }
+        steps.items ≡ order_steps order.manner order
+        (tag_if terms.entry.is_tagged terms.entry.tag)) }
 {
     let tag = if terms.is_tagged {
         Some(terms.tag)

@@ -38,8 +38,8 @@ pub enum Wish {
     Command(Order),
 }
 
-/// What words ask for: what is to be done, of whom, and a command's value. `None` says that they are
-/// wrong.
+/// What words ask for: what is to be done, of whom, and a command's value. `None` says that they
+/// are wrong.
 pub fn read_wish(what: Option<&str>, target: Option<&str>, value: Option<&str>) -> Option<Wish> {
     let Some(what) = what else {
         return Some(Wish::Watch);

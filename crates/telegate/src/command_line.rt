@@ -391,7 +391,10 @@ fn centre<'a>(alloc: Global) -> Result<Command<'a>, AllocError>
         CommandWord::Further("VALUE", "The value of a command"),
         CommandWord::Flag("tagged", "Gives a command a time tag"),
         CommandWord::Flag("json", "Prints JSON objects, one a line"),
-        CommandWord::Single("wait", "How many seconds an answer may take, 1 to 3600; by default 10"),
+        CommandWord::Single(
+            "wait",
+            "How many seconds an answer may take, 1 to 3600; by default 10",
+        ),
     ];
     with_words(alloc, command, &words)
 }
