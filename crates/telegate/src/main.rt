@@ -27,6 +27,7 @@ mod answer_laws;
 mod asking;
 mod auditing;
 mod capturing;
+mod centre;
 mod check;
 mod closing;
 mod command_line;
