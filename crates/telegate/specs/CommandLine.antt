@@ -17,7 +17,7 @@ use Rattle.telegate.specs.declared.command_line.CommandRequest.TheVariants.{Show
 use Rattle.telegate.specs.declared.command_line.CommandRequest.TheVariants.{Replay, Sim, Audit, Run}
 use Rattle.telegate.specs.declared.command_line.CommandRequest.TheVariants.{Status, State, Capture}
 use Rattle.telegate.specs.declared.command_line.CommandRequest.TheVariants.{Stations, Centre}
-use Rattle.telegate.specs.declared.centre.CentreWords.{CentreWords}
+use Rattle.telegate.specs.declared.controlling.CentreWords.{CentreWords}
 
 -- What the commands take
 

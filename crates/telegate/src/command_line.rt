@@ -6,7 +6,7 @@ ghost use Rattle.telegate.specs.CommandLine as line;
 ghost use Rattle.telegate.specs.CommandLine.{AreGiven, AreRunWords, texts_of, IsArgument, IsAsked};
 ghost use Rattle.telegate.specs.CommandLine.{IsCommand, IsFlag, IsRequestOf, rule_in, with_all};
 
-use crate::centre::CentreWords;
+use crate::controlling::CentreWords;
 use crate::help;
 use crate::run_words::RunWords;
 use clap::{Arg, ArgAction, ArgMatches, Command, Error};

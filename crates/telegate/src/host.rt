@@ -10,7 +10,7 @@ ghost use Rattle.telegate.specs.declared.fault.Fault.{Fault};
 ghost use Rattle.telegate.specs.declared.host.Unread.TheVariants as unread;
 ghost use Rattle.telegate.specs.declared.host.Wishes.{Wishes};
 
-use crate::centre::{Errands, Uncontrolled, control_at};
+use crate::controlling::{Errands, Uncontrolled, control_at};
 use crate::fault::Fault;
 use crate::inquiry::ask_at;
 use crate::living::{read_live, run_out};

@@ -20,7 +20,7 @@ ghost use Rattle.telegate.specs.Wishes.{IsSiteIn, site_files};
 use crate::asking::ask_status;
 use crate::auditing::audit_alone;
 use crate::capturing::capture;
-use crate::centre::be_centre;
+use crate::controlling::be_centre;
 use crate::check::{Checking, check, refuse};
 use crate::closing::Closing;
 use crate::command_line::{CommandRequest, parse, request_of};
