@@ -1,7 +1,6 @@
 -- The controlling station of one connection (IEC 60870-5-104, 5.1 to 5.5). Numbers, windows, timers
--- and tests are those of `session`, which are the same on both sides; k is 12, w 8, t1 15 s, t2 10
--- s
--- and t3 20 s (9.6).
+-- and tests are those of `session`, which are the same on both sides: k is 12, w 8, t1 15 s, t2
+-- 10 s and t3 20 s (9.6).
 use Rattle.std.specs.Prelude.{ℕ, ◌+◌, ◌-◌, ◌^◌, min, nat_le, Bool, true, false, if◌then◌else◌, List}
 use Rattle.std.specs.Prelude.{Option, Some, None, is_some}
 use Rattle.apci.specs.declared.apdu.Apdu.{Apdu}

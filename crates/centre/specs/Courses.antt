@@ -1,15 +1,23 @@
 -- A control centre in time (this gateway's own profile).
-use Rattle.std.specs.Prelude.{◌≡◌, ℕ, [], Option}
+use Rattle.std.specs.Prelude.{◌≡◌, ℕ, List, [], ◌++◌, Option, Some}
+use Rattle.std.specs.Io.KnownBytes.{Appends}
 use Rattle.centre.specs.Desks.{Desk, IsRound, Scene, scene}
 use Rattle.centre.specs.declared.errand.Outcome.{Outcome}
 
--- rounds, one after another, each with a text of its own
-pub data GoesOn (first : Desk) : Desk → Type 0 where
-  Not_yet : GoesOn first first
-  Round : (now : ℕ) (mid : Desk) (new : Scene) → GoesOn first mid → IsRound now (scene mid []) new
-      → GoesOn first new.desk
+-- rounds, one after another, and the text of what passed in all of them
+pub data GoesOn (first : Desk) : (text : List ℕ) → Desk → Type 0 where
+  Not_yet : GoesOn first [] first
+  Round : (now : ℕ) (text : List ℕ) (mid : Desk) (new : Scene) → GoesOn first text mid
+      → IsRound now (scene mid []) new → GoesOn first (text ++ new.text) new.desk
 
--- what became of the errand is known behind them
-pub record HasGoneOn (old : Desk) (result : Option Outcome) (new : Desk) : Type 0 where
-  pub goes : GoesOn old new
-  pub outcome : result ≡ new.centre.errand.outcome
+-- that text is printed
+pub record HasTold (old new : Desk) (before after : Option (List ℕ)) : Type 0 where
+  pub text : List ℕ
+  pub goes : GoesOn old text new
+  pub printed : Appends before after text
+
+-- this is known then of the errand
+pub record HasConversed (old : Desk) (outcome : Outcome) (new : Desk)
+    (before after : Option (List ℕ)) : Type 0 where
+  pub told : HasTold old new before after
+  pub known : new.centre.errand.outcome ≡ Some outcome

@@ -1,10 +1,8 @@
 -- Requests that are sent one after another, and what answers say to them (IEC 60870-5-101, 7.2.3
 -- and IEC 60870-5-5, 6.8).
 use Rattle.std.specs.Prelude.{ℕ, ◌+◌, ◌*◌, ◌-◌, ◌/◌, ◌%◌, ◌==◌, nat_lt, nat_le, Bool, ◌&&◌, ◌||◌}
-use Rattle.std.specs.Prelude.{not}
-use Rattle.std.specs.Prelude.{if◌then◌else◌, List, length, slice_index, slice_get, Option, Some}
-use Rattle.std.specs.Prelude.{None}
-use Rattle.std.specs.Prelude.{option_map}
+use Rattle.std.specs.Prelude.{not, if◌then◌else◌, List, length, slice_index, slice_get, Option}
+use Rattle.std.specs.Prelude.{Some, None, option_map}
 use Rattle.centre.specs.declared.errand.Answer.{Answer}
 use Rattle.centre.specs.declared.errand.Loss.{Loss}
 use Rattle.centre.specs.declared.errand.Outcome.{Outcome}
@@ -19,8 +17,7 @@ use Rattle.centre.specs.declared.errand.Until.TheVariants as until
 use Rattle.centre.specs.declared.request.Request.{Request}
 
 -- requests, whether it goes on when they are through, how long a confirmation may take, whose turn
--- it
--- is, how far that one is, and what became of the errand
+-- it is, how far that one is, and what became of the errand
 pub record Errand : Type 0 where
   pub steps : List Step
   pub stays : Bool

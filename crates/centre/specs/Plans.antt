@@ -1,5 +1,5 @@
--- The requests of an errand (IEC 60870-5-101, 7.2.1.4 and 7.2.1.5, and what is waited for:
--- profile).
+-- The requests of an errand (IEC 60870-5-101, 7.2.1.4 and 7.2.1.5), and what is waited for (this
+-- gateway's own profile).
 use Rattle.std.specs.Prelude.{◌≡◌, ℕ, ◌+◌, Bool, true, false, if◌then◌else◌, List, [], ◌∷◌, map}
 use Rattle.std.specs.Prelude.{Option, Some, None}
 use Rattle.centre.specs.Errands.{Errand}

@@ -8,8 +8,7 @@ use Rattle.centre.specs.declared.request.Value.TheVariants.{Single, Double, Step
 use Rattle.centre.specs.declared.request.Value.TheVariants.{Scaled, Float}
 
 -- type, one object, cause, originator 0, common address and object address, the low octet first,
--- and
--- the object
+-- and the object
 abbrev pub request_octets : Request → List ℕ
 request_octets r =
     r.kind ∷ 1 ∷ r.cause ∷ 0 ∷ r.ca % 256 ∷ r.ca / 256

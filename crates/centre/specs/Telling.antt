@@ -4,8 +4,10 @@ use Rattle.std.specs.Fmt.{decimal}
 use Rattle.apci.specs.declared.apdu.Apdu.{Apdu}
 use Rattle.apci.specs.declared.apdu.Apdu.TheVariants.{I, S, U}
 use Rattle.words.specs.Connections.{apdu_words}
+use Rattle.centre.specs.Endings.{outcome_words, status_of}
 use Rattle.centre.specs.Errands.{answer_in}
 use Rattle.centre.specs.declared.errand.Answer.{Answer}
+use Rattle.centre.specs.declared.errand.Outcome.{Outcome}
 use Rattle.centre.specs.declared.telling.Style.{Style}
 use Rattle.centre.specs.declared.telling.Style.TheVariants as style
 use Rattle.centre.specs.declared.telling.Way.{Way}
@@ -45,3 +47,18 @@ json_line way now a = way_json way now ++ (numbers_json a ++ words_json a)
 abbrev pub told : Style → Way → (now : ℕ) → Apdu → List ℕ
 told style.Words way now a = word_line way now a
 told style.Json way now a = json_line way now a
+
+-- ---- Behind all: what became of the errand
+
+unfoldable pub end_words : Outcome → List ℕ
+end_words outcome = outcome_words outcome ++ codes "\n"
+
+-- the exit status, too
+unfoldable pub end_json : Outcome → List ℕ
+end_json outcome =
+    codes "{\"status\":" ++ (decimal (status_of outcome) ++ (codes ",\"end\":\""
+    ++ (outcome_words outcome ++ codes "\"}\n")))
+
+abbrev pub end_line : Style → Outcome → List ℕ
+end_line style.Words outcome = end_words outcome
+end_line style.Json outcome = end_json outcome

@@ -72,9 +72,19 @@ impl<S: OctetStream + Drop> Desk<S> {
         self.centre.outcome()
     }
 
-    /// Looks at the connection once, takes what came, and sends what is due. Each APDU has a line
-    /// behind the text.
-    pub fn round(&mut self, now: u64, text: &mut String) -> Result<(), AllocError>
+    /// Looks at the connection once, takes what came, and sends what is due. Answers the text of
+    /// what passed, with a line for each APDU.
+    pub fn round(&mut self, now: u64) -> Result<String, AllocError>
+        ensures { IfOk result (λ text. IsRound now (scene self.old [])
+            (scene self.new (string_bytes text))) }
+    {
+        let mut text = String::new(self.alloc);
+        self.look(now, &mut text)?;
+        Ok(text)
+    }
+
+    /// The same, with the lines behind a text.
+    fn look(&mut self, now: u64, text: &mut String) -> Result<(), AllocError>
         ensures { OnOk result (IsRound now (scene self.old (string_bytes text.old))
             (scene self.new (string_bytes text.new))) }
     {

@@ -2,8 +2,7 @@
 ghost use Rattle.std.specs.Prelude.{◌≡◌, ◌<◌, length, option_map};
 ghost use Rattle.centre.specs.Errands.{answer_in, done_without, due_of, gathers, heard, heard_at};
 ghost use Rattle.centre.specs.Errands.{is_for, lost, obeyed, passed, prolonged, reply_in, reply_to};
-ghost use Rattle.centre.specs.Errands.{sent_off};
-ghost use Rattle.centre.specs.Errands.{turn_of, waited};
+ghost use Rattle.centre.specs.Errands.{sent_off, turn_of, waited};
 
 use crate::request::{GLOBAL, Request};
 use std::marker::Model;

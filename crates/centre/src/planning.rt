@@ -1,5 +1,5 @@
 //! The requests of an errand.
-ghost use Rattle.std.specs.Prelude.{◌≡◌, ◌≤◌, [], ◌∷◌, IfOk, None, length, map};
+ghost use Rattle.std.specs.Prelude.{◌≡◌, ◌≤◌, IfOk, length, map};
 ghost use Rattle.centre.specs.Plans.{IsErrandOf, addresses_for, command_step, order_steps, step_to};
 ghost use Rattle.centre.specs.Plans.{tag_if};
 
@@ -44,25 +44,15 @@ pub fn errand_of(alloc: Global, wish: Wish, terms: Terms<'_>) -> Result<Errand, 
 {
     let patient = Until::Terminated(terms.wait);
     let steps = match wish {
-        Wish::Watch => interrogations(alloc, None, terms, Until::Sent)?,
-        Wish::Interrogate(ca) => interrogations(alloc, ca, terms, patient)?,
+        Wish::Watch => { to_stations(alloc, INTERROGATION, &[STATION], None, terms, Until::Sent)? }
+        Wish::Interrogate(ca) => {
+            to_stations(alloc, INTERROGATION, &[STATION], ca, terms, patient)?
+        }
         Wish::Counters(ca) => to_stations(alloc, COUNTERS, &[GENERAL], ca, terms, patient)?,
         Wish::Clock(ca) => to_stations(alloc, CLOCK, &terms.tag, ca, terms, Until::Confirmed)?,
         Wish::Command(order) => commands(alloc, order, terms)?,
     };
     Ok(Errand::new(steps, matches!(wish, Wish::Watch), terms.wait))
-}
-
-fn interrogations(
-    alloc: Global,
-    ca: Option<u16>,
-    terms: Terms<'_>,
-    until: Until,
-) -> Result<Vec<Step>, AllocError>
-    ensures { IfOk result (λ steps. steps.items
-        ≡ map (step_to 100 (20 ∷ []) until) (addresses_for ca terms.entry.addresses.now)) }
-{
-    to_stations(alloc, INTERROGATION, &[STATION], ca, terms, until)
 }
 
 /// One for each station that is asked.

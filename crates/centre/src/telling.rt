@@ -1,12 +1,11 @@
-//! What passes on the connection, a line an APDU.
-ghost use Rattle.std.specs.Prelude.{◌≡◌, ◌++◌, OnOk, string_bytes};
+//! What passes on the connection, a line an APDU, and what became of the errand behind that.
+ghost use Rattle.std.specs.Prelude.{◌≡◌, ◌++◌, IfOk, OnOk, string_bytes};
 ghost use Rattle.std.specs.Fmt.{decimal};
 ghost use Rattle.apci.specs.Borrowed.{owned};
-ghost use Rattle.centre.specs.Telling.{json_line, numbers_json, told, way_json, way_words};
-ghost use Rattle.centre.specs.Telling.{word_line};
-ghost use Rattle.centre.specs.Telling.{words_json};
+ghost use Rattle.centre.specs.Telling.{end_json, end_line, end_words, json_line, numbers_json, told};
+ghost use Rattle.centre.specs.Telling.{way_json, way_words, word_line, words_json};
 
-use crate::errand::{Answer, answer_in};
+use crate::errand::{Answer, Outcome, answer_in};
 use apci::ApduRef;
 use std::alloc::{AllocError, Global};
 use words::push_apdu;
@@ -146,4 +145,36 @@ fn push_number(text: &mut String, name: &str, number: u32) -> Result<(), AllocEr
 {
     text.push_str(name)?;
     write!(text, "{number}")
+}
+
+/// The last line: what became of the errand.
+pub fn end_line(alloc: Global, style: Style, outcome: Outcome) -> Result<String, AllocError>
+    ensures { IfOk result (λ text. string_bytes text ≡ end_line style outcome) }
+{
+    let mut text = String::new(alloc);
+    match style {
+        Style::Words => push_end(&mut text, outcome)?,
+        Style::Json => push_end_json(&mut text, outcome)?,
+    }
+    Ok(text)
+}
+
+/// Appends it in words.
+fn push_end(text: &mut String, outcome: Outcome) -> Result<(), AllocError>
+    ensures { OnOk result (string_bytes text.new
+        ≡ string_bytes text.old ++ end_words outcome) }
+{
+    text.push_str(outcome.words())?;
+    text.push_str("\n")
+}
+
+/// Appends it as a JSON object.
+#[tactic(auto, unfolding(crate::specs::Telling::end_json))]
+fn push_end_json(text: &mut String, outcome: Outcome) -> Result<(), AllocError>
+    ensures { OnOk result (string_bytes text.new ≡ string_bytes text.old ++ end_json outcome) }
+{
+    push_number(text, "{\"status\":", u32::from(outcome.status()))?;
+    text.push_str(",\"end\":\"")?;
+    text.push_str(outcome.words())?;
+    text.push_str("\"}\n")
 }

@@ -1,8 +1,13 @@
+use Rattle.std.proofs.KnownBytes.{Appends-nil, Appends-trans}
 use Rattle.centre.specs.Courses.{Not_yet, Round}
 use Rattle.centre.proofs.serving.converse.Goals as goal
 
 pub rounds-init : goal.rounds-init
-rounds-init g c = Not_yet
+rounds-init g c = record { text = []; goes = Not_yet; printed = Appends-nil _ }
 
 pub rounds-preserved : goal.rounds-preserved
-rounds-preserved g c = Round _ _ _ c.rounds.invariant c.in-Ok.ensures
+rounds-preserved g c = record {
+  text = c.rounds.invariant.text ++ _;
+  goes = Round _ _ _ _ c.rounds.invariant.goes c.round.ensures;
+  printed = Appends-trans _ _ _ _ _ c.rounds.invariant.printed c.print.ensures.all;
+}
