@@ -160,6 +160,7 @@ pub fn end_line(alloc: Global, style: Style, outcome: Outcome) -> Result<String,
 }
 
 /// Appends it in words.
+#[tactic(auto, unfolding(crate::specs::Telling::end_words))]
 fn push_end(text: &mut String, outcome: Outcome) -> Result<(), AllocError>
     ensures { OnOk result (string_bytes text.new
         ≡ string_bytes text.old ++ end_words outcome) }
