@@ -6,9 +6,9 @@
 //! (`next_of`). A [`Desk`] has it over a stream of octets, with a line for each APDU that passes,
 //! and [`converse`] goes on with that until all is done.
 //!
-//! Proved: what goes out is `next_of`, and what comes leads to `took`; octets, lines and the end are
-//! those of these functions. Numbers, windows and timers are `session`'s. What words ask for is
-//! tested, and so is what sockets do.
+//! Proved: what goes out is `next_of`, and what comes leads to `took`; octets, lines, and the words
+//! and status at the end are those of these functions, and what passes is printed. Numbers, windows
+//! and timers are `session`'s. What words ask for is tested, and so is what sockets do.
 #![tactic(auto)]
 
 mod centre;

@@ -2,8 +2,8 @@
 ghost use Rattle.std.specs.Prelude.{◌≡◌, ◌++◌, IfOk, OnOk, string_bytes};
 ghost use Rattle.std.specs.Fmt.{decimal};
 ghost use Rattle.apci.specs.Borrowed.{owned};
-ghost use Rattle.centre.specs.Telling.{end_json, end_line, end_words, json_line, numbers_json, told};
-ghost use Rattle.centre.specs.Telling.{way_json, way_words, word_line, words_json};
+ghost use Rattle.centre.specs.Telling.{end_json, end_line, end_words, json_line, numbers_json};
+ghost use Rattle.centre.specs.Telling.{told, way_json, way_words, word_line, words_json};
 
 use crate::errand::{Answer, Outcome, answer_in};
 use apci::ApduRef;

@@ -17,6 +17,7 @@ use Rattle.telegate.specs.Captures.{IsCapturedBy}
 use Rattle.telegate.specs.Faults.{status_of_end}
 use Rattle.telegate.specs.Checks.{IsCheckDone, IsRefusalAnswered}
 use Rattle.telegate.specs.CommandLine.{IsRequestOf, text_of, program}
+use Rattle.telegate.specs.Controlled.{EndsAsSaid}
 use Rattle.telegate.specs.Wishes.{CameAt, HasRunAsAsked, HasRunAsSaid, HasRunLive, HasWrongSite}
 use Rattle.telegate.specs.Wishes.{IsFirstSiteFault, IsGoodSite, site_files}
 use Rattle.telegate.specs.Manners.{manner_of}
@@ -334,7 +335,8 @@ IsDone has lacks ran answered silent played stands colours (Capture config text)
     HasCaptured has config.now text.now old new exit
 IsDone has lacks ran answered silent played stands colours (Stations config script) old new exit =
     HavePlayedFiles has played config.now script.now exit × Keeps old new
-IsDone has lacks ran answered silent played stands colours (Centre words) old new exit = Unit {0}
+IsDone has lacks ran answered silent played stands colours (Centre words) old new exit =
+    EndsAsSaid words.json old new exit
 IsDone has lacks ran answered silent played stands colours request old new exit =
     IsJobDone has colours request old new exit
 

@@ -1,5 +1,6 @@
 //! The command that is a control centre, to try a gateway with.
-ghost use Rattle.std.specs.Prelude.{◌≤◌, IfSome};
+ghost use Rattle.std.specs.Prelude.{◌≡◌, ◌<◌, ◌≤◌, IfErr, IfOk, IfSome};
+ghost use Rattle.telegate.specs.Controlled.{EndsAsSaid, HasPrinted, IsTold, style_of};
 
 use crate::asking::write_unknown;
 use crate::fault::{Fault, USAGE};
@@ -7,21 +8,22 @@ use crate::host::Host;
 use crate::performing::write_fault;
 use crate::shell::read_file;
 use centre::{
-    Centre, Desk, Outcome, Style, Terms, Untold, Wish, converse, errand_of, is_wish_word, read_wish,
-    tag_of,
+    Centre, Desk, Outcome, Style, Terms, Untold, Wish, converse, end_line, errand_of, is_wish_word,
+    read_wish, tag_of,
 };
 use live::{LineSocket, RunClock, SystemClock};
-use traces::print;
 use settings::{is_address, read_config};
 use std::alloc::{AllocError, Global};
 use std::io;
 use std::io::Write;
+use traces::print;
 
 /// The port of IEC 60870-5-104.
 const PORT: &str = "2404";
 
 /// How long an answer may take, in seconds, and what may be said in place of that.
 const WAIT_S: u64 = 10;
+
 const LONGEST_WAIT_S: u64 = 3600;
 
 /// The words of the command.
@@ -53,7 +55,9 @@ pub(crate) struct Errands<'a> {
 }
 
 /// Reads the words. `None` says that they are wrong.
-fn errands_in<'a>(words: &CentreWords<'a>) -> Option<Errands<'a>> {
+fn errands_in<'a>(words: &CentreWords<'a>) -> Option<Errands<'a>>
+    ensures { IfSome result (λ errands. errands.style ≡ style_of words.now.json) }
+{
     let (config, wish) = match words.config {
         Some(what) if is_wish_word(what) && words.value.is_none() => {
             (None, read_wish(Some(what), words.what, words.target)?)
@@ -65,7 +69,11 @@ fn errands_in<'a>(words: &CentreWords<'a>) -> Option<Errands<'a>> {
         config,
         wish,
         is_tagged: words.tagged,
-        style: if words.json { Style::Json } else { Style::Words },
+        style: if words.json {
+            Style::Json
+        } else {
+            Style::Words
+        },
         wait_ms: wait_of(words.wait)? * 1000,
     })
 }
@@ -92,9 +100,14 @@ pub(crate) fn be_centre<H: Host, W: Write, E: Write>(
     words: &CentreWords<'_>,
     out: &mut W,
     err: &mut E,
-) -> u8 {
+) -> u8
+    ensures { EndsAsSaid words.now.json (W.contents out.old) (W.contents out.new) result }
+{
     let Some(errands) = errands_in(words) else {
-        let _ = writeln!(err, "error: wrong words: `telegate centre --help` lists them");
+        let _ = writeln!(
+            err,
+            "error: wrong words: `telegate centre --help` lists them"
+        );
         return USAGE;
     };
     let addresses = match addresses_of(alloc, host, errands.config, err) {
@@ -102,21 +115,22 @@ pub(crate) fn be_centre<H: Host, W: Write, E: Write>(
         Err(status) => return status,
     };
     match host.control(&errands, addresses.as_slice(), out) {
-        Ok(Some(outcome)) => tell(outcome, errands.style, out, err),
-        Ok(None) => write_fault(&Fault::Device, err),
+        Ok(outcome) => tell(alloc, outcome, errands.style, out, err),
         Err(Uncontrolled::Unreached) => write_unknown(errands.place, err),
         Err(Uncontrolled::Failed(fault)) => write_fault(&fault, err),
     }
 }
 
-/// The common addresses in a file of settings, if one is named, or the exit status where it can't
-/// be read or is refused, which is written then.
+/// The common addresses in a file of settings, if one is named. If it can't be read or is refused,
+/// that is written, and the exit status is answered.
 fn addresses_of<H: Host, E: Write>(
     alloc: Global,
     host: &H,
     config: Option<&str>,
     err: &mut E,
-) -> Result<Vec<u16>, u8> {
+) -> Result<Vec<u16>, u8>
+    ensures { IfErr result (λ status. 0 < status) }
+{
     let mut addresses = Vec::new(alloc);
     let Some(name) = config else {
         return Ok(addresses);
@@ -135,21 +149,22 @@ fn addresses_of<H: Host, E: Write>(
 }
 
 /// Prints what became of the errand, and answers the exit status.
-fn tell<W: Write, E: Write>(outcome: Outcome, style: Style, out: &mut W, err: &mut E) -> u8 {
-    let (words, status) = (outcome.words(), outcome.status());
-    let printed = match style {
-        Style::Words => writeln!(out, "{words}"),
-        Style::Json => write_json(words, status, out),
+fn tell<W: Write, E: Write>(
+    alloc: Global,
+    outcome: Outcome,
+    style: Style,
+    out: &mut W,
+    err: &mut E,
+) -> u8
+    ensures { IsTold style outcome (W.contents out.old) (W.contents out.new) result }
+{
+    let Ok(line) = end_line(alloc, style, outcome) else {
+        return write_fault(&Fault::NoMemory, err);
     };
-    if printed.is_err() || out.flush().is_err() {
-        return write_fault(&Fault::Device, err);
+    match print(line.as_bytes(), out) {
+        Ok(()) => outcome.status(),
+        Err(_) => write_fault(&Fault::Device, err),
     }
-    status
-}
-
-fn write_json<W: Write>(words: &str, status: u8, out: &mut W) -> io::Result<()> {
-    let (begin, end) = ("{\"outcome\":\"", "}");
-    writeln!(out, "{begin}{words}\",\"status\":{status}{end}")
 }
 
 /// Why nothing became of it.
@@ -166,14 +181,16 @@ impl From<AllocError> for Uncontrolled {
     }
 }
 
-/// Connects to a gateway, and does there what is asked for. `None` says that it isn't known what
-/// became of it.
+/// Connects to a gateway, and does there what is asked for. Prints what passes, and answers what
+/// became of the errand.
 pub(crate) fn control_at<W: Write>(
     rt: &HostRuntime,
     errands: &Errands<'_>,
     addresses: &[u16],
     out: &mut W,
-) -> Result<Option<Outcome>, Uncontrolled> {
+) -> Result<Outcome, Uncontrolled>
+    ensures { IfOk result (λ _. HasPrinted (W.contents out.old) (W.contents out.new)) }
+{
     let alloc = rt.alloc();
     let place = dialled(alloc, errands.place)?;
     let stream = match LineSocket::reach(rt, place.as_str()) {
@@ -200,7 +217,7 @@ pub(crate) fn control_at<W: Write>(
         return Err(Uncontrolled::Failed(Fault::NoMemory));
     };
     let mut desk = Desk::new(alloc, errands.style, stream, centre);
-    match converse(alloc, &mut clock, &mut desk, out) {
+    match converse(&mut clock, &mut desk, out) {
         Ok(outcome) => Ok(outcome),
         Err(Untold::NoMemory) => Err(Uncontrolled::Failed(Fault::NoMemory)),
         Err(Untold::Device) => Err(Uncontrolled::Failed(Fault::Device)),

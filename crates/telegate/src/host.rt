@@ -1,6 +1,7 @@
 //! What the program needs of the system that it runs on.
 ghost use Rattle.std.specs.Prelude.{◌≡◌, ◌⊎◌, ℕ, Bool, List, Result, IfOk, IfErr};
 ghost use Rattle.sim.specs.Scenarios.{FitsScenario};
+ghost use Rattle.telegate.specs.Controlled.{HasPrinted};
 ghost use Rattle.telegate.specs.Playing.{ArePlayed};
 ghost use Rattle.telegate.specs.Ran.{HasNotBegun, IsOver};
 ghost use Rattle.state_files.specs.declared.looking.Stood.{Stood};
@@ -130,14 +131,14 @@ pub(crate) trait Host {
     fn play(&self, config: &[u8], script: &[u8]) -> Result<(), Fault>
         ensures { played self.now config.now script.now result };
 
-    /// Is a control centre of a gateway, and prints what passes. `None` says that it isn't known
-    /// what became of its errand.
+    /// Is a control centre of a gateway, and prints what passes. Answers what became of its errand.
     fn control<W: Write>(
         &self,
         errands: &Errands<'_>,
         addresses: &[u16],
         out: &mut W,
-    ) -> Result<Option<Outcome>, Uncontrolled>;
+    ) -> Result<Outcome, Uncontrolled>
+        ensures { IfOk result (λ _. HasPrinted (W.contents out.old) (W.contents out.new)) };
 
     /// What stands in a directory, in which nothing is changed.
     fn look(&self, directory: &str) -> Result<Stood, Unread>
@@ -236,7 +237,7 @@ impl Host for System<'_> {
         errands: &Errands<'_>,
         addresses: &[u16],
         out: &mut W,
-    ) -> Result<Option<Outcome>, Uncontrolled> {
+    ) -> Result<Outcome, Uncontrolled> {
         control_at(self.rt, errands, addresses, out)
     }
 

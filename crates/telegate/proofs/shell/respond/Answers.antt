@@ -129,4 +129,4 @@ returns-in-Centre-clause-responds g c =
     (g.H.Host.stands c.args.host.now) (g.H.Host.colours c.args.host.now)
     r (g.W.Write.contents c.args.out.now) (g.W.Write.contents c.be_centre.new.out)
     c.be_centre.result)
-    (sym c.in-Centre.is) (inl tt)
+    (sym c.in-Centre.is) (inl c.be_centre.ensures)
