@@ -320,6 +320,70 @@ fn status<'a>(alloc: Global) -> Result<Command<'a>, AllocError>
         .about("Asks a live run how it stands, and ends as a monitor wants it")
         .after_help(help::STATUS);
     let words = [
+        CommandWord::Needed(
+            "PLACE",
+            "Where the run can be looked at (`run --status`), as 127.0.0.1:8104",
+        ),
+        CommandWord::Flag("json", "Prints JSON in place of the table"),
+    ];
+    with_words(alloc, command, &words)
+}
+
+fn state<'a>(alloc: Global) -> Result<Command<'a>, AllocError>
+    ensures { IfOk result (IsCommand line.state) }
+{
+    let command = Command::new(alloc, "state")
+        .about("Shows what a run would go on with, and changes nothing")
+        .after_help(help::STATE);
+    let words = [
+        CommandWord::Needed(
+            "DIR",
+            "A directory in which a run keeps its state (`run --state`)",
+        ),
+        CommandWord::Further(
+            "CONFIG",
+            "A file of settings, to tell whether the state was kept under others",
+        ),
+    ];
+    with_words(alloc, command, &words)
+}
+
+fn capture<'a>(alloc: Global) -> Result<Command<'a>, AllocError>
+    ensures { IfOk result (IsCommand line.capture) }
+{
+    let command = Command::new(alloc, "capture")
+        .about("Writes a recorded run as a capture (pcapng) that Wireshark reads")
+        .after_help(help::CAPTURE);
+    let words = [
+        CommandWord::Needed("CONFIG", "A file of settings"),
+        CommandWord::Needed("RECORD", "A file of events and actions, one a line"),
+    ];
+    with_words(alloc, command, &words)
+}
+
+fn stations<'a>(alloc: Global) -> Result<Command<'a>, AllocError>
+    ensures { IfOk result (IsCommand line.stations) }
+{
+    let command = Command::new(alloc, "stations")
+        .about("Plays outstations in real time, as behind a serial device server")
+        .after_help(help::STATIONS);
+    let words = [
+        CommandWord::Needed(
+            "CONFIG",
+            "A file of settings, whose key `live.line` says where to listen",
+        ),
+        CommandWord::Needed("SCRIPT", "A file of reports and losses, one a line"),
+    ];
+    with_words(alloc, command, &words)
+}
+
+fn centre<'a>(alloc: Global) -> Result<Command<'a>, AllocError>
+    ensures { IfOk result (IsCommand line.centre) }
+{
+    let command = Command::new(alloc, "centre")
+        .about("Is a control centre, to try a gateway with, and prints what passes")
+        .after_help(help::CENTRE);
+    let words = [
         CommandWord::Needed("PLACE", "Where the gateway is: HOST, or HOST:PORT"),
         CommandWord::Further("CONFIG", "A file of settings, whose stations are asked"),
         CommandWord::Further("WHAT", "What is to be done; a watch, if it is left out"),
