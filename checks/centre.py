@@ -144,8 +144,8 @@ def before_a_run(count, program, folder):
             name = " ".join(words).replace(substation.config, "CONFIG")
             count.compare(name, (out[-1:], err, ended), ([said], "", status))
             out, err, ended = substation.centre("--json", *words)
+            count.compare(f"{name}: JSON", out[-1:], [f'{{"status":{status},"end":"{said}"}}'])
             objects = [json.loads(line) for line in out]
-            count.compare(f"{name}: JSON", objects[-1:], [{"outcome": said, "status": status}])
             ways = {(UP, "STARTDT con"), (DOWN, "STARTDT act"), (UP, "STOPDT con"), (DOWN, "STOPDT act")}
             count.judge(f"{name}: ways", ways <= {(it.get("way"), it.get("words")) for it in objects}, objects)
 

@@ -403,7 +403,7 @@ AROUND = [
      ["nothing_goes_out_before_it_is_on_disk", "Segment::survives"]),
     (25, 196, "Settings", ["settings"],
      ["settings_are_named", "sites_are_named"]),
-    (360, 196, "Texts and tries", ["traces record sim", "words"],
+    (360, 196, "Texts and tries", ["traces record sim", "words centre"],
      ["texts_are_read_line_by_line"]),
 ]
 BESIDE = ["checkpoint", "noted_ends", "library_example"]
