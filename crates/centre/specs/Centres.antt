@@ -1,13 +1,12 @@
 -- The controlling station of one connection (IEC 60870-5-104, 5.1 to 5.5). Numbers, windows, timers
 -- and tests are those of `session`, which are the same on both sides: k is 12, w 8, t1 15 s, t2
 -- 10 s and t3 20 s (9.6).
-use Rattle.std.specs.Prelude.{ℕ, ◌+◌, ◌-◌, ◌^◌, min, nat_le, Bool, true, false, if◌then◌else◌, List}
+use Rattle.std.specs.Prelude.{ℕ, ◌+◌, ◌-◌, ◌^◌, min, nat_le, Bool, true, false, if◌then◌else◌}
 use Rattle.std.specs.Prelude.{Option, Some, None, is_some}
 use Rattle.apci.specs.declared.apdu.Apdu.{Apdu}
 use Rattle.apci.specs.declared.apdu.Apdu.TheVariants.{I, S, U}
 use Rattle.apci.specs.declared.apdu.Uf.{Uf}
-use Rattle.apci.specs.declared.apdu.Uf.TheVariants.{StartAct, StartCon, StopAct, StopCon, TestAct}
-use Rattle.apci.specs.declared.apdu.Uf.TheVariants.{TestCon}
+use Rattle.apci.specs.declared.apdu.Uf.TheVariants.{StartAct, StartCon, StopAct, StopCon}
 use Rattle.session.specs.Session.{Due as SessionDue, confirmed, may_send, new_session, opened}
 use Rattle.session.specs.Session.{outcome_of, pulled, sent, taken, timed_out}
 use Rattle.session.specs.declared.kinds.Close.TheVariants.{Timeout}

@@ -38,9 +38,9 @@ pub fn converse<C: RunClock, S: OctetStream + Drop, W: Write>(
             break;
         }
         let text = desk.round(clock.now_ms())?;
-        if print(text.as_bytes(), out).is_err() {
+        let Ok(()) = print(text.as_bytes(), out) else {
             return Err(Untold::Device);
-        }
+        };
     }
     match desk.outcome() {
         Some(outcome) => Ok(outcome),
