@@ -46,24 +46,21 @@ cut_off why c = record c { errand = lost why c.errand; phase = Over }
 
 -- ---- What came
 
--- STARTDT con: data transfer runs, as behind a STARTDT act that is confirmed
-abbrev pub begun_by : (now : ℕ) → Phase → Centre → Centre
-begun_by now (Starting since) c = record c {
+-- STARTDT con, which was asked for: data transfer runs, as behind a STARTDT act that is confirmed
+abbrev pub begun : (now : ℕ) → Centre → Centre
+begun now c = record c {
   session = (confirmed (taken (U StartAct) now c.session)).1;
   phase = Running;
 }
-begun_by now _ c = c
 
-abbrev pub begun : (now : ℕ) → Centre → Centre
-begun now c = begun_by now c.phase c
-
-abbrev pub ended_by : Phase → Phase
-ended_by (Stopping since) = Over
-ended_by phase = phase
+abbrev pub started : (now : ℕ) → Phase → Centre → Centre
+started now (Starting since) c = begun now c
+started now _ c = c
 
 -- STOPDT con
-abbrev pub ended : Centre → Centre
-ended c = record c { phase = ended_by c.phase }
+abbrev pub stopped : Phase → Centre → Centre
+stopped (Stopping since) c = record c { phase = Over }
+stopped _ c = c
 
 -- what the session makes of a frame
 abbrev pub heard_in : Apdu → (now : ℕ) → Errand → Errand
@@ -81,8 +78,8 @@ kept a now c =
     taken_by (outcome_of c.session a) a now (record c { session = taken a now c.session })
 
 abbrev pub took_u : Uf → (now : ℕ) → Centre → Centre
-took_u StartCon now c = begun now c
-took_u StopCon now c = ended c
+took_u StartCon now c = started now c.phase c
+took_u StopCon now c = stopped c.phase c
 took_u StartAct now c = c
 took_u StopAct now c = c
 took_u f now c = kept (U f) now c
@@ -146,21 +143,16 @@ due_waited now c =
 abbrev pub due_running : (now : ℕ) → Centre → Due
 due_running now c = due_waited now (record c { errand = waited now c.errand })
 
--- STARTDT con has t1
-abbrev pub due_starting : (now since : ℕ) → Centre → Due
-due_starting now since c =
-    (None, if nat_le 15000 (now - since) then cut_off (Closed Timeout) c else c)
-
--- STOPDT con has t1, too
-abbrev pub due_stopping : (now since : ℕ) → Centre → Due
-due_stopping now since c =
-    if nat_le 15000 (now - since) then (None, record c { phase = Over }) else pulls (ahead now) c
+-- STARTDT con and STOPDT con have t1
+abbrev pub within_t1 : (now since : ℕ) → Due → Centre → Due
+within_t1 now since due c =
+    if nat_le 15000 (now - since) then (None, cut_off (Closed Timeout) c) else due
 
 abbrev pub asked_for : (now : ℕ) → Phase → Centre → Due
 asked_for now Opened c = (Some (U StartAct), record c { phase = Starting now })
-asked_for now (Starting since) c = due_starting now since c
+asked_for now (Starting since) c = within_t1 now since (None, c) c
 asked_for now Running c = due_running now c
-asked_for now (Stopping since) c = due_stopping now since c
+asked_for now (Stopping since) c = within_t1 now since (pulls (ahead now) c) c
 asked_for now Over c = (None, c)
 
 abbrev pub in_time : (now : ℕ) → Centre → Due

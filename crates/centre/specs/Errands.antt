@@ -103,32 +103,25 @@ said_to now (until.Terminated ms) cause Confirms e = record e { standing = Confi
 said_to now (until.Terminated ms) cause Terminates e = passed outcome.Terminated e
 
 -- before the request went out it says nothing
-abbrev pub obeyed_at : (now : ℕ) → Until → (cause : ℕ) → Reply → Standing → Errand → Errand
-obeyed_at now u cause reply Unsent e = e
-obeyed_at now u cause reply (Sent since) e = said_to now u cause reply e
-obeyed_at now u cause reply (Confirmed since) e = said_to now u cause reply e
-
-abbrev pub obeyed : (now : ℕ) → Until → (cause : ℕ) → Reply → Errand → Errand
-obeyed now u cause reply e = obeyed_at now u cause reply e.standing e
+abbrev pub obeyed : (now : ℕ) → Until → (cause : ℕ) → Reply → Standing → Errand → Errand
+obeyed now u cause reply Unsent e = e
+obeyed now u cause reply (Sent since) e = said_to now u cause reply e
+obeyed now u cause reply (Confirmed since) e = said_to now u cause reply e
 
 -- A termination is waited for anew while what was asked for comes.
-abbrev pub prolonged_at : (now : ℕ) → Answer → Standing → Errand → Errand
-prolonged_at now a Unsent e = e
-prolonged_at now a (Sent since) e = e
-prolonged_at now a (Confirmed since) e =
+abbrev pub prolonged : (now : ℕ) → Answer → Standing → Errand → Errand
+prolonged now a Unsent e = e
+prolonged now a (Sent since) e = e
+prolonged now a (Confirmed since) e =
     if gathers a then record e { standing = Confirmed now } else e
 
-abbrev pub prolonged : (now : ℕ) → Answer → Errand → Errand
-prolonged now a e = prolonged_at now a e.standing e
-
 abbrev pub replied : (now : ℕ) → Until → Answer → Option Reply → Errand → Errand
-replied now u a None e = prolonged now a e
-replied now u a (Some reply) e = obeyed now u a.cause reply e
+replied now u a None e = prolonged now a e.standing e
+replied now u a (Some reply) e = obeyed now u a.cause reply e.standing e
 
 abbrev pub heard_at : (now : ℕ) → Answer → Option Step → Errand → Errand
 heard_at now a None e = e
-heard_at now a (Some s) e =
-    replied now s.until a (reply_to s.request a) e
+heard_at now a (Some s) e = replied now s.until a (reply_to s.request a) e
 
 abbrev pub heard_by : (now : ℕ) → Option Answer → Option Outcome → Errand → Errand
 heard_by now None end e = e
@@ -139,26 +132,22 @@ heard_by now (Some a) (Some end) e = e
 abbrev pub heard : (now : ℕ) → List ℕ → Errand → Errand
 heard now xs e = heard_by now (answer_in xs) e.outcome e
 
--- no termination came since this moment
-abbrev pub done_by : (now since : ℕ) → Until → Errand → Errand
-done_by now since until.Sent e = e
-done_by now since until.Confirmed e = e
-done_by now since (until.Terminated ms) e =
+abbrev pub waited_at : (now : ℕ) → Standing → Until → Errand → Errand
+waited_at now Unsent u e = e
+waited_at now (Sent since) u e =
+    if nat_le e.wait (now - since) then record e { outcome = Some outcome.Silent } else e
+waited_at now (Confirmed since) until.Sent e = e
+waited_at now (Confirmed since) until.Confirmed e = e
+waited_at now (Confirmed since) (until.Terminated ms) e =
     if nat_le ms (now - since) then passed outcome.Confirmed e else e
 
-abbrev pub done_without : (now since : ℕ) → Option Step → Errand → Errand
-done_without now since None e = e
-done_without now since (Some s) e = done_by now since s.until e
-
-abbrev pub waited_at : (now : ℕ) → Standing → Errand → Errand
-waited_at now Unsent e = e
-waited_at now (Sent since) e =
-    if nat_le e.wait (now - since) then record e { outcome = Some outcome.Silent } else e
-waited_at now (Confirmed since) e = done_without now since (turn_of e) e
+abbrev pub waited_by : (now : ℕ) → Option Step → Errand → Errand
+waited_by now None e = e
+waited_by now (Some s) e = waited_at now e.standing s.until e
 
 -- Time passes: a confirmation has so long, and a termination that doesn't come is done without.
 abbrev pub waited : (now : ℕ) → Errand → Errand
-waited now e = waited_at now e.standing e
+waited now e = waited_by now (turn_of e) e
 
 -- the connection is lost; what has ended before has ended so
 abbrev pub lost_by : Loss → Option Outcome → Option Outcome

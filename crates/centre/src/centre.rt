@@ -3,9 +3,8 @@ ghost use Rattle.std.specs.Prelude.{◌≡◌, ◌<◌, ◌≤◌, IfOk, IfSome,
 ghost use Rattle.apci.specs.Spelling.{Fits};
 ghost use Rattle.apci.specs.declared.apdu.Apdu.TheVariants.{I};
 ghost use Rattle.session.specs.Session.{new_session, opened};
-ghost use Rattle.centre.specs.Centres.{after_sending, begun, cut_off, due_running, due_starting};
-ghost use Rattle.centre.specs.Centres.{due_stopping, ended, is_over, first_centre, kept, next_of};
-ghost use Rattle.centre.specs.Centres.{asked_for, pulls, pulls_or_stops, sends, taken_by, took};
+ghost use Rattle.centre.specs.Centres.{asked_for, begun, cut_off, due_running, first_centre};
+ghost use Rattle.centre.specs.Centres.{is_over, kept, next_of, pulls_or_stops, sends, took};
 ghost use Rattle.centre.specs.declared.centre.Phase.TheVariants as phase;
 
 use crate::errand::{Errand, Loss, Outcome};
@@ -105,34 +104,23 @@ impl Centre {
     pub fn take(&mut self, apdu: &Apdu, now: u64)
         ensures { self.new ≡ took apdu.now now self.old }
     {
-        match apdu {
-            Apdu::U(Uf::StartCon) => self.begin(now),
-            Apdu::U(Uf::StopCon) => self.end(),
-            // A controlled station sends neither.
-            Apdu::U(Uf::StartAct) | Apdu::U(Uf::StopAct) => {}
-            _ => self.keep(apdu, now),
+        match (apdu, self.phase) {
+            (Apdu::U(Uf::StartCon), Phase::Starting(_)) => self.begin(now),
+            (Apdu::U(Uf::StopCon), Phase::Stopping(_)) => self.phase = Phase::Over,
+            // Nobody asked for that, and a controlled station starts and stops nothing.
+            (Apdu::U(Uf::StartCon | Uf::StopCon | Uf::StartAct | Uf::StopAct), _) => {}
+            (_, _) => self.keep(apdu, now),
         }
     }
 
-    /// STARTDT con came: data transfer runs, if it was asked for.
+    /// STARTDT con came, which was asked for: data transfer runs.
     fn begin(&mut self, now: u64)
         ensures { self.new ≡ begun now self.old }
     {
-        if let Phase::Starting(_) = self.phase {
-            let _started = self.session.take(&Apdu::U(Uf::StartAct), now);
-            // This side confirms nothing: STARTDT con is what came.
-            let _confirmed = self.session.confirm();
-            self.phase = Phase::Running;
-        }
-    }
-
-    /// STOPDT con came: all is done, if it was asked for.
-    fn end(&mut self)
-        ensures { self.new ≡ ended self.old }
-    {
-        if let Phase::Stopping(_) = self.phase {
-            self.phase = Phase::Over;
-        }
+        let _started = self.session.take(&Apdu::U(Uf::StartAct), now);
+        // This side confirms nothing: STARTDT con is what came.
+        let _confirmed = self.session.confirm();
+        self.phase = Phase::Running;
     }
 
     /// A frame came that the session keeps.
@@ -178,22 +166,16 @@ impl Centre {
                 self.phase = Phase::Starting(now);
                 Some(Apdu::U(Uf::StartAct))
             }
-            Phase::Starting(since) => self.await_start(since, now),
+            Phase::Starting(since) | Phase::Stopping(since) if now.saturating_sub(since) >= T1_MS =>
+                {
+                    self.lose(Loss::Closed(Close::Timeout));
+                    None
+                }
+            Phase::Starting(_) | Phase::Over => None,
             Phase::Running => self.run_on(now),
-            Phase::Stopping(since) => self.await_stop(since, now),
-            Phase::Over => None,
+            // What still comes is acknowledged at once.
+            Phase::Stopping(_) => self.session.pull(now.saturating_add(T2_MS)),
         }
-    }
-
-    /// While STARTDT con is waited for nothing is due.
-    fn await_start(&mut self, since: u64, now: u64) -> Option<Apdu>
-        ensures due { (result, self.new) ≡ due_starting now since self.old }
-        ensures fits { IfSome result Fits }
-    {
-        if now.saturating_sub(since) >= T1_MS {
-            self.lose(Loss::Closed(Close::Timeout));
-        }
-        None
     }
 
     /// While data transfer runs the errand goes on, and behind its end data transfer stops.
@@ -236,17 +218,5 @@ impl Centre {
         }
         self.phase = Phase::Stopping(now);
         Some(Apdu::U(Uf::StopAct))
-    }
-
-    /// While STOPDT con is waited for, what still comes is acknowledged at once.
-    fn await_stop(&mut self, since: u64, now: u64) -> Option<Apdu>
-        ensures due { (result, self.new) ≡ due_stopping now since self.old }
-        ensures fits { IfSome result Fits }
-    {
-        if now.saturating_sub(since) >= T1_MS {
-            self.phase = Phase::Over;
-            return None;
-        }
-        self.session.pull(now.saturating_add(T2_MS))
     }
 }

@@ -1,7 +1,6 @@
 //! What became of an errand, in words and as an exit status.
 ghost use Rattle.std.specs.Prelude.{◌≡◌};
-ghost use Rattle.centre.specs.Endings.{closed_words, lost_words, outcome_words, refused_words};
-ghost use Rattle.centre.specs.Endings.{status_of};
+ghost use Rattle.centre.specs.Endings.{outcome_words, status_of};
 
 use crate::errand::{Loss, Outcome};
 use session::Close;
@@ -14,9 +13,24 @@ impl Outcome {
         match self {
             Outcome::Confirmed => "confirmed",
             Outcome::Terminated => "confirmed and terminated",
-            Outcome::Refused(cause) => refused_words(cause),
+            Outcome::Refused(cause) => match cause % 64 {
+                44 => "refused: unknown type",
+                45 => "refused: unknown cause",
+                46 => "refused: unknown common address",
+                47 => "refused: unknown object address",
+                _ => "refused: negative confirmation",
+            },
             Outcome::Silent => "no answer in time",
-            Outcome::Lost(why) => lost_words(why),
+            Outcome::Lost(Loss::Gone) => "connection lost: the gateway ended it",
+            Outcome::Lost(Loss::Untaken) => "connection lost: the gateway takes nothing",
+            Outcome::Lost(Loss::Closed(why)) => match why {
+                Close::Grammar => "connection lost: octets that begin no APDU",
+                Close::SendNumber => "connection lost: a wrong N(S)",
+                Close::ReceiveNumber => "connection lost: a wrong N(R)",
+                Close::Stopped => "connection lost: an I frame while data transfer is stopped",
+                Close::Timeout => "connection lost: no answer within t1",
+                Close::OwnAnswers | Close::Replaced => "connection lost",
+            },
         }
     }
 
@@ -29,41 +43,5 @@ impl Outcome {
             Outcome::Refused(_) => 1,
             Outcome::Silent | Outcome::Lost(_) => 3,
         }
-    }
-}
-
-/// A refusal by this cause octet.
-fn refused_words(cause: u8) -> &'static str
-    ensures { result.now ≡ refused_words cause }
-{
-    match cause % 64 {
-        44 => "refused: unknown type",
-        45 => "refused: unknown cause",
-        46 => "refused: unknown common address",
-        47 => "refused: unknown object address",
-        _ => "refused: negative confirmation",
-    }
-}
-
-fn lost_words(why: Loss) -> &'static str
-    ensures { result.now ≡ lost_words why }
-{
-    match why {
-        Loss::Gone => "connection lost: the gateway ended it",
-        Loss::Untaken => "connection lost: the gateway takes nothing",
-        Loss::Closed(why) => closed_words(why),
-    }
-}
-
-fn closed_words(why: Close) -> &'static str
-    ensures { result.now ≡ closed_words why }
-{
-    match why {
-        Close::Grammar => "connection lost: octets that begin no APDU",
-        Close::SendNumber => "connection lost: a wrong N(S)",
-        Close::ReceiveNumber => "connection lost: a wrong N(R)",
-        Close::Stopped => "connection lost: an I frame while data transfer is stopped",
-        Close::Timeout => "connection lost: no answer within t1",
-        Close::OwnAnswers | Close::Replaced => "connection lost",
     }
 }

@@ -1,8 +1,7 @@
 //! What a control centre is to do, and how far it is with that.
 ghost use Rattle.std.specs.Prelude.{◌≡◌, ◌<◌, length, option_map};
-ghost use Rattle.centre.specs.Errands.{answer_in, done_without, due_of, gathers, heard, heard_at};
-ghost use Rattle.centre.specs.Errands.{is_for, lost, obeyed, passed, prolonged, reply_in, reply_to};
-ghost use Rattle.centre.specs.Errands.{sent_off, turn_of, waited};
+ghost use Rattle.centre.specs.Errands.{answer_in, due_of, gathers, heard, heard_at};
+ghost use Rattle.centre.specs.Errands.{lost, passed, reply_to, sent_off, turn_of, waited};
 
 use crate::request::{GLOBAL, Request};
 use std::marker::Model;
@@ -123,43 +122,23 @@ pub(crate) fn answer_in(octets: &[u8]) -> Option<Answer>
     })
 }
 
-/// Whether it is of the same type and of the same object.
-fn is_for(request: &Request, answer: Answer) -> bool
-    ensures { result ≡ is_for request.now answer }
-{
-    request.kind == answer.kind
-        && request.ioa == answer.ioa
-        && (request.ca == answer.ca || request.ca == GLOBAL)
-}
-
-/// What a cause octet says to a request with this cause.
-fn reply_in(asked: u8, cause: u8) -> Option<Reply>
-    ensures { result ≡ reply_in asked cause }
-{
-    let said = cause % 64;
-    if said >= 44 && said <= 47 {
-        return Some(Reply::Refuses);
-    }
-    if u16::from(said) != u16::from(asked) + 1 && said != 10 {
-        return None;
-    }
-    if cause / 64 % 2 == 1 {
-        return Some(Reply::Refuses);
-    }
-    if said == 10 {
-        return Some(Reply::Terminates);
-    }
-    Some(Reply::Confirms)
-}
-
-/// What an ASDU says to a request.
+/// What an ASDU says to a request: nothing, unless it is of the same type and the same object.
 fn reply_to(request: &Request, answer: Answer) -> Option<Reply>
     ensures { result ≡ reply_to request.now answer }
 {
-    if is_for(request, answer) {
-        return reply_in(request.cause, answer.cause);
+    let is_for = request.kind == answer.kind
+        && request.ioa == answer.ioa
+        && (request.ca == answer.ca || request.ca == GLOBAL);
+    if !is_for {
+        return None;
     }
-    None
+    match answer.cause % 64 {
+        44 | 45 | 46 | 47 => Some(Reply::Refuses),
+        said if said != 10 && u16::from(said) != u16::from(request.cause) + 1 => None,
+        _ if answer.cause / 64 % 2 == 1 => Some(Reply::Refuses),
+        10 => Some(Reply::Terminates),
+        _ => Some(Reply::Confirms),
+    }
 }
 
 /// Whether it was asked for by an interrogation, of objects or of counters.
@@ -256,39 +235,21 @@ impl Errand {
         let Some(step) = self.steps.get(self.at) else {
             return;
         };
-        let until = step.until;
-        match reply_to(&step.request, answer) {
-            Some(reply) => self.obey(until, reply, answer.cause, now),
-            None => self.prolong(answer, now),
-        }
-    }
-
-    /// An answer to the request whose turn it is came.
-    fn obey(&mut self, until: Until, reply: Reply, cause: u8, now: u64)
-        requires { self.old.at < length self.old.steps }
-        ensures { self.new ≡ obeyed now until cause reply self.old }
-    {
-        // One that comes before the request has gone out is none to it.
-        if let Standing::Unsent = self.standing {
-            return;
-        }
-        match (reply, until) {
-            (Reply::Refuses, _) => self.outcome = Some(Outcome::Refused(cause)),
-            (Reply::Confirms, Until::Confirmed) => self.pass(Outcome::Confirmed),
-            (Reply::Confirms, Until::Terminated(_)) => self.standing = Standing::Confirmed(now),
-            (Reply::Terminates, Until::Terminated(_)) => self.pass(Outcome::Terminated),
-            (_, _) => {}
-        }
-    }
-
-    /// While what an interrogation asked for still comes its termination is waited for anew.
-    fn prolong(&mut self, answer: Answer, now: u64)
-        ensures { self.new ≡ prolonged now answer self.old }
-    {
-        if let Standing::Confirmed(_) = self.standing {
-            if gathers(answer) {
+        let reply = reply_to(&step.request, answer);
+        match (self.standing, reply, step.until) {
+            // One that comes before the request has gone out is none to it.
+            (Standing::Unsent, _, _) => {}
+            (_, Some(Reply::Refuses), _) => self.outcome = Some(Outcome::Refused(answer.cause)),
+            (_, Some(Reply::Confirms), Until::Confirmed) => self.pass(Outcome::Confirmed),
+            (_, Some(Reply::Confirms), Until::Terminated(_)) => {
                 self.standing = Standing::Confirmed(now);
             }
+            (_, Some(Reply::Terminates), Until::Terminated(_)) => self.pass(Outcome::Terminated),
+            // While what an interrogation asked for still comes its end is waited for anew.
+            (Standing::Confirmed(_), None, _) if gathers(answer) => {
+                self.standing = Standing::Confirmed(now);
+            }
+            (_, _, _) => {}
         }
     }
 
@@ -297,28 +258,18 @@ impl Errand {
     pub(crate) fn wait_on(&mut self, now: u64)
         ensures { self.new ≡ waited now self.old }
     {
-        match self.standing {
-            Standing::Unsent => {}
-            Standing::Sent(since) => {
-                if now.saturating_sub(since) >= self.wait {
-                    self.outcome = Some(Outcome::Silent);
-                }
-            }
-            Standing::Confirmed(since) => self.do_without(since, now),
-        }
-    }
-
-    /// No termination came since this moment.
-    fn do_without(&mut self, since: u64, now: u64)
-        ensures { self.new ≡ done_without now since (turn_of self.old) self.old }
-    {
         let Some(step) = self.steps.get(self.at) else {
             return;
         };
-        if let Until::Terminated(ms) = step.until {
-            if now.saturating_sub(since) >= ms {
+        match (self.standing, step.until) {
+            (Standing::Sent(since), _) if now.saturating_sub(since) >= self.wait => {
+                self.outcome = Some(Outcome::Silent);
+            }
+            (Standing::Confirmed(since), Until::Terminated(ms))
+                if now.saturating_sub(since) >= ms => {
                 self.pass(Outcome::Confirmed);
             }
+            (_, _) => {}
         }
     }
 
