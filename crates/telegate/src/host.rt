@@ -1,6 +1,7 @@
 //! What the program needs of the system that it runs on.
 ghost use Rattle.std.specs.Prelude.{◌≡◌, ◌⊎◌, ℕ, Bool, List, Result, IfOk, IfErr};
 ghost use Rattle.sim.specs.Scenarios.{FitsScenario};
+ghost use Rattle.telegate.specs.Controlled.{HasPrinted};
 ghost use Rattle.telegate.specs.Playing.{ArePlayed};
 ghost use Rattle.telegate.specs.Ran.{HasNotBegun, IsOver};
 ghost use Rattle.state_files.specs.declared.looking.Stood.{Stood};
@@ -10,12 +11,14 @@ ghost use Rattle.telegate.specs.declared.fault.Fault.{Fault};
 ghost use Rattle.telegate.specs.declared.host.Unread.TheVariants as unread;
 ghost use Rattle.telegate.specs.declared.host.Wishes.{Wishes};
 
+use crate::controlling::{Errands, Uncontrolled, control_at};
 use crate::fault::Fault;
 use crate::inquiry::ask_at;
 use crate::living::{read_live, run_out};
 use crate::playing::{play_behind, scenario_of};
 use crate::site::Process;
 use crate::source::Source;
+use centre::Outcome;
 use gateway::{Config, History};
 use live::{AllowList, SystemClock};
 use runlog::{LogNames, NamedStation};
@@ -28,7 +31,7 @@ use state_files::{Directory, Starts, Stood, stood_in};
 use std::alloc::{AllocError, Global};
 use std::fs::File;
 use std::io;
-use std::io::Read;
+use std::io::{Read, Write};
 use std::rt::Files;
 
 /// The name of standard input.
@@ -128,6 +131,15 @@ pub(crate) trait Host {
     fn play(&self, config: &[u8], script: &[u8]) -> Result<(), Fault>
         ensures { played self.now config.now script.now result };
 
+    /// Is a control centre of a gateway, and prints what passes. Answers what became of its errand.
+    fn control<W: Write>(
+        &self,
+        errands: &Errands<'_>,
+        addresses: &[u16],
+        out: &mut W,
+    ) -> Result<Outcome, Uncontrolled>
+        ensures { IfOk result (λ _. HasPrinted (W.contents out.old) (W.contents out.new)) };
+
     /// What stands in a directory, in which nothing is changed.
     fn look(&self, directory: &str) -> Result<Stood, Unread>
         ensures stood { IfOk result (stands self.now directory.now) }
@@ -220,6 +232,15 @@ impl<S: Starts> Host for System<'_, S> {
         let (settings, places) = read_live(self.rt.alloc(), config)?;
         let scenario = scenario_of(self.rt.alloc(), &settings, script)?;
         play_at(self.rt, &settings, scenario, places.line.as_str())
+    }
+
+    fn control<W: Write>(
+        &self,
+        errands: &Errands<'_>,
+        addresses: &[u16],
+        out: &mut W,
+    ) -> Result<Outcome, Uncontrolled> {
+        control_at(self.rt, errands, addresses, out)
     }
 
     fn look(&self, directory: &str) -> Result<Stood, Unread> {

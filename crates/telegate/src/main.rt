@@ -30,6 +30,7 @@ mod capturing;
 mod check;
 mod closing;
 mod command_line;
+mod controlling;
 mod examples;
 mod fault;
 mod help;
