@@ -5,6 +5,9 @@ ghost use Rattle.runlog.specs.Orders as spec;
 
 use asdu::{CaSize, CauseSize, IoaSize, Sizes, head};
 
+/// The common address of each station, to which an interrogation may go (IEC 60870-5-101, 7.2.4).
+const GLOBAL: u16 = 65535;
+
 /// What a command wants.
 #[derive(Clone, Copy, PartialEq, Eq)]
 pub enum OrderKind {
@@ -192,5 +195,15 @@ impl Order {
             object: head.ioa,
             value: value_of(kind, element),
         })
+    }
+
+    /// Whether this command, as it came, is the one that goes out to the line so: in the sizes of
+    /// the line, without a time tag, and with the station's own common address.
+    pub(crate) fn goes_out_as(&self, sent: Order) -> bool
+        ensures { result ≡ spec.goes_out_as sent self.now }
+    {
+        let is_global = sent.kind == 100 && self.ca == GLOBAL;
+        plain(self.kind) == sent.kind
+            && (self.object == sent.object && (is_global || self.ca == sent.ca))
     }
 }
