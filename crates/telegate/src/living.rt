@@ -644,7 +644,7 @@ fn refuse<S: LogSink + Drop>(obstacle: Obstacle, logger: &mut Logger<S>) -> Faul
     ensures unkept { IsUnkept result logger.old logger.new }
     ensures cause { result ≡ fault.StateUnusable obstacle.cause }
 {
-    logger.note(Note::Trouble(Trouble::StateUnusable));
+    logger.note(Note::StateUnkept(obstacle));
     Fault::StateUnusable(obstacle.cause)
 }
 
