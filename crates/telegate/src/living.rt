@@ -480,10 +480,20 @@ fn run_kept<T: RunSite>(
 {
     let mut scribes = scribes_of(site, config, &wishes)?;
     let begun = begun_in(site, config, text, directory, &wishes, &mut scribes.logger)?;
+    log_mount(site, directory, &mut scribes.logger);
     let moment = first_moment(begun.origin.moment);
     let ends = opened(site, &wishes, moment, &mut scribes.logger)?;
     begin_record(&begun.origin, &mut scribes.pen);
     Ok(run_from(site, config, begun, ends, wishes, scribes))
+}
+
+/// Logs if the directory of the state stands on btrfs.
+fn log_mount<T: RunSite>(site: &T, directory: &str, logger: &mut Logger<T::Sink>)
+    ensures { book_fixture logger.new ≡ book_fixture logger.old }
+{
+    if site.is_on_btrfs(directory) {
+        logger.note(Note::StateOnBtrfs);
+    }
 }
 
 /// The record of a run that goes on says first with which state it does, for its audit.
@@ -644,7 +654,7 @@ fn refuse<S: LogSink + Drop>(obstacle: Obstacle, logger: &mut Logger<S>) -> Faul
     ensures unkept { IsUnkept result logger.old logger.new }
     ensures cause { result ≡ fault.StateUnusable obstacle.cause }
 {
-    logger.note(Note::Trouble(Trouble::StateUnusable));
+    logger.note(Note::StateUnkept(obstacle));
     Fault::StateUnusable(obstacle.cause)
 }
 

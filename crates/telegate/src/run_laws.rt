@@ -145,8 +145,8 @@ pub fn a_start_logs_why_it_ends()
     ensures in_use { (old new : Book) → IsUnkept fault.StateInUse old new →
         LogsAll (note.Trouble trouble.StateInUse ∷ []) old new }
     ensures unusable { (cause : ErrorKind) (old new : Book) →
-        IsUnkept (fault.StateUnusable cause) old new →
-        LogsAll (note.Trouble trouble.StateUnusable ∷ []) old new }
+        IsUnkept (fault.StateUnusable cause) old new → (why : Obstacle) × (why.cause ≡ cause)
+        × LogsAll (note.StateUnkept why ∷ []) old new }
     ensures ends { (why : Fault) (old new : Book) → IsRefused why old new →
         (refusal : EndRefusal) × LogsAll (note.Trouble refusal.trouble ∷ []) old new
         × (refusal.is_memory ≡ true → why ≡ fault.NoMemory)

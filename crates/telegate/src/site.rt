@@ -6,6 +6,7 @@ ghost use Rattle.telegate.specs.Lines.{is_again, of_line};
 ghost use Rattle.telegate.specs.Logged.{fault_of};
 
 use crate::fault::Fault;
+use crate::mounts::is_on_btrfs;
 use gateway::History;
 use live::{
     CentreListener, Got, LineDialler, LineSocket, Listener, OctetStream, Presence, Reached,
@@ -129,6 +130,9 @@ pub(crate) trait RunSite {
             Self.Folder.lineage folder ≡ (asked self.old).lineage) }
         ensures asked { asked self.new
             ≡ asked_for (StateIn name.now (is_ok result) ∷ []) (asked self.old) };
+
+    /// Whether the directory of this name, which is there, stands on btrfs.
+    fn is_on_btrfs(&self, name: &str) -> bool;
 
     /// Marks the state of its directory as stale beside that, for a run without it. `false`: it
     /// couldn't be done.
@@ -298,6 +302,10 @@ impl<'r, S: Starts> RunSite for Process<'r, S> {
     fn folder(&mut self, name: &str) -> Result<Directory<S>, AllocError> {
         let path = String::from_str(self.rt.alloc(), name)?;
         Ok(Directory::new(*self.rt, path, self.starts, self.lineage.again()))
+    }
+
+    fn is_on_btrfs(&self, name: &str) -> bool {
+        is_on_btrfs(self.rt, name)
     }
 
     fn mark_beside(&mut self) -> bool {
