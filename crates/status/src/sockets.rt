@@ -2,13 +2,48 @@
 ghost use Rattle.std.specs.Prelude.{None};
 
 use crate::streams::{Stream, StreamLook, StreamSource, Took};
+use arrayvec::ArrayVec;
 use std::io;
 use std::io::{ErrorKind, Read, Write};
 use std::net::{Net, OpenListener, OpenStream, Shutdown, TcpListener, TcpStream};
 
+/// How many connections are taken from the listener at once at the most: as many as wait there on
+/// most machines.
+const MOST_WAITING: usize = 128;
+
 /// The connection of a visitor.
 #[derive(Drop)]
-pub struct VisitorSocket(TcpStream);
+pub struct VisitorSocket {
+    stream: TcpStream,
+    /// What came before the visitor was let in, until it is read.
+    first: ArrayVec<u8, 1_024>,
+}
+
+impl VisitorSocket {
+    /// The visitor on this connection, or nobody if its other end has gone already.
+    fn of(stream: TcpStream) -> Option<VisitorSocket> {
+        stream.set_nonblocking(true).ok()?;
+        // Head and body go out in two writes; the system would hold the second one back.
+        stream.set_nodelay(true).ok()?;
+        let mut first = ArrayVec::from([0; 1_024]);
+        match look(&stream, first.as_mut_slice()) {
+            StreamLook::Octets(len) => first.truncate(len),
+            StreamLook::Quiet => first.clear(),
+            StreamLook::Gone => return None,
+        }
+        Some(VisitorSocket { stream, first })
+    }
+}
+
+/// What a connection gives now.
+fn look(mut stream: &TcpStream, buf: &mut [u8]) -> StreamLook {
+    match stream.read(buf) {
+        Ok(0) => StreamLook::Gone,
+        Ok(len) => StreamLook::Octets(len),
+        Err(fault) if is_quiet(&fault) => StreamLook::Quiet,
+        Err(_) => StreamLook::Gone,
+    }
+}
 
 impl Stream for VisitorSocket {
     ghost given = { λ _. None };
@@ -18,16 +53,17 @@ impl Stream for VisitorSocket {
     ghost calls = { λ _. None };
 
     fn read(&mut self, buf: &mut [u8; 1024]) -> StreamLook {
-        match self.0.read(buf) {
-            Ok(0) => StreamLook::Gone,
-            Ok(len) => StreamLook::Octets(len),
-            Err(fault) if is_quiet(&fault) => StreamLook::Quiet,
-            Err(_) => StreamLook::Gone,
+        if self.first.is_empty() {
+            return look(&self.stream, buf);
         }
+        let len = self.first.len();
+        buf[..len].copy_from_slice(&self.first);
+        self.first.clear();
+        StreamLook::Octets(len)
     }
 
     fn write(&mut self, octets: &[u8]) -> Took {
-        match self.0.write(octets) {
+        match self.stream.write(octets) {
             Ok(count) => Took::Octets(count),
             Err(fault) if is_quiet(&fault) => Took::Octets(0),
             Err(_) => Took::Nothing,
@@ -36,7 +72,7 @@ impl Stream for VisitorSocket {
 
     fn finish(&mut self) {
         // Where the other end has gone already, the next look finds it.
-        let _ = self.0.shutdown(Shutdown::Write);
+        let _ = self.stream.shutdown(Shutdown::Write);
     }
 }
 
@@ -77,11 +113,14 @@ impl StreamSource for VisitorListener {
     ghost arrivals = { λ _. None };
 
     fn accept(&mut self) -> Option<VisitorSocket> {
-        // Who can't be accepted is no visitor, and the listener stays open.
-        let (stream, _) = self.listener.accept().ok()?;
-        stream.set_nonblocking(true).ok()?;
-        // Head and body go out in two writes; the system would hold the second one back.
-        stream.set_nodelay(true).ok()?;
-        Some(VisitorSocket(stream))
+        // Who can't be accepted is no visitor, and the listener stays open. Nor is who has gone
+        // meanwhile, so that a flood of openings keeps nobody from the page.
+        for _ in 0..MOST_WAITING {
+            let (stream, _) = self.listener.accept().ok()?;
+            if let Some(visitor) = VisitorSocket::of(stream) {
+                return Some(visitor);
+            }
+        }
+        None
     }
 }
