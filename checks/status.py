@@ -9,6 +9,7 @@ and what they cost.
 - Then comes the listener itself: any path, any method, garbage, octets one at a time, a request of 10
   KB, a hundred connections at once, readers that read nothing, and readers that read slowly.
 - Settings of 32 stations fit a page.
+- The syncs of a slow disk stand on each page, with their times.
 - Python reads the JSON and the HTML. Prometheus' own `promtool` reads the metrics. Headless
   Chromium shows the page, on a screen of a telephone and on a large one, light and dark. The last
   two are skipped if Debian's package isn't installed.
@@ -30,6 +31,7 @@ import tempfile
 import threading
 import time
 
+import disks
 import ends
 import frame
 import outstations
@@ -377,6 +379,44 @@ def a_run(count, program, folder):
         count.judge("still up", run.process.poll() is None, run.process.poll())
 
 
+SYNCS = re.compile(r"(\d+), the last (\d+) ms, the longest (\d+) ms")
+
+
+def slow_disk(count, program, folder):
+    """The syncs of a slow disk are counted on each page, and those of a fast one aren't there."""
+    status = ("127.0.0.1", ends.free_port())
+    case = disks.Failing(program, folder, 0, slow=150, flags=["--status", "{}:{}".format(*status)])
+    told = lambda: json.loads(get(status, "/status.json").body)["slow_syncs"]
+    row = lambda: [cells[1] for cells in Page(get(status, "/").body.decode()).rows if cells[:1] == ["slow syncs"]]
+    case.begin()
+    before = told()
+    if before["count"] == 0:
+        count.judge("no slow sync in the JSON", before == {"count": 0, "last_ms": 0, "longest_ms": 0}, before)
+        count.judge("none on the page", not row(), row())
+        count.judge("none in the table", b"slow syncs" not in get(status, "/status.txt").body, get(status, "/status.txt").body)
+    else:
+        print(f"skipped: this machine's own disk is slow: {before}")
+    case.fail()
+    end = time.monotonic() + 15
+    while time.monotonic() < end and told()["count"] < before["count"] + 3:
+        time.sleep(0.1)
+    after = told()
+    count.judge("slow syncs in the JSON", after["count"] >= before["count"] + 3 and 150 <= after["last_ms"] <= after["longest_ms"] < 10_000, (before, after))
+    shown = {"the page": "".join(row()), "the table": get(status, "/status.txt").body.decode()}
+    for name, text in shown.items():
+        found = SYNCS.search(text)
+        numbers = [int(number) for number in found.groups()] if found else []
+        count.judge(f"slow syncs on {name}", numbers and numbers[0] >= after["count"] and 150 <= numbers[1] <= numbers[2], text)
+    count.judge("the table has them in a line", re.search(r"^slow syncs      \d", shown["the table"], re.M), shown["the table"])
+    samples = metrics_of(get(status, "/metrics").body.decode())
+    count.judge("slow syncs in the metrics", samples["telegate_slow_syncs_total"] >= after["count"], samples)
+    longest = samples["telegate_longest_sync_seconds"]
+    count.judge("the longest sync in the metrics, in seconds", after["longest_ms"] / 1000 <= longest < 10, (after, longest))
+    promtool(count, status)
+    case.gateway.kill()
+    case.field.server.close()
+
+
 def client(count, run, word):
     table = get(run.status, "/status.txt").body.decode()
     count.judge(f"the table: {word}", table.startswith(f"{word}: "), table)
@@ -458,7 +498,7 @@ def a_listener(count, _program, _folder):
 if __name__ == "__main__":
     is_elsewhere = any(word.startswith("--listener") for word in sys.argv)
     frame.main(
-        *((a_listener,) if is_elsewhere else (a_run, largest, taken_port, passage)),
+        *((a_listener,) if is_elsewhere else (a_run, largest, taken_port, slow_disk, passage)),
         needs_program=not is_elsewhere,
         words={"--listener": {"metavar": "HOST:PORT", "help": "judge what listens there, and nothing else"}},
     )

@@ -1,4 +1,5 @@
 //! Visitors over streams in memory.
+use live::SlowSyncs;
 use noted_ends::OneVisitor;
 use status::{CentreView, Keeping, LineView, Queue, Snapshot, Visitors};
 use std::test::Fail;
@@ -27,6 +28,7 @@ fn snapshot() -> Snapshot<'static> {
             hour: &[],
         },
         keeping: Keeping::Off,
+        syncs: SlowSyncs::none(),
         stations: &[],
         settings: &[],
     }

@@ -1,6 +1,7 @@
 //! Ends in memory in a time of their own, in which the gateway stalls wherever a test wants it to.
 
 use crate::allow_list::AllowList;
+use crate::clock::Timed;
 use crate::ends::{Accepted, Got, Listener, OctetStream, RefusedPeers, RunClock};
 use crate::memory::WALL_MS;
 use std::cell::Cell;
@@ -228,6 +229,12 @@ impl<'a> Listener for TimedListener<'a> {
 /// A clock that gives this time.
 #[derive(Drop)]
 pub(crate) struct TimedClock<'a>(pub(crate) &'a Time);
+
+impl Timed for TimedClock<'_> {
+    fn shown_ms(&self) -> u64 {
+        self.0.now()
+    }
+}
 
 impl RunClock for TimedClock<'_> {
     ghost use Rattle.std.specs.Prelude.{None};

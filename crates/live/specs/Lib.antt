@@ -16,6 +16,7 @@ pub mod Memory
 pub mod Clocks
 pub mod Late
 pub mod Sights
+pub mod Syncs
 pub mod Cuts
 pub mod Runs
 pub mod CallSums

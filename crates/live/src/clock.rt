@@ -1,8 +1,14 @@
-//! What reads the system's clocks.
+//! What has a clock, and what reads the system's clocks.
 
 use std::io;
 use std::rt::Clock;
 use std::time::{Instant, SystemTime};
+
+/// What has a clock that can be looked at.
+pub trait Timed {
+    /// What the clock shows, in milliseconds. It never goes back. Nobody notes that it was asked.
+    fn shown_ms(&self) -> u64;
+}
 
 /// What reads the system's clock that never goes back, and the wall clock. One that notes its calls
 /// adds the answer of each.

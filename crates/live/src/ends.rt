@@ -3,6 +3,7 @@ ghost use Rattle.std.specs.Prelude.{◌≡◌, List, Bool, Option, IfSome};
 ghost use Rattle.live.specs.AllowLists.{nobody, one_more_refused};
 
 use crate::allow_list::AllowList;
+use crate::clock::Timed;
 use std::net::IpAddr;
 
 /// What one look at a stream finds.
@@ -150,7 +151,7 @@ impl RefusedPeers {
 
 /// A clock that begins anywhere and never goes back, and the wall clock beside it, which people
 /// set. One that notes what it gave adds each moment, and each number that the wall clock showed.
-pub trait RunClock {
+pub trait RunClock: Timed {
     ghost use Rattle.live.specs.Timing.{Moments, read_at};
 
     /// The moments that it gave, the newest first, where it notes them.

@@ -78,11 +78,13 @@ mod sockets;
 mod source;
 mod stream;
 mod stream_laws;
+mod syncs;
 mod timing;
 mod walled;
 mod watched;
 
 pub use allow_list::AllowList;
+pub use clock::Timed;
 pub use ends::{
     Accepted, CutCause, Got, Listener, OctetStream, Presence, Reached, RefusedPeers, RunClock,
 };
@@ -128,4 +130,5 @@ pub use stream_laws::{
     a_look_goes_on_until_a_frame_ends, a_write_is_taken_where_all_its_octets_are,
     answers_of_streams_mean_what_they_say, what_waits_is_dropped_to_its_end,
 };
+pub use syncs::SlowSyncs;
 pub use watched::{EndsSight, Failure, Notice, Watched};

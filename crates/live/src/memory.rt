@@ -8,6 +8,7 @@ ghost use Rattle.live.specs.Memory.{happenings, attempts_in, moments_in, shown_i
 ghost use Rattle.live.specs.Memory.{refused_in, refusals_of};
 
 use crate::allow_list::AllowList;
+use crate::clock::Timed;
 use crate::ends::{Accepted, Got, Listener, OctetStream, RefusedPeers, RunClock};
 use gateway::{Action, History, Next};
 use std::net::{IpAddr, Ipv4Addr};
@@ -242,6 +243,12 @@ impl MemoryClock {
             now: 0,
             log: History::new(),
         }
+    }
+}
+
+impl Timed for MemoryClock {
+    fn shown_ms(&self) -> u64 {
+        self.now
     }
 }
 

@@ -13,6 +13,7 @@ ghost use Rattle.gateway.specs.declared.ports.Next.TheVariants.{Done};
 ghost use Rattle.live.specs.declared.ends.CutCause.TheVariants.{Restarted};
 
 use crate::allow_list::AllowList;
+use crate::clock::Timed;
 use crate::ends::{
     Accepted, CutCause, Got, Listener, OctetStream, Presence, Reached, RefusedPeers, RunClock,
 };
@@ -507,6 +508,12 @@ impl<S: OctetStream + Reached, L: Listener + Drop, C: RunClock + Drop> Live<S, L
         ensures { self.now.presence ≡ Some result }
     {
         self.line.presence()
+    }
+}
+
+impl<S: OctetStream, L: Listener + Drop, C: RunClock + Drop> Timed for Live<S, L, C> {
+    fn shown_ms(&self) -> u64 {
+        self.clock.shown_ms()
     }
 }
 

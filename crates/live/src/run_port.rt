@@ -6,7 +6,9 @@ ghost use Rattle.gateway.specs.Ports.{FitsBuffer, faults_of, output_of, logged_b
 ghost use Rattle.gateway.specs.declared.ports.Next.TheVariants.{Done};
 ghost use Rattle.live.specs.Ends.{LogsPut, LogsTurn, failure_of, fixed_of};
 ghost use Rattle.live.specs.Runs.{IsStart, ShowsRun};
+ghost use Rattle.live.specs.Syncs.{none_slow};
 
+use crate::clock::Timed;
 use crate::ends::{Listener, OctetStream, Reached, RunClock};
 use crate::port::Live;
 use crate::watched::{EndsSight, Notice, Watched};
@@ -39,6 +41,12 @@ impl<S: OctetStream, L: Listener + Drop, C: RunClock + Drop> RunPort<S, L, C> {
         ensures { result ≡ port }
     {
         RunPort { port }
+    }
+}
+
+impl<S: OctetStream, L: Listener + Drop, C: RunClock + Drop> Timed for RunPort<S, L, C> {
+    fn shown_ms(&self) -> u64 {
+        self.port.shown_ms()
     }
 }
 
@@ -105,6 +113,7 @@ impl<S: OctetStream + Reached, L: Listener + Drop, C: RunClock + Drop> Watched
         ensures shows { ShowsRun self.now result }
         ensures failure { result.failure ≡ failure_of self.now.failed }
         ensures failed { is_some result.failure ≡ nat_lt 0 self.now.failed }
+        ensures syncs { result.syncs ≡ none_slow }
     {
         self.port.sight()
     }

@@ -5,12 +5,12 @@
 //! once, octets of a control centre after one look at a quiet line.
 ghost use Rattle.std.specs.Option.{is_some};
 ghost use Rattle.std.specs.Prelude.{◌≡◌, ◌≤◌, IfOk, IfSome, None, Some, true, false, option_map};
-ghost use Rattle.std.specs.Prelude.{Result};
+ghost use Rattle.std.specs.Prelude.{Ok, Result};
 ghost use Rattle.std.specs.Net.Addr.{IsCanonicalOf, MatchIp};
 ghost use Rattle.std.specs.Net.Socket.{socket_ip};
 ghost use Rattle.live.specs.AllowLists.{Allows, IsPlain, RefusesStrangers, nobody};
 ghost use Rattle.live.specs.Arrivals.{AcceptsNewest, TakesOne, TakesWaiting};
-ghost use Rattle.live.specs.Clocks.{BeginsAt, GoesOn, ShowsWall, StartsNow};
+ghost use Rattle.live.specs.Clocks.{BeginsAt, GoesOn, ShowsWall, StartsNow, moment_by};
 ghost use Rattle.live.specs.OctetStreams.{FitsBuffer, IsNew, attempted, noted, looked, Dropped};
 ghost use Rattle.live.specs.OctetStreams.{Wrote};
 ghost use Rattle.live.specs.Streams.{ReadsOnce, ReadsLine, DropsWaiting, WritesAll, WritesInTwo};
@@ -28,7 +28,7 @@ ghost use Rattle.live.specs.declared.ends.Presence.TheVariants.{There};
 
 use crate::allow_list::AllowList;
 use crate::arrivals::{Arrived, SystemListener};
-use crate::clock::{HostInstants, SystemInstants};
+use crate::clock::{HostInstants, SystemInstants, Timed};
 use crate::ends::{
     Accepted, Got, Listener, OctetStream, Presence, Reached, RefusedPeers, RunClock,
 };
@@ -704,6 +704,30 @@ impl<'a, R: std::rt::Clock, I: SystemInstants + Drop> SystemClock<'a, R, I> {
     }
 }
 
+impl<R: std::rt::Clock, I: SystemInstants + Drop> SystemClock<'_, R, I> {
+    /// The moment when the system's clock shows this, in ms.
+    fn moment_at(&self, shown: Instant) -> u64
+        ensures moment { result ≡ moment_by self.entry.now.first self.entry.now.start
+            self.entry.now.now (Ok shown) }
+        ensures from { self.entry.now.first ≤ self.entry.now.now → self.entry.now.first ≤ result }
+    {
+        let passed = shown.duration_since(self.start);
+        let passed = u64::try_from(passed.as_millis()).unwrap_or(u64::MAX);
+        self.first.saturating_add(passed)
+    }
+}
+
+impl<R: std::rt::Clock, I: SystemInstants + Drop> Timed for SystemClock<'_, R, I> {
+    // Past those that note what the system shows: a run's moments are no matter of how long a call
+    // takes.
+    fn shown_ms(&self) -> u64 {
+        match Instant::now(self.rt) {
+            Ok(shown) => self.moment_at(shown),
+            Err(_) => self.now,
+        }
+    }
+}
+
 impl<R: std::rt::Clock, I: SystemInstants + Drop> RunClock for SystemClock<'_, R, I> {
     ghost moments = { λ _. None };
 
@@ -719,10 +743,8 @@ impl<R: std::rt::Clock, I: SystemInstants + Drop> RunClock for SystemClock<'_, R
             self.old.now (I.instants self.new.instants) result }
         ensures wall { I.wall_times self.new.instants ≡ I.wall_times self.old.instants }
     {
-        if let Ok(now) = self.instants.now(self.rt) {
-            let passed = now.duration_since(self.start);
-            let passed = u64::try_from(passed.as_millis()).unwrap_or(u64::MAX);
-            self.now = self.first.saturating_add(passed);
+        if let Ok(shown) = self.instants.now(self.rt) {
+            self.now = self.moment_at(shown);
         }
         self.now
     }

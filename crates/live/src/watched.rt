@@ -3,9 +3,11 @@ ghost use Rattle.std.specs.Option.{is_some};
 ghost use Rattle.std.specs.Prelude.{◌≡◌, None, nat_lt};
 ghost use Rattle.live.specs.Ends.{failure_of};
 ghost use Rattle.live.specs.Sights.{ShowsEnds};
+ghost use Rattle.live.specs.Syncs.{none_slow};
 
 use crate::ends::{CutCause, Listener, OctetStream, Presence, Reached, RefusedPeers, RunClock};
 use crate::port::Live;
+use crate::syncs::SlowSyncs;
 use gateway::{Gateway, Port};
 use std::net::IpAddr;
 
@@ -25,6 +27,8 @@ pub struct EndsSight {
     pub late_octets: u64,
     /// What has failed, where the device has.
     pub failure: Option<Failure>,
+    /// Which syncs of the state on the disk were slow, if a state is kept.
+    pub syncs: SlowSyncs,
 }
 
 /// What of a device has failed, so that the run ends.
@@ -109,6 +113,7 @@ impl<S: OctetStream + Reached, L: Listener + Drop, C: RunClock + Drop> Watched f
         ensures shows { ShowsEnds self.now result }
         ensures failure { result.failure ≡ failure_of self.now.failed }
         ensures failed { is_some result.failure ≡ nat_lt 0 self.now.failed }
+        ensures syncs { result.syncs ≡ none_slow }
     {
         EndsSight {
             line: self.line_presence(),
@@ -117,6 +122,7 @@ impl<S: OctetStream + Reached, L: Listener + Drop, C: RunClock + Drop> Watched f
             refused: self.refused(),
             late_octets: self.late_octets(),
             failure: self.failure(),
+            syncs: SlowSyncs::none(),
         }
     }
 

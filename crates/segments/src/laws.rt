@@ -63,8 +63,8 @@ pub fn what_is_read_of_a_log_bears_its_seals()
         (drop begins file ≡ sealed_text (take 87 file) writes ++ rest) ×
         (log_in begins file ≡ concat writes) }
     ensures none { (begins : ℕ) (file before behind : List ℕ) (place : ℕ) → begins ≤ length file →
-        length file < 2 ^ 64 → is_sealed file ≡ true → damage_in begins file ≡ None → place < 2 ^ 64 →
-        drop (end_in (take 87 file) (drop begins file)) (drop begins file)
+        length file < 2 ^ 64 → is_sealed file ≡ true → damage_in begins file ≡ None →
+        place < 2 ^ 64 → drop (end_in (take 87 file) (drop begins file)) (drop begins file)
         ≡ before ++ mark_of place ++ behind →
         place ≡ end_in (take 87 file) (drop begins file) }
 {}

@@ -27,6 +27,7 @@ mod fault;
 mod gate;
 mod head;
 mod laws;
+mod room;
 mod segment;
 mod start;
 mod writer;
@@ -41,6 +42,7 @@ pub use laws::{
     only_a_newer_segment_is_in_the_way, the_next_number_is_new, the_other_file_has_older_segments,
     what_is_read_of_a_log_bears_its_seals,
 };
+pub use room::row_with_room;
 pub use segment::Segment;
 pub use start::{FoundHead, FoundLog, Side, Start, is_below, is_sound, newest_side};
 pub use writer::{Failed, Writer};

@@ -15,6 +15,7 @@ ghost use Rattle.statetext.specs.Sealed.{AreWrites, sealed_text};
 ghost use Rattle.statetext.specs.Sum.{remainder_after, sum_of};
 
 use crate::SegmentFault;
+use crate::room::row_with_room;
 use crate::start::{front_at, number_of};
 use crate::written::Written;
 use sqlite_disk::Disk;
@@ -23,6 +24,10 @@ use std::alloc::Global;
 
 /// How many octets are held at most before they are written.
 const PAGE: usize = 65_536;
+
+/// How much room they have: a line of an event, which has fewer octets than 4,096, may be held
+/// behind them.
+const ROOM: usize = 69_632;
 
 /// A segment whose lines are appended. Its file was zeroed to its full length and synced before.
 /// What is appended between two syncs is a write: the sync puts a seal behind its lines.
@@ -184,7 +189,7 @@ impl<D: Disk> Segment<D> {
             durable: end,
             stored: end,
             size,
-            page: Vec::new(alloc),
+            page: row_with_room(alloc, ROOM),
             seed,
             sum: seed,
             is_open: true,

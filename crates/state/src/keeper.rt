@@ -21,7 +21,7 @@ use crate::renewal::Patience;
 use crate::standing::Standing;
 use crate::store::Store;
 use gateway::{Action, Gateway, Next, Port};
-use live::{EndsSight, Failure, Notice, Watched};
+use live::{EndsSight, Failure, Notice, Timed, Watched};
 use std::marker::Model;
 
 /// A port that passes each event and each action of another one on unchanged. The line of each
@@ -167,7 +167,7 @@ impl<E: Ends + Drop> Keeper<E> {
     }
 }
 
-impl<P: Watched + Drop, F: Folder + Drop> Keeper<Pair<P, DiskStore<F>>> {
+impl<P: Watched + Timed + Drop, F: Folder + Drop> Keeper<Pair<P, DiskStore<F>>> {
     ghost use Rattle.std.specs.Prelude.{ℕ, List};
     ghost use Rattle.gateway.specs.Restored.{state_lines};
     ghost use Rattle.gateway.specs.State.{State};

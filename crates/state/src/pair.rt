@@ -15,23 +15,26 @@ use crate::renewal::is_renewal_due;
 use crate::store::Store;
 use crate::trail::{Done, Trail};
 use gateway::{Action, Gateway, LAST_MOMENT, Next};
-use live::{EndsSight, Watched};
+use live::{EndsSight, SlowSyncs, Timed, Watched};
+use segments::row_with_room;
 use std::alloc::{AllocError, Global};
 use std::marker::Model;
 use traces::{Moment, Page, print_event};
 
 /// A port, and a store beside it. What is done at both is one history, which only proofs read.
 #[derive(Drop)]
-pub struct Pair<P: Watched + Drop, S: Store + Drop> {
+pub struct Pair<P: Watched + Timed + Drop, S: Store + Drop> {
     alloc: Global,
     port: P,
     store: S,
     /// The line of an event, while that is appended.
     page: Page,
+    /// Which syncs of the store were slow.
+    syncs: SlowSyncs,
     trail: Trail,
 }
 
-impl<P: Watched + Drop, S: Store + Drop> Model for Pair<P, S> {
+impl<P: Watched + Timed + Drop, S: Store + Drop> Model for Pair<P, S> {
     ghost use Rattle.std.specs.List.{AllByRecursion};
     ghost use Rattle.state.specs.Both.{Both};
     ghost use Rattle.state.specs.Deeds.{written};
@@ -48,7 +51,7 @@ impl<P: Watched + Drop, S: Store + Drop> Model for Pair<P, S> {
         × AllByRecursion IsWritable (written p.trail.deeds) };
 }
 
-impl<P: Watched + Drop, S: Store + Drop> Pair<P, S> {
+impl<P: Watched + Timed + Drop, S: Store + Drop> Pair<P, S> {
     ghost use Rattle.std.specs.List.{AllByRecursion};
     ghost use Rattle.state.specs.Deeds.{written};
     ghost use Rattle.state.specs.Lines.{IsWritable};
@@ -62,7 +65,8 @@ impl<P: Watched + Drop, S: Store + Drop> Pair<P, S> {
             alloc,
             port,
             store,
-            page: page_with_room(alloc),
+            page: Page::holding(row_with_room(alloc, ROW)),
+            syncs: SlowSyncs::none(),
             trail: Trail::new(),
         }
     }
@@ -87,7 +91,7 @@ impl<P: Watched + Drop, S: Store + Drop> Pair<P, S> {
     }
 }
 
-impl<P: Watched + Drop, F: Folder + Drop> Pair<P, DiskStore<F>> {
+impl<P: Watched + Timed + Drop, F: Folder + Drop> Pair<P, DiskStore<F>> {
     ghost use Rattle.segments.specs.Crash.{AreMixing};
     ghost use Rattle.state.specs.Crashed.{IsKeptIn};
     ghost use Rattle.state.specs.Deeds.{is_kept};
@@ -131,19 +135,6 @@ fn is_writable(next: Next) -> bool
 
 /// More octets than any line of an event has.
 const ROW: usize = 4_096;
-
-/// An empty page with room for any line, so that no event asks for memory. Where there is no memory
-/// now, the first event asks again.
-fn page_with_room(alloc: Global) -> Page
-    ensures { result ≡ [] }
-{
-    let mut page = match vec![in alloc; 0; ROW] {
-        Ok(room) => Page::holding(room),
-        Err(AllocError) => Page::new(alloc),
-    };
-    page.clear();
-    page
-}
 
 /// Puts a number, and words behind it.
 fn put_number(page: &mut Page, number: u64, words: &str) -> Result<(), AllocError>
@@ -205,7 +196,9 @@ fn take<S: Store>(
     store.append(page.octets())
 }
 
-impl<P: Watched + Drop, S: Store + Drop> Ends for Pair<P, S> {
+impl<P: Watched + Timed + Drop, S: Store + Drop> Ends for Pair<P, S> {
+    ghost use Rattle.state.specs.Both.{ShowsBoth};
+
     ghost log = { λ p. P.log p.port };
 
     ghost failed = { λ p. P.failed p.port };
@@ -218,7 +211,7 @@ impl<P: Watched + Drop, S: Store + Drop> Ends for Pair<P, S> {
 
     ghost failure = { λ p. P.failure p.port };
 
-    ghost shows = { λ p sight. P.shows p.port sight };
+    ghost shows = { λ p sight. ShowsBoth P.shows p.port sight };
 
     ghost deeds = { λ p. p.deeds };
 
@@ -240,8 +233,12 @@ impl<P: Watched + Drop, S: Store + Drop> Ends for Pair<P, S> {
         self.port.failures()
     }
 
+    /// The slow syncs are the store's: its port has none.
     fn sight(&self) -> EndsSight {
-        self.port.sight()
+        EndsSight {
+            syncs: self.syncs,
+            ..self.port.sight()
+        }
     }
 
     fn append(&mut self, next: Next, buf: &[u8; 1024]) -> Result<(), Loss> {
@@ -255,7 +252,10 @@ impl<P: Watched + Drop, S: Store + Drop> Ends for Pair<P, S> {
     }
 
     fn sync(&mut self) -> Result<(), Loss> {
-        if self.store.sync() {
+        let begun = self.port.shown_ms();
+        let is_synced = self.store.sync();
+        self.syncs.note(self.port.shown_ms().saturating_sub(begun));
+        if is_synced {
             self.trail = self.trail.with(&Done::Synced);
             return Ok(());
         }

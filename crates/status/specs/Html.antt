@@ -3,9 +3,9 @@ use Rattle.std.specs.Prelude.{ℕ, ◌-◌, ◌*◌, ◌/◌, ◌==◌, min, Lis
 use Rattle.std.specs.Fmt.{decimal}
 use Rattle.status.specs.Judge.{judgement_of}
 use Rattle.status.specs.Labels.{judgement_text, keeping_text, standing_text}
-use Rattle.status.specs.Texts.{age_or, age_text, comma_behind, summary}
+use Rattle.status.specs.Texts.{age_or, age_text, comma_behind, summary, syncs_text}
 use Rattle.status.specs.Words.{escaped, escaped_or, joined, rows}
-use Rattle.status.specs.declared.html.TheConstants.{HEAD, STATIONS, SETTINGS, END}
+use Rattle.status.specs.declared.html.TheConstants.{HEAD, SYNCS, STATIONS, SETTINGS, END}
 use Rattle.status.specs.declared.words.Marks.TheVariants.{Html}
 use Rattle.status.specs.declared.snapshot.Setting.{Setting}
 use Rattle.status.specs.declared.snapshot.StationView.{StationView}
@@ -69,12 +69,16 @@ centre_text s = joined (
     ∷ escaped_or Html s.centre.peer (codes "not connected")
     ∷ (if s.centre.is_started then codes ", started" else codes "") ∷ codes " for " ∷ [])
 
--- the queue and the state, with what stands before the last hour
+-- what the control centre hasn't acknowledged, and the state
+abbrev pub state_text : Snapshot → List ℕ
+state_text s = joined (
+    codes "</td></tr>\n<tr><th>unacknowledged</th><td>" ∷ decimal s.centre.unacknowledged
+    ∷ codes "</td></tr>\n<tr><th>state</th><td>" ∷ keeping_text s.keeping ∷ [])
+
+-- the queue, with what stands before the last hour
 abbrev pub queue_parts : Snapshot → List (List ℕ)
 queue_parts s =
-    codes "</td></tr>\n<tr><th>unacknowledged</th><td>" ∷ decimal s.centre.unacknowledged
-    ∷ codes "</td></tr>\n<tr><th>state</th><td>" ∷ keeping_text s.keeping
-    ∷ codes "</td></tr>\n<tr><th>queue</th><td>" ∷ decimal s.queue.taken
+    codes "</td></tr>\n<tr><th>queue</th><td>" ∷ decimal s.queue.taken
     ∷ codes " of " ∷ decimal s.queue.places
     ∷ codes " <meter min=\"0\" max=\"" ∷ decimal s.queue.places
     ∷ codes "\" value=\"" ∷ decimal s.queue.taken
@@ -89,7 +93,8 @@ abbrev pub html_parts : Snapshot → List (List ℕ)
 html_parts s =
     head_text s ∷ summary s ∷ codes "</p>\n<table>\n<tr><th>running for</th><td>"
     ∷ age_text 0 s.now_ms s.started_ms ∷ line_text s ∷ age_text 0 s.now_ms s.line.since_ms
-    ∷ centre_text s ∷ age_text 0 s.now_ms s.centre.since_ms ∷ queue_text s
+    ∷ centre_text s ∷ age_text 0 s.now_ms s.centre.since_ms ∷ state_text s
+    ∷ syncs_text SYNCS.now s.syncs ∷ queue_text s
     ∷ rows (text_of_step s.queue.places) s.queue.hour.now ∷ codes "V100z\"/></svg>\n"
     ∷ STATIONS.now ∷ rows (text_of_row s.now_ms) s.stations.now
     ∷ SETTINGS.now ∷ rows text_of_setting s.settings.now ∷ END.now ∷ []

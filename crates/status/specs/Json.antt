@@ -68,7 +68,10 @@ json_before_hour s = joined (parts_before_hour s)
 -- what stands between that and the stations
 abbrev pub json_before_stations : Snapshot → List ℕ
 json_before_stations s = joined (
-    codes "]},\"state\":\"" ∷ keeping_text s.keeping ∷ codes "\",\"stations\":[" ∷ [])
+    codes "]},\"state\":\"" ∷ keeping_text s.keeping
+    ∷ codes "\",\"slow_syncs\":{\"count\":" ∷ decimal s.syncs.count
+    ∷ codes ",\"last_ms\":" ∷ decimal s.syncs.last_ms
+    ∷ codes ",\"longest_ms\":" ∷ decimal s.syncs.longest_ms ∷ codes "},\"stations\":[" ∷ [])
 
 abbrev pub json_parts : Snapshot → List (List ℕ)
 json_parts s =

@@ -109,6 +109,7 @@ pub record IsSnapshotOf (shown : ShownRun) (w : Watching) (s : Snapshot) : Type 
   pub places : s.queue.places ≡ shown.places
   pub hour : s.queue.hour.now ≡ shown.hour.numbers
   pub keeping : s.keeping ≡ shown.keeping
+  pub syncs : s.syncs ≡ w.syncs
 
 -- all that is shown: these numbers, a row for each station, and the settings in force
 pub record IsShown (shown : ShownRun) (w : Watching) (s : Snapshot) : Type 0 where

@@ -5,7 +5,7 @@ use Rattle.std.specs.Fmt.{decimal}
 use Rattle.status.specs.Judge.{cannot_keep}
 use Rattle.status.specs.Labels.{value_of}
 use Rattle.status.specs.Texts.{seconds}
-use Rattle.status.specs.Words.{escaped, joined, rows, word_text}
+use Rattle.status.specs.Words.{escaped, joined, rows, thousandths, word_text}
 use Rattle.status.specs.declared.metrics.Family.{Family}
 use Rattle.status.specs.declared.metrics.Gauge.{Gauge}
 use Rattle.status.specs.declared.words.Count.{Count}
@@ -86,10 +86,20 @@ gauge_parts s =
     (decimal s.queue.taken)
     ∷ gauge_text (codes "telegate_state_lost")
     (codes "Whether the state is to be kept on the disk and can not be.")
-    (if cannot_keep s.keeping then codes "1" else codes "0") ∷ []
+    (if cannot_keep s.keeping then codes "1" else codes "0")
+    ∷ gauge_text (codes "telegate_longest_sync_seconds")
+    (codes "How long the longest slow sync of the state took.") (thousandths s.syncs.longest_ms)
+    ∷ []
 
 abbrev pub gauges_text : Snapshot → List ℕ
 gauges_text s = joined (gauge_parts s)
+
+-- how many syncs of the state were slow
+abbrev pub syncs_text : Snapshot → List ℕ
+syncs_text s = joined (
+    codes "# HELP telegate_slow_syncs_total Syncs of the state of 100 ms or more.\n"
+    ∷ codes "# TYPE telegate_slow_syncs_total counter\ntelegate_slow_syncs_total "
+    ∷ decimal s.syncs.count ∷ codes "\n" ∷ [])
 
 abbrev pub family_parts : List StationView → List (List ℕ)
 family_parts stations =
@@ -109,7 +119,7 @@ families_text stations = joined (family_parts stations)
 
 abbrev pub metrics_parts : Snapshot → List (List ℕ)
 metrics_parts s =
-    build_text s ∷ rows text_of_info s.stations.now ∷ gauges_text s
+    build_text s ∷ rows text_of_info s.stations.now ∷ gauges_text s ∷ syncs_text s
     ∷ families_text s.stations.now ∷ []
 
 abbrev pub metrics_of : Snapshot → List ℕ

@@ -2,8 +2,9 @@
 use Rattle.std.specs.Prelude.{ℕ, List, [], ◌∷◌, codes, if◌then◌else◌}
 use Rattle.std.specs.Fmt.{decimal}
 use Rattle.status.specs.Labels.{keeping_text, wide_text}
-use Rattle.status.specs.Texts.{age_or, age_text, comma_behind, summary}
+use Rattle.status.specs.Texts.{age_or, age_text, comma_behind, summary, syncs_text}
 use Rattle.status.specs.Words.{escaped, escaped_or, joined, right, rows}
+use Rattle.status.specs.declared.table.TheConstants.{SYNCS, STATIONS}
 use Rattle.status.specs.declared.words.Marks.TheVariants.{Plain}
 use Rattle.status.specs.declared.snapshot.StationView.{StationView}
 use Rattle.status.specs.declared.snapshot.Snapshot.{Snapshot}
@@ -50,9 +51,7 @@ abbrev pub queue_parts : Snapshot → List (List ℕ)
 queue_parts s =
     codes "\nunacknowledged  " ∷ decimal s.centre.unacknowledged
     ∷ codes "\nqueue           " ∷ decimal s.queue.taken ∷ codes " of " ∷ decimal s.queue.places
-    ∷ codes "\nstate           " ∷ keeping_text s.keeping
-    ∷ codes "\n\naddress     ca  standing       since   last report  reports"
-    ∷ codes "  skipped  gaps  commands  name\n" ∷ []
+    ∷ codes "\nstate           " ∷ keeping_text s.keeping ∷ []
 
 abbrev pub queue_text : Snapshot → List ℕ
 queue_text s = joined (queue_parts s)
@@ -62,7 +61,8 @@ table_parts s =
     summary s ∷ version_text s ∷ age_text 0 s.now_ms s.started_ms
     ∷ line_text s ∷ age_text 0 s.now_ms s.line.since_ms
     ∷ centre_text s ∷ age_text 0 s.now_ms s.centre.since_ms
-    ∷ queue_text s ∷ rows (text_of_row s.now_ms) s.stations.now ∷ []
+    ∷ queue_text s ∷ syncs_text SYNCS.now s.syncs ∷ STATIONS.now
+    ∷ rows (text_of_row s.now_ms) s.stations.now ∷ []
 
 abbrev pub table_of : Snapshot → List ℕ
 table_of s = joined (table_parts s)

@@ -3,6 +3,7 @@ use Rattle.std.specs.Prelude.{ℕ, ◌-◌, ◌/◌, ◌==◌, nat_lt, List, [],
 use Rattle.std.specs.Prelude.{Some, None, codes, if◌then◌else◌}
 use Rattle.std.specs.Option.{is_some}
 use Rattle.std.specs.Fmt.{decimal}
+use Rattle.live.specs.declared.syncs.SlowSyncs.{SlowSyncs}
 use Rattle.status.specs.Words.{joined, right}
 use Rattle.status.specs.Judge.{judgement_of, is_up}
 use Rattle.status.specs.Labels.{judgement_text, keeping_text}
@@ -17,6 +18,13 @@ summary s = joined (
     ∷ (if is_some s.centre.peer then codes "connected" else codes "not connected")
     ∷ codes ", queue " ∷ decimal s.queue.taken ∷ codes " of " ∷ decimal s.queue.places
     ∷ codes ", state " ∷ keeping_text s.keeping ∷ [])
+
+-- which syncs of the state were slow, behind this, if any was
+abbrev pub syncs_text : (before : List ℕ) → SlowSyncs → List ℕ
+syncs_text before s =
+    if s.count == 0 then [] else joined (
+    before ∷ decimal s.count ∷ codes ", the last " ∷ decimal s.last_ms
+    ∷ codes " ms, the longest " ∷ decimal s.longest_ms ∷ codes " ms" ∷ [])
 
 -- what stands behind a name, if there is one
 abbrev pub comma_behind : (name : List ℕ) → List ℕ

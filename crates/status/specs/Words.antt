@@ -9,7 +9,7 @@ use Rattle.status.specs.declared.words.Marks.TheVariants.{Json, Label, Html, Pla
 use Rattle.status.specs.declared.words.Word.{Word}
 use Rattle.status.specs.declared.words.Word.TheVariants.{Text, Escaped, Number, Address, NumberOr}
 use Rattle.status.specs.declared.words.Word.TheVariants.{Right, Either, EscapedOr, Stands, Wide}
-use Rattle.status.specs.declared.words.Word.TheVariants.{Counted, Keeps, Judged}
+use Rattle.status.specs.declared.words.Word.TheVariants.{Counted, Keeps, Judged, Thousandths}
 use Rattle.status.specs.Labels.{judgement_text, keeping_text, standing_text, wide_text, value_of}
 
 -- a hexadecimal digit (RFC 8259, section 7)
@@ -59,10 +59,25 @@ abbrev pub escaped_or : Marks → Option (Bor (List ℕ)) → List ℕ → List 
 escaped_or marks (Some text) other = escaped marks text.now
 escaped_or marks None other = other
 
+-- texts joined
+abbrev pub joined : List (List ℕ) → List ℕ
+joined [] = []
+joined (text ∷ texts) = text ++ joined texts
+
+-- so many thousandths: the whole ones, and three digits behind a point
+abbrev pub thousandth_parts : ℕ → List (List ℕ)
+thousandth_parts n =
+    decimal (n / 1000) ∷ codes "." ∷ decimal (n / 100 % 10) ∷ decimal (n / 10 % 10)
+    ∷ decimal (n % 10) ∷ []
+
+abbrev pub thousandths : ℕ → List ℕ
+thousandths n = joined (thousandth_parts n)
+
 abbrev pub word_text : Word → List ℕ
 word_text (Text text) = text.now
 word_text (Escaped marks text) = escaped marks text.now
 word_text (Number n) = decimal n
+word_text (Thousandths n) = thousandths n
 word_text (Address n) = decimal n
 word_text (NumberOr n other) = number_or n other.now
 word_text (Right width n) = right width n
@@ -77,11 +92,6 @@ word_text (Judged judgement) = judgement_text judgement
 abbrev pub text_of : List Word → List ℕ
 text_of [] = []
 text_of (w ∷ ws) = word_text w ++ text_of ws
-
--- texts joined
-abbrev pub joined : List (List ℕ) → List ℕ
-joined [] = []
-joined (text ∷ texts) = text ++ joined texts
 
 -- the texts of things one behind another
 abbrev pub rows : {A : Type 0} → (A → List ℕ) → List A → List ℕ

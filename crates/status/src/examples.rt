@@ -5,6 +5,8 @@ ghost use Rattle.status.specs.Json.{json_of_station};
 ghost use Rattle.status.specs.Html as html;
 ghost use Rattle.status.specs.Metrics.{families_text, text_of_info};
 ghost use Rattle.status.specs.Table as table;
+ghost use Rattle.status.specs.Texts.{syncs_text};
+ghost use Rattle.status.specs.Words.{thousandths};
 ghost use Rattle.status.specs.declared.html.TheConstants.{STATIONS};
 ghost use Rattle.status.specs.declared.snapshot.Keeping.TheVariants.{NotKept};
 ghost use Rattle.status.specs.declared.snapshot.LinkState.TheVariants as stands;
@@ -38,8 +40,20 @@ pub fn pages_by_example()
         })
         ≡ codes ",\"started\":true,\"since_ms\":1,\"unacknowledged\":2},\"queue\":{"
         ++ codes "\"taken\":3,\"places\":4,\"hour\":[" }
-    ensures state { (s : Snapshot) → json_before_stations (record s { keeping = NotKept })
-        ≡ codes "]},\"state\":\"not kept\",\"stations\":[" }
+    ensures state { (s : Snapshot) →
+        json_before_stations (record s {
+          keeping = NotKept;
+          syncs = record { count = 1; last_ms = 2; longest_ms = 3 };
+        })
+        ≡ codes "]},\"state\":\"not kept\",\"slow_syncs\":{\"count\":1,\"last_ms\":2,"
+        ++ codes "\"longest_ms\":3},\"stations\":[" }
+    ensures syncs { syncs_text (codes "slow syncs: ") (record {
+      count = 1;
+      last_ms = 2;
+      longest_ms = 3;
+    })
+        ≡ codes "slow syncs: 1, the last 2 ms, the longest 3 ms" }
+    ensures seconds { (thousandths 305 ≡ codes "0.305") × (thousandths 12007 ≡ codes "12.007") }
     ensures families { (s : StationView) →
         families_text (record s {
           address = 1;

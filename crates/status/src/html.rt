@@ -7,7 +7,7 @@ use crate::judging::judge;
 use crate::lists::{Form, put_rows};
 use crate::page::TextPage;
 use crate::snapshot::{Setting, Snapshot, StationView};
-use crate::texts::{put_age, put_age_or, put_summary};
+use crate::texts::{put_age, put_age_or, put_summary, put_syncs};
 use crate::words::{Marks, Word, put_words};
 
 /// What the page begins with. It fits a telephone, is light or dark as its reader has it, and is
@@ -38,6 +38,9 @@ th, td { white-space: normal }\n\
 td.n { white-space: nowrap }\n\
 td.s, th:nth-child(4) { position: sticky; right: 0; background: Canvas } }\n\
 </style>\n</head>\n<body>\n<h1>telegate ";
+
+/// What stands before the slow syncs.
+const SYNCS: &str = "</td></tr>\n<tr><th>slow syncs</th><td>";
 
 /// What the table of stations begins with.
 const STATIONS: &str = "<h2>Stations</h2>\n<div class=\"scroll\"><table>\n<tr><th>name</th>\
@@ -211,9 +214,9 @@ fn put_centre(page: &mut TextPage, snapshot: &Snapshot<'_>)
     );
 }
 
-/// Puts the queue and the state, with what stands before the last hour.
-fn put_queue(page: &mut TextPage, snapshot: &Snapshot<'_>)
-    ensures { page.new ≡ put (spec.queue_text snapshot.now) page.old }
+/// Puts what the control centre hasn't acknowledged, and the state.
+fn put_state(page: &mut TextPage, snapshot: &Snapshot<'_>)
+    ensures { page.new ≡ put (spec.state_text snapshot.now) page.old }
 {
     put_words(
         page,
@@ -222,6 +225,17 @@ fn put_queue(page: &mut TextPage, snapshot: &Snapshot<'_>)
             Word::Number(snapshot.centre.unacknowledged),
             Word::Text("</td></tr>\n<tr><th>state</th><td>"),
             Word::Keeps(snapshot.keeping),
+        ],
+    );
+}
+
+/// Puts the queue, with what stands before the last hour.
+fn put_queue(page: &mut TextPage, snapshot: &Snapshot<'_>)
+    ensures { page.new ≡ put (spec.queue_text snapshot.now) page.old }
+{
+    put_words(
+        page,
+        &[
             Word::Text("</td></tr>\n<tr><th>queue</th><td>"),
             Word::Number(snapshot.queue.taken),
             Word::Text(" of "),
@@ -250,6 +264,8 @@ pub(crate) fn put_html(page: &mut TextPage, snapshot: &Snapshot<'_>)
     put_age(page, 0, now_ms, snapshot.line.since_ms);
     put_centre(page, snapshot);
     put_age(page, 0, now_ms, snapshot.centre.since_ms);
+    put_state(page, snapshot);
+    put_syncs(page, SYNCS, &snapshot.syncs);
     put_queue(page, snapshot);
     let places = snapshot.queue.places;
     put_rows(page, &StepForm { places }, snapshot.queue.hour);

@@ -153,7 +153,13 @@ fn put_before_stations(page: &mut TextPage, snapshot: &Snapshot<'_>)
         &[
             Word::Text("]},\"state\":\""),
             Word::Keeps(snapshot.keeping),
-            Word::Text("\",\"stations\":["),
+            Word::Text("\",\"slow_syncs\":{\"count\":"),
+            Word::Number(snapshot.syncs.count),
+            Word::Text(",\"last_ms\":"),
+            Word::Number(snapshot.syncs.last_ms),
+            Word::Text(",\"longest_ms\":"),
+            Word::Number(snapshot.syncs.longest_ms),
+            Word::Text("},\"stations\":["),
         ],
     );
 }

@@ -278,6 +278,7 @@ fn snapshot_of<'a>(shown: &'a ShownRun, watch: &Watch) -> Snapshot<'a>
             hour: shown.hour.numbers(),
         },
         keeping: shown.keeping,
+        syncs: watch.syncs(),
         stations: &[],
         settings: &[],
     }

@@ -210,8 +210,28 @@ fn put_gauges(page: &mut TextPage, snapshot: &Snapshot<'_>)
             help: "Whether the state is to be kept on the disk and can not be.",
             value: Word::Either(cannot_keep(snapshot.keeping), "1", "0"),
         },
+        Gauge {
+            name: "telegate_longest_sync_seconds",
+            help: "How long the longest slow sync of the state took.",
+            value: Word::Thousandths(snapshot.syncs.longest_ms),
+        },
     ];
     put_rows(page, &GaugeForm, &gauges);
+}
+
+/// Puts how many syncs of the state were slow.
+fn put_syncs(page: &mut TextPage, snapshot: &Snapshot<'_>)
+    ensures { page.new ≡ put (spec.syncs_text snapshot.now) page.old }
+{
+    put_words(
+        page,
+        &[
+            Word::Text("# HELP telegate_slow_syncs_total Syncs of the state of 100 ms or more.\n"),
+            Word::Text("# TYPE telegate_slow_syncs_total counter\ntelegate_slow_syncs_total "),
+            Word::Number(snapshot.syncs.count),
+            Word::Text("\n"),
+        ],
+    );
 }
 
 /// Puts the numbers of the stations.
@@ -260,5 +280,6 @@ pub(crate) fn put_metrics(page: &mut TextPage, snapshot: &Snapshot<'_>)
     put_build(page, snapshot);
     put_rows(page, &InfoForm, snapshot.stations);
     put_gauges(page, snapshot);
+    put_syncs(page, snapshot);
     put_families(page, snapshot.stations);
 }

@@ -1,5 +1,7 @@
 //! What a page shows: plain data that the caller fills in and lends.
 
+use live::SlowSyncs;
+
 /// How a station stands.
 #[derive(Clone, Copy, Default, PartialEq, Eq)]
 pub enum LinkState {
@@ -103,6 +105,8 @@ pub struct Snapshot<'a> {
     pub centre: CentreView<'a>,
     pub queue: Queue<'a>,
     pub keeping: Keeping,
+    /// Which syncs of the state on the disk were slow since this process began.
+    pub syncs: SlowSyncs,
     pub stations: &'a [StationView<'a>],
     pub settings: &'a [Setting<'a>],
 }

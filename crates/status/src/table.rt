@@ -6,8 +6,16 @@ ghost use Rattle.status.specs.Table as spec;
 use crate::lists::{Form, put_rows};
 use crate::page::TextPage;
 use crate::snapshot::{Snapshot, StationView};
-use crate::texts::{put_age, put_age_or, put_summary};
+use crate::texts::{put_age, put_age_or, put_summary, put_syncs};
 use crate::words::{Marks, Word, put_words};
+
+/// What stands before the slow syncs.
+const SYNCS: &str = "\nslow syncs      ";
+
+/// What stands before the rows of the stations.
+const STATIONS: &str =
+    "\n\naddress     ca  standing       since   last report  reports  skipped  gaps  \
+commands  name\n";
 
 /// A station as a row.
 #[derive(Drop)]
@@ -100,7 +108,7 @@ fn put_centre(page: &mut TextPage, snapshot: &Snapshot<'_>)
     );
 }
 
-/// Puts the queue and the state, with what stands before the rows.
+/// Puts the queue and the state.
 fn put_queue(page: &mut TextPage, snapshot: &Snapshot<'_>)
     ensures { page.new ≡ put (spec.queue_text snapshot.now) page.old }
 {
@@ -115,8 +123,6 @@ fn put_queue(page: &mut TextPage, snapshot: &Snapshot<'_>)
             Word::Number(snapshot.queue.places),
             Word::Text("\nstate           "),
             Word::Keeps(snapshot.keeping),
-            Word::Text("\n\naddress     ca  standing       since   last report  reports"),
-            Word::Text("  skipped  gaps  commands  name\n"),
         ],
     );
 }
@@ -147,6 +153,8 @@ pub(crate) fn put_table(page: &mut TextPage, snapshot: &Snapshot<'_>)
     put_centre(page, snapshot);
     put_age(page, 0, snapshot.now_ms, snapshot.centre.since_ms);
     put_queue(page, snapshot);
+    put_syncs(page, SYNCS, &snapshot.syncs);
+    page.put(STATIONS.as_bytes());
     let form = RowForm {
         now_ms: snapshot.now_ms,
     };

@@ -9,6 +9,7 @@ use crate::judging::{is_up, judge};
 use crate::page::TextPage;
 use crate::snapshot::{Snapshot, StationView};
 use crate::words::{Word, put_words};
+use live::SlowSyncs;
 
 /// How many stations are up.
 pub(crate) fn count_up(stations: &[StationView<'_>]) -> u64
@@ -40,6 +41,27 @@ pub(crate) fn put_summary(page: &mut TextPage, snapshot: &Snapshot<'_>)
             Word::Number(snapshot.queue.places),
             Word::Text(", state "),
             Word::Keeps(snapshot.keeping),
+        ],
+    );
+}
+
+/// Puts which syncs of the state were slow, behind this, if any was.
+pub(crate) fn put_syncs(page: &mut TextPage, before: &str, syncs: &SlowSyncs)
+    ensures { page.new ≡ put (spec.syncs_text before.now syncs.now) page.old }
+{
+    if syncs.count == 0 {
+        return;
+    }
+    put_words(
+        page,
+        &[
+            Word::Text(before),
+            Word::Number(syncs.count),
+            Word::Text(", the last "),
+            Word::Number(syncs.last_ms),
+            Word::Text(" ms, the longest "),
+            Word::Number(syncs.longest_ms),
+            Word::Text(" ms"),
         ],
     );
 }

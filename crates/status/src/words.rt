@@ -3,7 +3,8 @@ ghost use Rattle.std.specs.Prelude.{◌≡◌, ◌<◌};
 ghost use Rattle.std.specs.Fmt.{decimal};
 ghost use Rattle.status.specs.Labels.{value_of};
 ghost use Rattle.status.specs.TextPage.{put};
-ghost use Rattle.status.specs.Words.{digit_of, escaped, mark_of, right, text_of, word_text};
+ghost use Rattle.status.specs.Words.{digit_of, escaped, mark_of, right, text_of, thousandths};
+ghost use Rattle.status.specs.Words.{word_text};
 
 use crate::judging::{Judgement, is_up};
 use crate::labels::{judgement_text, keeping_text, standing_text, wide_text};
@@ -45,6 +46,8 @@ pub(crate) enum Word<'a> {
     EscapedOr(Marks, Option<&'a str>, &'a str),
     /// A number in decimal.
     Number(u64),
+    /// So many thousandths in decimal.
+    Thousandths(u64),
     /// An address in decimal.
     Address(u16),
     /// A number in decimal, or a text where there is none.
@@ -139,6 +142,17 @@ fn put_number(page: &mut TextPage, number: u64)
     page.put(Buffer::new().format(number).as_bytes());
 }
 
+/// Puts so many thousandths in decimal.
+fn put_thousandths(page: &mut TextPage, number: u64)
+    ensures { page.new ≡ put (thousandths number) page.old }
+{
+    put_number(page, number / 1000);
+    page.put(b".");
+    put_number(page, number / 100 % 10);
+    put_number(page, number / 10 % 10);
+    put_number(page, number % 10);
+}
+
 /// Puts a number in decimal, with spaces before it up to a width.
 fn put_right(page: &mut TextPage, width: usize, number: u64)
     ensures { page.new ≡ put (right width number) page.old }
@@ -181,6 +195,7 @@ fn put_word(page: &mut TextPage, word: &Word<'_>)
         Word::EscapedOr(marks, Some(text), _) => put_escaped(page, marks, text),
         Word::EscapedOr(_, None, text) => page.put(text.as_bytes()),
         Word::Number(number) => put_number(page, number),
+        Word::Thousandths(number) => put_thousandths(page, number),
         Word::Address(address) => put_number(page, u64::from(address)),
         Word::NumberOr(None, text) => page.put(text.as_bytes()),
         Word::NumberOr(Some(number), _) => put_number(page, number),

@@ -1,7 +1,7 @@
 //! Live ends: the crate `live`.
 
 use gateway::{Next, Port};
-use live::{Accepted, AllowList, Got, Listener, Live, OctetStream, RefusedPeers, RunClock};
+use live::{Accepted, AllowList, Got, Listener, Live, OctetStream, RefusedPeers, RunClock, Timed};
 use settings::read_config;
 use std::net::{IpAddr, Ipv4Addr};
 use std::test::Fail;
@@ -97,6 +97,12 @@ impl Listener for Hall {
 #[derive(Drop)]
 struct Steps {
     now: u64,
+}
+
+impl Timed for Steps {
+    fn shown_ms(&self) -> u64 {
+        self.now
+    }
 }
 
 impl RunClock for Steps {

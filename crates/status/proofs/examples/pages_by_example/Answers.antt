@@ -11,7 +11,16 @@ unfolding digits
 returns-clause-centre c s = refl
 
 pub returns-clause-state : goal.returns-clause-state
+unfolding digits
 returns-clause-state c s = refl
+
+pub returns-clause-syncs : goal.returns-clause-syncs
+unfolding digits
+returns-clause-syncs c = refl
+
+pub returns-clause-seconds : goal.returns-clause-seconds
+unfolding digits
+returns-clause-seconds c = (refl, refl)
 
 pub returns-clause-families : goal.returns-clause-families
 unfolding digits

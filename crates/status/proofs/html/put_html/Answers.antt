@@ -16,6 +16,8 @@ returns c =
       c.put-2.ensures,
       c.put_rows.ensures,
       c.put_queue.ensures,
+      c.put_syncs.ensures,
+      c.put_state.ensures,
       c.put_age-3.ensures,
       c.put_centre.ensures,
       c.put_age-2.ensures,

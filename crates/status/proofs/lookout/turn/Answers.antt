@@ -23,6 +23,7 @@ returns g c = (
       places = c.snapshot_of.ensures.places;
       hour = c.snapshot_of.ensures.hour;
       keeping = c.snapshot_of.ensures.keeping;
+      syncs = c.snapshot_of.ensures.syncs;
     };
     rows = subst
         (λ (rows : List StationView). AreRows 32 c.args.shown.now.known.items

@@ -6,6 +6,9 @@ pub returns : goal.returns
 returns c =
     rw (
       c.put_rows.ensures,
+      c.put.ensures,
+      c.as_bytes.ensures.value,
+      c.put_syncs.ensures,
       c.put_queue.ensures,
       c.put_age-3.ensures,
       c.put_centre.ensures,
