@@ -92,9 +92,7 @@ skipped_words station kind why =
 
 -- why a start can't use the directory of its state
 abbrev pub obstacle_words : Obstacle → List ℕ
-obstacle_words why =
-    codes "state: its directory can't be used, the run goes on without it: "
-    ++ why.place.now ++ codes ": " ++ cause_words why.cause
+obstacle_words why = why.place.now ++ codes ": " ++ cause_words why.cause
 
 -- a sync of the state, and the longest since the run began, in ms
 abbrev pub sync_words : (ms longest : ℕ) → List ℕ
@@ -163,7 +161,10 @@ words note.SettingsChanged = codes "state: settings have changed"
 words note.StateStale = codes "state is stale: each link is reset"
 words note.StatePutAside = codes "state can't be read: put aside"
 words (note.StateDamaged place) = damaged_words place
-words (note.StateRefused why) = obstacle_words why
+words (note.StateRefused why) =
+    codes "state: its directory can't be used, the run goes on without it: " ++ obstacle_words why
+words (note.StateUnkept why) = codes "state can't be kept there: " ++ obstacle_words why
+words note.StateOnBtrfs = codes "state: its directory is on btrfs, which writes 90 KB a sync"
 words (note.SlowSync ms longest) = sync_words ms longest
 words (note.GivenUp what kind ca object) = given_up_words what kind ca object
 words (note.State notice) = notice_words notice

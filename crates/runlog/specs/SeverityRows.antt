@@ -32,6 +32,7 @@ pub data HasRow : Note → ℕ → Type 0 where
   NotKept : HasRow (note.State notices.NotKept) 3
   PutAside : HasRow note.StatePutAside 3
   Unused : (why : Obstacle) → HasRow (note.StateRefused why) 3
+  Unkept : (why : Obstacle) → HasRow (note.StateUnkept why) 3
   -- why a run can't begin, or go on
   CannotRun : (why : Trouble) → HasRow (note.Trouble why) 3
   -- look at the control centre
@@ -66,6 +67,7 @@ pub data HasRow : Note → ℕ → Type 0 where
   Damaged : (place : ℕ) → HasRow (note.StateDamaged place) 4
   -- find out what slows the disk down
   SlowSync : (ms longest : ℕ) → HasRow (note.SlowSync ms longest) 4
+  OnBtrfs : HasRow note.StateOnBtrfs 4
   -- what was wrong is over, or seldom happens
   Reached : HasRow note.LineReached 5
   ReachedAgain : HasRow note.LineReachedAgain 5

@@ -28,6 +28,12 @@ const SILENT_LINE: &str = "line silent: requests went out and nothing came, it i
 /// What stands behind a station whose answer to a command is dropped.
 const MIRROR_DROPPED: &str = "answer to a command dropped: data transfer isn't running";
 
+/// What stands before the file that a start can't use, and why.
+const UNUSED: &str = "state: its directory can't be used, the run goes on without it: ";
+
+/// A state whose syncs are long.
+const ON_BTRFS: &str = "state: its directory is on btrfs, which writes 90 KB a sync";
+
 /// What stands behind a station whose link is held though it doesn't answer.
 const STILL_SILENT: &str = "still doesn't answer: if it was restarted, restart telegate too";
 
@@ -145,6 +151,10 @@ pub enum Note {
     StateDamaged(u64),
     /// The run begins without the directory that was to have its state.
     StateRefused(Obstacle),
+    /// The state can't be kept, and the run doesn't begin without it.
+    StateUnkept(Obstacle),
+    /// The directory of the state stands on btrfs.
+    StateOnBtrfs,
     /// A sync of the state took so many ms, and the longest one since the run began so many.
     SlowSync(u64, u64),
     /// A start gives up this of the connection before it: its type octet, its common address and
@@ -239,7 +249,6 @@ fn remnant_words(remnant: Remnant) -> &'static str
 fn write_obstacle<W: fmt::Write>(obstacle: &Obstacle, f: &mut fmt::Formatter<W>) -> fmt::Result
     ensures { WritesOnOk W.write_str_gives f.old result (obstacle_words obstacle.now) f.new }
 {
-    f.write_str("state: its directory can't be used, the run goes on without it: ")?;
     f.write_str(obstacle.place)?;
     f.write_str(": ")?;
     f.write_str(cause_words(obstacle.cause))
@@ -433,7 +442,15 @@ impl fmt::Display for Note {
             Note::StateStale => f.write_str("state is stale: each link is reset"),
             Note::StatePutAside => f.write_str("state can't be read: put aside"),
             Note::StateDamaged(place) => write_damaged(*place, f),
-            Note::StateRefused(obstacle) => write_obstacle(obstacle, f),
+            Note::StateRefused(obstacle) => {
+                f.write_str(UNUSED)?;
+                write_obstacle(obstacle, f)
+            }
+            Note::StateUnkept(obstacle) => {
+                f.write_str("state can't be kept there: ")?;
+                write_obstacle(obstacle, f)
+            }
+            Note::StateOnBtrfs => f.write_str(ON_BTRFS),
             Note::SlowSync(ms, longest) => write_sync(*ms, *longest, f),
             Note::GivenUp(remnant, kind, ca, object) => {
                 write_given_up(*remnant, *kind, *ca, *object, f)

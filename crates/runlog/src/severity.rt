@@ -59,11 +59,11 @@ impl Note {
         match self {
             Note::LineLost | Note::LineNotThere | Note::Gap(_) | Note::QueueFull => Severity::Error,
             Note::LineSilent | Note::StatePutAside | Note::Trouble(_) => Severity::Error,
-            Note::StateRefused(_) => Severity::Error,
+            Note::StateRefused(_) | Note::StateUnkept(_) => Severity::Error,
             Note::Cut(_) | Note::Closed(_) | Note::RefusedPeers(_, _) => Severity::Warning,
             Note::Silent(_) | Note::Down(_) | Note::StateStale => Severity::Warning,
             Note::StillSilent(_) | Note::LeftOut(_) => Severity::Warning,
-            Note::GivenUp(_, _, _, _) => Severity::Warning,
+            Note::GivenUp(_, _, _, _) | Note::StateOnBtrfs => Severity::Warning,
             Note::StateDamaged(_) | Note::SlowSync(_, _) => Severity::Warning,
             Note::Refused(_, _, _) | Note::Unsent(_) => Severity::Warning,
             Note::Skipped(_, _, _) => Severity::Warning,
