@@ -3,7 +3,7 @@ use Rattle.std.proofs.Common.{◌≡◌, ℕ, ◌+◌, ◌-◌, ◌<◌, ◌≤�
 use Rattle.std.proofs.Common.{◌∷◌, ◌++◌, length, take, Option, Some, None, refl, sym, ap, ◌∙◌}
 use Rattle.std.proofs.Common.{arith, subst, length-append, nat_lt}
 use Rattle.std.proofs.lemmas.List.{take_all}
-use Rattle.std.specs.Prelude.{if◌then◌else◌, position, slice_get, slice_set}
+use Rattle.std.specs.Prelude.{if◌then◌else◌, slice_get, slice_set}
 use Rattle.std.specs.declared.net.ip_addr.IpAddr.{IpAddr}
 use Rattle.asdu.specs.declared.sizes.Sizes.{Sizes}
 use Rattle.command.specs.Refusals.{Seen, seen_judged}
@@ -14,7 +14,8 @@ use Rattle.link.specs.declared.answer.Answer.TheVariants.{Busy, Report}
 use Rattle.runlog.specs.Inbox as inbox
 use Rattle.runlog.specs.Inbox.{Inbox, Orders, order_noted, rule_noted, waits_by}
 use Rattle.runlog.specs.Logging.{Book, IsLogged, LogsEach, Tells, TellsUnless, kept, logged}
-use Rattle.runlog.specs.Orders.{goes_out_as, octet, order_of}
+use Rattle.runlog.specs.OrderLists.{sent}
+use Rattle.runlog.specs.Orders.{octet, order_of}
 use Rattle.runlog.specs.Traffic.{answer_told, content_of, content_told, mishap_told, reply_of}
 use Rattle.runlog.specs.Trails.{added, appended, at, fate_told, is_told, newest_first}
 use Rattle.runlog.specs.Watching.{Watching, come_behind, command_sent, counts_noted, has_trail}
@@ -56,7 +57,7 @@ comings_so g peer asdu o c = by (seen_judged g.serial.commands asdu g.moment (wa
     by : (x : Option Refusal × Seen) → x.0 ≡ None
         → (rule_noted x g.moment peer o c).ordered
         ≡ added (note.Ordered o peer) g.moment c.ordered
-    by (None, seen) passed = waits_as (position (λ sent. goes_out_as sent o) c.early) o
+    by (None, seen) passed = waits_as (sent o c.early) o
         (record c { seen = seen; ordered = added (note.Ordered o peer) g.moment c.ordered })
     by (Some rule, seen) passed = cc
 

@@ -1,7 +1,7 @@
 -- What is logged of the commands that come from the control centre (IEC 60870-5-104, 5, for the
 -- frames; the lines are this gateway's own profile).
-use Rattle.std.specs.Prelude.{ℕ, zero, suc, ◌+◌, ◌-◌, ◌%◌, ◌==◌, ◌&&◌, nat_le, nat_lt, Bool, true}
-use Rattle.std.specs.Prelude.{false, List, [], ◌∷◌, ◌++◌, length, take, drop, position, remove}
+use Rattle.std.specs.Prelude.{ℕ, zero, suc, ◌+◌, ◌-◌, ◌%◌, ◌==◌, ◌&&◌, nat_le, Bool, true}
+use Rattle.std.specs.Prelude.{false, List, [], ◌∷◌, ◌++◌, length, take, drop}
 use Rattle.std.specs.Prelude.{Option, Some, None, if◌then◌else◌}
 use Rattle.std.specs.declared.net.ip_addr.IpAddr.{IpAddr}
 use Rattle.asdu.specs.Sizes.{tcp}
@@ -10,7 +10,8 @@ use Rattle.command.specs.declared.refusal.Refusal.{Refusal}
 use Rattle.gateway.specs.State.{State, wall_now}
 use Rattle.runlog.specs.Gathering.{nothing, added}
 use Rattle.runlog.specs.Gathering as gathering
-use Rattle.runlog.specs.Orders.{goes_out_as, octet, order_of}
+use Rattle.runlog.specs.OrderLists.{come, one_behind, sent, without}
+use Rattle.runlog.specs.Orders.{octet, order_of}
 use Rattle.runlog.specs.Trails.{added as told}
 use Rattle.runlog.specs.declared.fate.Reason.TheVariants as reason
 use Rattle.runlog.specs.declared.gathered.Gathered.{Gathered}
@@ -65,27 +66,23 @@ closed b = record b { is_closed = true }
 
 -- it waits, if it isn't out already
 abbrev pub waits_by : Option ℕ → Order → Orders → Orders
-waits_by None o c = record c {
-  waiting = if nat_lt (length c.waiting) 64 then c.waiting ++ o ∷ [] else c.waiting;
-}
-waits_by (Some place) o c = record c { early = remove c.early place }
+waits_by None o c = record c { waiting = one_behind o c.waiting }
+waits_by (Some place) o c = record c { early = without place c.early }
 
 abbrev pub waits : Order → Orders → Orders
-waits o c = waits_by (position (λ sent. goes_out_as sent o) c.early) o c
+waits o c = waits_by (sent o c.early) o c
 
 -- it goes out to the line so
-abbrev pub gone_by : Option ℕ → (sent : Order) → Orders → Orders
-gone_by None sent c = record c {
-  early = if nat_lt (length c.early) 16 then c.early ++ sent ∷ [] else c.early;
-}
-gone_by (Some place) sent c = record c { waiting = remove c.waiting place }
+abbrev pub gone_by : Option ℕ → Order → Orders → Orders
+gone_by None o c = record c { early = one_behind o c.early }
+gone_by (Some place) o c = record c { waiting = without place c.waiting }
 
-abbrev pub gone : (sent : Order) → Orders → Orders
-gone sent c = gone_by (position (goes_out_as sent) c.waiting) sent c
+abbrev pub gone : Order → Orders → Orders
+gone o c = gone_by (come o c.waiting) o c
 
-abbrev pub gone_out : (sent : Option Order) → Inbox → Inbox
+abbrev pub gone_out : Option Order → Inbox → Inbox
 gone_out None b = b
-gone_out (Some sent) b = record b { orders = gone sent b.orders }
+gone_out (Some o) b = record b { orders = gone o b.orders }
 
 -- its connection has ended, and nothing waits any more
 abbrev pub lost : Inbox → Inbox

@@ -3,12 +3,14 @@ pub mod Causes
 pub mod LineLines
 pub mod Orders
 pub mod OrderWords
+pub mod OrderLists
 pub mod Wordings
 pub mod Spoilings
 pub mod Notes
 pub mod Severities
 pub mod SeverityRows
 pub mod Ends
+pub mod SyncLines
 pub mod Gathering
 pub mod Inbox
 pub mod Stations

@@ -3,6 +3,7 @@ use Rattle.std.specs.Prelude.{◌≡◌, ℕ, Option, Some, None}
 use Rattle.runlog.specs.declared.ends.LineLogged.{LineLogged}
 use Rattle.runlog.specs.declared.ends.LineLogged.TheVariants.{There}
 use Rattle.runlog.specs.declared.ends.LineWatch.{LineWatch}
+use Rattle.runlog.specs.Limits.{none_left}
 use Rattle.runlog.specs.declared.limit.Limit.{Limit}
 use Rattle.runlog.specs.declared.note.LogLine.{LogLine}
 use Rattle.runlog.specs.declared.note.Note.{Note}

@@ -11,6 +11,7 @@ use Rattle.gateway.specs.Log.{LineOut, GapOut}
 use Rattle.gateway.specs.declared.settings.StationSettings.{StationSettings}
 use Rattle.runlog.specs.Passing.{Passed, Went}
 use Rattle.runlog.specs.Stations.{is_other, link_asked, standing_by, station_asked}
+use Rattle.runlog.specs.Limits.{none_left}
 use Rattle.runlog.specs.declared.limit.Limit.{Limit}
 use Rattle.runlog.specs.declared.stations.LinkKnown.{LinkKnown}
 use Rattle.runlog.specs.declared.stations.LinkKnown.TheVariants as known

@@ -16,7 +16,9 @@ use Rattle.gateway.specs.declared.settings.StationSettings.{StationSettings}
 use Rattle.live.specs.declared.watched.Failure.{Failure}
 use Rattle.live.specs.declared.watched.Failure.TheVariants as failure
 use Rattle.live.specs.declared.watched.EndsSight.{EndsSight}
+use Rattle.live.specs.Syncs.{none_slow}
 use Rattle.live.specs.declared.ends.Presence.TheVariants.{Away}
+use Rattle.live.specs.declared.syncs.SlowSyncs.{SlowSyncs}
 use Rattle.runlog.specs.Ends.{new_limit, changed, happened, new_line, new_listener, new_connection}
 use Rattle.runlog.specs.Ends.{line_seen}
 use Rattle.runlog.specs.Ends.{listener_seen, connection_opened, connection_cut, connection_sent}
@@ -30,6 +32,7 @@ use Rattle.runlog.specs.Exchange.{RequestWatch, new_exchange, begun, over, await
 use Rattle.runlog.specs.Exchange.{user_data, answer_in, traffic_after}
 use Rattle.runlog.specs.Limits.{is_minute_after, none_left, one_more}
 use Rattle.runlog.specs.Orders.{order_of}
+use Rattle.runlog.specs.SyncLines.{new_syncs, syncs_seen}
 use Rattle.runlog.specs.Traffic as traffic
 use Rattle.runlog.specs.Traffic.{answer_told, first_line, mishap_told, new_traffics}
 use Rattle.runlog.specs.Trails.{appended, fate_told, is_told}
@@ -39,6 +42,7 @@ use Rattle.runlog.specs.declared.fate.CommandFate.TheVariants as fate
 use Rattle.runlog.specs.declared.fate.Mishap.{Mishap}
 use Rattle.runlog.specs.declared.fate.Mishap.TheVariants as mishap
 use Rattle.runlog.specs.declared.order.Order.{Order}
+use Rattle.runlog.specs.declared.syncs.SyncWatch.{SyncWatch}
 use Rattle.runlog.specs.declared.traffic.Traffic.{Traffic}
 use Rattle.runlog.specs.declared.watch.WallShown.{WallShown}
 use Rattle.runlog.specs.Stations as stations
@@ -101,6 +105,9 @@ pub record Watching : Type 0 where
   pub seen : Counts
   -- how many octets of the line were dropped before requests, as far as that was seen
   pub late : ℕ
+  -- which syncs of the state were slow, as far as that was seen, and what was logged of them
+  pub syncs : SlowSyncs
+  pub slow : SyncWatch
   -- when a line was sought among what is gathered
   pub sought : ℕ
   -- what the wall clock showed last
@@ -131,6 +138,8 @@ new_watching c = record {
   exchange = new_exchange c.line.answer_ms;
   seen = record { skipped = 0; mirrors = 0; lost = 0; spoilt = 0 };
   late = 0;
+  syncs = none_slow;
+  slow = new_syncs;
   sought = 0;
   wall = None;
   trail = [];
@@ -327,7 +336,8 @@ came next.Done buf s w = (w, None)
 
 -- and what was late before it is noted first
 abbrev pub event_noted : Next → List ℕ → EndsSight → Watching → Watching × Option LogLine
-event_noted event buf s w = came event buf s (late_noted s.late_octets w)
+event_noted event buf s w =
+    came event buf s (late_noted s.late_octets (record w { syncs = s.syncs }))
 
 abbrev pub inbox_after : Close → Inbox → Inbox
 inbox_after close.Replaced b = b
@@ -415,9 +425,16 @@ has_trail w = not (is_told w.trail)
 abbrev pub told : Watching → Watching
 told w = record w { trail = [] }
 
+abbrev pub syncs_logged : Watching → Watching × Option LogLine
+syncs_logged w =
+    let logged = syncs_seen w.syncs w.moment w.slow in (record w { slow = logged.0 }, logged.1)
+
+abbrev pub unless_traffic : List Traffic × Option LogLine → Watching → Watching × Option LogLine
+unless_traffic (traffic, Some line) w = (record w { traffic = traffic }, Some line)
+unless_traffic (traffic, None) w = syncs_logged (record w { traffic = traffic })
+
 abbrev pub traffic_logged : Watching → Watching × Option LogLine
-traffic_logged w =
-    let logged = first_line w.moment w.traffic in (record w { traffic = logged.0 }, logged.1)
+traffic_logged w = unless_traffic (first_line w.moment w.traffic) w
 
 abbrev pub unless_inbox : Inbox × Option LogLine → Watching → Watching × Option LogLine
 unless_inbox (b, Some line) w = (record w { inbox = b }, Some line)

@@ -13,7 +13,7 @@ ghost use Rattle.live.specs.declared.ends.Presence.TheVariants as presence;
 ghost use Rattle.live.specs.declared.ends.RefusedPeers.{RefusedPeers};
 ghost use Rattle.live.specs.declared.watched.EndsSight.{EndsSight};
 ghost use Rattle.runlog.specs.Ends.{line_seen, listener_seen};
-ghost use Rattle.runlog.specs.Inbox.{Inbox, judged};
+ghost use Rattle.runlog.specs.Inbox.{Inbox, judged, lost};
 ghost use Rattle.runlog.specs.LineLines.{logged_at};
 ghost use Rattle.runlog.specs.Limits.{IsSecondAfter, none_left};
 ghost use Rattle.runlog.specs.Logging.{looked_if_due, taken_in};
@@ -94,7 +94,8 @@ pub fn a_line_stands_so_since_the_look_that_found_it_so()
 
 /// Half an APDU of one connection is no beginning of one on the next: nothing has come yet where
 /// one is opened, and nothing is left where it is cut. What came in the step in which the gateway
-/// closes it went nowhere, but the close of the one whose place another took changes nothing.
+/// closes it went nowhere, but the close of the one whose place another took changes nothing of what
+/// came.
 pub fn nothing_of_a_connection_is_read_on_the_next()
     ensures opened { (w : Watching) (now : ℕ) (octets : List ℕ) (s : EndsSight) →
         (passed (Came (next.Open now) octets s) w).0.inbox.octets ≡ [] }
@@ -103,7 +104,7 @@ pub fn nothing_of_a_connection_is_read_on_the_next()
     ensures closed { (w : Watching) (now : ℕ) (cause : Close) → cause ≢ close.Replaced →
         (passed (Went now (Closed cause)) w).0.inbox.is_closed ≡ true }
     ensures replaced { (w : Watching) (now : ℕ) →
-        (passed (Went now (Closed close.Replaced)) w).0.inbox ≡ w.inbox }
+        (passed (Went now (Closed close.Replaced)) w).0.inbox ≡ lost w.inbox }
     ensures left { (s : State) (peer : Option IpAddr) (b : Inbox) → b.is_closed ≡ true →
         (judged s peer b).octets ≡ [] }
 {}

@@ -8,6 +8,7 @@ use crate::gathered::Gathered;
 use crate::note::{LogLine, Note};
 use crate::order::{Order, octet};
 use crate::trail::Trail;
+use crate::waiting::OrderList;
 use arrayvec::ArrayVec;
 use asdu::Sizes;
 use command::Glance;
@@ -24,9 +25,9 @@ pub(crate) struct Orders {
     ordered: Trail,
     refused: Gathered,
     /// Those that wait for the line, oldest first.
-    waiting: ArrayVec<Order, 64>,
+    waiting: OrderList,
     /// Those of the latest step that went out in it: they go out before they are seen to come.
-    early: ArrayVec<Order, 16>,
+    early: OrderList,
 }
 
 impl Model for Orders {
@@ -38,8 +39,8 @@ impl Model for Orders {
       seen = c.glance;
       ordered = c.ordered;
       refused = c.refused;
-      waiting = c.waiting.items;
-      early = c.early.items;
+      waiting = c.waiting;
+      early = c.early;
     } };
 }
 
@@ -51,8 +52,8 @@ impl Orders {
             glance: Glance::new(),
             ordered: Trail::new(),
             refused: Gathered::new(),
-            waiting: ArrayVec::new(),
-            early: ArrayVec::new(),
+            waiting: OrderList::new(),
+            early: OrderList::new(),
         }
     }
 
@@ -91,13 +92,9 @@ impl Orders {
     fn wait(&mut self, order: Order)
         ensures { self.new ≡ spec.waits order self.old }
     {
-        match self.early.iter().position(|sent| order.goes_out_as(*sent)) {
-            Some(place) if place < self.early.len() => {
-                self.early.remove(place);
-            }
-            _ => {
-                let _ = self.waiting.try_push(order);
-            }
+        match self.early.sent(order) {
+            Some(place) => self.early.take_out(place),
+            None => self.waiting.add(order),
         }
     }
 
@@ -105,13 +102,9 @@ impl Orders {
     fn go(&mut self, sent: Order)
         ensures { self.new ≡ spec.gone sent self.old }
     {
-        match self.waiting.iter().position(|came| came.goes_out_as(sent)) {
-            Some(place) if place < self.waiting.len() => {
-                self.waiting.remove(place);
-            }
-            _ => {
-                let _ = self.early.try_push(sent);
-            }
+        match self.waiting.come(sent) {
+            Some(place) => self.waiting.take_out(place),
+            None => self.early.add(sent),
         }
     }
 

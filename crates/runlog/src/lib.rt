@@ -81,9 +81,11 @@ mod sink;
 mod spoiling;
 mod station_laws;
 mod stations;
+mod syncs;
 mod system_laws;
 mod traffic;
 mod trail;
+mod waiting;
 mod watch;
 mod word_examples;
 

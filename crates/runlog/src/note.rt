@@ -487,10 +487,11 @@ impl fmt::Display for Note {
 fn write_left_out<W: fmt::Write>(left_out: LeftOut, f: &mut fmt::Formatter<W>) -> fmt::Result
     ensures { WritesOnOk W.write_str_gives f.old result (left_out_words left_out) f.new }
 {
-    let LeftOut { count, since } = left_out;
+    let count = left_out.count;
     if count == 0 {
         return Ok(());
     }
+    let since = left_out.since;
     write!(f, " ({count} left out since {since})")
 }
 

@@ -11,12 +11,13 @@ use crate::limit::LeftOut;
 use crate::note::{LogLine, Note, RunCounts, Trouble};
 use crate::queue::QueueWatch;
 use crate::stations::{StationWatch, gap};
+use crate::syncs::SyncWatch;
 use crate::traffic::{Traffic, traffic_line};
 use crate::trail::Trail;
 use asdu::Sizes;
 use ft12::LinkSize;
 use gateway::{Action, Config, Counts, Gateway, Next};
-use live::{EndsSight, Failure, Presence};
+use live::{EndsSight, Failure, Presence, SlowSyncs};
 use session::Close;
 use std::alloc::{AllocError, Global};
 use std::marker::Model;
@@ -65,6 +66,9 @@ pub struct Watch {
     seen: Counts,
     /// How many octets of the line were dropped before requests, as far as that was seen.
     late: u64,
+    /// Which syncs of the state were slow, as far as that was seen.
+    syncs: SlowSyncs,
+    slow: SyncWatch,
     /// The moment at which a line was sought among what is gathered, in ms.
     sought: u64,
     /// What the wall clock showed last; none before it was given.
@@ -99,6 +103,8 @@ impl Model for Watch {
       exchange = w.exchange;
       seen = w.seen;
       late = w.late;
+      syncs = w.syncs;
+      slow = w.slow;
       sought = w.sought;
       wall = w.wall;
       stations = w.stations.items;
@@ -157,6 +163,8 @@ impl Watch {
                 spoilt: 0,
             },
             late: 0,
+            syncs: SlowSyncs::none(),
+            slow: SyncWatch::new(),
             sought: 0,
             wall: None,
             trail: Trail::new(),
@@ -216,6 +224,13 @@ impl Watch {
         self.line.since()
     }
 
+    /// Which syncs of the state on the disk were slow, behind the latest event.
+    pub fn syncs(&self) -> SlowSyncs
+        ensures { result ≡ self.now.syncs }
+    {
+        self.syncs
+    }
+
     /// The connection that is open.
     pub fn opening(&self) -> Option<OpenConnection>
         ensures { result ≡ self.now.connection.opening }
@@ -248,6 +263,7 @@ impl Watch {
         requires { FitsBuffer next }
         ensures { (self.new, result) ≡ spec.event_noted next buf.now sight.now self.old }
     {
+        self.syncs = sight.syncs;
         // First: they were dropped before this event, when the latest request went out.
         self.note_late(sight.late_octets);
         self.come(next, buf, sight)
@@ -387,7 +403,18 @@ impl Watch {
         self.sought = now;
         match self.inbox.line(now) {
             Some(line) => Some(line),
-            None => traffic_line(&mut self.traffic, now),
+            None => self.traffic_line(),
+        }
+    }
+
+    /// The next line of what befell stations, or of slow syncs.
+    fn traffic_line(&mut self) -> Option<LogLine>
+        ensures { (self.new, result) ≡ spec.traffic_logged self.old }
+    {
+        let now = self.moment;
+        match traffic_line(&mut self.traffic, now) {
+            Some(line) => Some(line),
+            None => self.slow.see(self.syncs, now),
         }
     }
 
