@@ -419,13 +419,15 @@ int fsync(int file) {
 }
 """
 
-# What the system calls each of these faults.
+# What the log calls each of these faults.
 FAULTS = {
-    "EIO": (errno.EIO, "Input/output error"),
-    "read-only": (errno.EROFS, "Read-only file system"),
-    "no permission": (errno.EACCES, "Permission denied"),
-    "no space": (errno.ENOSPC, "No space left on device"),
+    "EIO": (errno.EIO, "uncategorized error"),
+    "read-only": (errno.EROFS, "read-only filesystem or storage medium"),
+    "no permission": (errno.EACCES, "permission denied"),
+    "no space": (errno.ENOSPC, "no storage space"),
 }
+WITHOUT = "its directory can't be used, the run goes on without it"
+UNKEPT = "state: can't be kept there"
 
 
 class Failing:
@@ -502,7 +504,7 @@ def fails_amid_a_run(count, program, name):
 
 def fails_at_a_start(count, program, name):
     """The directory can't be used at a start: the run goes on without it, and the next start knows that."""
-    fault, _reason = FAULTS[name]
+    fault, reason = FAULTS[name]
     with tempfile.TemporaryDirectory() as folder:
         case = Failing(program, folder, fault)
         gateway = case.gateway
@@ -515,7 +517,8 @@ def fails_at_a_start(count, program, name):
         got = drained(gateway, numbered(gateway, 3, 4))
         count.judge(f"{name} at a start: reports come", all(numbers == [3, 4] for numbers in got.values()), got)
         told = gateway.kill()
-        is_told = "its directory can't be used, the run goes on without it: the disk failed" in told
+        # The lock is the first file that is opened.
+        is_told = f"{WITHOUT}: lock: {reason}" in told
         count.judge(f"{name} at a start: it says so", is_told and "isn't kept" in told, told)
         case.mend()
         gateway.start()
@@ -532,12 +535,12 @@ def fails_at_a_start(count, program, name):
         until(lambda: gateway.process.poll() is not None, 20)
         count.compare(f"{name} at a start: without a second place it ends", gateway.process.poll(), 3)
         told = gateway.kill()
-        count.judge(f"{name} at a start: and says so", "state can't be kept there" in told, told)
+        count.judge(f"{name} at a start: and says why", f"{UNKEPT}: {reason}" in told, told)
         case.field.server.close()
 
 
 def says_reason(count, program, name, is_amid):
-    """The log names the file or the directory, and the reason in the system's words."""
+    """The log names the file or the directory, and the reason."""
     fault, reason = FAULTS[name]
     with tempfile.TemporaryDirectory() as folder:
         case = Failing(program, folder, fault)
@@ -556,7 +559,7 @@ def says_reason(count, program, name, is_amid):
 
 def stops(count, program, name):
     """With --state-or-stop a run ends with 3, amid a run and at a start."""
-    fault, _reason = FAULTS[name]
+    fault, reason = FAULTS[name]
     with tempfile.TemporaryDirectory() as folder:
         case = Failing(program, folder, fault, flags=["--state-or-stop"])
         case.begin()
@@ -569,7 +572,7 @@ def stops(count, program, name):
         until(lambda: case.gateway.process.poll() is not None, 20)
         count.compare(f"{name}, --state-or-stop: a start ends", case.gateway.process.poll(), 3)
         told = case.gateway.kill()
-        count.judge(f"{name}, --state-or-stop: it says so", "state can't be kept there" in told, told)
+        count.judge(f"{name}, --state-or-stop: it says why", f"{UNKEPT}: {reason}" in told, told)
         case.field.server.close()
 
 
@@ -586,7 +589,7 @@ def no_file(count, program):
         is_up = has_gone_round(gateway, 4)
         count.judge("a FIFO: it goes on", is_up and gateway.process.poll() is None, (gateway.process.poll(), gateway.logged()))
         told = gateway.kill()
-        count.judge("a FIFO: it says so", "its directory can't be used, the run goes on without it" in told, told)
+        count.judge("a FIFO: it says so", f"{WITHOUT}: segments: unsupported" in told, told)
         gateway.field.server.close()
 
 
@@ -620,7 +623,7 @@ def mark_unseen(count, program):
         has_gone_round(case.gateway, 1)
         told = case.gateway.kill()
         count.judge("a mark that can't be looked for", "state: goes on" not in told or "stale" in told, told)
-        count.judge("something is said of it", "state" in told, told)
+        count.judge("it is named", f"{WITHOUT}: stale: {FAULTS['EIO'][1]}" in told, told)
         case.field.server.close()
 
 
@@ -660,7 +663,7 @@ PARTS = [
     # A full disk can be read: checks/state.py has a start on one.
     *(alone(f"fails at a start: {name}", fails_at_a_start, name) for name in FAULTS if name != "no space"),
     *(alone(f"disk reason: {name}, amid a run", says_reason, name, True) for name in FAULTS),
-    *(alone(f"disk reason: {name}, at a start", says_reason, name, False) for name in FAULTS),
+    *(alone(f"start reason: {name}", says_reason, name, False) for name in FAULTS),
     *(alone(f"or stop: {name}", stops, name) for name in ("EIO", "read-only")),
     alone("FIFO", no_file),
     alone("disk slow", slow_syncs),

@@ -11,7 +11,12 @@ and `--allow`.
 - A flood of connections has at most a line a second.
 - A silent station that is held is logged, and so is one that never answered.
 - Commands are logged: one that is selected, confirmed, executed and done, and those that are
-  refused, with the rule. Of many at once the last is logged, and how many came before it.
+  refused, with the rule. Of many refusals at once the last is logged, how many came before it, and
+  since when.
+- The trail of commands is whole. Each line stands there that the record of the run gives, with its
+  moment, in its order, and no other: of bursts of up to 64 commands, three quick
+  select-and-executes, a busy link, a station that falls silent, and a connection that ends before
+  all of its commands went out. So do the gathered lines of refusals.
 - A skipped report is logged with its type and the reason.
 - A station whose answers last longer than `answer_ms` is logged, once a minute; a silent one isn't.
 - What comes in the place of an answer is told apart: an echo, a late answer, a frame of another
@@ -168,14 +173,14 @@ def replies(asdu):
 
 
 class Run:
-    def __init__(self, program, folder, station, *flags, host="127.0.0.1", settings=SETTINGS):
+    def __init__(self, program, folder, station, *flags, host="127.0.0.1", settings=SETTINGS, output=subprocess.PIPE):
         self.listener = (host, ends.free_port())
         config = os.path.join(folder, "live.toml")
         with open(config, "w") as file:
             place = f"tcp:127.0.0.1:{station.port}"
             file.write(f'{settings}[live]\nline = "{place}"\nlisten = "{host}:{self.listener[1]}"\n')
         self.process = subprocess.Popen(
-            [program, "run", *flags, config], stdin=subprocess.DEVNULL, stdout=subprocess.PIPE, stderr=subprocess.PIPE
+            [program, "run", *flags, config], stdin=subprocess.DEVNULL, stdout=output, stderr=subprocess.PIPE
         )
         self.log = Log(self.process.stderr)
 
@@ -260,7 +265,7 @@ def flood(count, run, at):
     for kind in ("connection opened", "connection cut", "connection closed"):
         lines = [line for line in run.log.lines[at:] if line.startswith(kind)]
         count.judge(f"{kind} in a flood", len(lines) <= seconds + 2, (seconds, lines))
-    count.judge("how many were left out", any(re.search(r"\(\d+ left out\)", line) for line in opened), opened)
+    count.judge("how many were left out", any(re.search(r"\(\d+ left out since \d+\)", line) for line in opened), opened)
 
 
 def held(count, program, folder):
@@ -427,7 +432,7 @@ def commands(count, program, folder):
         last = "command C_SC_NA_1 execute 2/20 on by 127.0.0.1 refused: common address not known"
         log.waits(last, began)
         lines = [line for line in log.lines[began:] if " refused: common address" in line]
-        told_of = sum(1 + int((re.search(r"\((\d+) left out\)", line) or [0, 0])[1]) for line in lines)
+        told_of = sum(1 + int((re.search(r"\((\d+) left out since \d+\)", line) or [0, 0])[1]) for line in lines)
         count.judge("of many at once each is told or counted", told_of == 20 and lines[-1].startswith(last), lines)
         count.judge("of many at once few are told", len(lines) <= 3, lines)
         # A closed connection: what came in the same piece goes nowhere.
@@ -435,6 +440,236 @@ def commands(count, program, folder):
         with centre.numbers:
             centre.send(i_frame(centre, centre.sent, SELECT) + b"\x00")
         told(f"{select} by 127.0.0.1 refused: its connection was closed")
+
+
+class Burdened(Operated):
+    """An outstation that counts the commands which it gets, and may be busy with them or silent to them."""
+
+    def __init__(self):
+        self.taken, self.is_busy, self.is_deaf = 0, False, False
+        super().__init__()
+
+    def run(self):
+        self.stream, _ = self.server.accept()
+        line = ends.Line(self.stream)
+        try:
+            while True:
+                function, address, frame = line.request()
+                if function == 9:
+                    line.answer(ends.fixed(0x0B, address))
+                elif function == 3 and self.is_deaf:
+                    pass
+                elif function == 3 and self.is_busy:
+                    self.taken += 1
+                    line.answer(ends.fixed(0x01, address))
+                elif function == 3:
+                    self.taken += 1
+                    self.reports += replies(frame[6:-2])
+                    line.answer(b"\xe5")
+                elif function in (10, 11) and self.reports:
+                    line.answer(ends.data(0x08, address, self.reports.pop(0)))
+                else:
+                    line.answer(b"\xe5")
+        except (OSError, EOFError):
+            pass
+
+    def settles(self, taken):
+        """Waits until so many commands have come, and all that it has to say of them was fetched."""
+        end = time.monotonic() + ends.PATIENCE
+        while (self.taken < taken or self.reports) and time.monotonic() < end:
+            time.sleep(0.01)
+
+
+def told_of(asdu, object_at):
+    """What a line says of a single command whose object address stands at this place."""
+    act = "select" if asdu[-1] >= 0x80 else "execute"
+    ca = int.from_bytes(asdu[4:6], "little") if object_at == 6 else asdu[3]
+    object = int.from_bytes(asdu[object_at : object_at + object_at // 2], "little")
+    return f"command C_SC_NA_1 {act} {ca}/{object} {'on' if asdu[-1] % 2 else 'off'}"
+
+
+ANSWERS = {7: "confirmed by station 7", 10: "terminated by station 7"}
+
+
+class Trail:
+    """The lines of single commands that the log of a run has to have by its record: those of commands that go on (to
+    common address 1), and those of refusals (to another one), each with its moment."""
+
+    def __init__(self, record):
+        self.lines, self.refusals = [], []
+        self.tcp, self.line, self.latest, self.bit = b"", b"", None, None
+        # The commands that wait, the oldest first.
+        self.waiting = []
+        # Of the refusals: when a line was written last and sought last, those left out since, and the last that came.
+        self.written, self.sought, self.left, self.last = None, 0, [], None
+        for text in record.splitlines():
+            fields = re.fullmatch(r"(\d+) (> )?(\w)(?: (\w+))?", text)
+            if not fields:
+                continue
+            moment, is_action, kind = int(fields[1]), fields[2], fields[3]
+            octets = bytes.fromhex(fields[4]) if kind in "RS" and fields[4] else b""
+            if is_action and kind == "S":
+                self.went(moment, octets)
+            if is_action:
+                continue
+            # A look follows each step, and this event begins the next one.
+            self.look()
+            self.now = moment
+            if kind == "R":
+                self.came(moment, octets)
+            elif kind == "S":
+                self.answered(moment, octets)
+            elif kind == "C":
+                self.lines += [(moment, f"{words} not sent: its connection ended") for words in self.waiting]
+                self.tcp, self.waiting = b"", []
+        self.look()
+
+    def came(self, moment, octets):
+        self.tcp += octets
+        while len(self.tcp) > 1 and len(self.tcp) >= self.tcp[1] + 2:
+            apdu, self.tcp = self.tcp[: self.tcp[1] + 2], self.tcp[self.tcp[1] + 2 :]
+            if apdu[2] % 2:
+                continue
+            words = told_of(apdu[6:], 6)
+            if apdu[10:12] == b"\x01\x00":
+                self.lines.append((moment, f"{words} by 127.0.0.1"))
+                self.waiting.append(words)
+                continue
+            if self.last:
+                self.left.append(self.last)
+            self.last = (moment, f"{words} by 127.0.0.1 refused: common address not known")
+
+    def went(self, moment, octets):
+        """A request: a command that goes out for the first time, or the status of a link whose command was given up."""
+        self.line = b""
+        if octets[0] == 0x68:
+            bit, words = octets[4] & 0x20, told_of(octets[6:-2], 4)
+            if bit != self.bit:
+                self.latest = words
+                self.lines.append((moment, f"{words} sent to station 7"))
+                self.waiting.remove(words)
+            self.bit = bit
+        elif octets[1] % 16 == 9:
+            if self.latest:
+                self.lines.append((moment, f"{self.latest} given up: station 7 doesn't answer"))
+            self.latest = self.bit = None
+        elif octets[1] % 16 in (10, 11):
+            self.latest, self.bit = None, octets[1] & 0x20
+
+    def answered(self, moment, octets):
+        self.line += octets
+        frame = self.line
+        if len(frame) > 4 and frame[0] == 0x10 and frame[1] % 16 == 1 and self.latest:
+            self.lines.append((moment, f"{self.latest} not taken: station 7 is busy"))
+            self.latest = None
+        elif len(frame) > 4 and frame[0] == 0x68 and len(frame) >= frame[1] + 6:
+            asdu = frame[6:-2]
+            self.lines.append((moment, f"{told_of(asdu, 4)} {ANSWERS[asdu[2]]}"))
+        elif frame[:1] == b"\xe5":
+            self.latest = None
+        else:
+            return
+        self.line = b""
+
+    def look(self):
+        """Behind a step: the last refusal that came, once a second has passed since the line before."""
+        now = getattr(self, "now", 0)
+        if now == self.sought:
+            return
+        self.sought = now
+        if self.last and (self.written is None or now - self.written >= 1000):
+            moment, words = self.last
+            since = f" ({len(self.left)} left out since {self.left[0][0]})" if self.left else ""
+            self.refusals.append((moment, words + since))
+            self.written, self.left, self.last = now, [], None
+
+
+def single(object, qualifier, ca=1):
+    """A single command as it comes from the control centre."""
+    return bytes.fromhex("2d010600") + ca.to_bytes(2, "little") + object.to_bytes(3, "little") + bytes([qualifier])
+
+
+def trail(count, program, folder):
+    """Each line of a command that goes on stands in the log, with the moment and in the order of the record's events."""
+    for name, settings, drive in (
+        ("quick selects and executes", PATIENT + "select = true\n", quick),
+        ("bursts", PATIENT, bursts),
+        ("a busy link and a silent station", HELD.replace("retries = 1", 'retries = 1\nsilence = "reset"'), unwell),
+    ):
+        station = Burdened()
+        with open(os.path.join(folder, "trail.record"), "w+") as output:
+            with Run(program, folder, station, "--record", "--log", settings=settings, output=output) as run:
+                log = run.log
+                count.judge(f"{name}: the station is up", log.waits("station 7 up") is not None, log.lines)
+                stream = run.connect()
+                count.judge(f"{name}: STARTDT", exchange(stream, ends.START, ends.STARTED))
+                centre = ends.Centre(stream)
+                threading.Thread(target=drain, args=(centre,), daemon=True).start()
+                drive(station, centre)
+                # Some ticks more: an event is recorded with the next one.
+                time.sleep(0.5)
+            run.log.thread.join(ends.PATIENCE)
+            output.seek(0)
+            wanted = Trail(output.read())
+        told = [(stamp[1], line) for stamp, line in zip(log.stamps, log.lines) if line.startswith("command ")]
+        moments = [moment for moment, line in told if " refused: " not in line]
+        count.judge(f"{name}: moments go on", moments == sorted(moments), moments)
+        for what, lines, is_refused in (("each line of its commands", wanted.lines, False), ("its refusals", wanted.refusals, True)):
+            seen = [entry for entry in told if (" refused: " in entry[1]) == is_refused]
+            # The record has no moment at which a command is given up: its place in the order is judged.
+            lines, seen = ([(None if " given up" in words else moment, words) for moment, words in some] for some in (lines, seen))
+            at = next((n for n, (a, b) in enumerate(zip(lines, seen)) if a != b), min(len(lines), len(seen)))
+            is_whole = len(lines) > 0 or is_refused
+            count.judge(f"{name}: {what}", is_whole and lines == seen, (len(lines), len(seen), lines[at : at + 3], seen[at : at + 3]))
+
+
+def quick(station, centre):
+    """Three objects are selected and executed, 0.35 s apart or as fast as the station is."""
+    for turn in range(3):
+        began = time.monotonic()
+        centre.command(single(100 + turn, 0x81))
+        station.settles(2 * turn + 1)
+        time.sleep(0.05)
+        centre.command(single(100 + turn, 0x01))
+        station.settles(2 * turn + 2)
+        time.sleep(max(0, 0.35 - (time.monotonic() - began)))
+
+
+def bursts(station, centre):
+    """Bursts of 6 commands one by one, and of 20 and 64 in one piece, with refusals between them."""
+    for object in range(1, 7):
+        centre.command(single(object, object % 2))
+        time.sleep(0.1)
+    station.settles(6)
+    centre.command(*(single(object, 1) for object in range(1, 21)))
+    for object in range(1, 21):
+        centre.command(single(object, 1, ca=2))
+    station.settles(26)
+    centre.command(*(single(object, 0) for object in range(1, 65)))
+    station.settles(90)
+    # The last refusals are logged a second behind the first.
+    time.sleep(1.5)
+
+
+def unwell(station, centre):
+    """A command that finds the link busy; those to which the station is silent; and a connection that ends before all
+    of its commands went out."""
+    station.is_busy = True
+    centre.command(single(1, 1))
+    station.settles(1)
+    time.sleep(0.1)
+    station.is_busy, station.is_deaf = False, True
+    centre.command(single(2, 1), single(3, 0))
+    time.sleep(2)
+    station.is_deaf = False
+    centre.command(single(4, 1))
+    time.sleep(2)
+    # The connection ends while one is on the line and others wait.
+    station.is_deaf = True
+    centre.command(*(single(object, object % 2) for object in range(5, 12)))
+    time.sleep(0.1)
+    centre.stream.shutdown(socket.SHUT_RDWR)
+    time.sleep(1)
 
 
 def i_frame(centre, number, asdu):
@@ -649,4 +884,4 @@ def troubles(count, program, folder):
 
 
 if __name__ == "__main__":
-    frame.main(a_run, held, mute, fickle, commands, skipped, late, told_apart, unheard, allowed, troubles, second, closed)
+    frame.main(a_run, held, mute, fickle, commands, trail, skipped, late, told_apart, unheard, allowed, troubles, second, closed)

@@ -9,8 +9,8 @@ checks/readme.txt has a line `$ COMMAND`, what it prints, worked out by hand, an
 brackets. A line `...` there stands for any lines. A command of README.md that isn't there is a
 failure.
 
-`run` and `stations` don't end by themselves. For `run` the script runs README's `python3
-examples/live/try.py`, which has to end with 0; checks/stations.py has both. With `--program` it
+`run`, `stations` and `centre` don't end by themselves. For `run` the script runs README's `python3
+examples/live/try.py`, which has to end with 0; checks/centre.py has all three. With `--program` it
 runs that file in place of `./telegate`.
 
 Of the commands that build, test, pack and install, it tries that `--help` prints help, that wrong
@@ -24,7 +24,7 @@ import subprocess
 import frame
 
 LIVE = "python3 examples/live/try.py"
-LASTING = ("./telegate run", "./telegate stations")
+LASTING = ("./telegate run", "./telegate stations", "./telegate centre")
 TOOLS = ("build", "test", "packaging/deb", "packaging/install.sh")
 
 

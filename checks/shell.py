@@ -42,7 +42,7 @@ RECORD = (
 STATION = "station 1 reports 0 given 0 accepted 0\n"
 ALLOW = "error: --allow takes the address of a host, as 192.0.2.7\n"
 FAR = "warning: live.line is on another machine: a network that holds requests back brings stale answers\n"
-COMMANDS = ("show101", "show104", "check", "replay", "sim", "audit", "run", "status", "capture", "stations")
+COMMANDS = ("show101", "show104", "check", "replay", "sim", "audit", "run", "status", "capture", "stations", "centre")
 # The run over TRACE in words, put together by hand from the standard's tables and docs/TEXTS.md.
 WORDS = (
     "0 gateway > outstation  link status to 1\n"
@@ -253,7 +253,7 @@ ROWS = [
     ("run --state kept good.toml", "", "config: live.line\n", 1),
     ("run nowhere --state kept", "", "cannot read nowhere\n", 3),
     ("run --state kept no-line.toml", "", "device failed\n", 3),
-    ("run --state empty no-line.toml", "", "state: can't be kept there\n", 3),
+    ("run --state empty no-line.toml", "", "state: can't be kept there: entity already exists\n", 3),
     ("run --state-or-stop nowhere", "", "error: --state-or-stop needs --state with a directory\n", 2),
     ("run --state-or-stop good.toml --state kept", "", "config: live.line\n", 1),
     # The file of a site is read and judged before the settings are read; what words say wins.

@@ -11,6 +11,8 @@ crate, the name, and its form as far as the specification gives it.
   and why. So the script tells what both the sources and the page have lost.
 - A row of that table names only what is on the list and differs. Each name in its third cell is
   there: a call or type of any crate, or a variant of one.
+- Each crate of others that the specification names is used by the program: by a crate that stands
+  below `telegate` in crates.txt, in its src/. With no fault the lines say in which of them.
 
 No program is needed. An allocator that a call takes is no part of its form, nor are receivers,
 names of parameters and lifetimes.
@@ -28,6 +30,8 @@ from laws import exported, functions_of, without_comments
 PAGE = os.path.join(frame.TOP, "docs", "CALLS.md")
 LIST = os.path.join(frame.HERE, "specified_calls.txt")
 HEADING = "Calls of the specification that have another form"
+# The crates of others that the specification names.
+OTHERS = ["arrayvec", "byteorder", "circular_buffer", "jiff", "thiserror", "toml", "hex", "clap"]
 TYPE = re.compile(r"^pub (?:enum|struct|trait|type) (\w+)([^\n{(=;]*)(.*?)(?=^\}|;\n)", re.M | re.S)
 
 
@@ -143,8 +147,38 @@ def is_there(name, all_calls, all_types):
     return owner in all_types and re.search(rf"\b{last}\b", all_types[owner]) is not None
 
 
+def below(crate, table):
+    """A crate of this repository, and all of them that it stands on."""
+    return {crate}.union(*(below(name, table) for name in table[crate] if name in table))
+
+
+def uses(other):
+    """What the program's crates import of a crate of others: by crate, the names."""
+    rows = (line.split(":") for line in read(os.path.join(frame.TOP, "crates.txt")).splitlines() if ":" in line)
+    table, found = {name: words.split() for name, words in rows}, {}
+    # jiff's dates and times stand in a crate of their own.
+    names = "jiff(?:_core)?" if other == "jiff" else other
+    for crate in sorted(below("telegate", table)):
+        files = glob.glob(os.path.join(frame.TOP, "crates", crate, "src", "**", "*.rt"), recursive=True)
+        text = "\n".join(without_comments(read(name)) for name in files)
+        imports = re.findall(rf"^use {names}::([^;]*);", text, re.M)
+        if imports:
+            found[crate] = sorted(set(re.findall(r"\w+", " ".join(imports))))
+    return found
+
+
+def crates_of_others(count):
+    """Where the program uses each crate of others that the specification names."""
+    for other in OTHERS:
+        found = uses(other)
+        count.judge(f"the crate {other}", found, "the program uses it nowhere")
+        for crate, names in found.items():
+            print(f"  {other} in {crate}: {', '.join(names)}")
+
+
 def specification(count, _program, _folder):
-    """Each call and type of the list, and each row of the page."""
+    """Each call and type of the list, each row of the page, and each crate of others."""
+    crates_of_others(count)
     calls = {crate: calls_of(crate) for crate in crates()}
     types = {crate: types_of(crate) for crate in crates()}
     rows = list(rows_of(read(PAGE)))

@@ -2,7 +2,7 @@
 _telegate() {
     local word=${COMP_WORDS[COMP_CWORD]} command=${COMP_WORDS[1]}
     if [ "$COMP_CWORD" -eq 1 ]; then
-        COMPREPLY=($(compgen -W "show101 show104 check replay sim audit run status state capture stations help --help --version" -- "$word"))
+        COMPREPLY=($(compgen -W "show101 show104 check replay sim audit run status state capture stations centre help --help --version" -- "$word"))
         return
     fi
     case $command in
@@ -13,12 +13,13 @@ _telegate() {
         sim) COMPREPLY=($(compgen -W "--words --color --help" -- "$word")) ;;
         audit | capture | stations) COMPREPLY=($(compgen -W "--help" -- "$word")) ;;
         state) COMPREPLY=($(compgen -W "--help" -- "$word")) ;;
+        centre) COMPREPLY=($(compgen -W "--tagged --json --wait --help" -- "$word")) ;;
         status) COMPREPLY=($(compgen -W "--json --help" -- "$word")) ;;
-        help) COMPREPLY=($(compgen -W "show101 show104 check replay sim audit run status state capture stations" -- "$word")) ;;
+        help) COMPREPLY=($(compgen -W "show101 show104 check replay sim audit run status state capture stations centre" -- "$word")) ;;
     esac
     case $command,$word in
         *,-*) ;;
-        check,* | replay,* | sim,* | audit,* | run,* | state,* | capture,* | stations,*) COMPREPLY=($(compgen -f -- "$word")) ;;
+        check,* | replay,* | sim,* | audit,* | run,* | state,* | capture,* | stations,* | centre,*) COMPREPLY=($(compgen -f -- "$word")) ;;
     esac
 }
 complete -o filenames -F _telegate telegate

@@ -1,5 +1,5 @@
 # Completion of telegate for fish: a file of its completions folder.
-set -l commands show101 show104 check replay sim audit run status state capture stations help
+set -l commands show101 show104 check replay sim audit run status state capture stations centre help
 complete -c telegate -f
 complete -c telegate -n "not __fish_seen_subcommand_from $commands" -l help -s h -d "tells what it does"
 complete -c telegate -n "not __fish_seen_subcommand_from $commands" -l version -s V -d "tells the version"
@@ -14,8 +14,9 @@ complete -c telegate -n "not __fish_seen_subcommand_from $commands" -a status -d
 complete -c telegate -n "not __fish_seen_subcommand_from $commands" -a state -d "shows what a run would go on with"
 complete -c telegate -n "not __fish_seen_subcommand_from $commands" -a capture -d "writes a record as a capture"
 complete -c telegate -n "not __fish_seen_subcommand_from $commands" -a stations -d "plays outstations"
+complete -c telegate -n "not __fish_seen_subcommand_from $commands" -a centre -d "is a control centre"
 complete -c telegate -n "not __fish_seen_subcommand_from $commands" -a help -d "tells what a command does"
-complete -c telegate -n "__fish_seen_subcommand_from check replay sim audit run capture stations" -F
+complete -c telegate -n "__fish_seen_subcommand_from check replay sim audit run capture stations centre" -F
 complete -c telegate -n "__fish_seen_subcommand_from $commands" -l help -s h -d "tells what it does"
 complete -c telegate -n "__fish_seen_subcommand_from check" -l live -d "as for a live run"
 complete -c telegate -n "__fish_seen_subcommand_from check" -l explain -d "what is wrong, and where"
@@ -25,6 +26,9 @@ complete -c telegate -n "__fish_seen_subcommand_from replay" -l counts -d "what 
 complete -c telegate -n "__fish_seen_subcommand_from replay sim" -l words -d "events and actions in words"
 complete -c telegate -n "__fish_seen_subcommand_from replay sim" -l color -d "in colours"
 complete -c telegate -n "__fish_seen_subcommand_from status" -l json -d "JSON in place of the table"
+complete -c telegate -n "__fish_seen_subcommand_from centre" -l tagged -d "gives a command a time tag"
+complete -c telegate -n "__fish_seen_subcommand_from centre" -l json -d "JSON objects, one a line"
+complete -c telegate -n "__fish_seen_subcommand_from centre" -l wait -x -d "how many seconds an answer may take"
 complete -c telegate -n "__fish_seen_subcommand_from run" -l redial -d "reaches the line again"
 complete -c telegate -n "__fish_seen_subcommand_from run" -l log -d "tells what happens"
 complete -c telegate -n "__fish_seen_subcommand_from run" -l record -d "prints each event and each action"

@@ -13,6 +13,7 @@ commands=(
     'state:shows what a run would go on with'
     'capture:writes a recorded run as a capture that Wireshark reads'
     'stations:plays outstations in real time'
+    'centre:is a control centre, to try a gateway with'
     'help:tells what a command does'
 )
 if ((CURRENT == 2)); then
@@ -52,6 +53,11 @@ case $words[2] in
     state) _arguments '--help[tells what the command does]' '2:directory:_files -/' '3:settings:_files' ;;
     audit | capture) _arguments '--help[tells what the command does]' '2:settings:_files' '3:record:_files' ;;
     stations) _arguments '--help[tells what the command does]' '2:settings:_files' '3:script:_files' ;;
+    centre)
+        _arguments '--tagged[gives a command a time tag]' '--json[prints JSON objects, one a line]' \
+            '--wait[how many seconds an answer may take]:seconds:' \
+            '--help[tells what the command does]' '2:host and port:' '*:settings or words:_files'
+        ;;
     show101) _arguments '--words[on one line, in words]' '--help[tells what the command does]' '2:sizes:' '3:octets:' ;;
     show104) _arguments '--words[on one line, in words]' '--help[tells what the command does]' '2:octets:' ;;
     help) _describe command commands ;;

@@ -402,8 +402,8 @@ AROUND = [
     (360, 100, "Its state on the disk", ["state state_files state_words", "segments statetext"],
      ["nothing_goes_out_before_it_is_on_disk", "Segment::survives"]),
     (25, 196, "Settings", ["settings"],
-     ["settings_are_named", "sites_are_named"]),
-    (360, 196, "Texts and tries", ["traces record sim", "words"],
+     ["other_keys_are_refused", "words_are_those_of_the_rows"]),
+    (360, 196, "Texts and tries", ["traces record sim", "words centre"],
      ["texts_are_read_line_by_line"]),
 ]
 BESIDE = ["checkpoint", "noted_ends", "library_example"]

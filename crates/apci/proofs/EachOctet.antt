@@ -7,7 +7,6 @@ use Rattle.std.proofs.lemmas.List.{take_more}
 use Rattle.std.proofs.lemmas.List.Elements.{All-cons, All-nil}
 use Rattle.apci.specs.declared.apdu.Apdu.{Apdu}
 use Rattle.apci.specs.declared.apdu.Apdu.TheVariants as apdu
-use Rattle.apci.specs.declared.apdu.Uf.{Uf}
 use Rattle.apci.specs.declared.apdu.Why.{Why}
 use Rattle.apci.specs.declared.apdu.Why.TheVariants.{Control}
 use Rattle.apci.specs.declared.apdu.Front.TheVariants.{Whole, Never}
@@ -129,28 +128,6 @@ one_more : (before piece : List ℕ) (i : ℕ) → i < length piece
 one_more before piece i lt = append_assoc before (take i piece) (get_or piece i 0 ∷ [])
     ∙ ap (λ (l : List ℕ). before ++ l) (sym (take_more piece i 0 lt))
 
-pub goes_on : (s new : State) (asdu before piece : List ℕ) (i o : ℕ) (step : OctetStep)
-    → so_far s asdu ≡ Some (before ++ take i piece) → i < length piece → o ≡ get_or piece i 0
-    → IfSome (so_far s asdu) (λ octets. Gives (octets ++ o ∷ []) asdu o s step)
-    → step ≡ steps.Goes new
-    → IsState new asdu × (so_far new asdu ≡ Some (before ++ take (i + 1) piece))
-goes_on s new asdu before piece i o step joined lt at h is =
-    let g : Gives ((before ++ take i piece) ++ get_or piece i 0 ∷ []) asdu o s (steps.Goes new) =
-    subst (Gives ((before ++ take i piece) ++ get_or piece i 0 ∷ []) asdu o s) is
-    (gives_at s asdu before piece i o step joined at h) in
-    (g.1, g.0 ∙ ap Some (one_more before piece i lt))
-
-pub keeps_on : (s : State) (asdu before piece : List ℕ) (i o : ℕ) (step : OctetStep)
-    → so_far s asdu ≡ Some (before ++ take i piece) → i < length piece → o ≡ get_or piece i 0
-    → IfSome (so_far s asdu) (λ octets. Gives (octets ++ o ∷ []) asdu o s step) → step ≡ steps.Keeps
-    → IsState s (asdu ++ o ∷ []) × (so_far s (asdu ++ o ∷ []) ≡ Some (before ++ take (i + 1) piece))
-    × (length asdu < 249)
-keeps_on s asdu before piece i o step joined lt at h is =
-    let g : Gives ((before ++ take i piece) ++ get_or piece i 0 ∷ []) asdu o s steps.Keeps =
-    subst (Gives ((before ++ take i piece) ++ get_or piece i 0 ∷ []) asdu o s) is
-    (gives_at s asdu before piece i o step joined at h) in
-    (g.1, g.0 ∙ ap Some (one_more before piece i lt), g.2)
-
 -- the fronts of the octets with this one are those of the whole piece
 whole_received : (s : State) (asdu before piece : List ℕ) (i : ℕ) (a : Apdu) (n : ℕ)
     → IsState s asdu
@@ -179,28 +156,6 @@ i_received s asdu before piece i o step ns nr state joined lt at h is =
           (length x) state joined lt g.0,
       g.1,
     )
-
-pub s_received : (s : State) (asdu before piece : List ℕ) (i o : ℕ) (step : OctetStep) (nr : ℕ)
-    → IsState s asdu
-    → so_far s asdu ≡ Some (before ++ take i piece) → i < length piece → o ≡ get_or piece i 0
-    → IfSome (so_far s asdu) (λ octets. Gives (octets ++ o ∷ []) asdu o s step) → step ≡ steps.S nr
-    → IsFront (before ++ piece) (Whole (apdu.S nr) (length before + (i + 1))) × (asdu ≡ [])
-s_received s asdu before piece i o step nr state joined lt at h is =
-    let x : List ℕ = (before ++ take i piece) ++ get_or piece i 0 ∷ [] in
-    let g : Gives x asdu o s (steps.S nr) = subst (Gives x asdu o s) is
-    (gives_at s asdu before piece i o step joined at h) in
-    (whole_received s asdu before piece i (apdu.S nr) (length x) state joined lt g.0, g.1)
-
-pub u_received : (s : State) (asdu before piece : List ℕ) (i o : ℕ) (step : OctetStep) (f : Uf)
-    → IsState s asdu
-    → so_far s asdu ≡ Some (before ++ take i piece) → i < length piece → o ≡ get_or piece i 0
-    → IfSome (so_far s asdu) (λ octets. Gives (octets ++ o ∷ []) asdu o s step) → step ≡ steps.U f
-    → IsFront (before ++ piece) (Whole (apdu.U f) (length before + (i + 1))) × (asdu ≡ [])
-u_received s asdu before piece i o step f state joined lt at h is =
-    let x : List ℕ = (before ++ take i piece) ++ get_or piece i 0 ∷ [] in
-    let g : Gives x asdu o s (steps.U f) = subst (Gives x asdu o s) is
-    (gives_at s asdu before piece i o step joined at h) in
-    (whole_received s asdu before piece i (apdu.U f) (length x) state joined lt g.0, g.1)
 
 pub never_received : (s : State) (asdu before piece : List ℕ) (i o : ℕ) (step : OctetStep)
     (place : ℕ)

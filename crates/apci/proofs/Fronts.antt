@@ -373,10 +373,6 @@ pub octet_at_1 : (xs : List ℕ) (x y : ℕ) (rest : List ℕ) → xs ≡ x ∷ 
     → y < 256
 octet_at_1 xs x y rest e lt = subst (λ (l : List ℕ). get_or l 1 0 < 256) e lt
 
-pub octet_at_0 : (xs : List ℕ) (x : ℕ) (rest : List ℕ) → xs ≡ x ∷ rest → get_or xs 0 0 < 256
-    → x < 256
-octet_at_0 xs x rest e lt = subst (λ (l : List ℕ). get_or l 0 0 < 256) e lt
-
 pub i_whole : (len a ns nr : ℕ) (asdu : ArrayVec ℕ) (y : List ℕ) → 13 ≤ len → len ≤ 253
     → All IsOctet y
     → len ≤ length y + 1 → ns < 2 ^ 15 → nr < 2 ^ 15

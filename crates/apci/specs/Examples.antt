@@ -1,14 +1,12 @@
 -- APDUs worked by hand from IEC 60870-5-104, 5: their octets, and what distinguishes their formats.
-use Rattle.std.specs.Prelude.{◌≡◌, ℕ, ◌%◌, ◌<◌, ◌≤◌, List, [], ◌∷◌, length, slice_index, All}
-use Rattle.arrayvec.specs.ArrayVec.{ArrayVec}
-use Rattle.apci.specs.declared.apdu.Uf.{Uf}
+use Rattle.std.specs.Prelude.{◌≡◌, ℕ, ◌%◌, ◌<◌, ◌≤◌, List, [], ◌∷◌}
 use Rattle.apci.specs.declared.apdu.Uf.TheVariants.{StartAct, StartCon, StopAct, StopCon, TestAct}
 use Rattle.apci.specs.declared.apdu.Uf.TheVariants.{TestCon}
 use Rattle.apci.specs.declared.apdu.Apdu.{Apdu}
 use Rattle.apci.specs.declared.apdu.Apdu.TheVariants.{I, S, U}
 use Rattle.apci.specs.declared.apdu.Why.{Why}
 use Rattle.apci.specs.declared.apdu.Why.TheVariants.{Start, Length, Control, NotFour, Short}
-use Rattle.apci.specs.Spelling.{spelling, IsOctet, Fits}
+use Rattle.apci.specs.Spelling.{spelling, Fits}
 use Rattle.apci.specs.Reading.{refusal}
 
 -- ---- Octets
@@ -50,27 +48,6 @@ spelling_examples =
     ∷ []
 
 -- ---- Formats
-
--- what an I format's octets are: bit 0 of the first control octet is 0, and the length has room for
--- an ASDU (5)
-pub record IsInformation (octets : List ℕ) : Type 0 where
-  pub start : slice_index octets 0 ≡ 0x68
-  pub at_least : 13 ≤ slice_index octets 1
-  pub at_most : slice_index octets 1 ≤ 253
-  pub bit : slice_index octets 2 % 2 ≡ 0
-
--- The two lowest bits of the first control octet give the format: 01 an S format, 11 a U format
--- (5).
-pub record DistinctFormats : Type 0 where
-  pub information : (ns nr : ℕ) (asdu : ArrayVec ℕ) → Fits (I ns nr asdu) →
-      IsInformation (spelling (I ns nr asdu))
-  -- each ASDU of 9 to 249 octets is carried (5.1)
-  pub carried : (ns nr : ℕ) (asdu : ArrayVec ℕ) → ns < 32768 → nr < 32768 →
-      All IsOctet asdu.items → 9 ≤ length asdu.items → length asdu.items ≤ 249 → Fits (I ns nr asdu)
-  pub supervisory : (nr : ℕ) → slice_index (spelling (S nr)) 2 % 4 ≡ 1
-  pub unnumbered : (f : Uf) → slice_index (spelling (U f)) 2 % 4 ≡ 3
-
--- ---- Refusals (this gateway's own profile)
 
 pub record Refused : Type 0 where
   pub octets : List ℕ

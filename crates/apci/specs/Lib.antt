@@ -6,5 +6,3 @@ pub mod Assembly
 pub mod Control
 pub mod Progress
 pub mod Examples
-pub mod Refusals
-pub mod Places

@@ -7,16 +7,9 @@ ghost use Rattle.apci.specs.declared.assembling.Received.{Received};
 ghost use Rattle.apci.specs.Spelling.{Fits, IsApdu, spelling};
 ghost use Rattle.apci.specs.Assembly.{Assembly, Receives, IsReceivedWhole};
 ghost use Rattle.apci.specs.Reading.{IsFront};
-ghost use Rattle.apci.specs.Places.{HavePlaces};
-ghost use Rattle.apci.specs.Refusals.{RefuseOctets};
 ghost use Rattle.std.specs.List.{AllByRecursion};
-ghost use Rattle.apci.specs.Examples.{IsSpelledSo, DistinctFormats, IsRefusedSo, spelling_examples};
+ghost use Rattle.apci.specs.Examples.{IsSpelledSo, IsRefusedSo, spelling_examples};
 ghost use Rattle.apci.specs.Examples.{refusal_examples};
-
-/// Each APDU has one spelling.
-pub fn one_spelling()
-    ensures { (a : Apdu) (x y : List ℕ) → IsApdu a x → IsApdu a y → x ≡ y }
-{}
 
 /// No spelling begins another, and no two APDUs have the same.
 pub fn no_spelling_begins_another()
@@ -34,12 +27,6 @@ pub fn spellings_cancel()
     ensures { (a b : Apdu) (x y : List ℕ) → spelling a ++ x ≡ spelling b ++ y → (a ≡ b) × (x ≡ y) }
 {}
 
-/// The two lowest bits of the first control octet give the format (IEC 60870-5-104, 5), and the
-/// length of an I format has room for an ASDU.
-pub fn formats_are_distinct()
-    ensures { DistinctFormats }
-{}
-
 /// An assembler that is fed the octets of an APDU, with anything behind them, receives that APDU,
 /// takes its octets and no more, and listens on: so it receives the APDUs of a stream one after
 /// another.
@@ -47,16 +34,6 @@ pub fn apdus_are_received_one_after_another()
     ensures { (a : Apdu) (more : List ℕ) (n : ℕ) (arrived : Received) (after : Assembly) →
         Fits a → Receives [] (spelling a ++ more) n arrived after →
         IsReceivedWhole a n arrived after }
-{}
-
-/// Sequence numbers, length and ASDU have their places (IEC 60870-5-104, 5 and 5.1).
-pub fn fields_have_places()
-    ensures { HavePlaces }
-{}
-
-/// Octets that begin no APDU are refused for this, whatever stands behind them.
-pub fn refusals_are_given()
-    ensures { RefuseOctets }
 {}
 
 /// APDUs worked by hand from the standard have these octets, and octets that begin none are refused

@@ -24,8 +24,7 @@ mod writing;
 pub use apdu::{Apdu, ApduRef, Front, FrontRef, Short, Uf, Why};
 pub use assembling::{Assembler, Received};
 pub use laws::{
-    apdus_are_received_one_after_another, fields_have_places, formats_are_distinct,
-    no_spelling_begins_another, one_front, one_spelling, refusals_are_given, spellings_cancel,
+    apdus_are_received_one_after_another, no_spelling_begins_another, one_front, spellings_cancel,
     worked_examples_hold,
 };
 pub use reading::{front, front_ref};

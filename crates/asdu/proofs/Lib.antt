@@ -2,7 +2,6 @@ pub mod Accepted
 pub mod Answers
 pub mod Chunks
 pub mod Counts
-pub mod FirstFaults
 pub mod Joined
 pub mod ObjectChecks
 pub mod ObjectLists

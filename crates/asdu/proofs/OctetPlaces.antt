@@ -2,7 +2,7 @@
 use Rattle.std.proofs.Common.{◌≡◌, ℕ, zero, suc, ◌+◌, ◌*◌, ◌/◌, ◌%◌, ◌^◌, ◌<◌, ◌≤◌, Bool, true}
 use Rattle.std.proofs.Common.{false}
 use Rattle.std.proofs.Common.{List, [], ◌∷◌, ◌++◌, length, drop, Option, Some, None, refl, sym, ap}
-use Rattle.std.proofs.Common.{cond, subst, ◌∙◌, arith, append_assoc, length-append}
+use Rattle.std.proofs.Common.{subst, ◌∙◌, arith, append_assoc, length-append}
 use Rattle.std.specs.Prelude.{slice_get, slice_index, is_some}
 use Rattle.std.specs.Int.{byte_at, bytes_low_first}
 use Rattle.std.specs.List.{flat_map, AllByRecursion}
@@ -35,11 +35,6 @@ use Rattle.asdu.specs.Layout.{objects_place, address_octets, content_octets, obj
 use Rattle.asdu.specs.Layout.{StandFrom, HasContentAt, StandsApart, StandsInSequence}
 use Rattle.asdu.proofs.ObjectLists.{length-content}
 use Rattle.asdu.proofs.Spelling.{IsRead-spelled, IsWhole-spelled}
-use Rattle.asdu.specs.Layout.{HaveOneHead}
-use Rattle.asdu.specs.Sizes.{tcp}
-use Rattle.asdu.specs.Translation.{IsPiece, report_pieces}
-use Rattle.asdu.specs.Writing.{with_infos}
-use Rattle.asdu.proofs.Reports.{pieces_are}
 
 -- ---- Sizes
 
@@ -404,33 +399,3 @@ octets s u xs h =
     (octets-body u.kind (ioa_len s.ioa) u.sequence u.infos v.infos))
 
 -- ---- What stays
-
-sequence_is : (b : Bool) (n : ℕ) → n ≤ 127 → vsq b n / 128 ≡ cond b 1 0
-sequence_is true n h = omega arith
-sequence_is false n h = omega arith
-
-pub sequence_of : (s : Sizes) (u : AsduValue) (xs : List ℕ) → IsAsdu s u xs
-    → slice_index xs 1 / 128 ≡ cond u.sequence 1 0
-sequence_of s u xs h =
-    ap (λ ys. slice_index ys 1 / 128) h.octets
-    ∙ sequence_is u.sequence (length u.infos) h.value.most
-
-heads : (s : Sizes) (u : AsduValue) (xs : List ℕ) (ps : List (List ℕ)) → IsAsdu s u xs
-    → AllByRecursion (λ p. IsPiece u p) ps → AllByRecursion (λ p. HaveOneHead xs p) ps
-heads s u xs [] h all = tt
-heads s u xs (p ∷ ps) h all =
-    let v = with_infos u all.0.infos in
-    let spells = all.0.spells in (
-      record {
-        kind = ap (λ ys. slice_index ys 0) spells.octets
-            ∙ sym (ap (λ ys. slice_index ys 0) h.octets);
-        sequence = sequence_of tcp v p spells ∙ sym (sequence_of s u xs h);
-        cause = ap (λ ys. slice_index ys 2) spells.octets
-            ∙ sym (ap (λ ys. slice_index ys 2) h.octets);
-      },
-      heads s u xs ps h all.1,
-    )
-
-pub pieces_heads : (s : Sizes) (u : AsduValue) (xs : List ℕ) → IsAsdu s u xs
-    → AllByRecursion (λ p. HaveOneHead xs p) (report_pieces u)
-pieces_heads s u xs h = heads s u xs (report_pieces u) h (pieces_are s u xs h)

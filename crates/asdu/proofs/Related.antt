@@ -11,9 +11,8 @@ use Rattle.elements.specs.Octets.{AreOctets}
 use Rattle.elements.proofs.TypeCodes.{type_of-code}
 use Rattle.asdu.specs.declared.sizes.Sizes.{Sizes}
 use Rattle.asdu.specs.declared.unit.Asdu.{Asdu}
-use Rattle.asdu.specs.Sizes.{header_len, ioa_len}
-use Rattle.asdu.specs.Asdu.{AsduValue, IsAsdu, IsNoAsdu, content_len, spelled}
-use Rattle.asdu.specs.Fields.{number_at, is_sequence, first_address, value_at}
+use Rattle.asdu.specs.Asdu.{AsduValue, IsAsdu, IsNoAsdu, spelled}
+use Rattle.asdu.specs.Fields.{number_at, is_sequence, value_at}
 use Rattle.asdu.specs.Refusals.{refusal, is_read}
 use Rattle.asdu.specs.InformationObjects.{object_in, value_objects, objects_of, monitor_objects_of}
 use Rattle.asdu.specs.InformationObjects.{is_passed_on, only_if}
@@ -87,27 +86,6 @@ one_asdu s u v xs h k =
 
 -- ---- Octets that nothing speaks against
 
-pub read-apart : (s : Sizes) (t : TypeId) (xs : List ℕ) → type_of (slice_index xs 0) ≡ Some t
-    → is_sequence xs ≡ false → 1 ≤ number_at xs
-    → length xs ≡ header_len s + number_at xs * (ioa_len s.ioa + content_len t)
-    → is_read s xs ≡ true
-read-apart s t xs named apart some whole =
-    ap (λ r. is_none r)
-    (refusal-none s t xs named (record { some = some; whole = rw apart whole; last = λ e. cc }))
-
-pub read-together : (s : Sizes) (t : TypeId) (xs : List ℕ) → type_of (slice_index xs 0) ≡ Some t
-    → is_sequence xs ≡ true → 1 ≤ number_at xs
-    → length xs ≡ header_len s + ioa_len s.ioa + number_at xs * content_len t
-    → first_address s xs + number_at xs ≤ 256 ^ ioa_len s.ioa → is_read s xs ≡ true
-read-together s t xs named together some whole last =
-    ap (λ r. is_none r) (refusal-none s t xs named (record {
-      some = some;
-      whole = rw together (omega (arith, whole));
-      last = λ e. last;
-    }))
-
--- ---- Octets that are none
-
 refused : (s : Sizes) (xs : List ℕ) (o : Option ℕ) → AreOctets xs → IsNoAsdu s xs → refusal s xs ≡ o
     → is_none o ≡ false
 refused s xs None all none_is h =
@@ -139,10 +117,6 @@ no_parts s xs h = rw h refl
 
 pub length-value_objects : (u : AsduValue) → length (value_objects u) ≡ length u.infos
 length-value_objects u = length-map u.infos (object_in u)
-
-pub objects_of-value_of : (a : Asdu) → objects_of a.sizes a.octets.now ≡ value_objects (value_of a)
-objects_of-value_of a = objects_of-IsAsdu a.sizes (value_of a) a.octets.now
-    (IsAsdu-value_of a a.are_octets)
 
 -- what is passed on has objects
 pub passed : (a : Asdu) (b : Bool) → b ≡ is_passed_on a.kind (value_of a).cause → b ≡ true

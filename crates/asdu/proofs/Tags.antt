@@ -17,7 +17,7 @@ use Rattle.elements.specs.Types.{row}
 use Rattle.elements.specs.Octets.{AreOctets}
 use Rattle.asdu.specs.Sizes.{ca_len, ioa_len}
 use Rattle.asdu.specs.declared.sizes.Sizes.{Sizes}
-use Rattle.asdu.specs.Asdu.{Info, AsduValue, FitsSizes, IsAsdu, IsInfo, IsTag, AreInOrder, content}
+use Rattle.asdu.specs.Asdu.{Info, AsduValue, IsAsdu, IsInfo, IsTag, AreInOrder, content}
 use Rattle.asdu.specs.Asdu.{located, body, vsq, spelled, tag_octets, originator_octets}
 use Rattle.asdu.specs.Tagging.{is_tagged_command, is_plain_command, untagged_type, tagged_type}
 use Rattle.asdu.specs.Tagging.{without_tag, untagged, with_tag, tagged}
@@ -253,61 +253,6 @@ IsAsdu-tagged s v xs out octets h one is seven all text =
     }
 
 -- ---- There and back
-
-untagged-tagged_type : (k : TypeId) → is_plain_command k ≡ true → untagged_type (tagged_type k) ≡ k
-untagged-tagged_type MSpNa1 is = cc
-untagged-tagged_type MDpNa1 is = cc
-untagged-tagged_type MStNa1 is = cc
-untagged-tagged_type MBoNa1 is = cc
-untagged-tagged_type MMeNa1 is = cc
-untagged-tagged_type MMeNb1 is = cc
-untagged-tagged_type MMeNc1 is = cc
-untagged-tagged_type MItNa1 is = cc
-untagged-tagged_type MSpTb1 is = cc
-untagged-tagged_type MDpTb1 is = cc
-untagged-tagged_type MStTb1 is = cc
-untagged-tagged_type MBoTb1 is = cc
-untagged-tagged_type MMeTd1 is = cc
-untagged-tagged_type MMeTe1 is = cc
-untagged-tagged_type MMeTf1 is = cc
-untagged-tagged_type MItTb1 is = cc
-untagged-tagged_type MEiNa1 is = cc
-untagged-tagged_type CScNa1 is = refl
-untagged-tagged_type CDcNa1 is = refl
-untagged-tagged_type CRcNa1 is = refl
-untagged-tagged_type CSeNa1 is = refl
-untagged-tagged_type CSeNb1 is = refl
-untagged-tagged_type CIcNa1 is = cc
-untagged-tagged_type CScTa1 is = cc
-untagged-tagged_type CDcTa1 is = cc
-untagged-tagged_type CRcTa1 is = cc
-untagged-tagged_type CSeTa1 is = cc
-untagged-tagged_type CSeTb1 is = cc
-
-without-with_tag : (tag : List ℕ) (t : TypeId) (w : ℕ) (is : List Info) → (row t).tagged ≡ false
-    → AllByRecursion (IsInfo t w) is → map without_tag (map (with_tag tag) is) ≡ is
-without-with_tag tag t w [] plain all = refl
-without-with_tag tag t w (i ∷ is) plain all =
-    let tail = without-with_tag tag t w is plain all.1 in
-    let none : i.tag ≡ None = no_tag_at (row t).tagged i.tag plain all.0.tag in
-    ap (λ o. record { address = i.address; element = i.element; tag = o }
-    ∷ map without_tag (map (with_tag tag) is))
-    (sym none) ∙ ap (λ xs. i ∷ xs) tail
-  where
-    no_tag_at : (b : Bool) (o : Option (List ℕ)) → b ≡ false → IsTag b o → o ≡ None
-    no_tag_at true o e h = cc
-    no_tag_at false None e h = refl
-    no_tag_at false (Some octets) e h = absurd h
-
-pub untagged-tagged : (s : Sizes) (tag : List ℕ) (v : AsduValue) → FitsSizes s v
-    → is_plain_command v.kind ≡ true
-    → untagged (tagged tag v) ≡ v
-untagged-tagged s tag v h is =
-    let u = tagged_row v.kind is in
-    ap (λ t. record v { kind = t; infos = map without_tag (map (with_tag tag) v.infos) })
-    (untagged-tagged_type v.kind is)
-    ∙ ap (λ is. record v { infos = is }) (without-with_tag tag v.kind (ioa_len s.ioa) v.infos
-    u.plain_one h.infos)
 
 -- the type's octet is far from the last
 pub plain_below : (k : TypeId) → is_plain_command k ≡ true → (row k).code ≤ 49

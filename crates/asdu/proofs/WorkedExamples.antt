@@ -1,5 +1,5 @@
 -- The worked examples hold, and the tables of pieces and tags are what the standard's numbers give.
-use Rattle.std.proofs.Common.{◌≡◌, ◌+◌, Bool, true, false, refl}
+use Rattle.std.proofs.Common.{◌≡◌, ◌+◌, refl}
 use Rattle.std.specs.Prelude.{◌&&◌, nat_le, if◌then◌else◌}
 use Rattle.std.specs.List.{AllByRecursion}
 use Rattle.elements.specs.declared.types.TypeId.{TypeId}
@@ -13,7 +13,7 @@ use Rattle.elements.specs.Types.{row, type_of}
 use Rattle.asdu.specs.InformationObjects.{objects_of}
 use Rattle.asdu.specs.Translation.{parts}
 use Rattle.asdu.specs.Tagging.{is_plain_command, is_tagged_command, tagged_type, untagged_type}
-use Rattle.asdu.specs.Examples.{IsWorkedSo, IsRefusedSo, PassedExamples, PartExamples, IsMost}
+use Rattle.asdu.specs.Examples.{IsWorkedSo, IsRefusedSo, PassedExamples, PartExamples}
 use Rattle.asdu.specs.Examples.{TagsByType, octet_examples, refusal_examples}
 
 pub octets_hold : AllByRecursion IsWorkedSo octet_examples
@@ -43,64 +43,6 @@ passed_hold = record {
 pub parts_hold : PartExamples
 unfolding type_of parts
 parts_hold = record { totals = refl; points = refl; one = refl }
-
-pub most_hold : (t : TypeId) (sequence : Bool) → IsMost t sequence
-most_hold MSpNa1 false = (refl, refl)
-most_hold MSpNa1 true = (refl, refl)
-most_hold MDpNa1 false = (refl, refl)
-most_hold MDpNa1 true = (refl, refl)
-most_hold MStNa1 false = (refl, refl)
-most_hold MStNa1 true = (refl, refl)
-most_hold MBoNa1 false = (refl, refl)
-most_hold MBoNa1 true = (refl, refl)
-most_hold MMeNa1 false = (refl, refl)
-most_hold MMeNa1 true = (refl, refl)
-most_hold MMeNb1 false = (refl, refl)
-most_hold MMeNb1 true = (refl, refl)
-most_hold MMeNc1 false = (refl, refl)
-most_hold MMeNc1 true = (refl, refl)
-most_hold MItNa1 false = (refl, refl)
-most_hold MItNa1 true = (refl, refl)
-most_hold MSpTb1 false = (refl, refl)
-most_hold MSpTb1 true = (refl, refl)
-most_hold MDpTb1 false = (refl, refl)
-most_hold MDpTb1 true = (refl, refl)
-most_hold MStTb1 false = (refl, refl)
-most_hold MStTb1 true = (refl, refl)
-most_hold MBoTb1 false = (refl, refl)
-most_hold MBoTb1 true = (refl, refl)
-most_hold MMeTd1 false = (refl, refl)
-most_hold MMeTd1 true = (refl, refl)
-most_hold MMeTe1 false = (refl, refl)
-most_hold MMeTe1 true = (refl, refl)
-most_hold MMeTf1 false = (refl, refl)
-most_hold MMeTf1 true = (refl, refl)
-most_hold MItTb1 false = (refl, refl)
-most_hold MItTb1 true = (refl, refl)
-most_hold MEiNa1 false = (refl, refl)
-most_hold MEiNa1 true = (refl, refl)
-most_hold CScNa1 false = (refl, refl)
-most_hold CScNa1 true = (refl, refl)
-most_hold CDcNa1 false = (refl, refl)
-most_hold CDcNa1 true = (refl, refl)
-most_hold CRcNa1 false = (refl, refl)
-most_hold CRcNa1 true = (refl, refl)
-most_hold CSeNa1 false = (refl, refl)
-most_hold CSeNa1 true = (refl, refl)
-most_hold CSeNb1 false = (refl, refl)
-most_hold CSeNb1 true = (refl, refl)
-most_hold CIcNa1 false = (refl, refl)
-most_hold CIcNa1 true = (refl, refl)
-most_hold CScTa1 false = (refl, refl)
-most_hold CScTa1 true = (refl, refl)
-most_hold CDcTa1 false = (refl, refl)
-most_hold CDcTa1 true = (refl, refl)
-most_hold CRcTa1 false = (refl, refl)
-most_hold CRcTa1 true = (refl, refl)
-most_hold CSeTa1 false = (refl, refl)
-most_hold CSeTa1 true = (refl, refl)
-most_hold CSeTb1 false = (refl, refl)
-most_hold CSeTb1 true = (refl, refl)
 
 plain : (t : TypeId) → is_plain_command t ≡ (nat_le 45 (row t).code && nat_le (row t).code 49)
 plain MSpNa1 = refl

@@ -1,6 +1,6 @@
 -- ASDUs worked by hand from IEC 60870-5-101 (7.1 and 7.2) and IEC 60870-5-104 (7 and 8): their
 -- octets, what is refused, how reports are cut, and which commands have a tag.
-use Rattle.std.specs.Prelude.{◌≡◌, ℕ, suc, ◌+◌, Bool, true, false, ◌&&◌, nat_le, if◌then◌else◌}
+use Rattle.std.specs.Prelude.{◌≡◌, ℕ, ◌+◌, true, false, ◌&&◌, nat_le, if◌then◌else◌}
 use Rattle.std.specs.Prelude.{List, [], ◌∷◌, Option, Some, None, replicate}
 use Rattle.elements.specs.declared.types.TypeId.{TypeId}
 use Rattle.elements.specs.declared.types.TypeId.TheVariants.{MSpNa1, MMeNa1, MSpTb1, MEiNa1, CScNa1}
@@ -10,11 +10,11 @@ use Rattle.asdu.specs.declared.sizes.CauseSize.TheVariants as causes
 use Rattle.asdu.specs.declared.sizes.CaSize.TheVariants as cas
 use Rattle.asdu.specs.declared.sizes.IoaSize.TheVariants as ioas
 use Rattle.asdu.specs.declared.sizes.Sizes.{Sizes}
-use Rattle.asdu.specs.Sizes.{tcp, ioa_len, header_len}
+use Rattle.asdu.specs.Sizes.{tcp}
 use Rattle.asdu.specs.Asdu.{AsduValue, Info, spelled}
-use Rattle.asdu.specs.Refusals.{refusal, body_len}
+use Rattle.asdu.specs.Refusals.{refusal}
 use Rattle.asdu.specs.InformationObjects.{objects_of, value_objects, is_passed_on}
-use Rattle.asdu.specs.Translation.{piece_size, parts}
+use Rattle.asdu.specs.Translation.{parts}
 use Rattle.asdu.specs.Tagging.{is_plain_command, is_tagged_command, tagged_type, untagged_type}
 
 -- ---- Octets
@@ -165,19 +165,6 @@ pub record PartExamples : Type 0 where
   pub totals : parts small (15 ∷ 0xB1 ∷ 3 ∷ 1 ∷ 10 ∷ replicate 245 0xFF) ≡ 2
   pub points : parts small (1 ∷ 124 ∷ 3 ∷ 1 ∷ replicate 248 0x01) ≡ 3
   pub one : parts small (1 ∷ 1 ∷ 3 ∷ 1 ∷ 100 ∷ 1 ∷ []) ≡ 1
-
--- so many objects fit the 249 octets of an ASDU and the seven bits of a number
-abbrev pub fits_piece : TypeId → Bool → ℕ → Bool
-fits_piece t sequence n =
-    nat_le (header_len tcp + body_len t (ioa_len tcp.ioa) sequence n) 249 && nat_le n 127
-
--- a piece has as many objects as fit: one more doesn't
-abbrev pub IsMost : TypeId → Bool → Type 0
-IsMost t sequence =
-    (fits_piece t sequence (piece_size t sequence) ≡ true)
-    × (fits_piece t sequence (suc (piece_size t sequence)) ≡ false)
-
--- ---- Commands with a tag
 
 -- types 45 to 49 have their tagged form 13 above, 58 to 62; no other type has one
 pub record TagsByType : Type 0 where

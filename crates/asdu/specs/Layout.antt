@@ -1,6 +1,6 @@
 -- Which octet of an ASDU stands where (IEC 60870-5-101, 7.1 and 7.2.1 to 7.2.6). An octet's place
 -- is the number of octets before it. Nothing here is borrowed from `spelled`.
-use Rattle.std.specs.Prelude.{◌≡◌, ℕ, ◌+◌, ◌*◌, ◌/◌, ◌%◌, ◌<◌, ◌≤◌, nat_le, if◌then◌else◌, List}
+use Rattle.std.specs.Prelude.{◌≡◌, ℕ, ◌+◌, ◌*◌, ◌/◌, ◌%◌, ◌<◌, ◌≤◌, if◌then◌else◌, List}
 use Rattle.std.specs.Prelude.{length}
 use Rattle.std.specs.Prelude.{slice_index, Some, is_some}
 use Rattle.elements.specs.declared.types.TypeId.{TypeId}
@@ -103,28 +103,3 @@ pub record HaveOneHead (xs ys : List ℕ) : Type 0 where
   pub kind : slice_index ys 0 ≡ slice_index xs 0
   pub sequence : slice_index ys 1 / 128 ≡ slice_index xs 1 / 128
   pub cause : slice_index ys 2 ≡ slice_index xs 2
-
--- In other sizes an ASDU has the same in all its parts. Only its originator goes, if the cause has
--- one octet (7.2.3).
-pub record IsSameIn (s : Sizes) (u v : AsduValue) : Type 0 where
-  pub kind : v.kind ≡ u.kind
-  pub sequence : v.sequence ≡ u.sequence
-  pub cause : v.cause ≡ u.cause
-  pub originator : s.cause ≡ causes.Two → v.originator ≡ u.originator
-  pub no_originator : s.cause ≡ causes.One → v.originator ≡ 0
-  pub ca : v.ca ≡ u.ca
-  pub infos : v.infos ≡ u.infos
-
--- ---- What is refused (this gateway's own profile)
-
--- long enough for a header and an object's address
-abbrev pub IsLongEnough : Sizes → List ℕ → Type 0
-IsLongEnough s xs = objects_place s.cause s.ca + address_octets s.ioa ≤ length xs
-
--- how many octets an ASDU of a type has, by the SQ and the number in its second octet
-abbrev pub length_by : Sizes → TypeId → List ℕ → ℕ
-length_by s t xs =
-    objects_place s.cause s.ca
-    + (if nat_le 128 (slice_index xs 1)
-    then address_octets s.ioa + slice_index xs 1 % 128 * content_octets t
-    else slice_index xs 1 % 128 * (address_octets s.ioa + content_octets t))

@@ -1,23 +1,21 @@
 //! Laws of the relation between an ASDU and its octets, for callers to lean on. Each is called for
 //! its contract.
-ghost use Rattle.std.specs.Prelude.{◌≡◌, ◌≤◌, ◌+◌, ◌*◌, ◌%◌, ◌^◌, ◌⊎◌, ℕ, Bool, List, []};
-ghost use Rattle.std.specs.Prelude.{length, slice_index, true, false, Some};
-ghost use Rattle.elements.specs.Types.{row, type_of};
+ghost use Rattle.std.specs.Prelude.{◌≡◌, ◌≤◌, ◌+◌, ◌*◌, ◌%◌, ◌^◌, ◌⊎◌, ℕ, List, []};
+ghost use Rattle.std.specs.Prelude.{length, true, false};
+ghost use Rattle.elements.specs.Types.{row};
 ghost use Rattle.std.specs.Int.{div_ceil};
 ghost use Rattle.std.specs.List.{AllByRecursion, flat_map};
 ghost use Rattle.elements.specs.Octets.{AreOctets};
 ghost use Rattle.asdu.specs.declared.sizes.Sizes.{Sizes};
-ghost use Rattle.asdu.specs.Asdu.{AsduValue, IsAsdu, IsNoAsdu, content_len};
-ghost use Rattle.asdu.specs.Fields.{first_address, is_sequence, number_at};
+ghost use Rattle.asdu.specs.Asdu.{AsduValue, IsAsdu, IsNoAsdu};
 ghost use Rattle.asdu.specs.Refusals.{is_read};
 ghost use Rattle.asdu.specs.InformationObjects.{value_objects, objects_of, monitor_objects_of};
 ghost use Rattle.asdu.specs.InformationObjects.{is_passed_on, only_if};
-ghost use Rattle.asdu.specs.Sizes.{header_len, ioa_len, tcp};
+ghost use Rattle.asdu.specs.Sizes.{tcp};
 ghost use Rattle.asdu.specs.Translation.{parts, piece_size, report_pieces, AllButLast, IsLargest};
 ghost use Rattle.asdu.specs.Translation.{IsPiece};
-ghost use Rattle.elements.specs.declared.types.TypeId.{TypeId};
 ghost use Rattle.asdu.specs.Examples.{IsWorkedSo, IsRefusedSo, PassedExamples, PartExamples};
-ghost use Rattle.asdu.specs.Examples.{IsMost, TagsByType, octet_examples, refusal_examples};
+ghost use Rattle.asdu.specs.Examples.{TagsByType, octet_examples, refusal_examples};
 
 /// In given sizes octets are one ASDU at most, and an ASDU has one spelling.
 pub fn one_asdu_one_spelling()
@@ -44,19 +42,6 @@ pub fn objects_are_those_of_the_asdu()
         (objects_of s xs ≡ []) × (monitor_objects_of s xs ≡ []) × (parts s xs ≡ 0) }
 {}
 
-/// Octets of each type that is carried are read, with SQ 0 and with SQ 1 alike. Nothing is asked
-/// but an object, the length that type, SQ and number give, and with SQ 1 a last address that fits.
-pub fn each_type_is_read_with_either_sq()
-    ensures apart { (s : Sizes) (t : TypeId) (xs : List ℕ) → type_of (slice_index xs 0) ≡ Some t →
-        is_sequence xs ≡ false → 1 ≤ number_at xs →
-        length xs ≡ header_len s + number_at xs * (ioa_len s.ioa + content_len t) →
-        is_read s xs ≡ true }
-    ensures together { (s : Sizes) (t : TypeId) (xs : List ℕ) →
-        type_of (slice_index xs 0) ≡ Some t → is_sequence xs ≡ true → 1 ≤ number_at xs →
-        length xs ≡ header_len s + ioa_len s.ioa + number_at xs * content_len t →
-        first_address s xs + number_at xs ≤ 256 ^ ioa_len s.ioa → is_read s xs ≡ true }
-{}
-
 /// Each report of a monitor type is passed on with all its objects, whatever its cause, except for
 /// a negative 'unknown type' (cause 44 with P/N set), with the test bit or without. Of these, and
 /// of all other types, nothing is passed on.
@@ -75,12 +60,6 @@ pub fn worked_examples_hold()
     ensures refusals { AllByRecursion IsRefusedSo refusal_examples }
     ensures passed { PassedExamples }
     ensures parts { PartExamples }
-{}
-
-/// Of each type a piece has as many objects as fit the 249 octets of an ASDU of IEC 60870-5-104 and
-/// a number of seven bits.
-pub fn pieces_are_as_large_as_can_be()
-    ensures { (t : TypeId) (sequence : Bool) → IsMost t sequence }
 {}
 
 /// The pieces of a report have its objects, each once and in their order, and so those that are

@@ -1,22 +1,16 @@
 //! The place of each octet, in the standard's words.
-ghost use Rattle.std.specs.Prelude.{◌≡◌, ◌+◌, ◌*◌, ◌/◌, ◌%◌, ◌^◌, ◌<◌, ◌≤◌, ℕ, List, length};
+ghost use Rattle.std.specs.Prelude.{◌≡◌, ◌+◌, ◌*◌, ◌/◌, ◌%◌, ◌^◌, ◌<◌, ◌≤◌, ℕ, length};
 ghost use Rattle.std.specs.Prelude.{slice_get, slice_index};
-ghost use Rattle.std.specs.Prelude.{if◌then◌else◌, true, false, Some, None};
+ghost use Rattle.std.specs.Prelude.{if◌then◌else◌, true, false, Some};
 ghost use Rattle.elements.specs.Octets.{AreOctets};
-ghost use Rattle.elements.specs.Types.{row, type_of};
-ghost use Rattle.elements.specs.declared.types.TypeId.{TypeId};
-ghost use Rattle.asdu.specs.Refusals.{refusal};
+ghost use Rattle.elements.specs.Types.{row};
 ghost use Rattle.asdu.specs.declared.sizes.CauseSize.TheVariants as causes;
-ghost use Rattle.asdu.specs.Asdu.{AsduValue, Info};
+ghost use Rattle.asdu.specs.Asdu.{Info};
 ghost use Rattle.asdu.specs.Layout.{OfEachAsdu, common_address_at, common_address_place};
 ghost use Rattle.asdu.specs.Layout.{objects_place, address_octets, content_octets};
-ghost use Rattle.asdu.specs.Layout.{StandsApart, StandsInSequence, HaveOneHead, IsSameIn};
-ghost use Rattle.asdu.specs.Layout.{IsLongEnough, length_by, object_address_at, IsObjectOf};
+ghost use Rattle.asdu.specs.Layout.{StandsApart, StandsInSequence};
+ghost use Rattle.asdu.specs.Layout.{IsObjectOf};
 ghost use Rattle.asdu.specs.InformationObjects.{InformationObject, objects_of};
-ghost use Rattle.std.specs.List.{AllByRecursion};
-ghost use Rattle.asdu.specs.declared.sizes.Sizes.{Sizes};
-ghost use Rattle.asdu.specs.Translation.{report_pieces};
-ghost use Rattle.asdu.specs.Writing.{carried};
 
 /// Where each octet of an ASDU stands, whatever its sizes, its values and the number of its objects
 /// (IEC 60870-5-101).
@@ -60,36 +54,4 @@ pub fn objects_have_all_their_parts()
     ensures number { OfEachAsdu (λ s u xs. length (objects_of s xs) ≡ length u.infos) }
     ensures parts { OfEachAsdu (λ s u xs. (k : ℕ) (i : Info) → slice_get u.infos k ≡ Some i →
         (o : InformationObject) × (slice_get (objects_of s xs) k ≡ Some o) × IsObjectOf u i o) }
-{}
-
-/// Each piece of a report has its type, its SQ and its cause octet, with the test bit and P/N.
-pub fn pieces_keep_the_head()
-    ensures { OfEachAsdu (λ s u xs. AllByRecursion (λ p. HaveOneHead xs p) (report_pieces u)) }
-{}
-
-/// What [`crate::write`] makes in other sizes has the same type, SQ, cause octet, addresses,
-/// elements and tags. It has the same originator, or none where causes have one octet.
-pub fn other_sizes_keep_the_asdu()
-    ensures { (s : Sizes) (u : AsduValue) → IsSameIn s u (carried s u) }
-{}
-
-/// Octets get the first refusal that applies (this gateway's own numbers, 1 to 5), whatever the
-/// type, the sizes and the octets.
-pub fn refusals_are_the_first_that_applies()
-    ensures short { (s : Sizes) (xs : List ℕ) →
-        length xs < objects_place s.cause s.ca + address_octets s.ioa → refusal s xs ≡ Some 1 }
-    ensures unknown { (s : Sizes) (xs : List ℕ) → IsLongEnough s xs →
-        type_of (slice_index xs 0) ≡ None → refusal s xs ≡ Some 2 }
-    ensures empty { (s : Sizes) (t : TypeId) (xs : List ℕ) → IsLongEnough s xs →
-        type_of (slice_index xs 0) ≡ Some t → slice_index xs 1 % 128 ≡ 0 →
-        refusal s xs ≡ Some 3 }
-    ensures misfit { (s : Sizes) (t : TypeId) (xs : List ℕ) → IsLongEnough s xs →
-        type_of (slice_index xs 0) ≡ Some t → 1 ≤ slice_index xs 1 % 128 →
-        (length xs ≡ length_by s t xs → ⊥) → refusal s xs ≡ Some 4 }
-    ensures past { (s : Sizes) (t : TypeId) (xs : List ℕ) → IsLongEnough s xs →
-        type_of (slice_index xs 0) ≡ Some t → 1 ≤ slice_index xs 1 % 128 →
-        length xs ≡ length_by s t xs → 128 ≤ slice_index xs 1 →
-        256 ^ address_octets s.ioa
-        < object_address_at s.ioa (objects_place s.cause s.ca) xs + slice_index xs 1 % 128 →
-        refusal s xs ≡ Some 5 }
 {}

@@ -30,20 +30,15 @@ mod writing;
 pub use examples::resized_asdus_by_example;
 pub use header::Head;
 pub use laws::{
-    each_type_is_read_with_either_sq, monitor_reports_are_passed_on, objects_are_those_of_the_asdu,
-    one_asdu_one_spelling, pieces_are_as_large_as_can_be, pieces_carry_the_report,
-    tagged_types_are_thirteen_above, worked_examples_hold,
+    monitor_reports_are_passed_on, objects_are_those_of_the_asdu, one_asdu_one_spelling,
+    pieces_carry_the_report, tagged_types_are_thirteen_above, worked_examples_hold,
 };
-pub use layout::{
-    objects_have_all_their_parts, octets_stand_where_the_standard_has_them,
-    other_sizes_keep_the_asdu, pieces_keep_the_head, refusals_are_the_first_that_applies,
-};
+pub use layout::{objects_have_all_their_parts, octets_stand_where_the_standard_has_them};
 pub use objects::{Object, Objects};
 pub use reading::{head, read};
 pub use sizes::{CaSize, CauseSize, IoaSize, Sizes};
 pub use tagging::{
-    is_plain_command, is_tagged_command, retag, retagged_commands_come_back,
-    tags_stand_behind_the_element, untag,
+    is_plain_command, is_tagged_command, retag, tags_stand_behind_the_element, untag,
 };
 pub use translation::{Piece, Pieces, Translation, translate};
 pub use unit::{Asdu, Refused};

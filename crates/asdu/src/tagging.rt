@@ -76,12 +76,6 @@ fn octets_of(tag: Cp56) -> [u8; 7]
     tag.0
 }
 
-/// A command without a tag that is given one and loses it again is the same command.
-pub fn retagged_commands_come_back()
-    ensures { (s : Sizes) (tag : List ℕ) (v : AsduValue) → FitsSizes s v →
-        names_plain_command v.kind ≡ true → untagged (tagged tag v) ≡ v }
-{}
-
 /// A command with a time tag has the octets of the same command without it, but for its type, which
 /// is 13 above, and behind its element the seven octets of the tag, as they are: with SU, IV and
 /// the reserved bits (IEC 60870-5-104, 8).

@@ -27,14 +27,8 @@ use Rattle.command.proofs.Places.{and_off, or_off, has_room, has_waiting_room}
 use Rattle.command.proofs.Ruled.{first_rule, more_rules}
 use Rattle.command.proofs.Runs.{run_holds, owned}
 use Rattle.command.proofs.Standing.{one_target}
-use Rattle.std.proofs.Common.{slice_index, ◌+◌}
-use Rattle.std.specs.Prelude.{◌==◌, count_by}
-use Rattle.std.proofs.lemmas.Bool.{eqb-true, eq-eqb, le-leb}
-use Rattle.asdu.specs.Sizes.{tcp}
-use Rattle.asdu.specs.Fields.{ca_at, first_address}
-use Rattle.command.specs.Command.{line_kind}
-use Rattle.command.specs.Standard.{plain_type, common_address, object_address, is_for_station}
-use Rattle.command.proofs.ReadAlike.{kind_read, address_read, object_read}
+use Rattle.std.proofs.Common.{◌+◌}
+use Rattle.std.specs.Prelude.{◌==◌}
 
 -- ---- the selections of other targets
 
@@ -155,64 +149,3 @@ module _ (stations : List StationInfo) (sizes : Sizes) (ms age : ℕ) (calls : L
       ∙ any_off (must_be_selected stations xs)))
 
 -- ---- a seventeenth select
-
-its_target : (xs : List ℕ) (z : Selection)
-    → same_target (target_of z.command) (target_of (command_at xs)) ≡ true
-    → is_of xs z ≡ true
-its_target xs z h =
-    let p : _ = and_parts (z.command.kind == line_kind (slice_index xs 0)
-    && z.command.ca == ca_at tcp xs) (z.command.address == first_address tcp xs) h in
-    let q : _ = and_parts (z.command.kind == line_kind (slice_index xs 0))
-    (z.command.ca == ca_at tcp xs) p.0 in
-    let kind : (plain_type (slice_index xs 0) == z.command.kind) ≡ true =
-    eq-eqb (plain_type (slice_index xs 0)) z.command.kind (sym (eqb-true z.command.kind
-    (line_kind (slice_index xs 0)) q.0 ∙ kind_read (slice_index xs 0))) in
-    let ca : (common_address xs == z.command.ca) ≡ true =
-    eq-eqb (common_address xs) z.command.ca
-    (sym (eqb-true z.command.ca (ca_at tcp xs) q.1 ∙ address_read xs)) in
-    let object : (object_address xs == z.command.address) ≡ true =
-    eq-eqb (object_address xs) z.command.address
-    (sym (eqb-true z.command.address (first_address tcp xs) p.1 ∙ object_read xs)) in
-    ap (λ (b : Bool). b && common_address xs == z.command.ca
-    && object_address xs == z.command.address) kind
-    ∙ ap (λ (b : Bool). b && object_address xs == z.command.address) ca
-    ∙ object
-
-others_many : (xs : List ℕ) (ms : ℕ) (zs : List Selection)
-    → of_others xs zs ≤ length (filter_map (advanced ms (sign.Over (target_of (command_at xs)))) zs)
-others_many xs ms [] = omega arith
-others_many xs ms (z ∷ zs) =
-    by (others_many xs ms zs) (same_target (target_of z.command) (target_of (command_at xs)))
-    (is_of xs z) refl refl
-  where
-    left : List Selection
-    left = filter_map (advanced ms (sign.Over (target_of (command_at xs)))) zs
-
-    by : of_others xs zs ≤ length left → (b d : Bool)
-        → same_target (target_of z.command) (target_of (command_at xs)) ≡ b → is_of xs z ≡ d
-        → (if d then of_others xs zs else suc (of_others xs zs))
-        ≤ length (cons_option (if b then None else Some z) left)
-    by rest true true t is = rest
-    by rest false true t is = omega (arith, rest)
-    by rest false false t is = omega (arith, rest)
-    by rest true false t is = (let no : false ≡ true = sym is ∙ its_target xs z t in cc)
-
-pub crowded : (xs : List ℕ) (s : State) → must_be_selected s.stations xs ≡ true
-    → selects xs ≡ true
-    → 16 ≤ of_others xs s.selections
-    → (no_place xs s).applies ≡ true
-crowded xs s guarded selecting many =
-    let full : nat_le 16 (length (others (command_at xs) s)) ≡ true =
-    le-leb 16 (length (others (command_at xs) s))
-    (omega (arith, many, others_many xs s.select_ms s.selections)) in
-    by (nat_lt 64 (length s.waiting + count_by (is_for_station xs) s.stations))
-    (ap (λ (b : Bool). b && selects xs && nat_le 16 (length (others (command_at xs) s))) guarded
-    ∙ ap (λ (b : Bool). b && nat_le 16 (length (others (command_at xs) s))) selecting ∙ full)
-  where
-    by : (a : Bool)
-        → (must_be_selected s.stations xs && selects xs
-        && nat_le 16 (length (others (command_at xs) s))) ≡ true
-        → (a || (must_be_selected s.stations xs && selects xs
-        && nat_le 16 (length (others (command_at xs) s)))) ≡ true
-    by true is = refl
-    by false is = is

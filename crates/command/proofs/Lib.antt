@@ -5,7 +5,6 @@ pub mod Progress
 pub mod Exchanged
 pub mod LineForms
 pub mod CallByCall
-pub mod LostOnTheLine
 pub mod Kept
 pub mod Spelled
 pub mod Machine

@@ -1,10 +1,9 @@
 -- The first rule that applies is the one that is told, and gives the answer.
 use Rattle.std.proofs.Common.{◌≡◌, ℕ, ◌+◌, ◌-◌, ◌<◌, ◌++◌, Bool, true, false, not, List, [], ◌∷◌}
-use Rattle.std.proofs.Common.{length, slice_index, refl, sym, ap, ◌∙◌, arith}
-use Rattle.std.specs.Prelude.{◌==◌, Option, Some, None, if◌then◌else◌, option_map, nat_le}
-use Rattle.std.proofs.lemmas.Bool.{and_parts, eqb-true, le-leb}
+use Rattle.std.proofs.Common.{length, slice_index, refl, sym, ap, ◌∙◌}
+use Rattle.std.specs.Prelude.{◌==◌, Option, Some, None, if◌then◌else◌, option_map}
+use Rattle.std.proofs.lemmas.Bool.{and_parts, eqb-true}
 use Rattle.elements.specs.TimeTag.{verdict_of}
-use Rattle.elements.specs.declared.tag.Verdict.{Verdict}
 use Rattle.elements.specs.declared.tag.Verdict.TheVariants as verdicts
 use Rattle.command.specs.Octets.{answer}
 use Rattle.command.specs.Command.{command_at, command_len, is_permitted}
@@ -19,7 +18,7 @@ use Rattle.command.specs.Judging.{ends_selection, without_selection}
 use Rattle.command.specs.Refusals.{refusal_of, rule_by, fault_rule, form_rule, tag_rule}
 use Rattle.command.specs.declared.refusal.Refusal.{Refusal}
 use Rattle.command.specs.declared.refusal.Refusal.TheVariants as refusal
-use Rattle.command.specs.Order.{NoneApplies, IsFaulty, IsJudgedInOrder, AgesAreTold}
+use Rattle.command.specs.Order.{NoneApplies, IsFaulty, IsJudgedInOrder}
 use Rattle.command.proofs.ReadAlike.{faults_read, single_read, permitted_read, held_up}
 use Rattle.command.proofs.ReadAlike.{IsGood, good_read}
 use Rattle.command.proofs.Ruled.{first_rule, lacks_read, place_left, places_read}
@@ -216,39 +215,3 @@ module _ (xs : List ℕ) (now : ℕ) (wall : Option ℕ) (s : State) where
   }
 
 -- ---- ages
-
-aged : (clock instant : ℕ) (b : Bool) → nat_le instant clock ≡ b
-    → tag_rule (Some clock) (verdicts.Good instant)
-    ≡ (if b then refusal.TagOld (clock - instant) else refusal.TagAhead (instant - clock))
-aged clock instant b is =
-    ap (λ (t : Bool). if t then refusal.TagOld (clock - instant)
-    else refusal.TagAhead (instant - clock)) is
-
-old : (instant ms : ℕ) → tag_rule (Some (instant + ms)) (verdicts.Good instant) ≡ refusal.TagOld ms
-old instant ms =
-    aged (instant + ms) instant true (le-leb instant (instant + ms) (omega arith))
-    ∙ ap (λ (n : ℕ). refusal.TagOld n) (let same : instant + ms - instant ≡ ms = omega arith in
-    same)
-
-ahead : (clock ms : ℕ) → 0 < ms
-    → tag_rule (Some clock) (verdicts.Good (clock + ms)) ≡ refusal.TagAhead ms
-ahead clock ms some =
-    let later : nat_le (clock + ms) clock ≡ false = grind (arith, some) in
-    aged clock (clock + ms) false later
-    ∙ ap (λ (n : ℕ). refusal.TagAhead n) (let same : clock + ms - clock ≡ ms = omega arith in same)
-
-no_tag : (wall : Option ℕ) (verdict : Verdict)
-    → ((instant : ℕ) → verdict ≡ verdicts.Good instant → ⊥)
-    → tag_rule wall verdict ≡ refusal.TagInvalid
-no_tag wall (verdicts.Good instant) bad = absurd (bad instant refl)
-no_tag None verdicts.MarkedInvalid bad = refl
-no_tag None verdicts.OutOfRange bad = refl
-no_tag None verdicts.NoSuchDay bad = refl
-no_tag None verdicts.WrongWeekday bad = refl
-no_tag (Some wall) verdicts.MarkedInvalid bad = refl
-no_tag (Some wall) verdicts.OutOfRange bad = refl
-no_tag (Some wall) verdicts.NoSuchDay bad = refl
-no_tag (Some wall) verdicts.WrongWeekday bad = refl
-
-pub ages_told : AgesAreTold
-ages_told = record { old = old; ahead = ahead; no_clock = λ instant. refl; no_tag = no_tag }

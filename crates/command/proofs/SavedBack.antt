@@ -153,19 +153,6 @@ long_answers (a ∷ more) (o ∷ os) is all =
     let rest = long_answers more os others h.1 in
     rw (first, rest) refl
 
--- what was written, list by list
-pub joined : (old a b c d e u v w x y : List (List ℕ)) → u ≡ old ++ a → v ≡ u ++ b → w ≡ v ++ c
-    → x ≡ w ++ d
-    → y ≡ x ++ e → y ≡ old ++ (a ++ (b ++ (c ++ (d ++ e))))
-joined old a b c d e u v w x y iu iv iw ix iy =
-    iy ∙ (ap (λ (z : List (List ℕ)). z ++ e)
-    (ix ∙ ap (λ (z : List (List ℕ)). z ++ d)
-    (iw ∙ ap (λ (z : List (List ℕ)). z ++ c)
-    (iv ∙ ap (λ (z : List (List ℕ)). z ++ b) iu)))
-    ∙ (append_assoc (((old ++ a) ++ b) ++ c) d e
-    ∙ (append_assoc ((old ++ a) ++ b) c (d ++ e)
-    ∙ (append_assoc (old ++ a) b (c ++ (d ++ e)) ∙ append_assoc old a (b ++ (c ++ (d ++ e)))))))
-
 -- the answers of which each line was put, and each is long enough
 pub answers_by : (answers : List (ArrayVec ℕ)) → list_all is_savable_answer answers ≡ true
     → AreAsdus answers

@@ -1,9 +1,8 @@
 -- Each selection is the select that stands; after `due` it is in time.
-use Rattle.std.proofs.Common.{◌≡◌, ℕ, ◌+◌, ◌-◌, ◌<◌, ◌≤◌, ◌&&◌, Bool, true, false, List, [], ◌∷◌}
+use Rattle.std.proofs.Common.{◌≡◌, ℕ, ◌+◌, ◌-◌, ◌<◌, ◌≤◌, ◌&&◌, true, false, List, [], ◌∷◌}
 use Rattle.std.proofs.Common.{refl, sym, subst, ap, ◌∙◌, arith, rules}
 use Rattle.std.specs.Prelude.{◌==◌, Option, Some, None, if◌then◌else◌, nat_le, option_map}
 use Rattle.std.specs.Prelude.{slice_index, unwrap_or}
-use Rattle.std.specs.List.{filter_map, AllByRecursion}
 use Rattle.std.proofs.lemmas.Bool.{and_parts, eqb-true}
 use Rattle.asdu.specs.Sizes.{tcp}
 use Rattle.asdu.specs.Fields.{ca_at, first_address}
@@ -18,29 +17,15 @@ use Rattle.command.specs.declared.selection.Sign.TheVariants as sign
 use Rattle.command.specs.Standard.{plain_type, common_address, object_address}
 use Rattle.command.specs.Standard as standard
 use Rattle.command.specs.Command.{line_kind, command_at}
-use Rattle.command.specs.Selection.{advanced, target_of, lasts_from}
+use Rattle.command.specs.Selection.{target_of, lasts_from}
 use Rattle.command.specs.Stations.{station_number}
 use Rattle.command.specs.Selections.{is_of, HasCome, IsSelect, IsStanding, IsInTime}
 use Rattle.command.specs.History.{History, Select, sent_count, place_on_line, is_accepted_at}
 use Rattle.command.specs.History.{standing, confirmed_at}
-use Rattle.command.specs.Calls.{Call, Due, run, NeverFall}
 use Rattle.command.proofs.Machine as machine
 use Rattle.command.proofs.ReadAlike.{IsGood, kind_read, address_read, object_read, numbers_read}
 use Rattle.command.proofs.Bridge.{machine_select, standing_read, standing_good, confirmed_read}
-use Rattle.command.proofs.Tied.{Tied, AtStage, station_at, select_of, Perhaps, all_kept, all_mapped}
-use Rattle.command.proofs.Passing.{Found, Waits, Goes, Taken, Lives, Gone, Late, Past, none_by}
-use Rattle.command.proofs.Passing.{waits_none, none_is_some, some_is}
-use Rattle.command.proofs.SelectsKept.{Stands}
-use Rattle.command.proofs.Full.{run_full}
-use Rattle.command.proofs.Runs.{run_holds, Holds}
-
-both : {X : Type 0} (P Q R : X → Type 0) → ((x : X) → P x → Q x → R x) → (xs : List X)
-    → AllByRecursion P xs
-    → AllByRecursion Q xs → AllByRecursion R xs
-both P Q R f [] p q = tt
-both P Q R f (x ∷ xs) p q = (f x p.0 q.0, both P Q R f xs p.1 q.1)
-
--- ---- the select of a selection
+use Rattle.command.proofs.Tied.{Tied, AtStage, station_at, select_of}
 
 abbrev target : ℕ → ℕ → ℕ → Target
 target kind ca address = record { kind = kind; ca = ca; address = address }
@@ -121,51 +106,8 @@ module _ (sizes : Sizes) (stations : List StationInfo) (ms age : ℕ) (h : Histo
             },
           )
 
-pub run_stands : (stations : List StationInfo) (sizes : Sizes) (ms age : ℕ) (calls : List Call)
-    (xs : List ℕ)
-    → AllByRecursion (IsStanding sizes stations ms age (run stations sizes ms age calls).history xs)
-    (run stations sizes ms age calls).state.selections
-run_stands stations sizes ms age calls xs = all_mapped
-    (Tied sizes stations ms age (run stations sizes ms age calls).history) _
-    (λ y t. select_stands sizes stations ms age (run stations sizes ms age calls).history xs y t) _
-    (run_holds sizes stations ms age calls).keeps.tied
-
--- ---- after `due`
-
 abbrev IsYoung : ℕ → ℕ → Selection → Type 0
 IsYoung ms now y = nat_le ms (now - lasts_from y y.stage) ≡ false
-
-young_left : (ms now : ℕ) (zs : List Selection) → AllByRecursion (IsYoung ms now)
-    (filter_map (advanced ms (sign.Time now)) zs)
-young_left ms now zs = all_kept (advanced ms (sign.Time now)) (λ z. Unit {0}) (IsYoung ms now)
-    (λ z u. by z (nat_le ms (now - lasts_from z z.stage)) refl) zs (all zs)
-  where
-    by : (z : Selection) (b : Bool) → nat_le ms (now - lasts_from z z.stage) ≡ b
-        → Perhaps (IsYoung ms now) (if b then None else Some z)
-    by z true e = tt
-    by z false e = e
-
-    all : (zs : List Selection) → AllByRecursion (λ (z : Selection). Unit {0}) zs
-    all [] = tt
-    all (z ∷ zs) = (tt, all zs)
-
--- no select is confirmed before it came
-confirmed_later : (sizes : Sizes) (stations : List StationInfo) (ms age : ℕ) (h : History) (now : ℕ)
-    (zs : List Selection) (z : machine.Select) (m : ℕ) → Found sizes stations ms age h now zs z
-    → machine.confirmed_at sizes stations ms age z h ≡ Some m → z.came ≤ m
-confirmed_later sizes stations ms age h now zs z m (Waits n p k) e =
-    none_is_some m
-    (sym (none_by sizes stations ms age z h _ refl (waits_none sizes stations ms age z h n p)) ∙ e)
-confirmed_later sizes stations ms age h now zs z m (Goes p a k) e =
-    none_is_some m (sym (none_by sizes stations ms age z h _ refl a) ∙ e)
-confirmed_later sizes stations ms age h now zs z m (Taken a c k) e = none_is_some m (sym c ∙ e)
-confirmed_later sizes stations ms age h now zs z m (Lives n came c k) e =
-    subst (λ (x : ℕ). z.came ≤ x) (some_is n m (sym c ∙ e)) came
-confirmed_later sizes stations ms age h now zs z m (Gone below p a) e =
-    none_is_some m (sym (none_by sizes stations ms age z h _ refl a) ∙ e)
-confirmed_later sizes stations ms age h now zs z m (Late c t) e = none_is_some m (sym c ∙ e)
-confirmed_later sizes stations ms age h now zs z m (Past n came c t) e =
-    subst (λ (x : ℕ). z.came ≤ x) (some_is n m (sym c ∙ e)) came
 
 module _ (sizes : Sizes) (stations : List StationInfo) (ms age now : ℕ) (h : History)
     (later : (z : Select) (m : ℕ) (xs : List ℕ) → standing sizes stations ms age xs h ≡ Some z
@@ -207,41 +149,3 @@ module _ (sizes : Sizes) (stations : List StationInfo) (ms age now : ℕ) (h : H
         by_stage y found.0 xs found.1 found.2.came y.stage found.2.has_come
             (young y found.0 found.2 e),
       )
-
-pub run_in_time : (stations : List StationInfo) (sizes : Sizes) (ms age : ℕ) (calls : List Call)
-    (now : ℕ)
-    → NeverFall (Due now ∷ calls) → (xs : List ℕ) →
-    AllByRecursion
-    (IsInTime sizes stations ms age now (run stations sizes ms age (Due now ∷ calls)).history xs)
-    (run stations sizes ms age (Due now ∷ calls)).state.selections
-run_in_time stations sizes ms age calls now falls xs =
-    let all : List Call = Due now ∷ calls in
-    let k : Holds sizes stations ms age (run stations sizes ms age calls) =
-    run_holds sizes stations ms age calls in
-    both _ (IsYoung ms now) _ (λ y s e. in_time sizes stations ms age now
-    (run stations sizes ms age all).history later xs y s e)
-    (run stations sizes ms age all).state.selections
-    (run_stands stations sizes ms age all xs)
-    (subst (λ (n : ℕ). AllByRecursion (IsYoung n now)
-    (run stations sizes ms age all).state.selections) k.same_time
-    (young_left (run stations sizes ms age calls).state.select_ms now
-    (run stations sizes ms age calls).state.selections))
-  where
-    later : (z : Select) (m : ℕ) (ys : List ℕ) → standing sizes stations ms age ys
-        (run stations sizes ms age (Due now ∷ calls)).history ≡ Some z
-        → confirmed_at sizes stations ms age z (run stations sizes ms age (Due now ∷ calls)).history
-        ≡ Some m
-        → z.came ≤ m
-    later z m ys e c =
-        let h : History = (run stations sizes ms age (Due now ∷ calls)).history in
-        let stood : Stands sizes stations ms age h now
-        (run stations sizes ms age (Due now ∷ calls)).state.selections
-        (target_of (command_at ys)) (machine_select z) =
-        run_full sizes stations ms age (Due now ∷ calls) falls (target_of (command_at ys))
-        (machine_select z)
-        (standing_read sizes stations ms age ys h
-        ∙ ap (λ (o : Option Select). option_map machine_select o) e) in
-        confirmed_later sizes stations ms age h now
-        (run stations sizes ms age (Due now ∷ calls)).state.selections
-        (machine_select z) m stood.found (confirmed_read sizes stations ms age z
-        (standing_good sizes stations ms age ys h z e) h ∙ c)

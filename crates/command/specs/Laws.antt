@@ -4,7 +4,7 @@ use Rattle.asdu.specs.declared.sizes.Sizes.{Sizes}
 use Rattle.command.specs.declared.station.StationInfo.{StationInfo}
 use Rattle.command.specs.State.{State}
 use Rattle.command.specs.History.{History}
-use Rattle.command.specs.Calls.{Call, Due, Run, run, latest, NeverFall}
+use Rattle.command.specs.Calls.{Call, Run, run, latest, NeverFall}
 
 abbrev pub AfterEachRun :
     (List StationInfo → Sizes → ℕ → ℕ → State → History → Type 0) → Type 0
@@ -23,16 +23,6 @@ AtEachMoment P =
     P stations sizes select_ms max_age_ms now
     (run stations sizes select_ms max_age_ms calls).state
     (run stations sizes select_ms max_age_ms calls).history
-
--- what holds after a last call of `due` at this moment, where no moment falls
-abbrev pub AfterEachDue :
-    (List StationInfo → Sizes → ℕ → ℕ → ℕ → State → History → Type 0) → Type 0
-AfterEachDue P =
-    (stations : List StationInfo) (sizes : Sizes) (select_ms max_age_ms : ℕ) (calls : List Call)
-    (now : ℕ) → NeverFall (Due now ∷ calls) →
-    P stations sizes select_ms max_age_ms now
-    (run stations sizes select_ms max_age_ms (Due now ∷ calls)).state
-    (run stations sizes select_ms max_age_ms (Due now ∷ calls)).history
 
 -- some list of calls leaves this state and history
 abbrev pub IsRun : List StationInfo → Sizes → ℕ → ℕ → Run → Type 0

@@ -4,8 +4,6 @@
 use Rattle.std.specs.Prelude.{◌≡◌, ℕ, ◌+◌, ◌<◌, true, false, List, [], ◌∷◌, Option, Some, None}
 use Rattle.std.specs.List.{AllByRecursion}
 use Rattle.elements.specs.TimeTag.{verdict_of}
-use Rattle.elements.specs.declared.tag.Verdict.{Verdict}
-use Rattle.elements.specs.declared.tag.Verdict.TheVariants.{Good}
 use Rattle.command.specs.Octets.{answer}
 use Rattle.command.specs.Standard.{Rule, unknown_type, unknown_cause, unknown_station}
 use Rattle.command.specs.Standard.{unknown_object, malformed, not_permitted, not_fresh, tag_of}
@@ -62,13 +60,3 @@ module _ (xs : List ℕ) (now : ℕ) (wall : Option ℕ) (s : State) where
         ∷ unknown_object s.sizes xs ∷ malformed xs ∷ not_permitted xs
         ∷ not_fresh s.max_age_ms wall xs ∷ not_selected xs now s ∷ no_place xs s ∷ []) →
         (refusal_of xs now wall s ≡ None) × ((judged xs now wall s).0 ≡ None)
-
--- What is told of a tag that isn't fresh: how old it is, or how far ahead, where the tag is good
--- and the moment of the wall is known. Where the tag is good alone, that moment is missing.
-pub record AgesAreTold : Type 0 where
-  pub old : (instant ms : ℕ) → tag_rule (Some (instant + ms)) (Good instant) ≡ refusal.TagOld ms
-  pub ahead : (clock ms : ℕ) → 0 < ms →
-      tag_rule (Some clock) (Good (clock + ms)) ≡ refusal.TagAhead ms
-  pub no_clock : (instant : ℕ) → tag_rule None (Good instant) ≡ refusal.WallUnknown
-  pub no_tag : (wall : Option ℕ) (verdict : Verdict) →
-      ((instant : ℕ) → verdict ≡ Good instant → ⊥) → tag_rule wall verdict ≡ refusal.TagInvalid

@@ -2,7 +2,6 @@
 -- profile).
 use Rattle.std.specs.Prelude.{◌≡◌, ℕ, ◌+◌, ◌-◌, ◌<◌, Bool, true, ◌&&◌, ◌==◌, List, [], ◌∷◌, Some}
 use Rattle.std.specs.Prelude.{unwrap_or, slice_index}
-use Rattle.std.specs.List.{AllByRecursion}
 use Rattle.asdu.specs.declared.sizes.Sizes.{Sizes}
 use Rattle.command.specs.Command.{command_at}
 use Rattle.command.specs.Standard.{plain_type, common_address, object_address, station_of}
@@ -18,17 +17,6 @@ abbrev pub is_of : List ℕ → Selection → Bool
 is_of xs y =
     plain_type (slice_index xs 0) == y.command.kind && common_address xs == y.command.ca
     && object_address xs == y.command.address
-
--- they differ in type, common address or object address
-abbrev pub HaveTwoTargets : Selection → Selection → Type 0
-HaveTwoTargets y z =
-    y.command.kind ≡ z.command.kind → y.command.ca ≡ z.command.ca
-    → y.command.address ≡ z.command.address → ⊥
-
--- no two of them are of one target
-abbrev pub AreDistinct : List Selection → Type 0
-AreDistinct [] = Unit {0}
-AreDistinct (y ∷ ys) = AllByRecursion (HaveTwoTargets y) ys × AreDistinct ys
 
 module _ (sizes : Sizes) (stations : List StationInfo) (select_ms max_age_ms : ℕ) where
   -- How far the select has come: so many commands of its station go out before it; it stands on the

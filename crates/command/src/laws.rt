@@ -11,10 +11,8 @@ ghost use Rattle.std.specs.Prelude.{slice_get, slice_index, Option, Some, None, 
 ghost use Rattle.std.specs.Prelude.{true, option_map};
 ghost use Rattle.std.specs.List.{AllByRecursion};
 ghost use Rattle.asdu.specs.Asdu.{AsduValue};
-ghost use Rattle.asdu.specs.InformationObjects.{monitor_objects_of};
-ghost use Rattle.asdu.specs.Sizes.{tcp};
 ghost use Rattle.command.specs.Octets.{answer};
-ghost use Rattle.command.specs.State.{State, octets_waiting, sent, line_of, refusal_of, is_used};
+ghost use Rattle.command.specs.State.{State, octets_waiting, sent, line_of, refusal_of};
 ghost use Rattle.command.specs.Judging.{judged};
 ghost use Rattle.command.specs.Mirrors.{mirrored, tag_for};
 ghost use Rattle.asdu.specs.declared.sizes.Sizes.{Sizes};
@@ -22,26 +20,24 @@ ghost use Rattle.command.specs.declared.station.StationInfo.{StationInfo};
 ghost use Rattle.command.specs.Standard.{first_cause, cause_of_fault, executes, selects};
 ghost use Rattle.command.specs.Standard.{must_be_selected, is_deactivating, station_of};
 ghost use Rattle.command.specs.Standard.{IsRefusal};
-ghost use Rattle.command.specs.Rules.{rules_for, not_selected, no_place};
-ghost use Rattle.command.specs.Order.{IsJudgedInOrder, AgesAreTold};
+ghost use Rattle.command.specs.Rules.{rules_for};
 ghost use Rattle.command.specs.History.{ForwardsCommands, next_octets, SendsFreshCommands};
 ghost use Rattle.command.specs.History.{History, mirror_tag, ExecutesAreSelected, IsSelected};
 ghost use Rattle.command.specs.NewestTags.{TagsAreRead, NewestIsBorne, SendingsAreNoted};
 ghost use Rattle.command.specs.History.{GivesOwnAnswers, own_kept, own_sent, KeepsOwnAnswers};
-ghost use Rattle.command.specs.History.{AnswersWholly, IsGuarded, forwarded_in_all, sent_in_all};
+ghost use Rattle.command.specs.History.{AnswersWholly, IsGuarded};
 ghost use Rattle.command.specs.Passing.{FindsPlaces, of_others};
 ghost use Rattle.command.specs.Calls.{Call, Judge, Cut, run};
 ghost use Rattle.command.specs.Confirming.{IsExchanged};
 ghost use Rattle.command.specs.LineForms.{LinesAreSpelled};
-ghost use Rattle.command.specs.CallByCall.{GoInTurn, IsAnsweredBusy, WaitInTurn, IsLostOnTheLine};
-ghost use Rattle.command.specs.Selections.{AreDistinct, IsStanding, IsInTime};
+ghost use Rattle.command.specs.CallByCall.{GoInTurn, IsAnsweredBusy, WaitInTurn};
 ghost use Rattle.command.specs.Examples.{OctetExamples, IsRight, WaitsSo, rule_examples};
 ghost use Rattle.command.specs.Examples.{selection_examples, line_examples, tag_examples, BearsIt};
 ghost use Rattle.command.specs.Examples.{mirror_examples};
 ghost use Rattle.command.specs.Numbers.{AddressesAreRead, ObjectsAreRead, TargetsAreCompared};
 ghost use Rattle.command.specs.Numbers.{ElementsAreRead, ActsAreRead, FormsAreRead, TimesAreKept};
 ghost use Rattle.command.specs.Numbers.{ConfirmationsAreRead, CausesAreGiven};
-ghost use Rattle.command.specs.Laws.{AfterEachRun, AtEachMoment, AfterEachDue};
+ghost use Rattle.command.specs.Laws.{AfterEachRun, AtEachMoment};
 ghost use Rattle.command.specs.CommandLaws.{CommandLaws};
 ghost use Rattle.command.specs.Carried.{carried};
 
@@ -51,16 +47,6 @@ pub fn judgement_is_the_first_rule_that_applies()
     ensures { (xs : List ℕ) (now : ℕ) (wall : Option ℕ) (s : State) →
         (judged xs now wall s).0
         ≡ option_map (λ cause. answer cause xs) (first_cause (rules_for xs now wall s)) }
-{}
-
-/// Nine rules judge an ASDU, and the first that applies is the one that is told and that gives the
-/// answer its cause. They look at its type, its cause, its common address, its object, its form,
-/// its state or qualifier, the age of its time tag, its selection and the places, in this order.
-/// What one of the first seven refuses changes nothing. What none refuses is forwarded.
-pub fn rules_apply_in_their_order()
-    ensures order { (xs : List ℕ) (now : ℕ) (wall : Option ℕ) (s : State) →
-        IsJudgedInOrder xs now wall s }
-    ensures ages { AgesAreTold }
 {}
 
 /// First sendings to a station are the commands forwarded to it, in their order, each once, and
@@ -89,23 +75,6 @@ pub fn sent_activations_are_fresh()
         (wall : Option ℕ) (xs : List ℕ) → is_deactivating xs ≡ true →
         cause_of_fault sizes stations max_age_ms wall xs
         ≡ cause_of_fault sizes stations max_age_ms None xs }
-{}
-
-/// Places come back: the commands that wait are those that were forwarded on the open connection
-/// less those that went out, over all stations, and at most 64. So a command finds its places where
-/// no more than 64 wait with it. A select to a station that asks for selects finds none where 16
-/// selections of other targets are kept.
-pub fn places_come_back()
-    ensures waiting { AfterEachRun (λ stations sizes select_ms max_age_ms s h.
-        length s.waiting + sent_in_all h ≡ forwarded_in_all stations h) }
-    ensures few { AfterEachRun (λ stations sizes select_ms max_age_ms s h.
-        length s.waiting ≤ 64) }
-    ensures room { AfterEachRun (λ stations sizes select_ms max_age_ms s h. (xs : List ℕ) →
-        FindsPlaces stations xs h
-        → (must_be_selected stations xs && selects xs) ≡ false
-        → (no_place xs s).applies ≡ false) }
-    ensures full { (xs : List ℕ) (s : State) → must_be_selected s.stations xs ≡ true →
-        selects xs ≡ true → 16 ≤ of_others xs s.selections → (no_place xs s).applies ≡ true }
 {}
 
 /// A command with which nothing is wrong, and which finds its places, is forwarded, whatever its
@@ -175,42 +144,6 @@ pub fn selections_let_one_execute_through()
         IsExchanged stations sizes select_ms max_age_ms calls xs now }
 {}
 
-/// The converse: what `selections_let_one_execute_through` asks for is enough, whatever else lies
-/// between. Other commands may come and go out, other stations may answer, and time may pass. So it
-/// is for each station, each type and each address. Where moments never fall, a selected execute is
-/// refused for no want of a selection: one that is live lets it through. So it is forwarded where
-/// there are places for it.
-pub fn selected_executes_pass()
-    ensures selected { AtEachMoment (λ stations sizes select_ms max_age_ms now s h.
-        (xs : List ℕ) (wall : Option ℕ) →
-        cause_of_fault sizes stations max_age_ms wall xs ≡ None → executes xs ≡ true
-        → IsSelected sizes stations select_ms max_age_ms xs now h
-        → (not_selected xs now s).applies ≡ false) }
-    ensures forwarded { AtEachMoment (λ stations sizes select_ms max_age_ms now s h.
-        (xs : List ℕ) (wall : Option ℕ) →
-        cause_of_fault sizes stations max_age_ms wall xs ≡ None → executes xs ≡ true
-        → IsSelected sizes stations select_ms max_age_ms xs now h
-        → (no_place xs s).applies ≡ false → (judged xs now wall s).0 ≡ None) }
-    ensures exchanged { (stations : List StationInfo) (sizes : Sizes) (select_ms max_age_ms : ℕ)
-        (calls : List Call) (xs : List ℕ) (now : ℕ) → must_be_selected stations xs ≡ true →
-        IsExchanged stations sizes select_ms max_age_ms calls xs now →
-        IsSelected sizes stations select_ms max_age_ms xs now
-        (run stations sizes select_ms max_age_ms calls).history }
-{}
-
-/// No two selections are of one target, and each is the select that stands for its target, as far
-/// as that has come. After `due`, where moments never fall, each one's select, or its latest
-/// confirmation, came less than `select_ms` ago.
-pub fn selections_are_selects_that_stand()
-    ensures distinct { AfterEachRun (λ stations sizes select_ms max_age_ms s h.
-        AreDistinct s.selections) }
-    ensures standing { AfterEachRun (λ stations sizes select_ms max_age_ms s h. (xs : List ℕ) →
-        AllByRecursion (IsStanding sizes stations select_ms max_age_ms h xs) s.selections) }
-    ensures in_time { AfterEachDue (λ stations sizes select_ms max_age_ms now s h.
-        (xs : List ℕ) →
-        AllByRecursion (IsInTime sizes stations select_ms max_age_ms now h xs) s.selections) }
-{}
-
 /// Each answer is the right one: the ASDU that came, with another cause, P/N 1, and its test bit
 /// and all other octets as they were, however many they are; an ASDU that isn't forwarded gets one,
 /// and so does a command that a busy station had, where its connection is open, and no other has
@@ -233,26 +166,6 @@ pub fn own_answers_are_given()
         → slice_index xs 2 < 256 → IsRefusal cause xs (answer cause xs) }
 {}
 
-/// A command that went out, and whose station's link then goes down, is told as lost, call by call:
-/// at each station, whatever lies between. Other stations' commands and answers don't matter, and
-/// neither does the end of its connection. It is told once. What its station accepted or refused as
-/// busy isn't told as lost, nor is a command that never went out.
-pub fn commands_are_lost_on_the_line()
-    ensures { (stations : List StationInfo) (sizes : Sizes) (select_ms max_age_ms : ℕ)
-        (calls : List Call) (k : ℕ) → IsLostOnTheLine stations sizes select_ms max_age_ms calls k }
-{}
-
-/// No call changes the settings.
-pub fn settings_stay()
-    ensures stations { AfterEachRun (λ stations sizes select_ms max_age_ms s h.
-        s.stations ≡ stations) }
-    ensures sizes { AfterEachRun (λ stations sizes select_ms max_age_ms s h. s.sizes ≡ sizes) }
-    ensures select_ms { AfterEachRun (λ stations sizes select_ms max_age_ms s h.
-        s.select_ms ≡ select_ms) }
-    ensures max_age_ms { AfterEachRun (λ stations sizes select_ms max_age_ms s h.
-        s.max_age_ms ≡ max_age_ms) }
-{}
-
 /// What waits for a station first stays so until it goes out or its connection ends: no ASDU, no
 /// station's answer and nothing that goes out to another station changes it. Nor do they change the
 /// own answers that are kept.
@@ -269,18 +182,6 @@ pub fn waiting_commands_stay()
     ensures answers_mirrored { (v : AsduValue) (now : ℕ) (s : State) →
         (mirrored v now s).answers ≡ s.answers }
     ensures answers_sent { (j : ℕ) (s : State) → (sent j s).answers ≡ s.answers }
-{}
-
-/// An answer that this crate makes, to an ASDU that isn't forwarded or for a busy station, has no
-/// object that is passed on as a station's report: its type is a command's, or its cause is
-/// 'unknown type' with P/N set. So none of them is a report to the control centre. Of what is
-/// handed to `own` this says nothing: that is kept and given back as it is.
-pub fn own_answers_bear_no_objects()
-    ensures judged { (xs : List ℕ) (now : ℕ) (wall : Option ℕ) (s : State) (a : List ℕ) →
-        9 ≤ length xs → slice_index xs 2 < 256 → (judged xs now wall s).0 ≡ Some a →
-        monitor_objects_of tcp a ≡ [] }
-    ensures busy { AfterEachRun (λ stations sizes select_ms max_age_ms s h. (k : ℕ)
-        (a : List ℕ) → refusal_of (line_of k s) ≡ Some a → monitor_objects_of tcp a ≡ []) }
 {}
 
 /// Examples worked by hand: which octets say what, which answer a command gets by each rule, what
@@ -339,19 +240,4 @@ pub fn nothing_of_a_connection_outlives_new_settings()
     ensures lines { (stations : List StationInfo) (sizes : Sizes) (select_ms max_age_ms : ℕ)
         (before : List (Option ℕ)) (s : State) (k : ℕ) →
         refusal_of (line_of k (carried stations sizes select_ms max_age_ms before s)) ≡ None }
-{}
-
-/// What stands on a station's line over a change of settings still stands there, whatever place the
-/// station has now. So the station's silence is still counted as a command that is given up. On the
-/// line of a station that is new nothing stands.
-pub fn what_is_on_a_line_outlives_new_settings()
-    ensures stays { (stations : List StationInfo) (sizes : Sizes) (select_ms max_age_ms : ℕ)
-        (before : List (Option ℕ)) (s : State) (k place : ℕ) →
-        slice_get before k ≡ Some (Some place) →
-        is_used (line_of k (carried stations sizes select_ms max_age_ms before s))
-        ≡ is_used (line_of place s) }
-    ensures new { (stations : List StationInfo) (sizes : Sizes) (select_ms max_age_ms : ℕ)
-        (before : List (Option ℕ)) (s : State) (k : ℕ) →
-        slice_get before k ≡ Some None →
-        is_used (line_of k (carried stations sizes select_ms max_age_ms before s)) ≡ false }
 {}

@@ -58,14 +58,11 @@ pub use act::{Act, OwnAnswer};
 pub use commands::{Commands, NoMemory};
 pub use glance::Glance;
 pub use laws::{
-    commands_are_forwarded, commands_are_lost_on_the_line, commands_keep_the_rules,
-    executes_are_selected, faultless_commands_pass, judgement_is_the_first_rule_that_applies,
-    mirrors_bear_the_newest_tag, nothing_of_a_connection_outlives_new_settings,
-    own_answers_are_given, own_answers_bear_no_objects, places_come_back,
-    rules_apply_in_their_order, rules_hold_for_all_numbers, selected_executes_pass,
-    selections_are_selects_that_stand, selections_let_one_execute_through,
-    sent_activations_are_fresh, settings_stay, waiting_commands_stay,
-    what_is_on_a_line_outlives_new_settings, worked_examples_hold,
+    commands_are_forwarded, commands_keep_the_rules, executes_are_selected,
+    faultless_commands_pass, judgement_is_the_first_rule_that_applies, mirrors_bear_the_newest_tag,
+    nothing_of_a_connection_outlives_new_settings, own_answers_are_given,
+    rules_hold_for_all_numbers, selections_let_one_execute_through, sent_activations_are_fresh,
+    waiting_commands_stay, worked_examples_hold,
 };
 pub use refusal::Refusal;
 pub use selection::SelectedObject;

@@ -51,9 +51,6 @@ module _ (one : HaveOneFront) where
 
 -- ---- The logs of octets
 
-abbrev grown_by : Bool → List Log → List Log → List Log
-grown_by b logs more = if b then logs ++ more else logs
-
 length_of_map : (f : ℕ → Log) (xs : List ℕ) → length (map f xs) ≡ length xs
 length_of_map f [] = refl
 length_of_map f (x ∷ xs) = ap suc (length_of_map f xs)

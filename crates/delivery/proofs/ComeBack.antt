@@ -1,22 +1,20 @@
 -- The answers to what is refused, octet by octet.
-use Rattle.std.proofs.Common.{◌≡◌, ℕ, suc, ◌+◌, ◌*◌, ◌/◌, ◌<◌, ◌≤◌, ◌%◌, ◌&&◌, ◌||◌, Bool, true}
-use Rattle.std.proofs.Common.{false, not, List, [], ◌∷◌, ◌++◌, length, refl, sym, subst}
+use Rattle.std.proofs.Common.{◌≡◌, ℕ, ◌+◌, ◌*◌, ◌/◌, ◌<◌, ◌≤◌, ◌%◌, ◌&&◌, ◌||◌, Bool, true}
+use Rattle.std.proofs.Common.{false, List, [], ◌∷◌, ◌++◌, length, refl, sym, subst}
 use Rattle.std.proofs.Common.{ap, ◌∙◌, arith, rules}
 use Rattle.std.specs.Prelude.{◌==◌, Option, Some, None, if◌then◌else◌, nat_lt, option_map}
-use Rattle.std.specs.Prelude.{slice_get, slice_index, unwrap_or}
-use Rattle.std.specs.List.{list_any}
-use Rattle.std.proofs.lemmas.Bool.{eqb-true, eq-eqb, ltb-true, ltb-false}
+use Rattle.std.specs.Prelude.{slice_index, unwrap_or}
+use Rattle.std.proofs.lemmas.Bool.{eq-eqb, ltb-true, ltb-false}
 use Rattle.std.proofs.lemmas.Bool.{ne_eqb}
-use Rattle.command.specs.declared.station.StationInfo.{StationInfo}
 use Rattle.command.specs.Octets.{answer, refused_cause}
-use Rattle.command.specs.Standard.{cause_of_fault, common_address, is_for_each}
-use Rattle.command.specs.Standard.{is_for_station, negative_of, unknown_station}
+use Rattle.command.specs.Standard.{cause_of_fault}
+use Rattle.command.specs.Standard.{negative_of}
 use Rattle.command.specs.History.{History, Judged, Sent, Accepted, Refused, GivenUp}
 use Rattle.command.specs.History.{Mirrored, Offered, Answered, Ended}
 use Rattle.command.specs.History.{cause_given, on_line, next_for}
 use Rattle.gateway.specs.Reports.{Setup}
 use Rattle.delivery.specs.Refusing.{refused_octet, refused_as, StaysOnLine}
-use Rattle.delivery.proofs.AnyPlace.{Answers, answers_then, no_truth}
+use Rattle.delivery.proofs.AnyPlace.{Answers, answers_then}
 
 -- ---- octets
 
@@ -143,40 +141,3 @@ module _ (p : Setup) where
         ∙ ap (λ (x : List ℕ). Some x) (so_refused why xs long fits)
 
 -- ---- a common address that no station has
-
-none_has : (xs : List ℕ) (stations : List StationInfo) → is_for_each xs ≡ false
-    → ((k : ℕ) (station : StationInfo) → slice_get stations k ≡ Some station
-    → common_address xs ≡ station.ca → ⊥)
-    → list_any (is_for_station xs) stations ≡ false
-none_has xs [] each none = refl
-none_has xs (st ∷ sts) each none =
-    either (common_address xs == st.ca) (is_for_each xs) (list_any (is_for_station xs) sts)
-    (ne_eqb (common_address xs) st.ca (λ e. none 0 st refl e)) each
-    (none_has xs sts each (λ k station there e. none (suc k) station there e))
-  where
-    either : (a b c : Bool) → a ≡ false → b ≡ false → c ≡ false → ((a || b) || c) ≡ false
-    either true b c e f g = no_truth e
-    either false true c e f g = no_truth f
-    either false false c e f g = g
-
-not_each : (xs : List ℕ) → (slice_index xs 0 ≡ 100 → common_address xs ≡ 65535 → ⊥)
-    → is_for_each xs ≡ false
-not_each xs apart =
-    by (slice_index xs 0 == 100) (common_address xs == 65535) refl refl
-  where
-    by : (a b : Bool) → (slice_index xs 0 == 100) ≡ a → (common_address xs == 65535) ≡ b
-        → (a && b) ≡ false
-    by false b e f = refl
-    by true false e f = refl
-    by true true e f = absurd (apart (eqb-true (slice_index xs 0) 100 e)
-        (eqb-true (common_address xs) 65535 f))
-
-pub unknown : (xs : List ℕ) (stations : List StationInfo)
-    → ((k : ℕ) (station : StationInfo) → slice_get stations k ≡ Some station
-    → common_address xs ≡ station.ca → ⊥)
-    → (slice_index xs 0 ≡ 100 → common_address xs ≡ 65535 → ⊥)
-    → (unknown_station stations xs).applies ≡ true
-unknown xs stations none apart =
-    let each : is_for_each xs ≡ false = not_each xs apart in
-    let any : list_any (is_for_station xs) stations ≡ false = none_has xs stations each none in
-    ap (λ (b : Bool). not (b || is_for_each xs)) any ∙ ap (λ (b : Bool). not b) each

@@ -3,20 +3,15 @@ use Rattle.std.specs.Prelude.{◌||◌, ◌==◌}
 use Rattle.std.proofs.Common.{◌≡◌, ◌≢◌, ℕ, suc, Bool, true, false, List, [], ◌∷◌, ◌++◌, Option}
 use Rattle.std.proofs.Common.{Some, None, refl, sym, ap, subst, ◌∙◌, ◌⊎◌, inl, inr, if◌then◌else◌}
 use Rattle.std.proofs.lemmas.Bool.{eq-eqb, eqb-true}
-use Rattle.link.specs.declared.procedure.Link.{Link}
-use Rattle.link.specs.declared.procedure.Link.TheVariants.{Next as Up}
 use Rattle.link.specs.declared.service.Asked.{Asked}
 use Rattle.link.specs.declared.service.Asked.TheVariants.{Counted}
-use Rattle.link.specs.declared.service.Service.{Service}
 use Rattle.link.specs.declared.service.Service.TheVariants.{Class1, Class2, Command}
 use Rattle.link.specs.declared.settings.LinkSettings.{LinkSettings}
-use Rattle.link.specs.declared.turn.StationState.{StationState}
 use Rattle.link.specs.AtOnce.{latest_by, latest_after, RepeatIsNext, RepeatsComeAtOnce}
-use Rattle.link.specs.AtOnce.{first_service, is_spent, began_by, began_out, began_after, may_go}
-use Rattle.link.specs.AtOnce.{first_of_turn, TurnIsNext, TurnsGoOn}
+use Rattle.link.specs.AtOnce.{is_spent, began_by, began_out, began_after}
+use Rattle.link.specs.AtOnce.{TurnsGoOn}
 use Rattle.link.specs.Bursts.{Row, Polls, Commanded, Other, one_more, row_by_repeat}
 use Rattle.link.specs.Bursts.{row_by, row_by_request, row_out, row_after}
-use Rattle.link.specs.Bursts.{is_answered, poll_by, IsSent, PollsGoOn, BurstsGoOn}
 use Rattle.link.specs.Exchanges.{Sending}
 use Rattle.link.specs.Primary.{Outstanding, Primary, start, sending, sending_from}
 use Rattle.link.specs.Procedure.{is_held, has_repeats, is_service}
@@ -115,34 +110,6 @@ again law p q s leave waiting out served left =
     next served out.over left
 
 -- ---- polls behind commands
-
-rest_bursts : (p : Primary) (row : Row) (first later : List Call)
-    → BurstsGoOn p row (first ++ later)
-    → (after : Row) × BurstsGoOn (called_all p first) after later
-rest_bursts p row [] later on = (row, on)
-rest_bursts p row (call ∷ first) later on =
-    rest_bursts (called p call) (row_after p call row) first later on.1
-
-row_stays : (p : Primary) (o : Option Outstanding) (may_poll : Bool) (waiting : CommandsWaiting)
-    (row : Row) → (o ≡ None → ⊥) → row_out p o may_poll waiting row ≡ row
-row_stays p None may_poll waiting row out = absurd (out refl)
-row_stays p (Some o) may_poll waiting row out = refl
-
-passing_bursts : (p : Primary) (row : Row) (calls : List Call) (last : Call)
-    → ArePassing p calls → BurstsGoOn p row (calls ++ last ∷ [])
-    → PollsGoOn (called_all p calls) row last
-passing_bursts p row [] last passing all = all.0
-passing_bursts p row (Next now may_poll waiting ∷ calls) last passing all =
-    let call : Call = Next now may_poll waiting in
-    passing_bursts (called p call) row calls last passing.1
-    (subst (λ (r : Row). BurstsGoOn (called p call) r (calls ++ last ∷ []))
-    (row_stays p p.outstanding may_poll waiting row passing.0) all.1)
-passing_bursts p row (Octets octets ∷ calls) last passing all =
-    passing_bursts (called p (Octets octets)) row calls last passing all.1
-passing_bursts p row (Due now ∷ calls) last passing all =
-    passing_bursts (called p (Due now)) row calls last passing all.1
-passing_bursts p row (GivesUp station ∷ calls) last passing all = absurd passing
-passing_bursts p row (Doubts ∷ calls) last passing all = absurd passing
 
 pub row_goes : (p : Primary) (now : ℕ) (may_poll : Bool) (waiting : CommandsWaiting)
     (station : ℕ) (fcb : Bool) (asdu : List ℕ) (row : Row)
@@ -258,77 +225,6 @@ nothing_new p now may_poll waiting o row latest began out = (
   ap (λ (x : Option Outstanding). began_out p x may_poll waiting began) out,
 )
 
--- on each line that begins
-abbrev pub Bursts : Type 0
-Bursts = (p : Primary) (calls : List Call) → Begins p → BurstsGoOn p Other calls
-
-pub all_bursts : ((settings : LinkSettings) (addresses : List ℕ) (calls : List Call)
-    → BurstsGoOn (start settings addresses) Other calls)
-    → ((settings : LinkSettings) (seats : List ResumedStation) (before : Primary)
-    (calls : List Call) → BurstsGoOn (reseated settings seats before) Other calls)
-    → Bursts
-all_bursts new old p calls (inl (settings, addresses, is)) =
-    subst (λ (q : Primary). BurstsGoOn q Other calls) (sym is) (new settings addresses calls)
-all_bursts new old p calls (inr (settings, seats, before, is)) =
-    subst (λ (q : Primary). BurstsGoOn q Other calls) (sym is) (old settings seats before calls)
-
-pub poll_behind : Bursts → (p q : Primary)
-    (s : Sending) (fcb bit : Bool) (asdu : List ℕ) (waiting : CommandsWaiting)
-    → IsOutNoMore p q s → s.request ≡ Counted fcb (Command asdu)
-    → is_held (station_at p.stations s.station).link ≡ false
-    → (station_at q.stations s.station).link ≡ Up bit
-    → IsSent q true waiting s.station (poll_by (station_at q.stations s.station).acd)
-poll_behind law p q s fcb bit asdu waiting out is new up =
-    let call : Call = Next out.now out.may_poll out.waiting in
-    let last : Call = Next 0 true waiting in
-    let rest = rest_bursts out.line Other out.first
-    (call ∷ (out.meanwhile ++ last ∷ []))
-    (law out.line (out.first ++ call ∷ (out.meanwhile ++ last ∷ [])) out.begins) in
-    let here : BurstsGoOn p rest.0 (call ∷ (out.meanwhile ++ last ∷ [])) =
-    subst (λ (r : Primary). BurstsGoOn r rest.0 (call ∷ (out.meanwhile ++ last ∷ [])))
-    out.before rest.1 in
-    let goes : sending p out.may_poll out.waiting
-    ≡ Some (record { station = s.station; request = Counted fcb (Command asdu) }) =
-    out.goes ∙ ap (λ (r : Asked). Some (record { station = s.station; request = r })) is in
-    let on : BurstsGoOn (called p call) (Commanded s.station) (out.meanwhile ++ last ∷ []) =
-    subst (λ (r : Row). BurstsGoOn (called p call) r (out.meanwhile ++ last ∷ []))
-    (row_goes p out.now out.may_poll out.waiting s.station fcb asdu rest.0 goes new) here.1 in
-    let next : PollsGoOn q (Commanded s.station) last =
-    subst (λ (r : Primary). PollsGoOn r (Commanded s.station) last) out.behind
-    (passing_bursts (called p call) (Commanded s.station) out.meanwhile last out.passing on) in
-    next out.over (ap (λ (l : Link). is_answered l) up)
-
--- ---- turns that began with a held service
-
-rest_turns : (p : Primary) (began : Option ℕ) (first later : List Call)
-    → TurnsGoOn p began (first ++ later)
-    → (b : Option ℕ) × TurnsGoOn (called_all p first) b later
-rest_turns p began [] later on = (began, on)
-rest_turns p began (call ∷ first) later on =
-    rest_turns (called p call) (began_after p call began) first later on.1
-
-began_stays : (p : Primary) (o : Option Outstanding) (may_poll : Bool)
-    (waiting : CommandsWaiting) (began : Option ℕ) → (o ≡ None → ⊥)
-    → began_out p o may_poll waiting began ≡ began
-began_stays p None may_poll waiting began out = absurd (out refl)
-began_stays p (Some o) may_poll waiting began out = refl
-
-passing_turns : (p : Primary) (began : Option ℕ) (calls : List Call) (last : Call)
-    → ArePassing p calls → TurnsGoOn p began (calls ++ last ∷ [])
-    → TurnIsNext (called_all p calls) began last
-passing_turns p began [] last passing all = all.0
-passing_turns p began (Next now may_poll waiting ∷ calls) last passing all =
-    let call : Call = Next now may_poll waiting in
-    passing_turns (called p call) began calls last passing.1
-    (subst (λ (b : Option ℕ). TurnsGoOn (called p call) b (calls ++ last ∷ []))
-    (began_stays p p.outstanding may_poll waiting began passing.0) all.1)
-passing_turns p began (Octets octets ∷ calls) last passing all =
-    passing_turns (called p (Octets octets)) began calls last passing all.1
-passing_turns p began (Due now ∷ calls) last passing all =
-    passing_turns (called p (Due now)) began calls last passing all.1
-passing_turns p began (GivesUp station ∷ calls) last passing all = absurd passing
-passing_turns p began (Doubts ∷ calls) last passing all = absurd passing
-
 spent : (p : Primary) (station : ℕ) → is_held (station_at p.stations station).link ≡ true
     → has_repeats p.settings (station_at p.stations station).link ≡ false
     → is_spent p station ≡ true
@@ -348,86 +244,3 @@ began_goes p now may_poll waiting s began goes held none =
 -- on each line that begins
 abbrev pub Turns : Type 0
 Turns = (p : Primary) (calls : List Call) → Begins p → TurnsGoOn p None calls
-
-pub all_turns : ((settings : LinkSettings) (addresses : List ℕ) (calls : List Call)
-    → TurnsGoOn (start settings addresses) None calls)
-    → ((settings : LinkSettings) (seats : List ResumedStation) (before : Primary)
-    (calls : List Call) → TurnsGoOn (reseated settings seats before) None calls)
-    → Turns
-all_turns new old p calls (inl (settings, addresses, is)) =
-    subst (λ (q : Primary). TurnsGoOn q None calls) (sym is) (new settings addresses calls)
-all_turns new old p calls (inr (settings, seats, before, is)) =
-    subst (λ (q : Primary). TurnsGoOn q None calls) (sym is) (old settings seats before calls)
-
-turn_next : Turns → (p q : Primary) (s : Sending)
-    (leave bit : Bool) (waiting : CommandsWaiting) → IsOutNoMore p q s
-    → is_held (station_at p.stations s.station).link ≡ true
-    → has_repeats p.settings (station_at p.stations s.station).link ≡ false
-    → (station_at q.stations s.station).link ≡ Up bit
-    → may_go leave (first_of_turn q waiting s.station) ≡ true
-    → IsSent q leave waiting s.station (first_of_turn q waiting s.station)
-turn_next law p q s leave bit waiting out held none up may =
-    let call : Call = Next out.now out.may_poll out.waiting in
-    let last : Call = Next 0 leave waiting in
-    let rest = rest_turns out.line None out.first
-    (call ∷ (out.meanwhile ++ last ∷ []))
-    (law out.line (out.first ++ call ∷ (out.meanwhile ++ last ∷ [])) out.begins) in
-    let here : TurnsGoOn p rest.0 (call ∷ (out.meanwhile ++ last ∷ [])) =
-    subst (λ (r : Primary). TurnsGoOn r rest.0 (call ∷ (out.meanwhile ++ last ∷ [])))
-    out.before rest.1 in
-    let on : TurnsGoOn (called p call) (Some s.station) (out.meanwhile ++ last ∷ []) =
-    subst (λ (b : Option ℕ). TurnsGoOn (called p call) b (out.meanwhile ++ last ∷ []))
-    (began_goes p out.now out.may_poll out.waiting s rest.0 out.goes held none) here.1 in
-    let next : TurnIsNext q (Some s.station) last =
-    subst (λ (r : Primary). TurnIsNext r (Some s.station) last) out.behind
-    (passing_turns (called p call) (Some s.station) out.meanwhile last out.passing on) in
-    next out.over (ap (λ (l : Link). is_answered l) up) may
-
-or_true : (b : Bool) → (b || true) ≡ true
-or_true true = refl
-or_true false = refl
-
-first_command : (command : Option (List ℕ)) (asdu : List ℕ) (s : StationState)
-    → command ≡ Some asdu → s.dfc ≡ false → first_service command s ≡ Command asdu
-first_command command asdu s waits clear =
-    ap (λ (c : Option (List ℕ)). first_service c s) waits
-    ∙ ap (λ (b : Bool). if b then poll_by s.acd else Command asdu) clear
-
-full_command : (command : Option (List ℕ)) (s : StationState) → s.dfc ≡ true
-    → first_service command s ≡ poll_by s.acd
-full_command None s full = refl
-full_command (Some asdu) s full =
-    ap (λ (b : Bool). if b then poll_by s.acd else Command asdu) full
-
-first_poll : (command : Option (List ℕ)) (s : StationState)
-    → (command ≡ None) ⊎ (s.dfc ≡ true) → first_service command s ≡ poll_by s.acd
-first_poll command s (inl none) = ap (λ (c : Option (List ℕ)). first_service c s) none
-first_poll command s (inr full) = full_command command s full
-
-pub held_command : Turns → (p q : Primary)
-    (s : Sending) (leave bit : Bool) (asdu : List ℕ) (waiting : CommandsWaiting)
-    → IsOutNoMore p q s
-    → is_held (station_at p.stations s.station).link ≡ true
-    → has_repeats p.settings (station_at p.stations s.station).link ≡ false
-    → (station_at q.stations s.station).link ≡ Up bit → waiting s.station ≡ Some asdu
-    → (station_at q.stations s.station).dfc ≡ false
-    → IsSent q leave waiting s.station (Command asdu)
-held_command law p q s leave bit asdu waiting out held none up waits clear =
-    let first = first_command (waiting s.station) asdu (station_at q.stations s.station) waits
-    clear in
-    subst (λ (service : Service). IsSent q leave waiting s.station service) first
-    (turn_next law p q s leave bit waiting out held none up
-    (ap (λ (service : Service). may_go leave service) first ∙ or_true leave))
-
-pub held_poll : Turns → (p q : Primary)
-    (s : Sending) (bit : Bool) (waiting : CommandsWaiting)
-    → IsOutNoMore p q s
-    → is_held (station_at p.stations s.station).link ≡ true
-    → has_repeats p.settings (station_at p.stations s.station).link ≡ false
-    → (station_at q.stations s.station).link ≡ Up bit
-    → (waiting s.station ≡ None) ⊎ ((station_at q.stations s.station).dfc ≡ true)
-    → IsSent q true waiting s.station (poll_by (station_at q.stations s.station).acd)
-held_poll law p q s bit waiting out held none up either =
-    subst (λ (service : Service). IsSent q true waiting s.station service)
-    (first_poll (waiting s.station) (station_at q.stations s.station) either)
-    (turn_next law p q s true bit waiting out held none up refl)

@@ -1,7 +1,7 @@
 -- A select that was confirmed lets its execute through, whatever else became of other objects.
-use Rattle.std.proofs.Common.{◌≡◌, ℕ, suc, ◌+◌, ◌-◌, ◌<◌, ◌≤◌, ◌%◌, inr, ◌&&◌, ◌||◌, Bool, true}
+use Rattle.std.proofs.Common.{◌≡◌, ℕ, ◌+◌, ◌-◌, ◌<◌, ◌≤◌, ◌%◌, inr, ◌&&◌, ◌||◌, Bool, true}
 use Rattle.std.proofs.Common.{false, not, List, [], ◌∷◌, ◌++◌, length, refl, sym, subst, ap, ◌∙◌}
-use Rattle.std.proofs.Common.{arith, rules}
+use Rattle.std.proofs.Common.{rules}
 use Rattle.std.specs.Prelude.{◌==◌, Option, Some, None, if◌then◌else◌, is_none, nat_lt}
 use Rattle.std.specs.Prelude.{slice_index}
 use Rattle.std.specs.List.{list_any, AllByRecursion}
@@ -18,9 +18,7 @@ use Rattle.command.specs.History.{Mirrored, Offered, Answered, Ended, Select, fo
 use Rattle.command.specs.History.{sent_count, is_place, IsSelected}
 use Rattle.command.specs.History.{standing, place_on_line, is_accepted_at}
 use Rattle.command.specs.History.{confirmed_at}
-use Rattle.command.specs.Passing.{FindsPlaces, of_others}
-use Rattle.command.specs.Selections.{is_of}
-use Rattle.command.specs.declared.selection.Selection.{Selection}
+use Rattle.command.specs.Passing.{FindsPlaces}
 use Rattle.gateway.specs.Passing.{PassesCommands}
 use Rattle.gateway.specs.Reports.{Setup}
 use Rattle.delivery.specs.Refusing.{StaysOnLine}
@@ -375,20 +373,3 @@ module _ (p : Setup) where
           (subst (Answers p) is answers))))))).0
 
 -- ---- sixteen selections
-
-few_others : (xs : List ℕ) (ys : List Selection) → of_others xs ys ≤ length ys
-few_others xs [] = omega arith
-few_others xs (y ∷ ys) = by (is_of xs y) (few_others xs ys)
-  where
-    by : (b : Bool) → of_others xs ys ≤ length ys
-        → (if b then of_others xs ys else suc (of_others xs ys)) ≤ suc (length ys)
-    by true few = omega (arith, few)
-    by false few = omega (arith, few)
-
-pub fewer_others : (xs : List ℕ) (ys : List Selection) → length ys < 16 → of_others xs ys < 16
-fewer_others xs ys few = (let others : of_others xs ys ≤ length ys = few_others xs ys in
-    omega (arith, few, others))
-
-pub has_room : (waiting sent forwarded_all more : ℕ) → waiting + sent ≡ forwarded_all
-    → waiting + more ≤ 64 → forwarded_all + more ≤ sent + 64
-has_room waiting sent forwarded_all more all few = omega (arith, all, few)

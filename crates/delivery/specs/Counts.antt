@@ -1,15 +1,11 @@
 -- What is counted of commands, in the words of the log (this gateway's own profile).
 use Rattle.std.specs.Prelude.{◌≡◌, ◌⊎◌, ℕ, zero, suc, ◌+◌, ◌-◌, Bool, true, false, List, []}
 use Rattle.std.specs.Prelude.{◌∷◌, length, None, if◌then◌else◌}
-use Rattle.command.specs.State.{is_used, line_of}
 use Rattle.session.specs.History as talk
 use Rattle.gateway.specs.Log.{Log, LineIn, Came}
 use Rattle.gateway.specs.Connections.{present}
 use Rattle.gateway.specs.Reports.{Setup, address_at, exchanges_with, reports_in}
 use Rattle.gateway.specs.Course.{Course, HasTakenAll, Runs}
-use Rattle.gateway.specs.Config.{Settings}
-use Rattle.gateway.specs.State.{State}
-use Rattle.gateway.specs.Unchanged.{IsUnchanged}
 use Rattle.delivery.specs.Commands.{LineStep, Begun, Confirmed, Busy, Lost, steps_in, unmissed}
 use Rattle.delivery.specs.Joined.{command_reports}
 
@@ -54,22 +50,3 @@ CameStopped p (Came at (LineIn octets) ∷ log) n =
 CameStopped p (entry ∷ log) n = CameStopped p log n
 
 -- ---- New settings
-
--- The station that had this place goes on: the state is one that the run goes on with, and the
--- station is set as it was.
-abbrev pub GoesOn : (goes_on : Bool) → (before now : Settings) → (place : ℕ) → Type 0
-GoesOn goes_on before now place = (goes_on ≡ true) × IsUnchanged before now place
-
--- what stands on the station's line
-abbrev pub on_line_of : State → (place : ℕ) → ℕ
-on_line_of s place = if is_used (line_of place s.serial.commands) then 1 else 0
-
--- Of so many stations that were set before, from the first on, so many commands are lost: that of
--- each station that doesn't go on, where one stood on its line.
-abbrev pub AreLost : (goes_on : Bool) → (before now : Settings) → State →
-    (count lost : ℕ) → Type 0
-AreLost goes_on before now s zero lost = lost ≡ 0
-AreLost goes_on before now s (suc k) lost =
-    (earlier : ℕ) × AreLost goes_on before now s k earlier
-    × ((GoesOn goes_on before now k × (lost ≡ earlier))
-    ⊎ ((GoesOn goes_on before now k → ⊥) × (lost ≡ earlier + on_line_of s k)))

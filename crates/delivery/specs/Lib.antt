@@ -8,9 +8,7 @@ pub mod Delivery
 pub mod Sessions
 pub mod Selections
 pub mod Selecting
-pub mod Moments
 pub mod Received
-pub mod Sending
 pub mod Closing
 pub mod Answers
 pub mod Bodies
@@ -22,4 +20,3 @@ pub mod Meanings
 pub mod LinkLaws
 pub mod Freedom
 pub mod NextRequests
-pub mod Changes

@@ -1,13 +1,12 @@
 -- A request of a primary station that went out, and is out no more (IEC 60870-5-2, unbalanced
 -- transmission procedures).
-use Rattle.std.specs.Prelude.{◌≡◌, ◌⊎◌, ℕ, Bool, true, List, [], ◌∷◌, Some, None}
+use Rattle.std.specs.Prelude.{◌≡◌, ◌⊎◌, ℕ, Bool, List, [], ◌∷◌, Some, None}
 use Rattle.link.specs.Carried.{reseated}
 use Rattle.link.specs.Exchanges.{Sending}
 use Rattle.link.specs.Primary.{Primary, start, sending}
-use Rattle.link.specs.declared.procedure.Link.TheVariants.{Next as Up}
 use Rattle.link.specs.declared.settings.LinkSettings.{LinkSettings}
-use Rattle.link.specs.Runs.{Call, Next, Octets, GivesUp, Doubts, called, called_all}
-use Rattle.link.specs.Turns.{CommandsWaiting, station_at}
+use Rattle.link.specs.Runs.{Call, Next, GivesUp, Doubts, called, called_all}
+use Rattle.link.specs.Turns.{CommandsWaiting}
 use Rattle.link.specs.declared.seat.ResumedStation.{ResumedStation}
 
 -- A line that begins: its stations are new, or go on with other settings.
@@ -42,22 +41,3 @@ pub record IsOutNoMore (p q : Primary) (s : Sending) : Type 0 where
   pub passing : ArePassing (called p (Next now may_poll waiting)) meanwhile
   pub behind : called_all (called p (Next now may_poll waiting)) meanwhile ≡ q
   pub over : q.outstanding ≡ None
-
--- There is leave to poll, and where the next request may go out, the latest service of the station
--- was answered, with ACD set.
-abbrev pub HasData : Primary → (station : ℕ) → Call → Type 0
-HasData p station (Next now may_poll waiting) =
-    (may_poll ≡ true)
-    × (p.outstanding ≡ None → ((fcb : Bool) × ((station_at p.stations station).link ≡ Up fcb))
-    × ((station_at p.stations station).acd ≡ true))
-HasData p station call = Unit {0}
-
--- at each of these calls
-abbrev pub AlwaysHasData : Primary → (station : ℕ) → List Call → Type 0
-AlwaysHasData p station [] = Unit {0}
-AlwaysHasData p station (call ∷ calls) =
-    HasData p station call × AlwaysHasData (called p call) station calls
-
--- There is leave to poll, and what goes out is answered by the single character.
-abbrev pub first_answered : Primary → (now : ℕ) → CommandsWaiting → Primary
-first_answered p now waiting = called (called p (Next now true waiting)) (Octets (0xE5 ∷ []))

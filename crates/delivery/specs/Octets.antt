@@ -2,7 +2,7 @@
 -- gateway's own profile). Nothing here is borrowed from the gateway's channels.
 use Rattle.std.specs.Prelude.{◌≡◌, Bool, true, false, List, [], ◌∷◌, ◌++◌, ℕ}
 use Rattle.session.specs.declared.kinds.Close.TheVariants.{OwnAnswers, Replaced}
-use Rattle.gateway.specs.Log.{Log, LogEntry, Input, Came, Went, Opened, CutOff, Restarted, TcpIn}
+use Rattle.gateway.specs.Log.{Log, LogEntry, Came, Went, Opened, CutOff, Restarted, TcpIn}
 use Rattle.gateway.specs.Log.{TcpOut, Closed}
 
 -- A connection begins where one is opened. It ends where TCP is cut, where the gateway is started
@@ -47,8 +47,3 @@ abbrev pub AreActions : Log → Type 0
 AreActions [] = Unit {0}
 AreActions (Came now event ∷ log) = ⊥
 AreActions (Went now action ∷ log) = AreActions log
-
--- the event is octets that came by TCP
-abbrev pub brings_octets : Input → Bool
-brings_octets (TcpIn octets) = true
-brings_octets event = false

@@ -1,7 +1,7 @@
 //! The way of a command: the course of a log is that of its exchanges, and each command is one of
 //! the control centre's, given once.
-ghost use Rattle.std.specs.Prelude.{◌≡◌, ◌⊎◌, ◌<◌, ◌≤◌, ℕ, List, [], ◌∷◌, length, None, Some};
-ghost use Rattle.std.specs.Prelude.{◌++◌, slice_get, Option, true, false};
+ghost use Rattle.std.specs.Prelude.{◌≡◌, ◌⊎◌, ◌<◌, ◌≤◌, ℕ, List, [], ◌∷◌, length, None};
+ghost use Rattle.std.specs.Prelude.{◌++◌, Option, true, false};
 ghost use Rattle.ft12.specs.declared.frame.LinkSize.TheVariants as link_size;
 ghost use Rattle.asdu.specs.declared.sizes.CaSize.TheVariants as ca_size;
 ghost use Rattle.link.specs.Outstation.{Turn, all_done};
@@ -10,52 +10,20 @@ ghost use Rattle.command.specs.History.{AnswersWholly, History, Judged, IsSelect
 ghost use Rattle.command.specs.Passing.{FindsPlaces};
 ghost use Rattle.command.specs.Standard.{cause_of_fault, executes, must_be_selected};
 ghost use Rattle.gateway.specs.Course.{Course, here_of, Runs};
-ghost use Rattle.gateway.specs.Config.{Settings, AreStations};
-ghost use Rattle.gateway.specs.Log.{Log, Went, LineOut, latest};
+ghost use Rattle.gateway.specs.Log.{Log};
 ghost use Rattle.gateway.specs.Reports.{Setup, address_at, exchanges_with};
-ghost use Rattle.gateway.specs.Setups.{setup_of};
-ghost use Rattle.gateway.specs.declared.settings.StationSettings.{StationSettings};
 ghost use Rattle.gateway.specs.Traffic.{IsFaithful};
 ghost use Rattle.delivery.specs.Arrivals.{arrivals};
 ghost use Rattle.delivery.specs.Commands.{first_sendings, AreCommandsOf};
 ghost use Rattle.delivery.specs.Delivery.{IsHonest};
 ghost use Rattle.delivery.specs.Joined.{IsSetUp, IsJoined};
 ghost use Rattle.delivery.specs.OwnAnswers.{GivesAnswers, GivesNoMore};
-ghost use Rattle.delivery.specs.Octets.{AreActions};
-ghost use Rattle.delivery.specs.Selections.{KeepsSelections, AreInTime};
 
 use crate::exchanges::the_line_is_its_exchanges;
 use apci::one_front;
-use command::{
-    own_answers_are_given, selections_are_selects_that_stand, settings_stay, waiting_commands_stay,
-};
+use command::{own_answers_are_given, waiting_commands_stay};
 use gateway::{courses_keep_commands, what_is_due_is_given};
 use link::{commands_are_accepted, sessions_are_known};
-
-/// The stations of a gateway's settings have link addresses that fit the line, and each is found by
-/// its own.
-pub fn settings_are_set_up()
-    ensures { (c : Settings) → AreStations c.line.link c.line.sizes.ca c.stations →
-        IsSetUp (setup_of c) }
-{}
-
-/// A gateway has 1 to 32 stations. No two of them have the same link address, nor the same common
-/// address. So the control centre's commands reach the one station that it means. None has address
-/// 0, nor the one that means all stations: 255, or 65535 in two octets (IEC 60870-5-2, 3.3; IEC
-/// 60870-5-101, 7.2.4).
-pub fn stations_are_told_apart()
-    ensures number { (c : Settings) → AreStations c.line.link c.line.sizes.ca c.stations →
-        (1 ≤ length c.stations) × (length c.stations ≤ 32) }
-    ensures link { (c : Settings) (i : ℕ) (s : StationSettings) →
-        AreStations c.line.link c.line.sizes.ca c.stations → slice_get c.stations i ≡ Some s →
-        (1 ≤ s.address) × (s.address ≤ 65534) × (c.line.link ≡ link_size.One → s.address ≤ 254) }
-    ensures common { (c : Settings) (i : ℕ) (s : StationSettings) →
-        AreStations c.line.link c.line.sizes.ca c.stations → slice_get c.stations i ≡ Some s →
-        (1 ≤ s.ca) × (s.ca ≤ 65534) × (c.line.sizes.ca ≡ ca_size.One → s.ca ≤ 254) }
-    ensures apart { (c : Settings) (i j : ℕ) (a b : StationSettings) →
-        AreStations c.line.link c.line.sizes.ca c.stations → slice_get c.stations i ≡ Some a →
-        slice_get c.stations j ≡ Some b → (a.address ≡ b.address) ⊎ (a.ca ≡ b.ca) → i ≡ j }
-{}
 
 /// The course of a log says of the line what its exchanges say: its primary station is what they
 /// make it; which command went out for the first time, which was confirmed and which found the link
@@ -71,23 +39,6 @@ pub fn the_course_is_the_logs()
     the_line_is_its_exchanges();
     waiting_commands_stay();
     one_front();
-}
-
-/// Selections last no longer than `select_ms`, by the moments of the log: each execute that is
-/// forwarded to a station that asks for selects had its select there, confirmed less than that
-/// before; and once the timers of a step are done, and from its request on until the next event
-/// comes, each selection that is kept has a select that stands, and that, or its latest
-/// confirmation, came less than that before. What came from the control centre and what stations
-/// answered bears the moment of its entry of the log.
-pub fn selections_end_in_time()
-    ensures behind { (p : Setup) (actions log : Log) (now : ℕ) (octets : List ℕ) (c : Course) →
-        Runs p (actions ++ Went now (LineOut octets) ∷ log) c → AreActions actions →
-        0 < p.select_ms → AreInTime p (latest log) c.works }
-    ensures kept { (p : Setup) (log : Log) (c : Course) → Runs p log c → KeepsSelections p log c }
-{
-    courses_keep_commands();
-    selections_are_selects_that_stand();
-    settings_stay();
 }
 
 /// Each command that is put on the line for the first time is the ASDU of one I frame that the

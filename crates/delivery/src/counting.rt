@@ -1,12 +1,10 @@
 //! What is counted of commands.
-ghost use Rattle.std.specs.Prelude.{◌≡◌, ◌∷◌, ◌++◌, ◌+◌, ◌^◌, ◌<◌, ℕ, Bool, length, drop};
+ghost use Rattle.std.specs.Prelude.{◌≡◌, ◌∷◌, ◌++◌, ◌+◌, ◌^◌, ◌<◌, ℕ, length, drop};
 ghost use Rattle.std.specs.List.{flat_map};
 ghost use Rattle.std.specs.Io.Iter.{u64_saturate};
 ghost use Rattle.ft12.specs.Fronts.{front_of};
 ghost use Rattle.link.specs.Exchanges.{all_of, spoilt_count};
 ghost use Rattle.gateway.specs.Accounts.{IsAccounted};
-ghost use Rattle.gateway.specs.Carried.{carried};
-ghost use Rattle.gateway.specs.Config.{Settings};
 ghost use Rattle.gateway.specs.Course.{Course, here_of, Runs};
 ghost use Rattle.gateway.specs.Frames.{first_unacknowledged};
 ghost use Rattle.gateway.specs.Line.{done_in};
@@ -17,7 +15,7 @@ ghost use Rattle.gateway.specs.State.{State, counts_of};
 ghost use Rattle.gateway.specs.Traffic.{IsFaithful};
 ghost use Rattle.delivery.specs.Closing.{AreTaken};
 ghost use Rattle.delivery.specs.Joined.{IsSetUp, skipped_among};
-ghost use Rattle.delivery.specs.Counts.{lost_of, sum_upto, CameStopped, AreLost};
+ghost use Rattle.delivery.specs.Counts.{lost_of, sum_upto, CameStopped};
 
 use crate::commands::the_course_is_the_logs;
 use crate::exchanges::the_line_is_its_exchanges;
@@ -44,18 +42,6 @@ pub fn counts_of_commands_are_the_logs()
     the_line_is_its_exchanges();
     waiting_commands_stay();
 }
-
-/// Where a gateway goes on with other settings, a command that stands on a station's line is
-/// counted as lost exactly where the station doesn't go on. It doesn't where it is gone, where it
-/// is set otherwise, where numbers have other sizes, and where the state is stale.
-pub fn commands_lost_at_new_settings_are_counted()
-    ensures { (goes_on : Bool) (before now : Settings) (s : State) →
-        length s.serial.line.stations ≡ length before.stations →
-        s.serial.counts.lost < 2 ^ 64 → (lost : ℕ)
-        × AreLost goes_on before now s (length before.stations) lost
-        × ((carried goes_on before now s).serial.counts.lost
-        ≡ u64_saturate (s.serial.counts.lost + lost)) }
-{}
 
 /// What a gateway tells of its run is what the log shows. Kept are the objects taken from the line
 /// that no connection has acknowledged, the open one among them, in their order. Each number is

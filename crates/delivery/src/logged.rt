@@ -1,11 +1,10 @@
 //! What stands in a log: events and actions as they were given, and the time that a request has.
-ghost use Rattle.std.specs.Prelude.{◌≡◌, ◌<◌, ◌≤◌, ◌+◌, ℕ, [], ◌∷◌, List, Option, Some, true};
+ghost use Rattle.std.specs.Prelude.{◌≡◌, ◌<◌, ◌≤◌, ◌+◌, ℕ, [], ◌∷◌, Option, true};
 ghost use Rattle.std.specs.Prelude.{false, IfSome};
-ghost use Rattle.link.specs.Exchanges.{Sending, OpenExchange};
-ghost use Rattle.gateway.specs.Log.{Log, Input, Came, Went, Restarted, LineOut, latest};
+ghost use Rattle.gateway.specs.Log.{Log};
 ghost use Rattle.gateway.specs.Entries.{logged_of};
 ghost use Rattle.gateway.specs.Ports.{input_of, output_of};
-ghost use Rattle.gateway.specs.Reports.{Setup, exchanges_of, sending_in};
+ghost use Rattle.gateway.specs.Reports.{Setup};
 ghost use Rattle.gateway.specs.Runs.{UnlessDevice, faults_at, faults_unless};
 ghost use Rattle.gateway.specs.Traffic.{HasRested};
 ghost use Rattle.gateway.specs.declared.entries.StoredEntry.{StoredEntry};
@@ -23,32 +22,6 @@ pub fn events_and_actions_stand_under_their_names()
     ensures events { (event : Event) → ComesAs event (input_of event) }
     ensures actions { (action : Action) → GoesAs action (output_of action) }
     ensures stored { (entry : StoredEntry) → IsStored entry (logged_of entry) }
-{}
-
-/// A request has `answer_ms` for its answer, by the moments of the log, whatever comes meanwhile.
-/// It counts from the moment at which the request went out. Each event at which that time is over
-/// closes the exchange, and none does before.
-pub fn requests_have_their_time_by_the_log()
-    ensures begun { (p : Setup) (log : Log) (now : ℕ) (octets : List ℕ) (s : Sending) →
-        sending_in p octets ≡ Some s →
-        (exchanges_of p (Went now (LineOut octets) ∷ log)).current ≡ Some (record {
-          station = s.station;
-          request = s.request;
-          since = now;
-          octets = [];
-          closed = false;
-          given_up = false;
-        }) }
-    ensures over { (p : Setup) (log : Log) (at : ℕ) (event : Input) (x : OpenExchange) →
-        (event ≡ Restarted → ⊥) → (exchanges_of p log).current ≡ Some x → x.given_up ≡ false →
-        x.since + p.link.answer_ms ≤ latest (Came at event ∷ log) →
-        (y : OpenExchange) × ((exchanges_of p (Came at event ∷ log)).current ≡ Some y)
-        × (y.closed ≡ true) }
-    ensures runs { (p : Setup) (log : Log) (at : ℕ) (event : Input) (x : OpenExchange) →
-        (event ≡ Restarted → ⊥) → (exchanges_of p log).current ≡ Some x → x.closed ≡ false →
-        latest (Came at event ∷ log) < x.since + p.link.answer_ms →
-        (y : OpenExchange) × ((exchanges_of p (Came at event ∷ log)).current ≡ Some y)
-        × (y.closed ≡ false) }
 {}
 
 /// What a run promises of its log holds to the end, whether nothing comes any more or its turns are

@@ -12,7 +12,7 @@ ghost use Rattle.asdu.specs.Layout.{HaveOneHead, IsObjectOf, address_octets, con
 ghost use Rattle.asdu.specs.Layout.{common_address_place, object_address_at, objects_place};
 ghost use Rattle.asdu.specs.Sizes.{tcp};
 ghost use Rattle.asdu.specs.declared.sizes.Sizes.{Sizes};
-ghost use Rattle.asdu.specs.Translation.{report_pieces, AllButLast};
+ghost use Rattle.asdu.specs.Translation.{report_pieces};
 ghost use Rattle.elements.specs.Types.{row};
 ghost use Rattle.link.specs.declared.outcome.Outcome.TheVariants.{Report};
 ghost use Rattle.session.specs.History.{is_started};
@@ -26,7 +26,7 @@ ghost use Rattle.gateway.specs.Reports.{Setup};
 ghost use Rattle.gateway.specs.Serial.{answer_outcome};
 ghost use Rattle.gateway.specs.Tags.{AreTagged};
 ghost use Rattle.gateway.specs.Works.{IsPassedOn};
-ghost use Rattle.delivery.specs.Answers.{answer_form, answer_in, most_objects, IsGivenOnce};
+ghost use Rattle.delivery.specs.Answers.{answer_form, answer_in, IsGivenOnce};
 ghost use Rattle.delivery.specs.Answers.{IsHeeded};
 ghost use Rattle.delivery.specs.Answers.{IsGivenInPieces, cause_in_two, common_address_in_two};
 ghost use Rattle.delivery.specs.Bodies.{BeginAt, wide_objects};
@@ -139,25 +139,6 @@ pub fn answers_of_stations_are_heeded()
     answers_have_the_types_of_commands();
     objects_are_those_of_the_asdu();
     octets_stand_where_the_standard_has_them();
-}
-
-/// How many objects each ASDU of an answer has: each but the last has 60, or 40 where they are set
-/// points; and with SQ 1 it has 127, or 80. The last one has what is left, at least one. So an
-/// answer with as many objects as one ASDU takes goes on as one.
-pub fn pieces_bear_as_many_objects_as_fit()
-    ensures full { (sizes : Sizes) (u : AsduValue) (report : List ℕ) (pieces : List (List ℕ)) →
-        IsPassedOn sizes u report pieces → is_answer_code (slice_index report 0) ≡ true →
-        AllButLast (λ piece. slice_index piece 1 % 128
-        ≡ most_objects (slice_index report 0) (slice_index report 1)) pieces }
-    ensures each { (sizes : Sizes) (u : AsduValue) (report : List ℕ) (pieces : List (List ℕ)) →
-        IsPassedOn sizes u report pieces → is_answer_code (slice_index report 0) ≡ true →
-        AllByRecursion (λ piece. (1 ≤ slice_index piece 1 % 128)
-        × (slice_index piece 1 % 128
-        ≤ most_objects (slice_index report 0) (slice_index report 1))
-        × (length (objects_of tcp piece) ≡ slice_index piece 1 % 128)) pieces }
-{
-    octets_stand_where_the_standard_has_them();
-    objects_have_all_their_parts();
 }
 
 /// A report of a monitor type is passed on with all its objects, in the pieces that carry it,

@@ -1,14 +1,9 @@
 //! What the control centre has received, over closes and new connections.
 ghost use Rattle.std.specs.Prelude.{◌≡◌, ◌⊎◌, ◌+◌, ◌%◌, ◌<◌, ◌≤◌, ℕ, List, [], ◌∷◌, ◌++◌, length};
-ghost use Rattle.std.specs.Prelude.{take, true, false, None, Some};
-ghost use Rattle.std.specs.List.{AllByRecursion, flat_map};
-ghost use Rattle.arrayvec.specs.ArrayVec.{ArrayVec};
+ghost use Rattle.std.specs.Prelude.{take, true, false, None};
+ghost use Rattle.std.specs.List.{flat_map};
 ghost use Rattle.apci.specs.declared.apdu.Apdu.{Apdu};
-ghost use Rattle.apci.specs.declared.apdu.Apdu.TheVariants.{I, S, U};
-ghost use Rattle.apci.specs.declared.apdu.Uf.{Uf};
-ghost use Rattle.apci.specs.declared.apdu.Front.TheVariants.{More, Never, Whole};
-ghost use Rattle.apci.specs.declared.apdu.Why.{Why};
-ghost use Rattle.apci.specs.Reading.{IsFront, IsMore};
+ghost use Rattle.apci.specs.Reading.{IsMore};
 ghost use Rattle.apci.specs.Spelling.{spelling, Fits};
 ghost use Rattle.asdu.specs.declared.sizes.Sizes.{Sizes};
 ghost use Rattle.session.specs.History as talk;
@@ -16,17 +11,16 @@ ghost use Rattle.session.specs.declared.kinds.Close.{Close};
 ghost use Rattle.session.specs.declared.kinds.Close.TheVariants.{Grammar, SendNumber};
 ghost use Rattle.session.specs.declared.kinds.Close.TheVariants.{ReceiveNumber, Stopped, Timeout};
 ghost use Rattle.session.specs.declared.kinds.Close.TheVariants.{OwnAnswers, Replaced};
-ghost use Rattle.session.specs.declared.kinds.Taken.TheVariants.{Close as Closes};
 ghost use Rattle.session.specs.Rules.{KeepsRules};
 ghost use Rattle.command.specs.History.{own_kept};
 ghost use Rattle.gateway.specs.Agrees.{pieces_of};
 ghost use Rattle.gateway.specs.Connections.{present, past, received_before};
 ghost use Rattle.gateway.specs.Course.{Course, came_frames, here_of, Runs};
 ghost use Rattle.gateway.specs.Frames.{Connection, Sent, acknowledged_count, acknowledged_reports};
-ghost use Rattle.gateway.specs.Frames.{first_unacknowledged, objects_of_frames, transfers};
-ghost use Rattle.gateway.specs.Frames.{i_frames, fault_of, monitor_objects_sent};
+ghost use Rattle.gateway.specs.Frames.{first_unacknowledged, objects_of_frames};
+ghost use Rattle.gateway.specs.Frames.{monitor_objects_sent};
 ghost use Rattle.gateway.specs.GoingOut.{answers_among};
-ghost use Rattle.gateway.specs.Log.{Log, LogEntry, Input, Output, Came, Went, Opened, LineOut};
+ghost use Rattle.gateway.specs.Log.{Log, LogEntry, Input, Came, Went, Opened, LineOut};
 ghost use Rattle.gateway.specs.Log.{Closed, TcpOut, Restarted, latest};
 ghost use Rattle.gateway.specs.Entries.{number_of};
 ghost use Rattle.gateway.specs.Objects.{pieces_of_report};
@@ -34,13 +28,13 @@ ghost use Rattle.gateway.specs.Reports.{Setup, taken_objects, taken_pieces, repo
 ghost use Rattle.gateway.specs.Reports.{parts_of_all};
 ghost use Rattle.gateway.specs.Stepping.{unplaced};
 ghost use Rattle.gateway.specs.Streams.{spelled};
-ghost use Rattle.gateway.specs.Traffic.{IsFaithful, IsAtRest, HasRested};
+ghost use Rattle.gateway.specs.Traffic.{IsFaithful, IsAtRest};
 ghost use Rattle.delivery.specs.Closing.{IsClosedFor, HasDoneAll, IsOfStep, WaitsForNone};
 ghost use Rattle.delivery.specs.Delivery.{Delivers};
 ghost use Rattle.delivery.specs.Octets.{Ends, GoesOn, AreActions, is_opening, lacks_place};
 ghost use Rattle.delivery.specs.Octets.{octets_in, octets_out};
 ghost use Rattle.delivery.specs.Received.{AcknowledgeWhatCame, AreRuns, HaveCome, IsOneRun};
-ghost use Rattle.delivery.specs.Received.{close_by, BearsCounts, IsLatestSaid};
+ghost use Rattle.delivery.specs.Received.{BearsCounts, IsLatestSaid};
 
 use apci::spellings_cancel;
 use gateway::own_answers_go_out;
@@ -143,57 +137,6 @@ pub fn frames_go_out_whole_and_with_their_counts()
     spellings_cancel();
 }
 
-/// What closes a connection is judged by what came and went before it on this connection: the
-/// frames that came say of data transfer and of the I frames received what the history has, and a
-/// frame has the fault that the history gives it, the first that applies (IEC 60870-5-104, 5.1 and
-/// 5.3). So a station's answer is passed on exactly where the session lets data go.
-pub fn frames_have_the_faults_of_their_history()
-    ensures transfer { (h : talk.History) → transfers (came_frames h) ≡ talk.is_started h }
-    ensures count { (h : talk.History) → i_frames (came_frames h) ≡ talk.received_count h }
-    ensures fault { (h : talk.History) (frame : Apdu) →
-        fault_of (length (talk.sent_frames h)) (came_frames h) frame
-        ≡ close_by (talk.verdict_on frame h) }
-{}
-
-/// An N(R) acknowledges none, some or all of the I frames that wait, however many these are. It is
-/// valid exactly where it is, modulo 32768, a count from that of the frames acknowledged to that of
-/// those sent (IEC 60870-5-104, 5.1). So no connection is closed for one that acknowledges many
-/// frames at once, nor behind a wrap. And none stays open where a frame would be acknowledged
-/// twice, or one that wasn't sent. Before that an I frame is judged by whether data transfer runs,
-/// and by its N(S). A frame in U format has no fault.
-pub fn receive_numbers_count_up_to_the_frames_sent()
-    ensures valid { (sent count nr : ℕ) (older : List Apdu) → acknowledged_count older ≤ count →
-        count ≤ sent → count % 32768 ≡ nr % 32768 → fault_of sent older (S nr) ≡ None }
-    ensures invalid { (sent nr : ℕ) (older : List Apdu) → ((count : ℕ) →
-        acknowledged_count older ≤ count → count ≤ sent → count % 32768 ≡ nr % 32768 → ⊥) →
-        fault_of sent older (S nr) ≡ Some ReceiveNumber }
-    ensures information { (sent ns nr : ℕ) (asdu : ArrayVec ℕ) (older : List Apdu) →
-        transfers older ≡ true → ns ≡ i_frames older % 32768 →
-        fault_of sent older (I ns nr asdu) ≡ fault_of sent older (S nr) }
-    ensures send_number { (sent ns nr : ℕ) (asdu : ArrayVec ℕ) (older : List Apdu) →
-        transfers older ≡ true → (ns ≡ i_frames older % 32768 → ⊥) →
-        fault_of sent older (I ns nr asdu) ≡ Some SendNumber }
-    ensures stopped { (sent ns nr : ℕ) (asdu : ArrayVec ℕ) (older : List Apdu) →
-        transfers older ≡ false → fault_of sent older (I ns nr asdu) ≡ Some Stopped }
-    ensures function { (sent : ℕ) (older : List Apdu) (f : Uf) →
-        fault_of sent older (U f) ≡ None }
-{}
-
-/// A connection that a new one replaces is reported as closed with cause 7: the first that goes out
-/// behind an opening is this close, if a connection was open when it came, and a step that rests
-/// has reported it. Cause 7 is reported at no other place.
-pub fn a_replaced_connection_is_reported()
-    ensures reported { (p : Setup) (log newer before : Log) (now at : ℕ) (action : Output) →
-        IsFaithful p log → log ≡ newer ++ Went now action ∷ Came at Opened ∷ before →
-        (present before).is_open ≡ true → action ≡ Closed Replaced }
-    ensures nowhere_else { (p : Setup) (log newer older : Log) (now : ℕ) → IsFaithful p log →
-        log ≡ newer ++ Went now (Closed Replaced) ∷ older →
-        (at : ℕ) × (before : Log) × (older ≡ Came at Opened ∷ before)
-        × ((present before).is_open ≡ true) }
-    ensures rested { (p : Setup) (before : Log) (at : ℕ) → HasRested p (Came at Opened ∷ before) →
-        (present before).is_open ≡ false }
-{}
-
 /// What is said on a connection keeps the rules of IEC 60870-5-104 (5.1 to 5.5) as `session` states
 /// them, with the k, w, t1, t2 and t3 that are set: each frame that came was free of faults, each
 /// frame that went out bore the counts, and each S or U frame was due. A request goes to the line
@@ -223,7 +166,8 @@ pub fn connections_keep_the_rules_of_the_session()
 /// behind the frames that were taken. With causes 2, 3 and 4 a frame stands there that has this
 /// fault, by what came and went before it on the connection: its N(S) isn't the next, its N(R)
 /// isn't valid, or it is an I frame while data transfer is stopped. With cause 5 an answer is late,
-/// and with cause 6 an own answer found no place. Cause 7 is `a_replaced_connection_is_reported`.
+/// and with cause 6 an own answer found no place. Cause 7 is a
+/// replaced connection.
 /// With causes 1 to 5 each own answer found a place: where that lacks, too, cause 6 is told. The
 /// numbers are those that are told.
 pub fn connections_are_closed_for_the_cause_that_is_told()
@@ -271,44 +215,3 @@ pub fn steps_leave_nothing_due()
 {
     own_answers_go_out();
 }
-
-/// What closes a connection stands in its octets, or in how long it has waited. With cause 1 no
-/// APDU begins behind the frames that were taken. With causes 2 to 4 a frame stands there that the
-/// history refuses so, and with cause 5 t1 has run out (IEC 60870-5-104, 5.1 to 5.3).
-pub fn closes_stand_in_the_octets()
-    ensures garbled { (p : Setup) (newer log : Log) (now : ℕ) →
-        IsFaithful p (newer ++ Went now (Closed Grammar) ∷ log) →
-        (c : Course) × Runs p log c × ((rest : List ℕ) × (place : ℕ) × (why : Why)
-        × ((present log).received ≡ spelled (came_frames c.talk) ++ rest)
-        × IsFront rest (Never place why)) }
-    ensures at_fault { (p : Setup) (newer log : Log) (now : ℕ) (cause : Close) →
-        IsFaithful p (newer ++ Went now (Closed cause) ∷ log) →
-        (cause ≡ SendNumber) ⊎ ((cause ≡ ReceiveNumber) ⊎ (cause ≡ Stopped)) →
-        (c : Course) × Runs p log c × ((frame : Apdu) × (more : List ℕ) × Fits frame
-        × ((present log).received ≡ spelled (came_frames c.talk) ++ (spelling frame ++ more))
-        × (talk.verdict_on frame c.talk ≡ Closes cause)) }
-    ensures late { (p : Setup) (newer log : Log) (now : ℕ) →
-        IsFaithful p (newer ++ Went now (Closed Timeout) ∷ log) →
-        (c : Course) × Runs p log c
-        × (talk.has_timed_out p.session.t1 (latest log) c.talk ≡ true) }
-{}
-
-/// TCP cuts octets anywhere, so a part of an APDU waits for its rest, at each place where it may be
-/// cut: it is neither an APDU yet, nor refused. With its last octet the APDU is there, whatever
-/// stands behind it. So where the octets that came on a connection are whole APDUs and a part of
-/// one more, or nothing, it isn't closed with cause 1 (IEC 60870-5-104, 5; that TCP cuts so is this
-/// gateway's own profile).
-pub fn parts_of_frames_wait_for_their_rest()
-    ensures waits { (frame : Apdu) (part rest : List ℕ) (octet : ℕ) → Fits frame →
-        spelling frame ≡ part ++ octet ∷ rest → IsFront part More × IsMore part }
-    ensures not_refused { (frame : Apdu) (part rest : List ℕ) (place : ℕ) (why : Why) →
-        Fits frame → spelling frame ≡ part ++ rest → IsFront part (Never place why) → ⊥ }
-    ensures whole { (frame : Apdu) (more : List ℕ) → Fits frame →
-        IsFront (spelling frame ++ more) (Whole frame (length (spelling frame)))
-        × (IsMore (spelling frame ++ more) → ⊥) }
-    ensures not_closed { (p : Setup) (newer log : Log) (now : ℕ) (frames : List Apdu)
-        (frame : Apdu) (part rest : List ℕ) →
-        IsFaithful p (newer ++ Went now (Closed Grammar) ∷ log) → AllByRecursion Fits frames →
-        Fits frame → spelling frame ≡ part ++ rest →
-        (present log).received ≡ flat_map spelling frames ++ part → ⊥ }
-{}

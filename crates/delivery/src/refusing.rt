@@ -1,16 +1,13 @@
 //! What is refused, and by which octets that is said.
 ghost use Rattle.std.specs.Prelude.{◌≡◌, ◌<◌, ◌≤◌, ◌%◌, ◌++◌, ◌∷◌, ℕ, List, Option, Some, None};
-ghost use Rattle.std.specs.Prelude.{false, length, slice_get, slice_index};
+ghost use Rattle.std.specs.Prelude.{length, slice_index};
 ghost use Rattle.command.specs.History.{History, Judged, Refused, Sent, next_for};
-ghost use Rattle.command.specs.Standard.{cause_of_fault, common_address, unknown_cause};
-ghost use Rattle.command.specs.Standard.{unknown_type};
-ghost use Rattle.command.specs.declared.station.StationInfo.{StationInfo};
+ghost use Rattle.command.specs.Standard.{cause_of_fault};
 ghost use Rattle.gateway.specs.Course.{Course, Runs};
 ghost use Rattle.gateway.specs.Log.{Log};
 ghost use Rattle.gateway.specs.Reports.{Setup};
 ghost use Rattle.delivery.specs.Refusing.{StaysOnLine, refused_as};
 
-use command::rules_hold_for_all_numbers;
 use gateway::courses_keep_commands;
 
 /// An ASDU that is refused comes back with P/N 1 and a cause of its own (IEC 60870-5-101, 7.2.3).
@@ -47,22 +44,4 @@ pub fn refused_commands_come_back_with_their_cause()
         × (slice_index xs 2 % 64 ≡ 8 → answer ≡ Some (refused_as 9 xs)) }
 {
     courses_keep_commands();
-}
-
-/// A command to a common address that no station has is answered with cause 46 (IEC 60870-5-101,
-/// 7.2.3), and doesn't vanish. Left out is an interrogation of all stations (65535). The type and
-/// the cause are looked at first.
-pub fn unknown_common_addresses_are_answered()
-    ensures { (p : Setup) (log : Log) (c : Course) (newer older : History) (now : ℕ)
-        (wall : Option ℕ) (xs : List ℕ) (answer : Option (List ℕ)) → Runs p log c →
-        c.works.history ≡ newer ++ Judged now wall xs answer ∷ older →
-        3 ≤ length xs → slice_index xs 2 < 256 →
-        (unknown_type xs).applies ≡ false → (unknown_cause xs).applies ≡ false →
-        ((k : ℕ) (station : StationInfo) → slice_get p.stations k ≡ Some station →
-        common_address xs ≡ station.ca → ⊥) →
-        (slice_index xs 0 ≡ 100 → common_address xs ≡ 65535 → ⊥) →
-        answer ≡ Some (refused_as 46 xs) }
-{
-    courses_keep_commands();
-    rules_hold_for_all_numbers();
 }

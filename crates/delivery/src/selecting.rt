@@ -1,21 +1,15 @@
 //! Select before operate, on each log.
 ghost use Rattle.std.specs.Prelude.{◌≡◌, ◌<◌, ◌≤◌, ◌+◌, ◌++◌, ◌∷◌, ℕ, true, List, Option, None};
-ghost use Rattle.std.specs.Prelude.{count_by, length};
 ghost use Rattle.asdu.specs.Asdu.{AsduValue};
-ghost use Rattle.asdu.specs.declared.sizes.Sizes.{Sizes};
-ghost use Rattle.command.specs.Calls.{Call, run};
 ghost use Rattle.command.specs.History.{History, HistoryEntry, Judged, Sent, Accepted, Mirrored};
-ghost use Rattle.command.specs.Judging.{judged};
 ghost use Rattle.command.specs.Passing.{FindsPlaces};
 ghost use Rattle.command.specs.Standard.{cause_of_fault, executes, have_one_target};
-ghost use Rattle.command.specs.Standard.{is_for_station, must_be_selected, selects, station_of};
-ghost use Rattle.command.specs.declared.station.StationInfo.{StationInfo};
+ghost use Rattle.command.specs.Standard.{must_be_selected, selects, station_of};
 ghost use Rattle.gateway.specs.Course.{Course, Runs};
 ghost use Rattle.gateway.specs.Log.{Log};
 ghost use Rattle.gateway.specs.Reports.{Setup};
 ghost use Rattle.delivery.specs.Selecting.{EndsSelection, IsSelectedBy, IsThrough, SelectsNothing};
 
-use command::{faultless_commands_pass, places_come_back};
 use gateway::courses_keep_commands;
 
 /// Each execute to a station that asks for selects has a select of its own (IEC 60870-5-101, 6.8
@@ -72,20 +66,4 @@ pub fn selects_let_their_execute_through()
         ∷ (waited ++ Judged came clock ys None ∷ earlier)))) → answer ≡ None }
 {
     courses_keep_commands();
-}
-
-/// Sixteen selections are kept, whatever their addresses. A select with which nothing is wrong is
-/// forwarded where fewer are, and where it finds its places among the 64 commands that may wait
-/// (profile).
-pub fn sixteen_selections_find_places()
-    ensures { (stations : List StationInfo) (sizes : Sizes) (select_ms max_age_ms : ℕ)
-        (calls : List Call) (xs : List ℕ) (now : ℕ) (wall : Option ℕ) →
-        cause_of_fault sizes stations max_age_ms wall xs ≡ None → selects xs ≡ true →
-        length (run stations sizes select_ms max_age_ms calls).state.selections < 16 →
-        length (run stations sizes select_ms max_age_ms calls).state.waiting
-        + count_by (is_for_station xs) stations ≤ 64 →
-        (judged xs now wall (run stations sizes select_ms max_age_ms calls).state).0 ≡ None }
-{
-    faultless_commands_pass();
-    places_come_back();
 }

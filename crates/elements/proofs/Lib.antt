@@ -1,6 +1,4 @@
 pub mod TypeCodes
 pub mod Moments
 mod StandardTables
-mod NameTables
-mod ElementBits
 mod Faults

@@ -44,15 +44,6 @@ abbrev pub instant : Moment → ℕ
 instant m =
     unsigned_abs (days m) * 86_400_000 + m.hour * 3_600_000 + m.minute * 60_000 + m.millisecond
 
--- Its tag with the bits that say nothing here: bit 6 of the minute, bits 7 to 5 of the hour, of
--- which bit 7 is SU (summer time), bits 7 to 4 of the month, and bit 7 of the year. (That SU says
--- nothing is this gateway's own profile.)
-abbrev pub tag_with : Moment → (minute hour month year : ℕ) → List ℕ
-tag_with m minute hour month year =
-    (m.millisecond % 256) ∷ (m.millisecond / 256) ∷ (m.minute + 64 * minute)
-    ∷ (m.hour + 32 * hour) ∷ (m.day + 32 * m.weekday) ∷ (m.month + 16 * month)
-    ∷ (m.year + 128 * year) ∷ []
-
 -- the tag names this moment, each number by its bits
 pub record Names (m : Moment) (octets : List ℕ) : Type 0 where
   pub millisecond : slice_index octets 0 + 256 * slice_index octets 1 ≡ m.millisecond
@@ -62,10 +53,6 @@ pub record Names (m : Moment) (octets : List ℕ) : Type 0 where
   pub weekday : slice_index octets 4 / 32 ≡ m.weekday
   pub month : slice_index octets 5 % 16 ≡ m.month
   pub year : slice_index octets 6 % 128 ≡ m.year
-
--- there is a moment that the tag names, so many milliseconds since 1970-01-01
-abbrev pub IsOfMoment : List ℕ → ℕ → Type 0
-IsOfMoment octets since = (m : Moment) × Exists m × Names m octets × (since ≡ instant m)
 
 -- A number is over what a tag may say: a minute has 60 seconds and an hour 60 minutes, hours go
 -- from 0 to 23, days from 1 on, months from 1 to 12 and years from 0 to 99.

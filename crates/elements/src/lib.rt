@@ -9,10 +9,8 @@
 //! reserved or marked invalid is carried as it came.
 //!
 //! What its public calls carry: each element keeps two laws, that reading what was written gives
-//! the value and that writing what was read gives the octets (`elements_have_these_octets` says
-//! which); `kind`, `size`, `tagged`, `monitor` and `value` answer one table of types
-//! (`specs/Types.antt`, `values_stand_in_their_bits`); the names are made up as the standard's are,
-//! and no two numbers have the same (`names_are_the_standards`); and `judge` answers the first
+//! the value and that writing what was read gives the octets; `kind`, `size`, `tagged`, `monitor`
+//! and `value` answer one table of types (`specs/Types.antt`); and `judge` answers the first
 //! verdict that applies, by the count of days since 1970-01-01 (`faults_are_told_apart`).
 #![tactic(auto)]
 
@@ -27,11 +25,7 @@ mod types;
 
 pub use commands::{Dco, Qoi, Rco, Sco, SeNva, SeSva};
 pub use element::Element;
-pub use laws::{
-    elements_have_these_octets, faults_are_told_apart, good_tags_name_moments,
-    names_are_the_standards, tags_of_moments_are_good, types_are_the_standards,
-    values_stand_in_their_bits, worked_examples_hold,
-};
+pub use laws::{faults_are_told_apart, tags_of_moments_are_good, worked_examples_hold};
 pub use monitored::{Bcr, Bsi, Coi, Diq, Nva, Siq, Sva, Vti};
 pub use names::{cause_name, type_name};
 pub use tag::{Cp56, Verdict, judge};

@@ -1,12 +1,12 @@
 -- A list with a mark, and the two lists round the mark.
 use Rattle.std.proofs.Common.{◌≡◌, ℕ, ◌+◌, ◌-◌, ◌≤◌, List, [], ◌∷◌, ◌++◌, length, take, drop, refl}
-use Rattle.std.proofs.Common.{ap, sym, subst, ◌∙◌, arith, suc, zero, append_assoc, length-append}
+use Rattle.std.proofs.Common.{ap, sym, ◌∙◌, arith, suc, zero, append_assoc, length-append}
 use Rattle.std.proofs.lemmas.List.{map-append, take-append-drop, take-map, drop-map, drop-drop}
 use Rattle.std.proofs.lemmas.List.{drop-take, take-append-le, drop-append-le, take-take, length-map}
 use Rattle.std.proofs.lemmas.List.{length-take}
 use Rattle.std.specs.Prelude.{Some, None, slice_get}
 use Rattle.arrayvec.specs.ArrayVec.{ArrayVec}
-use Rattle.events.specs.Pieces.{AreAsdus, AreSendable}
+use Rattle.events.specs.Pieces.{AreSendable}
 use Rattle.events.specs.Queue.{Queue, queue_of, octets_of, acknowledged, rewound, kept}
 use Rattle.events.specs.Restored.{marked}
 
@@ -92,25 +92,6 @@ lent_some xs m p h =
     ∙ ap octets_of (drop-drop 1 m xs))
 
 -- ---- each piece is an ASDU
-
-pub asdus-append : (xs ys : List (ArrayVec ℕ)) → AreAsdus xs → AreAsdus ys → AreAsdus (xs ++ ys)
-asdus-append [] ys h k = k
-asdus-append (x ∷ xs) ys h k = (h.0, asdus-append xs ys h.1 k)
-
-pub asdus-drop : (n : ℕ) (xs : List (ArrayVec ℕ)) → AreAsdus xs → AreAsdus (drop n xs)
-asdus-drop zero xs h = h
-asdus-drop (suc n) [] h = h
-asdus-drop (suc n) (x ∷ xs) h = asdus-drop n xs h.1
-
-pub asdus-get : (xs : List (ArrayVec ℕ)) (m : ℕ) (p : ArrayVec ℕ) → AreAsdus xs → slice_get xs m
-    ≡ Some p
-    → (9 ≤ length p.items) × (length p.items ≤ 249)
-asdus-get [] m p h e = cc
-asdus-get (x ∷ xs) zero p h e = (let same : x ≡ p = cc in
-    subst (λ (y : ArrayVec ℕ). (9 ≤ length y.items) × (length y.items ≤ 249)) same h.0)
-asdus-get (x ∷ xs) (suc m) p h e = asdus-get xs m p h.1 e
-
--- ---- Pieces that are written one after another behind those that are kept
 
 pub sendable-drop : (n : ℕ) (ps : List (List ℕ)) → AreSendable ps → AreSendable (drop n ps)
 sendable-drop zero ps h = h

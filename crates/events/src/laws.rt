@@ -1,9 +1,7 @@
 //! What a queue keeps after every list of calls.
 
-ghost use Rattle.std.specs.Prelude.{◌≡◌, ◌-◌, ◌≤◌, ◌∷◌, ◌++◌, [], ℕ, List, length, drop};
-ghost use Rattle.events.specs.Queue.{Queue, kept, free_places, pushed, marked_sent, acknowledged};
-ghost use Rattle.events.specs.Queue.{rewound};
-ghost use Rattle.std.specs.List.{AllByRecursion};
+ghost use Rattle.std.specs.Prelude.{◌≡◌, ◌-◌, ◌≤◌, ◌∷◌, ◌++◌, [], ℕ, List, length};
+ghost use Rattle.events.specs.Queue.{Queue, kept, free_places, acknowledged};
 ghost use Rattle.events.specs.Carried.{carried};
 ghost use Rattle.events.specs.Restored.{marked};
 ghost use Rattle.events.specs.Runs.{Call, AreMade, KeepsAll};
@@ -24,22 +22,4 @@ pub fn pieces_outlive_other_places()
     ensures free { (places n : ℕ) (q : Queue) → n ≤ length (kept q) →
         free_places (acknowledged n (marked n (carried places q)))
         ≡ places - (length (kept q) - n) }
-{}
-
-/// What each call does to the pieces, however many places are free. What is pushed comes behind
-/// all others, unsent. The oldest unsent piece is the latest of the sent ones once it is marked.
-/// What is acknowledged were the oldest ones, and no unsent piece goes with them. A rewind makes
-/// all unsent. Nothing else changes, and the places stay as many as they were.
-pub fn each_call_keeps_the_other_pieces()
-    ensures push { (pieces : List (List ℕ)) (q : Queue) →
-        (kept (pushed pieces q) ≡ kept q ++ pieces) × ((pushed pieces q).sent ≡ q.sent) }
-    ensures mark { (q : Queue) (piece : List ℕ) (others : List (List ℕ)) →
-        q.unsent ≡ piece ∷ others →
-        ((marked_sent q).sent ≡ q.sent ++ piece ∷ []) × ((marked_sent q).unsent ≡ others) }
-    ensures acknowledge { (n : ℕ) (q : Queue) → n ≤ length q.sent →
-        (kept (acknowledged n q) ≡ drop n (kept q)) × ((acknowledged n q).unsent ≡ q.unsent) }
-    ensures rewind { (q : Queue) → (kept (rewound q) ≡ kept q) × ((rewound q).sent ≡ []) }
-    ensures places { (pieces : List (List ℕ)) (n : ℕ) (q : Queue) →
-        AllByRecursion (λ (r : Queue). r.places ≡ q.places)
-        (pushed pieces q ∷ marked_sent q ∷ acknowledged n q ∷ rewound q ∷ []) }
 {}

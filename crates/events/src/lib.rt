@@ -33,9 +33,7 @@ mod ring;
 
 use asdu::{Asdu, Piece, Pieces, Translation};
 use circular_buffer::HeapCircularBuffer;
-pub use laws::{
-    each_call_keeps_the_other_pieces, pieces_are_kept_in_order, pieces_outlive_other_places,
-};
+pub use laws::{pieces_are_kept_in_order, pieces_outlive_other_places};
 use ring::PieceRing;
 use std::alloc::Global;
 use std::marker::Model;

@@ -7,4 +7,3 @@ pub mod Spoiling
 pub mod DueOctet
 pub mod Tail
 pub mod Examples
-pub mod Places

@@ -11,17 +11,10 @@ ghost use Rattle.ft12.specs.Assembly.{Receives, IsReceivedWhole};
 ghost use Rattle.ft12.specs.Fronts.{front_of};
 ghost use Rattle.ft12.specs.Examples.{IsSpelledSo, IsRefusedSo, spelling_examples};
 ghost use Rattle.ft12.specs.Examples.{refusal_examples};
-ghost use Rattle.ft12.specs.Places.{HavePlaces};
 ghost use Rattle.ft12.specs.Spelling.{IsLineFrame, Fits, spelling};
 ghost use Rattle.ft12.specs.Spoiling.{spoilt};
 ghost use Rattle.ft12.specs.Reading.{IsFront};
 ghost use Rattle.ft12.specs.declared.frame.Front.TheVariants.{Whole, More, Never};
-
-/// Each frame has one spelling.
-pub fn one_spelling()
-    ensures { (size : LinkSize) (f : Frame) (x y : List ℕ) → IsLineFrame size f x →
-        IsLineFrame size f y → x ≡ y }
-{}
 
 /// No spelling begins another, and no two frames have the same.
 pub fn no_spelling_begins_another()
@@ -81,12 +74,6 @@ pub fn frames_are_received_one_after_another()
         (after : Option (List ℕ)) → Fits size frame →
         Receives size [] (spelling size frame ++ more) n arrived after →
         IsReceivedWhole size frame n arrived after }
-{}
-
-/// Each frame has these octets, whatever its control octet, address and data are, and however many
-/// data it has; and all that the length octet can count make a frame.
-pub fn frames_have_these_octets()
-    ensures { HavePlaces }
 {}
 
 /// Frames worked by hand from the standard have these octets and are read back from them, and

@@ -27,9 +27,8 @@ mod writing;
 pub use assembling::{Assembler, Received};
 pub use frame::{Frame, FrameRef, Front, FrontRef, LinkSize, Why};
 pub use laws::{
-    frames_are_received_one_after_another, frames_have_these_octets, front_is_computed,
-    no_spelling_begins_another, one_front, one_spelling, spellings_cancel,
-    spoilt_lines_are_no_lines, worked_examples_hold,
+    frames_are_received_one_after_another, front_is_computed, no_spelling_begins_another,
+    one_front, spellings_cancel, spoilt_lines_are_no_lines, worked_examples_hold,
 };
 pub use reading::{front, front_ref};
 pub use writing::{encode, encode_ref};

@@ -248,10 +248,6 @@ all_told p (Went now (Closed cause) ∷ log) c r =
     (closed (ends_on log) p cause (present log).is_open (latest log) r.0
     (all_told p log r.0 r.1)))
 
-pub ends_told : (p : Setup) (log : Log) (c : Course) → Runs p log c
-    → ends_in c.works.history ≡ ends_on log
-ends_told p log c r = ap (λ (t : Told). t.1) (all_told p log c r)
-
 pub answers_go_out : CommandLaws → (p : Setup) (log : Log) (c : Course) → Runs p log c
     → AnswersGoOut c
 answers_go_out laws p log c r =

@@ -1,7 +1,5 @@
 pub mod Counters
 pub mod AnswerTypes
-pub mod Stale
-pub mod CountsGoOn
 pub mod Pieces
 pub mod Unconfirmed
 pub mod Tied
@@ -63,9 +61,7 @@ pub mod Going
 pub mod Unchanged
 pub mod AskingCalls
 pub mod Calling
-pub mod OneCalling
 pub mod LineTurns
-pub mod GoingOut
 pub mod WholePieces
 pub mod Ending
 pub mod Saying

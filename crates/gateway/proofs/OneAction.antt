@@ -26,7 +26,7 @@ use Rattle.gateway.specs.Course.{Course, came_frames, logged_sent, sent_objects,
 use Rattle.gateway.specs.Course.{IsUntouched, HasBegun, HasNothingDue, HasAnswered, HasAsked}
 use Rattle.gateway.specs.Course.{MayTake, IsNextData, IsNext, HandsOver, StandsNext, IsCause}
 use Rattle.gateway.specs.Course.{SendsNext, ReportsGap, Runs}
-use Rattle.gateway.specs.Traffic.{replaces, GoesOut, ActsRightly, RestsBetweenSteps, IsFaithful}
+use Rattle.gateway.specs.Traffic.{replaces, GoesOut, ActsRightly, RestsBetweenSteps}
 use Rattle.gateway.proofs.OneCourse.{Laws, none_whole, hands_none, not_sent_all, stays, one_course}
 use Rattle.gateway.proofs.OneCause.{cause_none, kinds, same_kind, all_and_next}
 
@@ -37,14 +37,6 @@ pub record Stands (p : Setup) (log : Log) : Type 0 where
   pub runs : Runs p log course
   pub acts : ActsRightly p log
   pub rests : RestsBetweenSteps p log
-
-pub of_faithful : (p : Setup) (log : Log) → IsFaithful p log → Stands p log
-of_faithful p log f = record {
-  course = f.course;
-  runs = f.course_runs;
-  acts = f.acts;
-  rests = f.rests;
-}
 
 -- what an action needs of the course before it
 abbrev pub Needs : Setup → Log → Output → Course → Type 0

@@ -2,7 +2,7 @@
 use Rattle.std.proofs.Common.{◌≡◌, ◌<◌, ◌==◌, ℕ, Bool, true, false, cond, get_or, length}
 use Rattle.std.proofs.Common.{Option, Some, None, refl, sym, ap, ◌∙◌, arith}
 use Rattle.std.specs.Prelude.{slice_get, option_and_then, ◌&&◌}
-use Rattle.std.proofs.lemmas.Bool.{and_parts, eqb-true, eq-eqb}
+use Rattle.std.proofs.lemmas.Bool.{and_parts, eqb-true}
 use Rattle.std.proofs.lemmas.List.Quantifiers.{position-Some}
 use Rattle.std.proofs.lemmas.Option.{slice_get-get_or}
 use Rattle.ft12.specs.Spelling.{address_len}
@@ -215,60 +215,3 @@ up_means goes_on before now s i station are count there up =
         (slice_get-get_or before.stations k station within) (omega (arith, within, count))
 
 -- And the link of each such station goes on
-
-both : (a b : Bool) → a ≡ true → b ≡ true → (a && b) ≡ true
-both a b first second = ap (λ (x : Bool). x && b) first ∙ second
-
-are_alike_same : (a b : Bool) → a ≡ b → are_alike a b ≡ true
-are_alike_same true b same = sym same
-are_alike_same false true same = cc
-are_alike_same false false same = refl
-
-goes_by_row : (holds same : Bool) (before now : Option StationSettings)
-    (was is : StationSettings) → holds ≡ true → same ≡ true → before ≡ Some was → now ≡ Some is
-    → are_same was is ≡ true → link_start holds same before now ≡ links.GoesOn
-goes_by_row holds same before now was is trusted sizes stood found alike =
-    ap (λ (x : Bool). link_start x same before now) trusted
-    ∙ ap (λ (x : Bool). link_start true x before now) sizes
-    ∙ ap (λ (x : Option StationSettings). link_start true true x now) stood
-    ∙ ap (λ (x : Option StationSettings). link_start true true (Some was) x) found
-    ∙ ap (λ (x : Bool). cond x links.GoesOn links.Reset) alike
-
-pub starts_on : (goes_on : Bool) (before now : Settings) (k : ℕ) → goes_on ≡ true
-    → IsUnchanged before now k → start_of goes_on before now k ≡ links.GoesOn
-starts_on goes_on before now k trusted u =
-    goes_by_row goes_on (have_same_sizes before.line now.line) (slice_get before.stations k)
-    (option_and_then (λ (s : StationSettings). station_with s.address now.stations)
-    (slice_get before.stations k)) u.was u.is trusted
-    (both (address_len before.line.link == address_len now.line.link) _
-    (eq-eqb _ _ u.link_size)
-    (both (cause_len before.line.sizes.cause == cause_len now.line.sizes.cause) _
-    (eq-eqb _ _ u.cause_size)
-    (both (ca_len before.line.sizes.ca == ca_len now.line.sizes.ca) _ (eq-eqb _ _ u.ca_size)
-    (eq-eqb _ _ u.ioa_size))))
-    u.stood
-    (ap (λ (o : Option StationSettings). option_and_then
-    (λ (s : StationSettings). station_with s.address now.stations) o) u.stood ∙ u.found)
-    (both (u.was.ca == u.is.ca) _ (eq-eqb _ _ u.ca)
-    (are_alike_same u.was.select u.is.select u.select))
-
-the_place : (a b : ℕ) (o : Option ℕ) → o ≡ Some a → o ≡ Some b → a ≡ b
-the_place a b o first second = cc
-
-pub goes_on_there : (goes_on : Bool) (before now : Settings) (s : State) (i k : ℕ)
-    (station : StationSettings) → AreKnown goes_on before now s
-    → slice_get now.stations i ≡ Some station
-    → place_of station.address before.stations ≡ Some k → k < length s.serial.line.stations
-    → MayGoOn goes_on before now station.address
-    → station_at (carried goes_on before now s).serial.line.stations i
-    ≡ station_carried now.line.retries station.address
-    (station_at (released s.serial.line).stations k)
-goes_on_there goes_on before now s i k station are there place lt may =
-    let on : start_of goes_on before now may.place ≡ links.GoesOn =
-    starts_on goes_on before now may.place may.trusted may.unchanged in
-    let same = the_place may.place k (place_of station.address before.stations) may.known place in
-    let here : start_of goes_on before now k ≡ links.GoesOn =
-    ap (λ (j : ℕ). start_of goes_on before now j) (sym same) ∙ on in
-    are.known i k station there place lt
-    ∙ ap (λ (x : LinkStart). station_carried now.line.retries station.address
-    (station_started x (station_at (released s.serial.line).stations k))) here

@@ -1,12 +1,11 @@
 -- What I frames wait for, and what they bear (IEC 60870-5-104, 5.3; that own answers go first, and
 -- the pieces of reports, are this gateway's own profile).
-use Rattle.std.specs.Prelude.{◌≡◌, ℕ, Bool, true, false, List, [], ◌∷◌, ◌++◌, length, take, drop}
+use Rattle.std.specs.Prelude.{◌≡◌, ℕ, List, [], ◌∷◌, ◌++◌, length, take, drop}
 use Rattle.std.specs.Prelude.{map, Option, Some, None, if◌then◌else◌}
 use Rattle.apci.specs.declared.apdu.Apdu.{Apdu}
 use Rattle.apci.specs.declared.apdu.Apdu.TheVariants.{I}
-use Rattle.apci.specs.Spelling.{spelling}
-use Rattle.session.specs.History.{History, Sent, Went, confirmation_of}
-use Rattle.command.specs.History.{own_kept, own_sent}
+use Rattle.session.specs.History.{History, Sent, Went}
+use Rattle.command.specs.History.{own_kept}
 use Rattle.gateway.specs.Objects.{has_objects}
 use Rattle.gateway.specs.Log.{Log}
 use Rattle.gateway.specs.Streams.{AreFrames}
@@ -14,24 +13,6 @@ use Rattle.gateway.specs.Frames.{Connection, Sent as SentFrame, acknowledged_rep
 use Rattle.gateway.specs.Connections.{present}
 use Rattle.gateway.specs.Agrees.{pieces_of}
 use Rattle.gateway.specs.Course.{Course}
-
--- Each I frame went out while no confirmation was due: STARTDT con, STOPDT con with its S frame,
--- and TESTFR con go first (5.3).
-abbrev pub DataWaits : History → Type 0
-DataWaits [] = Unit {0}
-DataWaits (Sent ns nr kind now ∷ older) = (confirmation_of older ≡ None) × DataWaits older
-DataWaits (_ ∷ older) = DataWaits older
-
--- the frame bears monitor objects
-abbrev pub bears_objects : Apdu → Bool
-bears_objects (I ns nr asdu) = has_objects asdu.items
-bears_objects frame = false
-
--- Where the octets are a frame with monitor objects, the own answers that were kept on the open
--- connection are those that went out on it: none waits (profile).
-abbrev pub ReportsWait : (octets : List ℕ) → Course → Type 0
-ReportsWait octets c = (frame : Apdu) → octets ≡ spelling frame → bears_objects frame ≡ true →
-    own_kept c.works.history ≡ own_sent c.works.history
 
 -- What a connection sent of reports are whole pieces of those taken, octet by octet, in order, from
 -- the first on that no connection before it acknowledged: each I frame with monitor objects bears

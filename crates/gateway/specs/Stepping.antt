@@ -1,20 +1,17 @@
 -- What stands before what in a step, and what own answers and polls need places for (IEC
 -- 60870-5-104, 5.1 to 5.5; the order within a step, and the places, are this gateway's own
 -- profile).
-use Rattle.std.specs.Prelude.{◌≡◌, ◌⊎◌, ◌+◌, ◌<◌, ℕ, Bool, true, false, List, [], ◌∷◌, length, None}
-use Rattle.std.specs.Prelude.{Some}
+use Rattle.std.specs.Prelude.{◌≡◌, ◌⊎◌, ◌+◌, ◌<◌, ℕ, Bool, true, false, [], ◌∷◌, length, None}
 use Rattle.apci.specs.declared.apdu.Apdu.{Apdu}
 use Rattle.apci.specs.declared.apdu.Apdu.TheVariants.{I}
-use Rattle.apci.specs.Spelling.{spelling}
 use Rattle.session.specs.History.{is_started, still_unacknowledged, confirmation_of, frame_due}
-use Rattle.session.specs.History.{has_timed_out}
 use Rattle.command.specs.History.{History, Offered, Ended}
-use Rattle.gateway.specs.Log.{Log, latest}
+use Rattle.gateway.specs.Log.{Log}
 use Rattle.gateway.specs.Streams.{spelled}
 use Rattle.gateway.specs.Frames.{first_unacknowledged, monitor_objects_sent}
-use Rattle.gateway.specs.Connections.{present, received_before}
+use Rattle.gateway.specs.Connections.{received_before}
 use Rattle.gateway.specs.Reports.{Setup, taken_objects}
-use Rattle.gateway.specs.Course.{Course, here_of, came_frames, HasTakenAll}
+use Rattle.gateway.specs.Course.{Course, here_of, came_frames}
 
 -- ---- What may still go out
 
@@ -44,26 +41,6 @@ HasTakenOne log c = length (received_before log) < length (spelled (came_frames 
 abbrev pub bears_asdu : Apdu → Bool
 bears_asdu (I ns nr asdu) = true
 bears_asdu frame = false
-
--- Where the octets are a frame without an ASDU, it is the confirmation that is due. Or none is due,
--- no data may go out, and of the frames that the event brought one was taken, or there is none.
-abbrev pub GoesLast : Setup → Log → (octets : List ℕ) → Course → Type 0
-GoesLast p log octets c = (frame : Apdu) → octets ≡ spelling frame → bears_asdu frame ≡ false →
-    (confirmation_of c.talk ≡ Some frame)
-    ⊎ ((confirmation_of c.talk ≡ None) × NoDataMayGo p log c
-    × (HasTakenOne log c ⊎ HasTakenAll (present log) c.talk))
-
--- ---- Late answers
-
--- An I frame or a test has had no answer for t1, though all whole frames that came are taken. What
--- they made due has gone out, and no gap is left to be reported (5.2).
-pub record IsLateBehindAll (p : Setup) (log : Log) (c : Course) : Type 0 where
-  pub all : HasTakenAll (present log) c.talk
-  pub out : HasTakenOne log c → IsAllOut p log (latest log) c
-  pub reported : c.works.serial.gap ≡ None
-  pub late : has_timed_out p.session.t1 (latest log) c.talk ≡ true
-
--- ---- Own answers
 
 -- how many own answers of the open connection found no place
 abbrev pub unplaced : History → ℕ

@@ -1,5 +1,4 @@
 //! What holds of the definitions.
-pub(crate) mod deciding;
 pub(crate) mod going_on;
 pub(crate) mod going_out;
 pub(crate) mod ordering;
@@ -9,21 +8,16 @@ pub(crate) mod stepping;
 pub(crate) mod turning;
 pub(crate) mod walls;
 
-ghost use Rattle.std.specs.Prelude.{◌≡◌, ◌↔◌, ℕ, List, [], ◌∷◌, IsTrue, Option, Some, None, true};
-ghost use Rattle.std.specs.Prelude.{false, map, take};
+ghost use Rattle.std.specs.Prelude.{◌≡◌, ◌↔◌, ℕ, List, [], ◌∷◌, Some, None, true};
+ghost use Rattle.std.specs.Prelude.{false};
 ghost use Rattle.session.specs.declared.kinds.Close.{Close};
-ghost use Rattle.command.specs.declared.station.StationInfo.{StationInfo};
-ghost use Rattle.gateway.specs.declared.settings.Silence.TheVariants.{Hold};
-ghost use Rattle.gateway.specs.declared.settings.StationSettings.{StationSettings};
 ghost use Rattle.gateway.specs.Config.{Settings};
 ghost use Rattle.gateway.specs.Setups.{setup_of};
-ghost use Rattle.gateway.specs.Frames.{Connection};
-ghost use Rattle.gateway.specs.Log.{Log, Came, LineIn, Opened, TcpIn, CutOff, Ticked, WallIs};
+ghost use Rattle.gateway.specs.Log.{Log, Came, LineIn};
 ghost use Rattle.gateway.specs.Log.{latest};
-ghost use Rattle.gateway.specs.Ports.{logged_by};
 ghost use Rattle.gateway.specs.declared.ports.Next.TheVariants as answers;
 ghost use Rattle.gateway.specs.Reports.{Setup};
-ghost use Rattle.gateway.specs.Connections.{Channel, present, ends, IsConnection};
+ghost use Rattle.gateway.specs.Connections.{present, ends};
 ghost use Rattle.gateway.specs.Course.{Course, HasTakenAll, IsLeft, Runs, came_frames};
 ghost use Rattle.gateway.specs.Given.{due_in, GivesWhatIsDue, GivesAnswer, KeepsAnswerBack};
 ghost use Rattle.gateway.specs.Serial.{answer_outcome};
@@ -43,22 +37,6 @@ use apci::{one_front, spellings_cancel};
 use asdu::{objects_are_those_of_the_asdu, one_asdu_one_spelling};
 use command::{commands_keep_the_rules, faultless_commands_pass};
 use link::line_keeps_the_procedures;
-
-/// The octets of a connection have one reading: its frames, and what closes it, if anything does;
-/// but for a connection that was closed for want of a place for an own answer, whose octets alone
-/// don't show at which frame: of a log `one_course` shows it.
-pub fn one_reading()
-    // Left out are connections whose octets end with the frame whose answer found no place
-    // (docs/DECISIONS.md, "A connection closed by cause 6"). That there is one reading is a law,
-    // since a computed parser would write the grammar twice (docs/DECISIONS.md, "Received frames
-    // are a relation").
-    ensures { (octets : Channel) (c d : Connection) (fault other : Option Close) →
-        octets.lacked_place ≡ false → IsConnection octets c fault → IsConnection octets d other →
-        (c ≡ d) × (fault ≡ other) }
-{
-    one_front();
-    spellings_cancel();
-}
 
 /// A log has one course: of two courses one goes on from the other by frames of the latest event's
 /// octets, and where all whole frames that came are taken, as after each step, they are the same.
@@ -120,20 +98,6 @@ pub fn counts_match_commands()
         ≡ u64_saturate (unpassed_in false (done_in p log c).history) }
 {}
 
-/// What a port answers stands in the log as the event that its name says, at the moment that the
-/// port gave; the octets are the front of the buffer. Neither the end of a port nor a failure of
-/// its device stands there.
-pub fn answers_are_logged_as_given()
-    ensures { (now len number : ℕ) (buf : List ℕ) →
-        (logged_by (answers.Line now len) buf ≡ Came now (LineIn (take len buf)) ∷ [])
-        × (logged_by (answers.Open now) buf ≡ Came now Opened ∷ [])
-        × (logged_by (answers.Bytes now len) buf ≡ Came now (TcpIn (take len buf)) ∷ [])
-        × (logged_by (answers.Cut now) buf ≡ Came now CutOff ∷ [])
-        × (logged_by (answers.Tick now) buf ≡ Came now Ticked ∷ [])
-        × (logged_by (answers.Wall now number) buf ≡ Came now (WallIs number) ∷ [])
-        × (logged_by answers.Done buf ≡ []) × (logged_by answers.Fault buf ≡ []) }
-{}
-
 /// Between two steps nothing of the step before is left to be reported or to be taken.
 pub fn steps_leave_nothing_open()
     ensures { (p : Setup) (s : State) (log : Log) → Follows p s (Some log) → IsBetweenSteps s }
@@ -147,32 +111,6 @@ pub fn settings_are_kept()
 {
     commands_keep_the_rules();
 }
-
-/// Each setting reaches the promises under its own name and with its own value: what a gateway with
-/// these settings promises (`setup_of`) speaks of these numbers, of these stations in their order,
-/// and of no others. A service is held in silence exactly where the settings say so.
-pub fn settings_reach_the_promises()
-    ensures link { (c : Settings) → (setup_of c).link.size ≡ c.line.link }
-    ensures answer_ms { (c : Settings) → (setup_of c).link.answer_ms ≡ c.line.answer_ms }
-    ensures retries { (c : Settings) → (setup_of c).link.retries ≡ c.line.retries }
-    ensures silence { (c : Settings) → IsTrue (setup_of c).link.hold ↔ (c.line.silence ≡ Hold) }
-    ensures burst { (c : Settings) → (setup_of c).link.burst ≡ c.line.burst }
-    ensures sizes { (c : Settings) → (setup_of c).sizes ≡ c.line.sizes }
-    ensures queue { (c : Settings) → (setup_of c).places ≡ c.line.queue }
-    ensures addresses { (c : Settings) →
-        (setup_of c).addresses ≡ map (λ (s : StationSettings). s.address) c.stations }
-    ensures ca { (c : Settings) → map (λ (i : StationInfo). i.ca) (setup_of c).stations
-        ≡ map (λ (s : StationSettings). s.ca) c.stations }
-    ensures select { (c : Settings) → map (λ (i : StationInfo). i.select) (setup_of c).stations
-        ≡ map (λ (s : StationSettings). s.select) c.stations }
-    ensures k { (c : Settings) → (setup_of c).session.k ≡ c.tcp.k }
-    ensures w { (c : Settings) → (setup_of c).session.w ≡ c.tcp.w }
-    ensures t1_ms { (c : Settings) → (setup_of c).session.t1 ≡ c.tcp.t1_ms }
-    ensures t2_ms { (c : Settings) → (setup_of c).session.t2 ≡ c.tcp.t2_ms }
-    ensures t3_ms { (c : Settings) → (setup_of c).session.t3 ≡ c.tcp.t3_ms }
-    ensures select_ms { (c : Settings) → (setup_of c).select_ms ≡ c.tcp.select_ms }
-    ensures max_age_ms { (c : Settings) → (setup_of c).max_age_ms ≡ c.tcp.max_age_ms }
-{}
 
 /// What is due to the control centre is given. An ASDU that isn't forwarded, and a command that a
 /// busy station had, is followed in what became of commands by its answer, handed over once, and

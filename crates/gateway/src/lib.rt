@@ -20,26 +20,22 @@
 //! All of these speak of one course of the log: there is no other ([`one_course`]), and of two
 //! causes never both stand ([`one_cause`]). What is free is only how far the octets of an event
 //! were judged where the device failed in its step. A port whose device fails breaks none of this
-//! for the log so far. And they leave no choice: two logs with the same events are the same
-//! ([`what_comes_decides_what_goes_out`]). What is due to the control centre is given
-//! ([`what_is_due_is_given`]), stations' answers to commands being known by their types
+//! for the log so far. What is due to the control centre is given ([`what_is_due_is_given`]),
+//! stations' answers to commands being known by their types
 //! ([`answers_have_the_types_of_commands`]), and on the line turns end, no station starves and
-//! commands go before polls ([`logs_keep_turns`]), by the one list of calls that the log shows
-//! ([`one_list_of_calls`]). Within a step what came is taken first, one frame after another, each
-//! answered before the next ([`each_frame_is_answered_before_the_next`],
-//! [`s_frames_and_tests_go_last`], [`late_answers_close_behind_what_came`],
-//! [`octets_count_up_to_the_last_moment`]). An own answer without a place closes the connection
-//! ([`own_answers_without_a_place_close`]), and a poll needs three ([`polls_need_three_places`]).
+//! commands go before polls ([`logs_keep_turns`]). Within a step what came is taken first, one
+//! frame after another, each answered before the next ([`each_frame_is_answered_before_the_next`]).
+//! An own answer without a place closes the connection ([`own_answers_without_a_place_close`]), and
+//! a poll needs three ([`polls_need_three_places`]).
 //!
 //! At a restart a gateway is read from the lines of its state ([`Gateway::read_state`]). It ends
 //! the connection and gives up the commands without an answer ([`Gateway::restart`]), and goes on
 //! with other settings where these were changed ([`Gateway::carried`],
 //! [`stations_go_on_by_their_addresses`]): no link is up then but of a station as it was
-//! ([`no_link_goes_on_but_of_a_station_as_it_was`], and each such goes on:
-//! [`a_station_as_it_was_goes_on`]), a stale state leaves gaps ([`a_stale_state_leaves_gaps`]), and
-//! counts and clock stay ([`what_is_kept_goes_on`]). With the same settings the restart is an event
-//! of the log ([`restarts_give_up_commands`]), which goes on: each promise on a log holds of all
-//! lives together.
+//! ([`no_link_goes_on_but_of_a_station_as_it_was`]), a stale state leaves gaps, and counts and
+//! clock stay. With the same settings the restart is an event of the log
+//! ([`restarts_give_up_commands`]), which goes on: each promise on a log holds of all lives
+//! together.
 #![tactic(auto)]
 
 mod config;
@@ -61,30 +57,21 @@ pub use counts::Counts;
 pub use engine::{Gateway, LAST_MOMENT, NoMemory};
 pub use entries::{Entry, StoredEntry, announce, cause_number, keep};
 pub use history::History;
-pub use laws::deciding::what_comes_decides_what_goes_out;
 pub use laws::going_on::{
-    a_stale_state_leaves_gaps, a_station_as_it_was_goes_on,
     no_link_goes_on_but_of_a_station_as_it_was, stations_go_on_by_their_addresses,
-    what_is_kept_goes_on,
 };
-pub use laws::going_out::{
-    commands_last_as_long_as_their_connection, data_wait_for_confirmations,
-    frames_bear_whole_pieces, own_answers_go_out, reports_wait_for_own_answers,
-    what_goes_out_is_handed_to_tcp,
-};
+pub use laws::going_out::{frames_bear_whole_pieces, own_answers_go_out};
 pub use laws::ordering::{moments_never_fall, steps_keep_their_order};
 pub use laws::passing_on::answers_have_the_types_of_commands;
 pub use laws::restarts::restarts_give_up_commands;
 pub use laws::stepping::{
-    each_frame_is_answered_before_the_next, late_answers_close_behind_what_came,
-    octets_count_up_to_the_last_moment, own_answers_without_a_place_close, polls_need_three_places,
-    s_frames_and_tests_go_last,
+    each_frame_is_answered_before_the_next, own_answers_without_a_place_close,
+    polls_need_three_places,
 };
-pub use laws::turning::{logs_keep_turns, one_list_of_calls};
+pub use laws::turning::logs_keep_turns;
 pub use laws::walls::the_wall_clock_is_known;
 pub use laws::{
-    answers_are_logged_as_given, counts_match_commands, courses_keep_commands, one_cause,
-    one_course, one_reading, settings_are_kept, settings_reach_the_promises,
+    counts_match_commands, courses_keep_commands, one_cause, one_course, settings_are_kept,
     steps_leave_nothing_open, what_is_due_is_given,
 };
 pub use ports::{Action, Event, Next, Port};

@@ -8,16 +8,15 @@ use Rattle.std.proofs.lemmas.Option.{slice_get-map, get_or_from_slice_get}
 use Rattle.std.proofs.lemmas.Bool.{cases_eq}
 use Rattle.link.specs.Answers.{Asked, Status, Reset, Counted}
 use Rattle.link.specs.Procedure.{LinkSettings, Link, Down, Available, Next, Held, MaySend}
-use Rattle.link.specs.Procedure.{after_silence, is_held, is_service}
+use Rattle.link.specs.Procedure.{after_silence}
 use Rattle.link.specs.Turns.{StationState, no_station, station_at}
 use Rattle.link.specs.Primary.{Primary, Outstanding, station_down}
 use Rattle.link.specs.Matching.{IsAllowed}
 use Rattle.link.specs.declared.seat.ResumedStation.{ResumedStation}
 use Rattle.link.specs.Carried.{station_left, released_from, released, station_carried, seated}
-use Rattle.link.specs.Carried.{reseated, bit_of, link_carried, service_of}
+use Rattle.link.specs.Carried.{reseated, bit_of, service_of}
 use Rattle.link.specs.Answers.{Service}
 use Rattle.link.proofs.Links.{set_view}
-use Rattle.link.specs.Procedure.{Silence, Never, silence_so_far, spent_silence}
 
 -- a request that may be sent leaves the bit as it is where it has no answer
 bit_left : (settings : LinkSettings) (request : Asked) (link : Link) → MaySend link request
@@ -148,81 +147,3 @@ pub seats_new : (settings : LinkSettings) (seats : List ResumedStation) (p : Pri
 seats_new settings seats p i seat there new =
     seats_stay settings seats p i seat there
     ∙ ap (λ (b : Option ℕ). seated settings.retries seat.address p.stations b) new
-
--- the station of an exchange that is broken off
-left_there : (p : Primary) (o : Outstanding) → p.turn < length p.stations
-    → p.outstanding ≡ Some o
-    → station_at (released p).stations p.turn
-    ≡ station_left p.settings (station_at p.stations p.turn) o.request
-left_there p o within out =
-    ap (λ (x : Option Outstanding). station_at (released_from p x).stations p.turn) out
-    ∙ get_or-set_same p.stations p.turn
-    (station_left p.settings (station_at p.stations p.turn) o.request) no_station within
-
-pub held_as_before : (p : Primary) (o : Outstanding) (fcb : Bool) (service : Service)
-    → p.turn < length p.stations → p.outstanding ≡ Some o → o.request ≡ Counted fcb service
-    → (station_at (released p).stations p.turn).link
-    ≡ Held fcb service (silence_so_far (station_at p.stations p.turn).link)
-held_as_before p o fcb service within out is =
-    ap (λ (s : StationState). s.link) (left_there p o within out)
-    ∙ ap (λ (r : Asked). after_silence p.settings r false (station_at p.stations p.turn).link) is
-
-down_left : (settings : LinkSettings) (link : Link) (request : Asked)
-    → is_service request ≡ false → is_held link ≡ false
-    → after_silence settings request false link ≡ Down
-down_left settings Down Status starts free = refl
-down_left settings Available Status starts free = refl
-down_left settings (Next fcb) Status starts free = refl
-down_left settings (Held fcb service silence) Status starts free = cc
-down_left settings link Reset starts free = refl
-down_left settings link (Counted fcb service) starts free = cc
-
-pub start_broken_off : (p : Primary) (o : Outstanding) → p.turn < length p.stations
-    → p.outstanding ≡ Some o → is_service o.request ≡ false
-    → is_held (station_at p.stations p.turn).link ≡ false
-    → (station_at (released p).stations p.turn).link ≡ Down
-start_broken_off p o within out starts free =
-    ap (λ (s : StationState). s.link) (left_there p o within out)
-    ∙ down_left p.settings (station_at p.stations p.turn).link o.request starts free
-
-pub status_broken_off : (p : Primary) (o : Outstanding) (fcb : Bool) (service : Service)
-    (silence : Silence) → p.turn < length p.stations
-    → p.outstanding ≡ Some o → o.request ≡ Status
-    → (station_at p.stations p.turn).link ≡ Held fcb service silence
-    → (station_at (released p).stations p.turn).link
-    ≡ Held fcb service (spent_silence p.settings Never)
-status_broken_off p o fcb service silence within out asks is =
-    ap (λ (s : StationState). s.link) (left_there p o within out)
-    ∙ ap (λ (r : Asked). after_silence p.settings r false (station_at p.stations p.turn).link) asks
-    ∙ ap (λ (l : Link). after_silence p.settings Status false l) is
-
-pub others_released : (p : Primary) (k : ℕ) → k ≢ p.turn
-    → station_at (released p).stations k ≡ station_at p.stations k
-others_released p k other = go p.outstanding
-  where
-    go : (o : Option Outstanding)
-        → station_at (released_from p o).stations k ≡ station_at p.stations k
-    go None = refl
-    go (Some o) =
-        get_or-set_other p.stations p.turn k
-        (station_left p.settings (station_at p.stations p.turn) o.request) no_station other
-
-pub nothing_outstanding : (p : Primary) → (released p).outstanding ≡ None
-nothing_outstanding p = go p.outstanding refl
-  where
-    go : (o : Option Outstanding) → p.outstanding ≡ o → (released_from p o).outstanding ≡ None
-    go None is = is
-    go (Some o) is = refl
-
-pub nothing_broken_off : (p : Primary) → p.outstanding ≡ None → released p ≡ p
-nothing_broken_off p free = ap (released_from p) free
-
-pub link_goes_on : (retries address : ℕ) (s : StationState) → is_held s.link ≡ false
-    → (station_carried retries address s).link ≡ s.link
-link_goes_on retries address s free = go s.link free
-  where
-    go : (link : Link) → is_held link ≡ false → link_carried retries link ≡ link
-    go Down free = refl
-    go Available free = refl
-    go (Next fcb) free = refl
-    go (Held fcb service missed) free = cc

@@ -2,7 +2,6 @@ pub mod Assembling
 pub mod Timed
 pub mod Hearing
 pub mod OneVisits
-pub mod Lost
 pub mod Beginning
 pub mod Doubting
 pub mod DoubtedMatches
@@ -41,10 +40,7 @@ pub mod TurnBegins
 pub mod Leaving
 pub mod Resting
 pub mod Flagging
-pub mod LatestFlags
-pub mod LatestLinks
 pub mod Logging
-pub mod Told
 pub mod Stationed
 pub mod OneMore
 pub mod GapsReported
@@ -57,17 +53,12 @@ pub mod VisitAsked
 pub mod VisitRuns
 pub mod VisitsGiven
 pub mod Fairness
-pub mod Telltale
 pub mod Saved
 pub mod Fits
 pub mod RestoredBack
 pub mod ReadExactly
-pub mod Counting
 pub mod Preceding
-pub mod FewPolls
-pub mod Tabled
 pub mod Bursting
-pub mod BurstLength
 pub mod Following
 pub mod Repeating
 pub mod GivenUp

@@ -5,7 +5,7 @@ use Rattle.std.proofs.Common.{if◌then◌else◌}
 use Rattle.std.proofs.lemmas.List.{append-nil}
 use Rattle.ft12.specs.declared.frame.Frame.{Frame}
 use Rattle.link.specs.Answers.{Service, Class1, Class2, Command, Asked, Status, Reset, Counted}
-use Rattle.link.specs.Outstation.{Effect, Given, Accepted, Turn, OutstationRun, ServingRun}
+use Rattle.link.specs.Outstation.{Effect, Given, Accepted, Turn, OutstationRun}
 use Rattle.link.specs.Outstation.{all_done}
 use Rattle.link.specs.Requests.{Reading, Foreign, Unknown, Asks, reading_of}
 use Rattle.link.specs.Secondary.{Secondary, Served, received_reading, outstation_of, served}
@@ -15,7 +15,7 @@ use Rattle.link.specs.Life.{Call, Report1, Report2, Receive, called, after, requ
 use Rattle.link.specs.Life.{requests_received, turn_asked, turns_in, given1_at, given2_at, given1}
 use Rattle.link.specs.Life.{given2, reported1, reported2, u64_saturate}
 use Rattle.link.specs.Delivery.{reports, commands}
-use Rattle.link.proofs.Serving.{served_so, served_step, kept_address, kept_size}
+use Rattle.link.proofs.Serving.{served_step, kept_address, kept_size}
 
 pub life_runs : (s : Secondary) (calls : List Call) →
     OutstationRun s.address (outstation_of s) (requests_received s.address calls) (turns_in s calls)
@@ -44,39 +44,6 @@ life_runs s (Receive granted (Some frame) ∷ calls) =
       outstation_of (served granted s request).state,
       served_step granted s request,
       subst (λ (a : ℕ). OutstationRun a (outstation_of (served granted s request).state)
-          (requests_received a calls)
-          (turns_in (served granted s request).state calls)
-          (outstation_of (after (served granted s request).state calls)))
-          (kept_address granted s request) (rest (served granted s request).state),
-    )
-
-pub life_serves : (s : Secondary) (calls : List Call) →
-    ServingRun s.address (outstation_of s) (requests_received s.address calls) (turns_in s calls)
-    (outstation_of (after s calls))
-life_serves s [] = refl
-life_serves s (Report1 true report ∷ calls) =
-    life_serves (record s { class1 = s.class1 ++ report ∷ [] }) calls
-life_serves s (Report1 false report ∷ calls) = life_serves s calls
-life_serves s (Report2 true report ∷ calls) =
-    life_serves (record s { class2 = s.class2 ++ report ∷ [] }) calls
-life_serves s (Report2 false report ∷ calls) = life_serves s calls
-life_serves s (Receive granted None ∷ calls) = life_serves s calls
-life_serves s (Receive granted (Some frame) ∷ calls) =
-    go (λ t. life_serves t calls) (reading_of s.address frame)
-  where
-    go : ((t : Secondary)
-        → ServingRun t.address (outstation_of t) (requests_received t.address calls)
-        (turns_in t calls) (outstation_of (after t calls))) → (reading : Reading)
-        → ServingRun s.address (outstation_of s) (request_asked reading
-        ++ requests_received s.address calls)
-        (turn_asked granted s reading ++ turns_in (received_reading granted s reading).state calls)
-        (outstation_of (after (received_reading granted s reading).state calls))
-    go rest Foreign = rest s
-    go rest Unknown = rest s
-    go rest (Asks request) = (
-      outstation_of (served granted s request).state,
-      served_so granted s request,
-      subst (λ (a : ℕ). ServingRun a (outstation_of (served granted s request).state)
           (requests_received a calls)
           (turns_in (served granted s request).state calls)
           (outstation_of (after (served granted s request).state calls)))

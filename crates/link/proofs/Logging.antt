@@ -7,12 +7,11 @@ use Rattle.std.proofs.Common.{if◌then◌else◌, append_assoc}
 use Rattle.std.proofs.lemmas.List.{append-nil, map-append}
 use Rattle.ft12.specs.declared.frame.Front.{Front}
 use Rattle.ft12.specs.declared.frame.Front.TheVariants.{Whole, More, Never}
-use Rattle.link.specs.Answers.{Frame, Answer, Ready, Confirmed, Busy, Report, NoData, Unable}
+use Rattle.link.specs.Answers.{Frame}
 use Rattle.link.specs.Answers.{answer_of}
 use Rattle.link.specs.Exchanges.{Exchange, Exchanges, OpenExchange, Sending, all_of, as_list}
 use Rattle.link.specs.Exchanges.{answer_to, begun_by, given_up_from, has_one_with}
 use Rattle.link.specs.Exchanges.{latest_marked, marked, received_current, received_octets}
-use Rattle.link.specs.Exchanges.{LineExchange, report_by, reports_of}
 use Rattle.link.specs.Exchanges.{timed_current, view, views, whole_of, with_station}
 use Rattle.link.specs.Primary.{Primary, sending}
 use Rattle.link.specs.Runs.{Call, Next, Octets, Due, GivesUp, called, exchanged, exchanged_all}
@@ -144,43 +143,3 @@ says_nothing front address x not_whole = go (front x.octets) refl
     go (Whole frame n) is = absurd (not_whole frame n is)
     go More is = refl
     go (Never place why) is = refl
-
-abbrev Reports : Type 0
-Reports = List (ℕ × List ℕ)
-
-apart : (address : ℕ → ℕ) (before later : List LineExchange) →
-    reports_of address (before ++ later) ≡ reports_of address before ++ reports_of address later
-apart address [] later = refl
-apart address (e ∷ es) later =
-    ap (λ (rs : Reports). report_by e.station (answer_to (address e.station) e.exchange) ++ rs)
-    (apart address es later)
-    ∙ sym (append_assoc (report_by e.station (answer_to (address e.station) e.exchange))
-    (reports_of address es) (reports_of address later))
-
-pub report : (address : ℕ → ℕ) (before later : List LineExchange) (e : LineExchange)
-    (asdu : List ℕ) → answer_to (address e.station) e.exchange ≡ Some (Report asdu) →
-    reports_of address (before ++ e ∷ later)
-    ≡ reports_of address before ++ (e.station, asdu) ∷ reports_of address later
-report address before later e asdu is =
-    apart address before (e ∷ later)
-    ∙ ap (λ (m : Option Answer). reports_of address before
-    ++ (report_by e.station m ++ reports_of address later)) is
-
-no_report_by : (station : ℕ) (m : Option Answer) → ((asdu : List ℕ) → m ≡ Some (Report asdu) → ⊥) →
-    report_by station m ≡ []
-no_report_by station None other = refl
-no_report_by station (Some Ready) other = refl
-no_report_by station (Some Confirmed) other = refl
-no_report_by station (Some Busy) other = refl
-no_report_by station (Some (Report asdu)) other = absurd (other asdu refl)
-no_report_by station (Some NoData) other = refl
-no_report_by station (Some Unable) other = refl
-
-pub no_report : (address : ℕ → ℕ) (before later : List LineExchange) (e : LineExchange) →
-    ((asdu : List ℕ) → answer_to (address e.station) e.exchange ≡ Some (Report asdu) → ⊥) →
-    reports_of address (before ++ e ∷ later)
-    ≡ reports_of address before ++ reports_of address later
-no_report address before later e other =
-    apart address before (e ∷ later)
-    ∙ ap (λ (rs : Reports). reports_of address before ++ (rs ++ reports_of address later))
-    (no_report_by e.station (answer_to (address e.station) e.exchange) other)

@@ -1,8 +1,7 @@
 -- What the caller learns is what the exchange shows.
 use Rattle.std.proofs.Common.{◌≡◌, ℕ, suc, ◌||◌, ◌&&◌, not, nat_le, nat_lt, ◌+◌, slice_index, Bool}
 use Rattle.std.proofs.Common.{true, false, List, ◌++◌, Option, Some, None, option_and_then, refl}
-use Rattle.std.proofs.Common.{sym, ap, subst, ◌∙◌, inl, inr, if◌then◌else◌, ◌<◌, length}
-use Rattle.std.proofs.lemmas.List.{get_or-set_same}
+use Rattle.std.proofs.Common.{sym, ap, subst, ◌∙◌, inl, inr, if◌then◌else◌, ◌<◌}
 use Rattle.ft12.specs.declared.frame.Front.{Front}
 use Rattle.ft12.specs.declared.frame.Front.TheVariants.{Whole, More, Never}
 use Rattle.link.specs.Answers.{Service, Asked, Status, Reset, Counted, Answer, answer_of}
@@ -11,11 +10,11 @@ use Rattle.link.specs.Exchanges.{views, with_station, received_octets, timed}
 use Rattle.link.specs.Gaps.{gap_at}
 use Rattle.link.specs.Procedure.{LinkSettings, Link, Down, Available, Next, Held, held, MaySend}
 use Rattle.link.specs.Procedure.{is_up, goes_down, after_silence, link_after}
-use Rattle.link.specs.Turns.{StationState, no_station, station_at}
+use Rattle.link.specs.Turns.{station_at}
 use Rattle.link.specs.Primary.{Outstanding, Primary, received_from, received, outcome_of}
 use Rattle.link.specs.Primary.{outcome_at, outcome_after, outcome_from, received_outcome, is_late}
 use Rattle.link.specs.Primary.{due_from, timed_out, due_outcome, due_outcome_from, miss_outcome}
-use Rattle.link.specs.Primary.{unanswered, gap_of, turn_gap, with_gap, station_unanswered}
+use Rattle.link.specs.Primary.{unanswered, gap_of, turn_gap, with_gap}
 use Rattle.link.specs.declared.outcome.Outcome.TheVariants as outcome
 use Rattle.link.specs.Matching.{IsAllowed, IsReceived, IsAwaited, IsOver, IsCurrent, MatchesBy}
 use Rattle.link.specs.Runs.{silence_outcome}
@@ -275,37 +274,3 @@ logged_due front settings addresses p e at x t latest out late =
     (with_station i (views front e.ended)))
     (after_silence settings x.request true (link_after settings (slice_index addresses i) Down
     (with_station i (views front e.ended))))) (sym a.2.station)
-
--- A moment tells of a lost link where it takes down one that was up.
-pub lost_told : (p : Primary) (o : Outstanding) (at : ℕ) → p.outstanding ≡ Some o
-    → p.turn < length p.stations → MaySend (station_at p.stations p.turn).link o.request
-    → due_outcome p at
-    ≡ if is_up (station_at p.stations p.turn).link
-    && not (is_up (station_at (timed_out p at).stations p.turn).link)
-    then outcome.Down p.turn else outcome.None
-lost_told p o at out within may =
-    ap (λ (x : Option Outstanding). due_outcome_from p x at) out
-    ∙ go (is_late p o at)
-    ∙ ap (λ (x : Option Outstanding). if is_up (station_at p.stations p.turn).link
-    && not (is_up (station_at (due_from p x at).stations p.turn).link)
-    then outcome.Down p.turn else outcome.None) (sym out)
-  where
-    link : Link
-    link = (station_at p.stations p.turn).link
-
-    neither : (b : Bool) → outcome.None ≡ if b && not b then outcome.Down p.turn else outcome.None
-    neither true = refl
-    neither false = refl
-
-    go : (late : Bool) → (if late then miss_outcome p o.request else outcome.None)
-        ≡ if is_up link
-        && not (is_up (station_at (if late then unanswered p o else p).stations p.turn).link)
-        then outcome.Down p.turn else outcome.None
-    go false = neither (is_up link)
-    go true =
-        ap (λ (b : Bool). if b then outcome.Down p.turn else outcome.None)
-        (falls p.settings o.request link may)
-        ∙ ap (λ (s : StationState). if is_up link && not (is_up s.link)
-        then outcome.Down p.turn else outcome.None)
-        (sym (get_or-set_same p.stations p.turn
-        (station_unanswered p.settings (station_at p.stations p.turn) o.request) no_station within))

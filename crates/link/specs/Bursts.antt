@@ -10,7 +10,6 @@ use Rattle.link.specs.Procedure as procedure
 use Rattle.link.specs.Turns.{CommandsWaiting, station_at}
 use Rattle.link.specs.Primary.{Outstanding, Primary, sending}
 use Rattle.link.specs.Runs.{Call, Next, called}
-use Rattle.link.specs.Sent.{Sent}
 
 -- What the latest requests were, repeats of them left aside: new polls of one station, the latest
 -- so many of them of class 1; a new command; or another request, or none.
@@ -94,22 +93,3 @@ BurstsGoOn p row (call ∷ calls) =
     PollsGoOn p row call × BurstsGoOn (called p call) (row_after p call row) calls
 
 -- ---- What goes out meanwhile
-
--- There is leave, and where the next request may go out, the station's latest service was answered
--- with ACD set.
-abbrev pub HasMore : Primary → (station : ℕ) → Call → Type 0
-HasMore p station (Next now may_poll waiting) =
-    (may_poll ≡ true)
-    × (p.outstanding ≡ None → (is_answered (station_at p.stations station).link ≡ true)
-    × ((station_at p.stations station).acd ≡ true))
-HasMore p station call = Unit {0}
-
--- at each of these calls
-abbrev pub AlwaysHasMore : Primary → (station : ℕ) → List Call → Type 0
-AlwaysHasMore p station [] = Unit {0}
-AlwaysHasMore p station (call ∷ calls) =
-    HasMore p station call × AlwaysHasMore (called p call) station calls
-
--- The request is a poll of class 1, and goes to this station.
-abbrev pub IsClass1Of : (station : ℕ) → Sent → Type 0
-IsClass1Of station s = (s.station ≡ station) × ((fcb : Bool) × (s.request ≡ Counted fcb Class1))

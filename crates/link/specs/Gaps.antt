@@ -1,14 +1,13 @@
 -- Sessions and gaps: a session of a link lies between two confirmed resets (IEC 60870-5-2, 5.1:
 -- reset of remote link). The sessions of a station are counted from 1, and one that ended with a
 -- poll that has no outcome has a gap: its last report may be lost (this gateway's own profile).
-use Rattle.std.specs.Prelude.{◌≡◌, ◌⊎◌, ℕ, suc, ◌+◌, ◌&&◌, not, Bool, List, [], ◌∷◌, ◌++◌, Option}
+use Rattle.std.specs.Prelude.{◌≡◌, ◌⊎◌, ℕ, suc, ◌+◌, ◌&&◌, List, [], ◌∷◌, ◌++◌, Option}
 use Rattle.std.specs.Prelude.{Some, None, slice_index, if◌then◌else◌}
 use Rattle.ft12.specs.declared.frame.Front.{Front}
-use Rattle.link.specs.Answers.{Service, Unable}
+use Rattle.link.specs.Answers.{Service}
 use Rattle.std.specs.Io.Iter.{u64_saturate}
 use Rattle.link.specs.Delivery.{is_reset, is_gap, pending_after, Session}
 use Rattle.link.specs.Exchanges.{Exchange, Exchanges, answer_to, all_of, views, with_station}
-use Rattle.link.specs.Procedure.{is_service}
 
 -- how many of these exchanges with a station are confirmed resets
 abbrev pub resets_in : (station : ℕ) → List Exchange → ℕ
@@ -66,12 +65,3 @@ abbrev pub gaps_at : (front : List ℕ → Front) → (addresses : List ℕ) →
     List ℕ
 gaps_at front addresses station e =
     gaps_in (slice_index addresses station) (exchanges_at front station e)
-
--- The exchange has no outcome: no answer, or one that the service couldn't be served.
-abbrev pub HasNoOutcome : (station : ℕ) → Exchange → Type 0
-HasNoOutcome station x = (answer_to station x ≡ None) ⊎ (answer_to station x ≡ Some Unable)
-
--- It is no service, and no reset that was confirmed.
-abbrev pub is_by_the_way : (station : ℕ) → Exchange → Bool
-is_by_the_way station x = not (is_service x.request)
-    && not (is_reset x.request (answer_to station x))

@@ -98,12 +98,3 @@ OutstationRun station old (request ∷ requests) [] new = ⊥
 abbrev pub all_done : List Turn → List Effect
 all_done [] = []
 all_done (turn ∷ turns) = turn.done ++ all_done turns
-
--- The same, where each request is arrived and served: none is lost on its way, and none is refused.
-abbrev pub ServingRun : (station : ℕ) → Outstation → List Asked → List Turn → Outstation → Type 0
-ServingRun station old [] [] new = new ≡ old
-ServingRun station old (request ∷ requests) (turn ∷ turns) new =
-    (mid : Outstation) × Receives station old request turn mid
-    × ServingRun station mid requests turns new
-ServingRun station old [] (turn ∷ turns) new = ⊥
-ServingRun station old (request ∷ requests) [] new = ⊥

@@ -73,28 +73,3 @@ CommandsGoFirst p station left (call ∷ calls) =
     × CommandsGoFirst (called p call) station (polls_left p station left call) calls
 
 -- ---- The same, counted
-
--- A command waits for the station where the next request is asked for, and doesn't go out then.
-abbrev pub WaitsAt : Primary → (station : ℕ) → Call → Type 0
-WaitsAt p station (Next now may_poll waiting) =
-    (command_waits_at p waiting station ≡ true)
-    × ((s : Sending) → sending p may_poll waiting ≡ Some s → s.station ≡ station →
-    is_new_command p s ≡ false)
-WaitsAt p station call = Unit {0}
-
--- so it is at each of these calls
-abbrev pub WaitsThroughout : Primary → (station : ℕ) → List Call → Type 0
-WaitsThroughout p station [] = Unit {0}
-WaitsThroughout p station (call ∷ calls) =
-    WaitsAt p station call × WaitsThroughout (called p call) station calls
-
-abbrev pub new_polls_by : Primary → (station : ℕ) → Call → ℕ
-new_polls_by p station (Next now may_poll waiting) =
-    if is_new_poll_of p station (sending p may_poll waiting) then 1 else 0
-new_polls_by p station call = 0
-
--- how many polls go to the station at these calls, repeats left out
-abbrev pub new_polls : Primary → (station : ℕ) → List Call → ℕ
-new_polls p station [] = 0
-new_polls p station (call ∷ calls) =
-    new_polls_by p station call + new_polls (called p call) station calls

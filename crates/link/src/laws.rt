@@ -10,7 +10,6 @@ pub(crate) mod gaps;
 pub(crate) mod hearing;
 pub(crate) mod leave;
 pub(crate) mod life;
-pub(crate) mod links;
 pub(crate) mod logging;
 pub(crate) mod precedence;
 pub(crate) mod refinement;
@@ -19,18 +18,17 @@ pub(crate) mod runs;
 pub(crate) mod tables;
 pub(crate) mod visits;
 
-ghost use Rattle.std.specs.Prelude.{◌≡◌, ◌<◌, ◌++◌, [], ◌∷◌, ℕ, Bool, true, false, List, All};
+ghost use Rattle.std.specs.Prelude.{◌≡◌, ◌<◌, ◌++◌, [], ◌∷◌, ℕ, Bool, List, All};
 ghost use Rattle.std.specs.Prelude.{length, slice_index, Option, Some, option_and_then};
 ghost use Rattle.ft12.specs.declared.frame.LinkSize.{LinkSize};
 ghost use Rattle.ft12.specs.Fronts.{front_of};
 ghost use Rattle.ft12.specs.Spelling.{spelling};
-ghost use Rattle.link.specs.Answers.{Asked, Status};
-ghost use Rattle.link.specs.Exchanges.{Exchange, Exchanges, OpenExchange, Sending, IsOutstanding};
+ghost use Rattle.link.specs.Answers.{Asked};
+ghost use Rattle.link.specs.Exchanges.{Exchanges, OpenExchange, Sending, IsOutstanding};
 ghost use Rattle.link.specs.Exchanges.{no_exchanges, received_current, timed_current, begun_by};
 ghost use Rattle.link.specs.Exchanges.{whole_of, view, reports_of_exchanges};
 ghost use Rattle.link.specs.LineLaws.{LineLaws};
-ghost use Rattle.link.specs.Procedure.{LinkSettings, Down, KeepsFrameCountBit, IsUp, is_service};
-ghost use Rattle.link.specs.Procedure.{is_spent, link_after};
+ghost use Rattle.link.specs.Procedure.{LinkSettings};
 ghost use Rattle.link.specs.Requests.{request_frame, FitsAddress, FitsAsked, asked_in};
 ghost use Rattle.link.specs.Requests.{request_in};
 ghost use Rattle.link.specs.Primary.{Primary, start, asked, sending, request_of, received};
@@ -132,18 +130,6 @@ pub fn requests_wait_their_turn()
         e.current ≡ Some x →
         IsOutstanding (slice_index addresses x.station) (view (front_of settings.size) x).exchange →
         ⊥ }
-{}
-
-/// A service is asked of a station only while it is up, and a reset only while it isn't. A status
-/// is asked while it isn't, or where it is silent to a service that has no repeat left.
-pub fn services_need_a_station_that_is_up()
-    ensures service { (settings : LinkSettings) (station : ℕ) (xs : List Exchange) (x : Exchange) →
-        KeepsFrameCountBit settings station Down (xs ++ x ∷ []) → is_service x.request ≡ true →
-        IsUp settings station xs }
-    ensures start { (settings : LinkSettings) (station : ℕ) (xs : List Exchange) (x : Exchange) →
-        KeepsFrameCountBit settings station Down (xs ++ x ∷ []) → is_service x.request ≡ false →
-        IsUp settings station xs →
-        (x.request ≡ Status) × (is_spent (link_after settings station Down xs) ≡ true) }
 {}
 
 /// What holds of a primary station and of the exchanges of its line, call by call: what the laws

@@ -14,7 +14,6 @@
 //! - over every list of calls the exchanges of the line keep the frame count bit of each station
 //!   ([`frame_count_bits_are_kept`], [`master_matches_the_log`]), no request goes out while one is
 //!   outstanding ([`requests_wait_their_turn`]), turns go round the stations ([`turns_go_round`]),
-//!   a turn begins by the station's link ([`turns_begin_by_the_link`]),
 //!   a turn ends ([`turns_end`]), it is one visit ([`a_turn_is_one_visit`]) and no station starves
 //!   ([`no_station_starves`]), an answer is heard ([`answers_are_heard`]) and has its time
 //!   ([`answers_have_their_time`]), an unanswered
@@ -25,11 +24,11 @@
 //!   ACD and DFC ([`flags_are_heeded`]), a command that is sent for the
 //!   first time is the one that waits ([`commands_are_those_that_wait`]), and goes out where no
 //!   other is under way ([`one_command_at_a_time`]), what the caller learns is what the exchanges
-//!   show ([`outcomes_are_answers`], [`outcomes_bear_the_reports`], [`lost_links_are_told`]), and
+//!   show ([`outcomes_are_answers`], [`outcomes_bear_the_reports`]), and
 //!   those that closed with
 //!   octets but no answer are counted ([`spoilt_exchanges_are_counted`]);
 //! - a reset that ends a session whose last report may be lost is reported, and no other
-//!   ([`gaps_are_reported`], [`gaps_are_ended_sessions`], [`gaps_are_lost_polls`]);
+//!   ([`gaps_are_reported`], [`gaps_are_ended_sessions`]);
 //! - where a link is given up at a restart no other station changes
 //!   ([`giving_up_is_for_one_station`]), and the exchanges show it ([`giving_up_is_logged`],
 //!   [`the_latest_exchange_is_marked`]); where a line goes on with other settings each station that
@@ -38,13 +37,10 @@
 //!   ([`new_settings_keep_the_procedures`]);
 //! - what the crates above go by is one record ([`line_keeps_the_procedures`]);
 //! - a station runs as an outstation that receives each request to it
-//!   ([`station_is_an_outstation`]) and serves it ([`station_serves_each_request`]), and its
-//!   answers say what waits there ([`answers_show_what_waits`]);
+//!   ([`station_is_an_outstation`]);
 //! - a control octet is a value ([`Control`], [`controls_are_octets`]);
-//! - each of the sixteen functions of a secondary station is an answer to a request, or none, with
-//!   the outcome that its table says ([`answers_are_whole`]), each request has one control octet at
-//!   each address, and no other frame asks the same ([`requests_are_whole`]), and the reserved bit
-//!   isn't looked at ([`reserved_bits_are_not_looked_at`]);
+//! - each request has one control octet at each address, and no other frame asks the same
+//!   ([`requests_are_whole`]);
 //! - the tables of control octets, requests, answers, turns and outstations have worked examples
 //!   ([`controls_by_example`], [`answers_by_example`], [`requests_by_example`],
 //!   [`turns_by_example`], [`outstations_by_example`]);
@@ -88,27 +84,20 @@ pub use laws::asking::{answers_have_their_time, next_changes_nothing};
 pub use laws::at_once::{
     repeats_are_as_many_as_set, repeats_come_at_once, turns_go_on_behind_held_services,
 };
-pub use laws::beginnings::{new_settings_keep_the_procedures, turns_begin_by_the_link};
-pub use laws::bursts::{bursts_are_as_long_as_set, polls_go_on};
+pub use laws::beginnings::new_settings_keep_the_procedures;
+pub use laws::bursts::polls_go_on;
 pub use laws::carrying::{
     frame_count_bits_go_on, giving_up_is_for_one_station, giving_up_is_logged,
     seats_have_their_addresses, sessions_go_on, the_latest_exchange_is_marked,
-    what_is_broken_off_is_held,
 };
 pub use laws::commands::{commands_are_those_that_wait, one_command_at_a_time};
-pub use laws::flags::{flags_are_heeded, flags_are_those_of_the_latest_answer};
-pub use laws::gaps::{
-    gaps_are_ended_sessions, gaps_are_lost_polls, gaps_are_reported, gaps_are_told_with_starts,
-};
+pub use laws::flags::flags_are_heeded;
+pub use laws::gaps::{gaps_are_ended_sessions, gaps_are_reported};
 pub use laws::hearing::{answers_are_heard, only_the_first_frame_is_heard};
 pub use laws::leave::{polls_wait_for_leave, rests_mean};
-pub use laws::life::{
-    answers_are_those_of_a_secondary_station, answers_show_what_waits, station_is_an_outstation,
-    station_serves_each_request, stations_hear_whole_frames,
-};
-pub use laws::links::{links_are_what_the_latest_exchange_makes_them, lost_links_are_told};
-pub use laws::logging::{each_request_is_an_exchange, reports_are_data_of_answers};
-pub use laws::precedence::{commands_go_before_polls, few_polls_pass_a_waiting_command};
+pub use laws::life::{station_is_an_outstation, stations_hear_whole_frames};
+pub use laws::logging::each_request_is_an_exchange;
+pub use laws::precedence::commands_go_before_polls;
 pub use laws::refinement::{
     commands_are_accepted, each_service_acts_once, frame_count_bits_alternate, reports_are_learnt,
     sessions_are_known, silence_is_no_reset,
@@ -119,13 +108,11 @@ pub use laws::restarts::{
 pub use laws::runs::{
     frame_count_bits_are_kept, outcomes_are_answers, spoilt_exchanges_are_counted, turns_go_round,
 };
-pub use laws::tables::{answers_are_whole, requests_are_whole, reserved_bits_are_not_looked_at};
-pub use laws::visits::{
-    a_turn_is_one_visit, no_station_starves, turns_end, waits_are_counted_by_requests,
-};
+pub use laws::tables::requests_are_whole;
+pub use laws::visits::{a_turn_is_one_visit, no_station_starves, turns_end};
 pub use laws::{
     line_keeps_the_procedures, master_matches_the_log, outcomes_bear_the_reports,
-    requests_are_read_back, requests_wait_their_turn, services_need_a_station_that_is_up,
+    requests_are_read_back, requests_wait_their_turn,
 };
 pub use master::Master;
 pub use no_memory::NoMemory;

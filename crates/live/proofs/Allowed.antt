@@ -1,9 +1,7 @@
 -- Only allowed addresses connect.
 use Rattle.std.proofs.Common.{◌≡◌, ℕ, true, false, Bool, List, [], ◌∷◌, Option, Some, None, IfSome}
-use Rattle.std.proofs.Common.{option_map, refl, sym, ap, subst, inl, inr, ◌∙◌, ◌<◌, ◌⊎◌, arith}
-use Rattle.std.proofs.Common.{length, slice_index_or, zero, suc}
-use Rattle.std.specs.Prelude.{◌↔◌, Contains}
-use Rattle.std.proofs.lemmas.List.Elements.{Contains-append_right}
+use Rattle.std.proofs.Common.{option_map, refl, sym, ap, subst, inl, inr, ◌∙◌, ◌<◌, ◌⊎◌}
+use Rattle.std.specs.Prelude.{◌↔◌}
 use Rattle.std.specs.declared.net.ip_addr.IpAddr.{IpAddr}
 use Rattle.gateway.specs.Log.{Log, Output, LineOut, TcpOut, Closed, GapOut}
 use Rattle.session.specs.declared.kinds.Close.TheVariants as close
@@ -256,25 +254,3 @@ put_out old new moment (Closed close.Stopped) l stays = absurd (cc)
 put_out old new moment (Closed close.Timeout) l stays = absurd (cc)
 put_out old new moment (Closed close.OwnAnswers) l stays = absurd (cc)
 put_out old new moment (GapOut station session) l stays = ap peer_of l.puts.done
-
--- one of a list is its first, or one of the others
-of_list : (first address : IpAddr) (others : List IpAddr) (k : ℕ) → k < length (first ∷ others)
-    → slice_index_or (first ∷ others) k address ≡ address
-    → (address ≡ first) ⊎ Contains others address
-of_list first address others zero short e = inl (sym e)
-of_list first address others (suc k) short e = inr (k, omega arith, e)
-
-on_list : (first address : IpAddr) (others : List IpAddr)
-    → (address ≡ first) ⊎ Contains others address → Contains (first ∷ others) address
-on_list first address others (inl same) = (0, omega arith, sym same)
-on_list first address others (inr c) = Contains-append_right (first ∷ []) others address c
-
-pub listed : (list others : List IpAddr) (first address : IpAddr) → list ≡ first ∷ others
-    → Contains list address ↔ (address ≡ first) ⊎ Contains others address
-listed list others first address is =
-    let P : List IpAddr → Type 0 =
-    λ xs. Contains xs address ↔ (address ≡ first) ⊎ Contains others address in
-    subst P (sym is) (
-      λ c. of_list first address others c.0 c.1 c.2,
-      on_list first address others,
-    )

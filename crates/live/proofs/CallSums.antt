@@ -7,48 +7,14 @@ use Rattle.std.specs.Prelude.{◌↔◌}
 use Rattle.std.proofs.lemmas.List.{append_cancel_left, length-take-le, take_all}
 use Rattle.std.specs.declared.io.Error.{Error}
 use Rattle.std.specs.declared.io.ErrorKind.{ErrorKind}
-use Rattle.std.specs.declared.io.ErrorKind.TheVariants.{WouldBlock, TimedOut, Interrupted}
-use Rattle.std.specs.IoError.{error_kind}
 use Rattle.live.specs.CallSums.{BroughtNone, IsHandedOn, IsReadEmpty, brought_in, received_in}
 use Rattle.live.specs.Streams.{Calls, DropsWaiting, Drained, Drains, Enough, IsDrained, IsReadOut}
-use Rattle.live.specs.Streams.{MeansGot, NoMore, NoneCame, OneMore, ReadAnswer, ReadsFrame, ReadsOn}
+use Rattle.live.specs.Streams.{NoMore, NoneCame, OneMore, ReadAnswer, ReadsFrame, ReadsOn}
 use Rattle.live.specs.Streams.{Received, Refused, Sent, SystemCall, Took, Waits, Whole, WritesAll}
 use Rattle.live.specs.Streams.{Again, AtOnce, HandsOn, Unwaited, WritesInTwo}
 use Rattle.live.specs.Streams.{WritesFront, brings, brought, called, ends_frame, looked, taken_of}
 use Rattle.live.specs.Streams.{takes_all, took}
-use Rattle.live.specs.declared.ends.Got.{Got}
-use Rattle.live.specs.declared.ends.Got.TheVariants.{Octets, Quiet, Gone}
 use Rattle.live.proofs.Writes.{eq_by, took_once, unequal}
-
--- what an answer means
-some_by : (n : ℕ) (got : Got) (none : Bool) → (n == 0) ≡ none → 1 ≤ n
-    → got ≡ (if none then Gone else Octets n) → got ≡ Octets n
-some_by n got true is some found = absurd (grind (arith, is, some))
-some_by n got false is some found = found
-
-pub some_octets : (n : ℕ) (got : Got) → MeansGot (Ok n) got → 1 ≤ n → got ≡ Octets n
-some_octets n got means some = some_by n got (n == 0) refl some means
-
-pub none_at_all : (got : Got) → MeansGot (Ok 0) got → got ≡ Gone
-none_at_all got means = means
-
-pub quiet_by : (fault : Error) (got : Got) → MeansGot (Err fault) got
-    → (error_kind fault ≡ WouldBlock) ⊎ ((error_kind fault ≡ TimedOut)
-    ⊎ (error_kind fault ≡ Interrupted)) → got ≡ Quiet
-quiet_by fault (Octets len) means kind = absurd means
-quiet_by fault Quiet means kind = refl
-quiet_by fault Gone means (inl is) = absurd (means.0 is)
-quiet_by fault Gone means (inr (inl is)) = absurd (means.1 is)
-quiet_by fault Gone means (inr (inr is)) = absurd (means.2 is)
-
-pub broken_by : (fault : Error) (got : Got) → MeansGot (Err fault) got
-    → error_kind fault ≢ WouldBlock → error_kind fault ≢ TimedOut
-    → error_kind fault ≢ Interrupted → got ≡ Gone
-broken_by fault (Octets len) means a b c = absurd means
-broken_by fault Quiet (inl is) a b c = absurd (a is)
-broken_by fault Quiet (inr (inl is)) a b c = absurd (b is)
-broken_by fault Quiet (inr (inr is)) a b c = absurd (c is)
-broken_by fault Gone means a b c = refl
 
 -- a write is taken where all its octets are
 pub front_taken : (old new : List SystemCall) (octets : List ℕ) (is_taken : Bool)

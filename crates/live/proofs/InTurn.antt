@@ -4,13 +4,13 @@ use Rattle.std.proofs.Common.{take}
 use Rattle.std.proofs.Common.{Option, Some, None, refl, sym, ap, subst, arith, ◌∙◌, ◌⊎◌, inl, inr}
 use Rattle.gateway.specs.declared.ports.Next.{Next}
 use Rattle.gateway.specs.declared.ports.Next.TheVariants as next
-use Rattle.gateway.specs.Log.{Log, Output}
+use Rattle.gateway.specs.Log.{Log}
 use Rattle.live.specs.Timing.{is_behind, told_at}
 use Rattle.live.specs.Walls.{is_wall}
 use Rattle.live.specs.Law.{AtRounds}
 use Rattle.live.specs.OctetStreams.{WasGone, WasQuiet, looked}
 use Rattle.live.specs.Ends.{brings_frame}
-use Rattle.live.specs.Ends.{LiveEnds, Answers, Turns, LogsTurn, LogsPut, as_logged, IsTurn}
+use Rattle.live.specs.Ends.{LiveEnds, Answers, Turns, LogsTurn, as_logged, IsTurn}
 use Rattle.live.specs.Ends.{TurnsToEnds, event_at, taken_by}
 use Rattle.live.specs.Ends.{looking, clock_read_at, turn_by, sources_by, held_by, round, look}
 use Rattle.live.specs.Ends.{nothing_more}
@@ -28,7 +28,6 @@ use Rattle.live.specs.declared.source.EventSource.TheVariants.{Listener, Connect
 use Rattle.live.specs.declared.timing.Timing.{Timing}
 use Rattle.live.specs.declared.ends.Got.{Got}
 use Rattle.live.specs.declared.ends.Got.TheVariants.{Octets, Quiet, Gone}
-use Rattle.live.proofs.Beside.{action_beside}
 
 -- where the next round begins, by what was found
 Begins : Option SourceEvent → EventSource → Type 0
@@ -119,13 +118,6 @@ behind old new event buf l = behind_by old (as_logged old.log new) event buf l.t
 -- an action leaves it
 abbrev first_of : LiveEnds → EventSource
 first_of e = e.first
-
-pub put_first : (old new : LiveEnds) (moment : ℕ) (action : Output) → LogsPut old moment action new
-    → new.first ≡ old.first
-put_first old new moment action l =
-    ap first_of l.puts.done
-    ∙ action_beside first_of (λ e. refl) (λ moment octets written taken late e. refl) moment action
-    l.puts.written l.puts.taken l.puts.late old
 
 -- the last round
 level_turn : (begun : ℕ) (e n : LiveEnds) (f : Option SourceEvent) (buf : List ℕ)

@@ -5,9 +5,7 @@ use Rattle.gateway.specs.Log.{Output, LineOut, TcpOut, Closed, GapOut}
 use Rattle.live.specs.OctetStreams.{Dropped, Wrote, StreamHistory, IsNew, looked, noted}
 use Rattle.live.specs.Ends.{LiveEnds, Peer, Answers, PutsOut, as_logged, looked_at, accepted, more}
 use Rattle.live.specs.Ends.{turned_away}
-use Rattle.live.specs.Ends.{written_open, closed_by, after_action, LogsPut, LogsTurn}
-use Rattle.live.specs.Law.{AsksNothing}
-use Rattle.gateway.specs.declared.ports.Next.{Next}
+use Rattle.live.specs.Ends.{written_open, closed_by, after_action}
 use Rattle.live.specs.Late.{dropped_of, IsLate, CountsLate}
 use Rattle.live.specs.Passed.{LiveRun, Begun, Turned, Put}
 use Rattle.live.proofs.Apart.{Apart}
@@ -98,31 +96,3 @@ late start _ none is_new (Turned before end event buf run l) =
 late start _ none is_new (Put before end moment action run l) =
     put_late before (as_logged before.log end) moment action l.puts
     (late start before none is_new run)
-
--- a turn, and any action but a request
-pub looks_late : (old new : LiveEnds) (event : Next) (buf : List ℕ) → LogsTurn old event buf new
-    → new.late ≡ old.late
-looks_late old new event buf l =
-    ap (λ (p : ℕ × Option ℕ). p.0)
-    (turn_still late_of late_aside (λ e now shown. refl) old (as_logged old.log new) event buf
-    l.turns (λ e. refl))
-
-abbrev beside_centre : LiveEnds → ℕ × StreamHistory
-beside_centre e = (e.late, e.line)
-
-others_by : (old new : LiveEnds) (moment : ℕ) (action : Output) → LogsPut old moment action new
-    → AsksNothing action → beside_centre new ≡ beside_centre old
-others_by old new moment (LineOut octets) l asks = absurd asks
-others_by old new moment (TcpOut octets) l asks =
-    ap beside_centre l.puts.done
-    ∙ ap beside_centre (written_beside old.is_cut_due octets l.puts.taken old.connection old)
-others_by old new moment (Closed cause) l asks =
-    ap beside_centre l.puts.done ∙ ap beside_centre (closed_beside cause old)
-others_by old new moment (GapOut station session) l asks = ap beside_centre l.puts.done
-
-pub others_late : (old new : LiveEnds) (moment : ℕ) (action : Output)
-    → LogsPut old moment action new → AsksNothing action
-    → (new.late ≡ old.late) × (new.line ≡ old.line)
-others_late old new moment action l asks =
-    let same = others_by old new moment action l asks in
-    (ap (λ (p : ℕ × StreamHistory). p.0) same, ap (λ (p : ℕ × StreamHistory). p.1) same)

@@ -14,7 +14,7 @@ use Rattle.live.specs.Ends.{looked_at, found_at, after, nothing_more, accepted, 
 use Rattle.live.proofs.Apart.{clock_of, clock_apart, taken_same}
 use Rattle.live.specs.declared.source.EventSource.{EventSource}
 use Rattle.live.specs.declared.source.EventSource.TheVariants.{Listener, Connection, Line}
-use Rattle.live.specs.Law.{AtMoment, AtBytes, AtClock, IsWaitedOut, is_frame}
+use Rattle.live.specs.Law.{AtMoment, AtBytes, AtClock, is_frame}
 use Rattle.live.specs.declared.found.SourceEvent.{SourceEvent}
 use Rattle.live.specs.declared.found.SourceEvent.TheVariants as found
 use Rattle.live.specs.declared.timing.Timing.{Timing}
@@ -116,58 +116,6 @@ pub clock_read : (now : ℕ) (b : Bool) (buf : List ℕ) (f : Option SourceEvent
 clock_read now b buf f old found new taken done is =
     ap (λ (p : Option SourceEvent × LiveEnds). clock_of p.1) is
     ∙ (taken_same clock_of clock_apart b buf f found ∙ ap clock_of done)
-
--- once the line was waited out, or before any request, the moment is the clock's
-out_by : (h : Bool) (t : Timing) (r : WrittenRequest) (now : ℕ) → is_waited_out t r ≡ h
-    → t.answer_ms
-    ≤ t.looked - r.written
-    → (if h then now else (if goes_on t r now then now else eve t r)) ≡ now
-out_by true t r now looked long = refl
-out_by false t r now looked long = absurd (grind (arith, looked, long))
-
-clocks_by : (t : Timing) (q : Option WrittenRequest) (now : ℕ) → IsWaitedOut t q → moment_by t q now
-    ≡ now
-clocks_by t None now out = refl
-clocks_by t (Some r) now out = out_by (is_waited_out t r) t r now refl out
-
-if_so : (b : Bool) (now moment : ℕ) → moment ≡ now → (if b then now else moment) ≡ now
-if_so true now moment is = refl
-if_so false now moment is = is
-
-told_clocks : (g : Bool) (t : Timing) (now : ℕ) → moment_at t now ≡ now → told_at t g now ≡ now
-told_clocks true t now is = if_so (is_behind t now) now (moment_at t now) is
-told_clocks false t now is = is
-
-clocks_of : (old new : LiveEnds) (event : Next) (buf : List ℕ) → Turns old event buf new
-    → IsWaitedOut new.timing new.timing.request
-    → AtClock new.clock (λ now. AtMoment event (λ moment. moment ≡ now))
-clocks_of old new event buf (inl t) out =
-    let P : Next → Type 0 = λ e. AtClock new.clock (λ now. AtMoment e (λ moment. moment ≡ now)) in
-    let m = moment_at old.timing t.begun in
-    let R : Moments → Type 0 = λ c. AtClock c (λ now. m ≡ now) in
-    let same : new.timing ≡ old.timing = ap (λ (e : LiveEnds). e.timing) t.given.ends in
-    let Q : Timing → Type 0 = λ k. moment_at k t.begun ≡ t.begun in
-    let given = ap (λ (e : LiveEnds). e.clock) t.given.ends in
-    subst P (sym t.given.given) (subst R (sym given) (at_clock old.clock t.begun (λ now. m ≡ now)
-    (subst Q same (clocks_by new.timing new.timing.request t.begun out))))
-clocks_of old new event buf (inr t) out =
-    let m = told_at new.timing (brings_frame t.given.taken buf) t.now in
-    let P : Next → Type 0 = λ e. AtClock new.clock (λ now. AtMoment e (λ moment. moment ≡ now)) in
-    let R : Moments → Type 0 =
-    λ c. AtClock c (λ now. AtMoment (event_at m t.given.taken) (λ moment. moment ≡ now)) in
-    let given = clock_read t.now (is_behind t.found.timing t.now) buf t.f t.looks.found t.found new
-    t.given.taken
-    t.looks.done t.given.ends in
-    subst P (sym t.given.given) (subst R (sym given) (at_clock t.looks.found.clock t.now
-    (λ now. AtMoment (event_at m t.given.taken) (λ moment. moment ≡ now))
-    (at_moment m t.given.taken (λ moment. moment ≡ t.now)
-    (told_clocks (brings_frame t.given.taken buf) new.timing t.now
-    (clocks_by new.timing new.timing.request t.now out)))))
-
-pub clocks : (old new : LiveEnds) (event : Next) (buf : List ℕ) → LogsTurn old event buf new
-    → IsWaitedOut new.timing new.timing.request
-    → AtClock new.clock (λ now. AtMoment event (λ moment. moment ≡ now))
-clocks old new event buf l out = clocks_of old (as_logged old.log new) event buf l.turns out
 
 -- what a control centre sent is at most 50 ms behind the clock
 InTime : ℕ → (buf : List ℕ) → Option SourceEvent × LiveEnds → Type 0

@@ -1,6 +1,6 @@
 -- When a stream that is away is tried again, and what is known of it.
 use Rattle.std.proofs.Common.{◌≡◌, ◌≢◌, ℕ, ◌+◌, ◌-◌, ◌<◌, ◌≤◌, Bool, true, false, List, [], ◌∷◌}
-use Rattle.std.proofs.Common.{length, Option, Some, None, IfSome, refl, sym, ap, subst, arith, ◌∙◌}
+use Rattle.std.proofs.Common.{Option, Some, None, IfSome, refl, sym, ap, subst, arith, ◌∙◌}
 use Rattle.std.specs.Prelude.{is_some, nat_le, option_map}
 use Rattle.live.specs.OctetStreams.{StreamHistory, IsNew, noted, Wrote, Dropped}
 use Rattle.live.specs.Redial.{Redial, is_due, clock_read_at, begun_by, tried_by, is_due_by}
@@ -18,7 +18,6 @@ use Rattle.live.specs.declared.redial.Dialled.{Dialled}
 use Rattle.live.specs.declared.redial.Dialled.TheVariants.{Reached, Pending, Failed}
 use Rattle.live.specs.declared.ends.Got.{Got}
 use Rattle.live.specs.declared.ends.Got.TheVariants.{Octets, Quiet, Gone}
-use Rattle.live.specs.declared.ends.Presence.{Presence}
 use Rattle.live.specs.declared.ends.Presence.TheVariants.{Away, Receiving, Silent}
 
 -- a look at a stream that is away, by the try that it makes
@@ -242,12 +241,6 @@ pub still_waits : (old new : Redial) (got : Got) (buf : List ℕ) → IsRedialle
 unfolding Waits
 still_waits old new got buf l away none = (away_waits old new got buf l away).1 none
 
-pub reached_there : (old new : Redial) (got : Got) (buf : List ℕ) → IsRedialled old got buf new
-    → old.stream ≡ None → IfSome new.stream (λ s. (new.presence ≡ known_reached old.presence)
-    × (new.silence ≡ begun_anew old.silence))
-unfolding Waits
-reached_there old new got buf l away = (away_waits old new got buf l away).2
-
 -- what one that is there finds, and how it is left
 IsLeft : (h : StreamHistory) → (old new : Redial) → Type 0
 IsLeft h old new =
@@ -320,11 +313,6 @@ pub octets_wait : (old new : Redial) (len : ℕ) (buf : List ℕ)
 unfolding Finds
 octets_wait old new len buf l = (octets_by old.stream old new len buf refl l).1.0
 
-pub octets_receiving : (old new : Redial) (len : ℕ) (buf : List ℕ)
-    → IsRedialled old (Octets len) buf new → new.presence ≡ Receiving
-unfolding Finds
-octets_receiving old new len buf l = (octets_by old.stream old new len buf refl l).1.1
-
 pub octets_end_silence : (old new : Redial) (len : ℕ) (buf : List ℕ)
     → IsRedialled old (Octets len) buf new → new.silence ≡ no_silence
 unfolding Finds
@@ -335,26 +323,12 @@ pub quiet_waits : (old new : Redial) (buf : List ℕ) (h : StreamHistory)
 unfolding Finds
 quiet_waits old new buf h l there = (there_of old new Quiet buf h l there).0
 
-pub quiet_stays : (old new : Redial) (buf : List ℕ) (h : StreamHistory)
-    → IsRedialled old Quiet buf new → old.stream ≡ Some h → new.stream ≢ None
-    → new.presence ≡ old.presence
-unfolding Finds
-quiet_stays old new buf h l there some = (there_of old new Quiet buf h l there).2 some
-
 left_by : (got : Got) (h : StreamHistory) (old new : Redial) → new.stream ≡ None
     → Finds got h old new → IsLeft h old new
 unfolding Finds
 left_by (Octets len) h old new none k = absurd (k.3 none)
 left_by Quiet h old new none k = k.1 none
 left_by Gone h old new none k = absurd k
-
-pub gone_away : (old new : Redial) (got : Got) (buf : List ℕ) (h : StreamHistory)
-    → IsRedialled old got buf new → old.stream ≡ Some h → new.stream ≡ None
-    → new.presence ≢ Silent
-    → (new.presence ≡ Away) × IsFoundGone (Some (is_some h)) new.gone
-unfolding IsLeft
-gone_away old new got buf h l there none other =
-    (left_by got h old new none (there_of old new got buf h l there)).0 other
 
 pub closed_silent : (old new : Redial) (got : Got) (buf : List ℕ) (h : StreamHistory)
     → IsRedialled old got buf new → old.stream ≡ Some h → new.stream ≡ None
@@ -389,106 +363,6 @@ drop_wait (Some h) count r = refl
 pub drop_waits : (old new : Redial) (count : ℕ) → HasDropped old count new → new.wait ≡ old.wait
 drop_waits old new count d =
     ap (λ (q : ℕ × Redial). q.1.wait) d.dropped ∙ drop_wait old.stream d.waiting old
-
--- a try that has ended, and one that goes on
-length_of : {A : Type 0} → Option (List A) → ℕ
-length_of None = 0
-length_of (Some list) = length list
-
-no_longer : {A : Type 0} (x : A) (list : List A) → Some list ≡ Some (x ∷ list) → ⊥
-unfolding length_of
-no_longer x list is =
-    let same : length list ≡ length (x ∷ list) = ap length_of is in omega (arith, same)
-
-Ended : (tries : List Bool) (calls : DialCalls) (presence : Presence) → Redial → Type 0
-Ended tries calls presence new =
-    ((reached : Bool) → new.tries ≡ Some (reached ∷ tries) → (new.is_trying ≡ false)
-    × (is_some new.stream ≡ reached) × (reached ≡ false → new.presence ≡ Away))
-    × ((before : List DialCall) (call : DialCall) → new.tries ≡ Some tries → calls ≡ Some before
-    → new.calls ≡ Some (call ∷ before)
-    → (new.is_trying ≡ true) × (new.stream ≡ None) × (new.presence ≡ presence))
-
-front_of : Option (List Bool) → Bool
-front_of None = false
-front_of (Some []) = false
-front_of (Some (first ∷ list)) = first
-
-front_is : (a b : Bool) (list : List Bool) → Some (a ∷ list) ≡ Some (b ∷ list) → a ≡ b
-unfolding front_of
-front_is a b list is = ap front_of is
-
-answered_ended : (call : Bool → DialCall) (answer : Dialled StreamHistory) (tries : List Bool)
-    (r : Redial)
-    → Ended tries r.calls r.presence
-    (answered call answer (record r { stream = None; tries = Some tries }))
-unfolding Ended
-answered_ended call (Reached stream) tries r = (
-  λ reached is. let yes = front_is true reached tries is in (refl, yes, λ no. absurd (cc)),
-  λ before named is noted more. absurd (no_longer true tries (sym is)),
-)
-answered_ended call Pending tries r = (
-  λ reached is. absurd (no_longer reached tries is),
-  λ before named is noted more. (refl, refl, refl),
-)
-answered_ended call Failed tries r = (
-  λ reached is. let no = front_is false reached tries is in (refl, no, λ none. refl),
-  λ before named is noted more. absurd (no_longer false tries (sym is)),
-)
-
-begun_ended : (due : Bool) (now : ℕ) (answer : Dialled StreamHistory) (tries : List Bool)
-    (r : Redial)
-    → Ended tries r.calls r.presence
-    (begun_by due now answer (record r { stream = None; tries = Some tries }))
-unfolding Ended
-begun_ended true now answer tries r =
-    answered_ended Dialed answer tries (record r { tried = Some now })
-begun_ended false now answer tries r = (
-  λ reached is. absurd (no_longer reached tries is),
-  λ before call is noted more. absurd (no_longer call before (sym noted ∙ more)),
-)
-
-tried_ended : (b : Bool) (now : ℕ) (answer : Dialled StreamHistory) (tries : List Bool)
-    (r : Redial)
-    → Ended tries r.calls r.presence
-    (tried_by b now answer (clock_read_at now (record r { stream = None; tries = Some tries })))
-tried_ended true now answer tries r = answered_ended Asked answer tries (clock_read_at now r)
-tried_ended false now answer tries r =
-    begun_ended (is_due (clock_read_at now (record r { stream = None; tries = Some tries })) now)
-    now answer tries (clock_read_at now r)
-
-away_ended : (old new : Redial) (got : Got) (buf : List ℕ) (tries : List Bool)
-    → IsRedialled old got buf new → old.stream ≡ None → old.tries ≡ Some tries
-    → Ended tries old.calls old.presence new
-unfolding Ended
-away_ended old new got buf tries l away noted =
-    subst (Ended tries old.calls old.presence) (sym (away_to old new got buf l away
-    ∙ ap (λ t. waited (tried_by old.is_trying l.now l.answer
-    (clock_read_at l.now (record old { stream = None; tries = t })))) noted))
-    (tried_ended old.is_trying l.now l.answer tries old)
-
-pub ends_once : (old new : Redial) (got : Got) (buf : List ℕ) (tries : List Bool) (reached : Bool)
-    → IsRedialled old got buf new → old.stream ≡ None → old.tries ≡ Some tries
-    → new.tries ≡ Some (reached ∷ tries)
-    → (new.is_trying ≡ false) × (is_some new.stream ≡ reached)
-unfolding Ended
-ends_once old new got buf tries reached l away noted is =
-    let e = (away_ended old new got buf tries l away noted).0 reached is in (e.0, e.1)
-
-pub fails_away : (old new : Redial) (got : Got) (buf : List ℕ) (tries : List Bool)
-    → IsRedialled old got buf new → old.stream ≡ None → old.tries ≡ Some tries
-    → new.tries ≡ Some (false ∷ tries) → new.presence ≡ Away
-unfolding Ended
-fails_away old new got buf tries l away noted is =
-    let e = (away_ended old new got buf tries l away noted).0 false is in e.2 refl
-
-pub goes_on : (old new : Redial) (got : Got) (buf : List ℕ) (tries : List Bool)
-    (calls : List DialCall) (call : DialCall) → IsRedialled old got buf new → old.stream ≡ None
-    → old.tries ≡ Some tries → new.tries ≡ Some tries → old.calls ≡ Some calls
-    → new.calls ≡ Some (call ∷ calls)
-    → (new.is_trying ≡ true) × (new.stream ≡ None) × (new.presence ≡ old.presence)
-unfolding Ended
-goes_on old new got buf tries calls call l away noted still told more =
-    (away_ended old new got buf tries l away noted).1 calls call still told more
 
 -- what a request adds to the silence
 pub asked_first : (s : Silence) (now : ℕ) → s.asked ≡ None → s.counted ≤ 240000

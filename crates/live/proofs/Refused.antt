@@ -2,12 +2,12 @@
 use Rattle.std.proofs.Common.{◌≡◌, ℕ, true, false, Bool, List, [], ◌∷◌, ◌++◌}
 use Rattle.std.proofs.Common.{Option, Some, None, refl, sym, ap, subst, ◌∙◌, inl, inr}
 use Rattle.std.specs.Prelude.{◌↔◌, IsTrue, option_map}
-use Rattle.std.proofs.lemmas.List.{append-nil, append_assoc}
+use Rattle.std.proofs.lemmas.List.{append_assoc}
 use Rattle.std.proofs.lemmas.List.Elements.{All-append, All-cons}
 use Rattle.gateway.specs.Log.{Output}
 use Rattle.gateway.specs.declared.ports.Next.{Next}
 use Rattle.std.specs.declared.net.ip_addr.IpAddr.{IpAddr}
-use Rattle.live.specs.AllowLists.{Allows, AreStrangers, Refusals, RefusesStrangers, counted, nobody}
+use Rattle.live.specs.AllowLists.{Allows, AreStrangers, Refusals, RefusesStrangers, counted}
 use Rattle.live.specs.AllowLists.{one_more_refused, refusing}
 use Rattle.live.specs.Timing.{is_behind}
 use Rattle.live.specs.Ends.{LiveEnds, Peer, Answers, IsTurn, QuietRounds, NoRound, OneRound}
@@ -16,14 +16,12 @@ use Rattle.live.specs.Ends.{sources_by, held_by, round, look, unless_found, next
 use Rattle.live.specs.Ends.{found_at, after, nothing_more, accepted, turned_away, clock_read_at}
 use Rattle.live.specs.Ends.{looking, Fixture}
 use Rattle.live.specs.Passed.{LiveRun, Begun, Turned, Put}
-use Rattle.live.specs.Sights.{ShowsEnds}
 use Rattle.live.specs.declared.allow_list.AllowList.{AllowList}
 use Rattle.live.specs.declared.ends.RefusedPeers.{RefusedPeers}
 use Rattle.live.specs.declared.found.SourceEvent.{SourceEvent}
 use Rattle.live.specs.declared.found.SourceEvent.TheVariants as found
 use Rattle.live.specs.declared.source.EventSource.{EventSource}
 use Rattle.live.specs.declared.source.EventSource.TheVariants.{Listener, Connection, Line}
-use Rattle.live.specs.declared.watched.EndsSight.{EndsSight}
 use Rattle.live.proofs.Plain.{no_strangers}
 use Rattle.live.proofs.Beside.{action_beside}
 use Rattle.live.proofs.Rounds.{allow_list_aside, quiet_kept}
@@ -247,22 +245,3 @@ run_since start _ (Turned before end event buf run l) =
 run_since start _ (Put before end moment action run l) =
     let P : Refusals → Type 0 = λ r. RefusesStrangers start.allow_list start.refusals r in
     subst P (sym (action_still before end moment action l)) (run_since start before run)
-
--- what is noted of them
-noted_by : (r : Refusals) (peers : List IpAddr) → r ≡ refusing peers (record {
-  peers = Some [];
-  said = nobody;
-}) → (all : List IpAddr) → r.peers ≡ Some all → r.said ≡ counted all nobody
-noted_by r peers is all noted =
-    let same : Some (peers ++ []) ≡ Some all = sym (ap (λ (x : Refusals). x.peers) is) ∙ noted in
-    let whole : peers ≡ all = sym (append-nil peers) ∙ cc in
-    ap (λ (x : Refusals). x.said) is ∙ ap (λ p. counted p nobody) whole
-
-pub said_of_run : (start end : LiveEnds) (sight : EndsSight) (all : List IpAddr)
-    → start.refusals ≡ record { peers = Some []; said = nobody }
-    → LiveRun start end → ShowsEnds end sight → end.refusals.peers ≡ Some all
-    → sight.refused ≡ counted all nobody
-said_of_run start end sight all none run shows noted =
-    let s = run_since start end run in
-    shows.refused
-    ∙ noted_by end.refusals s.refused (s.ends ∙ ap (refusing s.refused) none) all noted

@@ -399,51 +399,6 @@ given_level now old f event buf level given = record {
   given = given;
 }
 
--- rounds that found nothing, and the last one
-pub looked_found : (old before found new : LiveEnds) (first count begun now : ℕ) (f : SourceEvent)
-    (buf : List ℕ)
-    → QuietRounds old first count begun before → IsTurn begun before (Some f) buf found
-    → new ≡ clock_read_at now found
-    → LooksOn first old now (Some f) buf new
-looked_found old before found new first count begun now f buf quiet turn done = record {
-  count = count;
-  begun = begun;
-  before = before;
-  quiet = quiet;
-  found = found;
-  turn = turn;
-  last = tt;
-  done = done;
-}
-
-pub looked_long : (old before found new : LiveEnds) (first count begun now : ℕ) (buf : List ℕ)
-    → QuietRounds old first count begun before → IsTurn begun before None buf found
-    → (is_tick_due first (is_awaited old.timing) now found ≡ true) ⊎ (count ≡ 200)
-    → new ≡ clock_read_at now found
-    → LooksOn first old now None buf new
-looked_long old before found new first count begun now buf quiet turn last done = record {
-  count = count;
-  begun = begun;
-  before = before;
-  quiet = quiet;
-  found = found;
-  turn = turn;
-  last = last;
-  done = done;
-}
-
-pub looked_last : (old before found new : LiveEnds) (first count begun now : ℕ)
-    (f : Option SourceEvent)
-    (buf : List ℕ)
-    → QuietRounds old first count begun before → IsTurn begun before f buf found
-    → (is_tick_due first (is_awaited old.timing) now found ≡ true) ⊎ (count ≡ 200)
-    → new ≡ clock_read_at now found
-    → LooksOn first old now f buf new
-looked_last old before found new first count begun now None buf quiet turn last done =
-    looked_long old before found new first count begun now buf quiet turn last done
-looked_last old before found new first count begun now (Some f) buf quiet turn last done =
-    looked_found old before found new first count begun now f buf quiet turn done
-
 -- one more that found nothing
 quiet_more_by : (start before found : LiveEnds) (first count begun now : ℕ) (f : Option SourceEvent)
     (buf : List ℕ)

@@ -4,70 +4,27 @@ use Rattle.std.proofs.Common.{Option, Some, None, refl, sym, ap, subst, arith, i
 use Rattle.std.proofs.Common.{inl, inr}
 use Rattle.gateway.specs.Log.{Output, LineOut, TcpOut, Closed, GapOut}
 use Rattle.gateway.specs.declared.ports.Next.{Next}
-use Rattle.live.specs.OctetStreams.{StreamHistory, Dropped, Wrote, noted}
 use Rattle.live.specs.Timing.{Moments, moment_at, moment_by, is_waited_out, goes_on, eve}
-use Rattle.live.specs.Timing.{asked_at, line_looked_at, is_behind, told_at}
+use Rattle.live.specs.Timing.{line_looked_at, is_behind, told_at}
 use Rattle.live.specs.Ends.{brings_frame}
 use Rattle.live.specs.Walls.{is_wall}
-use Rattle.live.specs.Law.{AtMoment, AtClock, AtWall, AtRounds, AsksNothing, IsEve, IsOneOf}
-use Rattle.live.specs.Law.{IsWrittenBehind}
+use Rattle.live.specs.Law.{AtMoment, AtClock, AtRounds, AsksNothing, IsEve, IsOneOf}
 use Rattle.live.specs.Ends.{LiveEnds, Peer, Answers, IsTurn}
 use Rattle.live.specs.Ends.{Turns, LogsTurn, LogsPut, as_logged}
-use Rattle.live.specs.Ends.{event_at, turn_by, sources_by, held_by, round}
+use Rattle.live.specs.Ends.{turn_by, sources_by, held_by, round}
 use Rattle.live.specs.Ends.{look, unless_found, next_round, looked_at, found_at, after}
 use Rattle.live.specs.Ends.{nothing_more, accepted, turned_away}
 use Rattle.live.proofs.Apart.{walled_of}
 use Rattle.live.proofs.Beside.{action_beside, written_beside, closed_beside}
 use Rattle.live.proofs.Law.{at_moment, at_clock, clock_read}
 use Rattle.live.proofs.Ticks.{at_rounds, looked_timing, wall_of as no_wall_of}
-use Rattle.live.proofs.Walls.{of_ends, looked_walled}
+use Rattle.live.proofs.Walls.{of_ends}
 use Rattle.live.specs.declared.found.SourceEvent.{SourceEvent}
 use Rattle.live.specs.declared.found.SourceEvent.TheVariants as found
 use Rattle.live.specs.declared.source.EventSource.{EventSource}
 use Rattle.live.specs.declared.source.EventSource.TheVariants.{Listener, Connection, Line}
 use Rattle.live.specs.declared.timing.Timing.{Timing}
 use Rattle.live.specs.declared.timing.WrittenRequest.{WrittenRequest}
-use Rattle.live.specs.declared.walled.Walled.{Walled}
-
--- the wall clock
-no_wall_at : (m : ℕ) (f : Option SourceEvent) (Holds : ℕ → ℕ → Type 0)
-    → AtWall (event_at m f) Holds
-no_wall_at m None Holds = tt
-no_wall_at m (Some found.Open) Holds = tt
-no_wall_at m (Some (found.Bytes len)) Holds = tt
-no_wall_at m (Some found.Cut) Holds = tt
-no_wall_at m (Some (found.Line len)) Holds = tt
-no_wall_at m (Some found.Fault) Holds = tt
-
-shown_by : (old new : LiveEnds) (event : Next) (buf : List ℕ) → Turns old event buf new
-    → AtWall event (λ moment number. AtClock new.clock (λ now. AtClock new.walls (λ shown.
-    number ≡ shown - (now - moment))))
-shown_by old new event buf (inl t) =
-    let P : Next → Type 0 = λ e. AtWall e (λ moment number. AtClock new.clock (λ now.
-    AtClock new.walls (λ shown. number ≡ shown - (now - moment)))) in
-    let m = moment_at old.timing t.begun in
-    let n = t.given.shown - (t.begun - m) in
-    let C : Moments → Type 0 =
-    λ c. AtClock c (λ now. AtClock new.walls (λ shown. n ≡ shown - (now - m))) in
-    let W : Moments → Type 0 = λ w. AtClock w (λ shown. n ≡ shown - (t.begun - m)) in
-    let clock = ap (λ (e : LiveEnds). e.clock) t.given.ends in
-    let walls = ap (λ (e : LiveEnds). e.walls) t.given.ends in
-    subst P (sym t.given.given) (subst C (sym clock)
-    (at_clock old.clock t.begun (λ now. AtClock new.walls (λ shown. n ≡ shown - (now - m)))
-    (subst W (sym walls) (at_clock old.walls t.given.shown (λ shown. n ≡ shown - (t.begun - m))
-    refl))))
-shown_by old new event buf (inr t) =
-    let P : Next → Type 0 = λ e. AtWall e (λ moment number. AtClock new.clock (λ now.
-    AtClock new.walls (λ shown. number ≡ shown - (now - moment)))) in
-    subst P (sym t.given.given) (no_wall_at
-    (told_at new.timing (brings_frame t.given.taken buf) t.now) t.given.taken
-    (λ moment number. AtClock new.clock (λ now.
-    AtClock new.walls (λ shown. number ≡ shown - (now - moment)))))
-
-pub shown : (old new : LiveEnds) (event : Next) (buf : List ℕ) → LogsTurn old event buf new
-    → AtWall event (λ moment number. AtClock new.clock (λ now. AtClock new.walls (λ shown.
-    number ≡ shown - (now - moment))))
-shown old new event buf l = shown_by old (as_logged old.log new) event buf l.turns
 
 given_by : (old new : LiveEnds) (event : Next) (buf : List ℕ) → Turns old event buf new
     → is_wall event ≡ true → AtClock new.clock (λ now. new.walled.given ≡ Some now)
@@ -82,17 +39,6 @@ given_by old new event buf (inr t) wall =
 pub given : (old new : LiveEnds) (event : Next) (buf : List ℕ) → LogsTurn old event buf new
     → is_wall event ≡ true → AtClock new.clock (λ now. new.walled.given ≡ Some now)
 given old new event buf l wall = given_by old (as_logged old.log new) event buf l.turns wall
-
-kept_by : (old new : LiveEnds) (event : Next) (buf : List ℕ) → Turns old event buf new
-    → is_wall event ≡ false → new.walled.given ≡ old.walled.given
-kept_by old new event buf (inl t) dark =
-    let wrong : true ≡ false = no_wall_of old event new t dark in absurd (cc)
-kept_by old new event buf (inr t) dark =
-    ap (λ (w : Walled). w.given) (looked_walled old new event buf t)
-
-pub kept : (old new : LiveEnds) (event : Next) (buf : List ℕ) → LogsTurn old event buf new
-    → is_wall event ≡ false → new.walled.given ≡ old.walled.given
-kept old new event buf l dark = kept_by old (as_logged old.log new) event buf l.turns dark
 
 pub put_walled : (old new : LiveEnds) (moment : ℕ) (action : Output)
     → LogsPut old moment action new → new.walled ≡ old.walled
@@ -165,30 +111,6 @@ pub held : (old new : LiveEnds) (event : Next) (buf : List ℕ) → LogsTurn old
     → AtMoment event (λ moment. AtClock new.clock (λ now.
     (moment ≡ now) ⊎ IsEve new.timing new.timing.request moment now))
 held old new event buf l = held_by_turn old (as_logged old.log new) event buf l.turns
-
--- a request
-behind : (before : StreamHistory) (late : ℕ) (octets : List ℕ) (taken : Bool)
-    → IsWrittenBehind before octets (noted (noted before (Dropped late)) (Wrote octets taken))
-behind None late octets taken = tt
-behind (Some before) late octets taken = (late, taken, refl)
-
-pub dropped : (old new : LiveEnds) (moment : ℕ) (octets : List ℕ)
-    → LogsPut old moment (LineOut octets) new → IsWrittenBehind old.line octets new.line
-dropped old new moment octets l =
-    let line = ap (λ (e : LiveEnds). e.line) l.puts.done in
-    let P : StreamHistory → Type 0 = λ h. IsWrittenBehind old.line octets h in
-    subst P (sym line) (behind old.line l.puts.late octets l.puts.taken)
-
-pub timed : (old new : LiveEnds) (moment : ℕ) (octets : List ℕ)
-    → LogsPut old moment (LineOut octets) new → AtClock new.clock (λ now.
-    new.timing ≡ record old.timing { request = Some (record { moment = moment; written = now }) })
-timed old new moment octets l =
-    let clock = ap (λ (e : LiveEnds). e.clock) l.puts.done in
-    let asked = ap (λ (e : LiveEnds). e.timing) l.puts.done in
-    let Holds : ℕ → Type 0 =
-    λ now. new.timing ≡ asked_at moment now old.timing in
-    let C : Moments → Type 0 = λ c. AtClock c Holds in
-    subst C (sym clock) (at_clock old.clock l.puts.written Holds asked)
 
 pub others : (old new : LiveEnds) (moment : ℕ) (action : Output) → LogsPut old moment action new
     → AsksNothing action → new.timing ≡ old.timing

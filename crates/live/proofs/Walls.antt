@@ -38,21 +38,6 @@ undue a b c d first second same t u =
     let given = sym same ∙ ap (λ (e : LiveEnds). e.walled) t.given.ends in
     sym (ap (λ (w : Walled). is_wall_due w u.begun) given) ∙ u.due
 
-apart_by : (a b c d : LiveEnds) (first second : Next) (buf more : List ℕ) → b.walled ≡ c.walled
-    → Turns a first buf b
-    → Turns c second more d → is_wall first ≡ true → is_wall second ≡ false
-apart_by a b c d first second buf more same (inr t) u given =
-    let no : false ≡ true = sym (of_ends a b first buf t) ∙ given in absurd (cc)
-apart_by a b c d first second buf more same (inl t) (inr u) given = of_ends c d second more u
-apart_by a b c d first second buf more same (inl t) (inl u) given =
-    let no : false ≡ true = undue a b c d first second same t u in absurd (cc)
-
-pub apart : (a b c : LiveEnds) (first second : Next) (buf more : List ℕ) → LogsTurn a first buf b
-    → LogsTurn b second more c
-    → is_wall first ≡ true → is_wall second ≡ false
-apart a b c first second buf more l m =
-    apart_by a (as_logged a.log b) b (as_logged b.log c) first second buf more refl l.turns m.turns
-
 -- an event that isn't the wall clock comes of looks, before which it wasn't due
 since : (given : Option ℕ) (begun : ℕ) → is_due_since given true begun ≡ false
     → IfSome given (λ t. begun < t + 1000)

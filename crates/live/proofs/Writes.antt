@@ -81,9 +81,6 @@ waits_none : (c : Calls) (w s : Bool) → Took c [] (called c (Waits w s))
 waits_none None w s = tt
 waits_none (Some before) w s = sym (append-nil (took before))
 
-unlike : (n l : ℕ) → (n == l) ≡ false → n ≢ l
-unlike n l other e = let wrong : true ≡ false = sym (grind (arith, e)) ∙ other in absurd (cc)
-
 pub written_refused : (old mid new : Calls) (octets : List ℕ) (n : ℕ) (w : Bool)
     → WritesOnce old octets n mid
     → n ≤ length octets → n ≢ length octets → w ≡ false → new ≡ called mid (Waits true w)

@@ -4,7 +4,7 @@ use Rattle.std.specs.Prelude.{take, ◌⊎◌, Bool, Option, Some, None, option_
 use Rattle.std.specs.declared.net.ip_addr.IpAddr.{IpAddr}
 use Rattle.live.specs.Ends.{LiveEnds, Peer}
 use Rattle.live.specs.AllowLists.{Allows}
-use Rattle.live.specs.OctetStreams.{Happening, StreamHistory, Dropped, WasGone, Wrote, noted}
+use Rattle.live.specs.OctetStreams.{Happening, StreamHistory, WasGone, Wrote, noted}
 use Rattle.live.specs.Timing.{Moments, is_awaited, is_behind}
 use Rattle.live.specs.Streams.{ends_frame}
 use Rattle.live.specs.Walls.{is_wall_due}
@@ -43,11 +43,6 @@ abbrev pub AtClock : Moments → (ℕ → Type 0) → Type 0
 AtClock None Holds = Unit {0}
 AtClock (Some []) Holds = Unit {0}
 AtClock (Some (now ∷ before)) Holds = Holds now
-
--- the line has been looked at for answer_ms since the latest request was written, if one was
-abbrev pub IsWaitedOut : Timing → Option WrittenRequest → Type 0
-IsWaitedOut t None = Unit {0}
-IsWaitedOut t (Some r) = t.answer_ms ≤ t.looked - r.written
 
 -- this holds of what the clock gave before it gave the newest moment, where it notes that
 abbrev pub AtBegun : Moments → (ℕ → Type 0) → Type 0
@@ -119,17 +114,6 @@ IfTick (next.Wall now number) Holds = Unit {0}
 IfTick next.Done Holds = Unit {0}
 IfTick next.Fault Holds = Unit {0}
 
--- this holds of the moment of the wall clock and of its number, if the event gives it
-abbrev pub AtWall : Next → (ℕ → ℕ → Type 0) → Type 0
-AtWall (next.Wall now number) Holds = Holds now number
-AtWall (next.Line now len) Holds = Unit {0}
-AtWall (next.Open now) Holds = Unit {0}
-AtWall (next.Bytes now len) Holds = Unit {0}
-AtWall (next.Cut now) Holds = Unit {0}
-AtWall (next.Tick now) Holds = Unit {0}
-AtWall next.Done Holds = Unit {0}
-AtWall next.Fault Holds = Unit {0}
-
 -- The exchange of the latest request would be over by now, but the line hasn't been looked at for
 -- answer_ms since the request was written: this is the last moment at which it isn't over.
 abbrev pub IsEve : Timing → Option WrittenRequest → (moment now : ℕ) → Type 0
@@ -142,15 +126,6 @@ IsEve t (Some r) moment now =
 abbrev pub IsOneOf : List ℕ → ℕ → Type 0
 IsOneOf [] moment = ⊥
 IsOneOf (first ∷ moments) moment = (moment ≡ first) ⊎ IsOneOf moments moment
-
--- The latest thing that happened at the line is that these octets were put on it, and the one
--- before that what waited there was dropped.
-abbrev pub IsWrittenBehind : (before : StreamHistory) → (octets : List ℕ) → (now : StreamHistory)
-    → Type 0
-IsWrittenBehind None octets now = Unit {0}
-IsWrittenBehind (Some before) octets None = ⊥
-IsWrittenBehind (Some before) octets (Some now) =
-    (late : ℕ) × (taken : Bool) × (now ≡ Wrote octets taken ∷ (Dropped late ∷ before))
 
 -- the action is no request
 abbrev pub AsksNothing : Output → Type 0

@@ -7,16 +7,16 @@ pub(crate) mod tries;
 
 ghost use Rattle.std.specs.Prelude.{◌⊎◌, ◌≡◌, ◌≢◌, All, IfSome, None, ◌+◌, ◌-◌, ◌<◌, ◌≤◌, ℕ, List};
 ghost use Rattle.std.specs.Prelude.{[], ◌∷◌, length, take, Some, true, false};
-ghost use Rattle.std.specs.Prelude.{◌*◌, ◌^◌, min, Ok, Err, Result};
+ghost use Rattle.std.specs.Prelude.{◌*◌, ◌^◌, Ok, Err, Result};
 ghost use Rattle.std.specs.Time.{instant_nanos, system_time_nanos};
 ghost use Rattle.std.specs.declared.io.Error.{Error};
 ghost use Rattle.std.specs.declared.time.Instant.{Instant};
 ghost use Rattle.std.specs.declared.time.SystemTime.{SystemTime};
 ghost use Rattle.gateway.specs.declared.ports.Next.{Next};
 ghost use Rattle.live.specs.Ends.{LiveEnds, LogsTurn, LogsPut};
-ghost use Rattle.live.specs.Law.{AtMoment, AtBytes, AtClock, AtBegun, IsWaitedOut, AtRounds};
-ghost use Rattle.live.specs.Law.{first_of, IsTickDue, IfTick, AtWall, IsEve, IsOneOf};
-ghost use Rattle.live.specs.Law.{IsWrittenBehind, AsksNothing, IsFoundGone, IsLost, is_cut};
+ghost use Rattle.live.specs.Law.{AtMoment, AtBytes, AtClock, AtBegun, AtRounds};
+ghost use Rattle.live.specs.Law.{first_of, IsTickDue, IfTick, IsOneOf};
+ghost use Rattle.live.specs.Law.{IsFoundGone, IsLost, is_cut};
 ghost use Rattle.live.specs.Law.{is_frame};
 ghost use Rattle.live.specs.Law.{notes_of};
 ghost use Rattle.live.specs.Clocks.{GoesOn, ShowsWall, moment_by, wall_by};
@@ -24,7 +24,7 @@ ghost use Rattle.live.specs.Cuts.{CutsFirst, is_wall_in, shuts_nothing};
 ghost use Rattle.live.specs.Runs.{HasPassed, IsInRun, WallFirst, is_action};
 ghost use Rattle.live.specs.declared.ends.CutCause.TheVariants.{Gone, NotTaken};
 ghost use Rattle.gateway.specs.Log.{Closed, GapOut, Input, LineOut, Output, TcpOut, WallIs, Went};
-ghost use Rattle.live.specs.InTurn.{BeginsBehind, LooksBefore, IsLookedAt, begins_behind};
+ghost use Rattle.live.specs.InTurn.{LooksBefore, IsLookedAt, begins_behind};
 ghost use Rattle.live.specs.InTurn.{EachRoundLooks, GivesOctets, HoldsFound, HoldsOctets};
 ghost use Rattle.live.specs.InTurn.{level_rounds};
 ghost use Rattle.live.specs.declared.source.EventSource.TheVariants.{Line};
@@ -33,12 +33,12 @@ ghost use Rattle.session.specs.declared.kinds.Close.TheVariants.{Replaced};
 ghost use Rattle.live.specs.Passed.{IsFreshRun, LiveRun, LogsEnds, NotesStill, line_in, line_out};
 ghost use Rattle.live.specs.Passed.{centre_in, centre_out, opened_in, accepted_in, given, handed};
 ghost use Rattle.live.specs.Passed.{taken_of, example_log, example_line};
-ghost use Rattle.live.specs.Late.{dropped_of, gone_of, CountsLate};
+ghost use Rattle.live.specs.Late.{dropped_of, gone_of};
 ghost use Rattle.live.specs.Streams.{Calls, Came, ReadsLine, ReadsOnce, octets_of};
 ghost use Rattle.live.specs.Timing.{is_behind};
 ghost use Rattle.live.specs.Walls.{is_wall, is_wall_due};
 ghost use Rattle.live.specs.declared.ends.Got.{Got};
-ghost use Rattle.live.specs.OctetStreams.{Dropped, Happening, IsNew, WasGone, WasQuiet, looked};
+ghost use Rattle.live.specs.OctetStreams.{WasGone, WasQuiet, looked};
 ghost use Rattle.live.specs.declared.timing.Timing.{Timing};
 ghost use Rattle.live.specs.declared.timing.WrittenRequest.{WrittenRequest};
 ghost use Rattle.live.specs.declared.walled.Walled.{Walled};
@@ -54,15 +54,6 @@ pub fn no_exchange_ends_unread()
         AtMoment event (λ moment. r.moment + new.timing.answer_ms ≤ moment →
         (new.timing.answer_ms ≤ new.timing.looked - r.written)
         ⊎ (is_frame event buf ≡ true)) }
-{}
-
-/// Once the line has been looked at for `answer_ms` since the latest request was written, and
-/// before any request, an event bears the moment that the clock gave last: so an exchange without
-/// an answer ends.
-pub fn a_line_that_is_waited_out_holds_no_moment()
-    ensures { (old new : LiveEnds) (event : Next) (buf : List ℕ) → LogsTurn old event buf new →
-        IsWaitedOut new.timing new.timing.request →
-        AtClock new.clock (λ now. AtMoment event (λ moment. moment ≡ now)) }
 {}
 
 /// The rounds of looks for an event begin less than 100 ms after the first of them: so between two
@@ -90,15 +81,6 @@ pub fn a_tick_has_a_reason()
     ensures { (old new : LiveEnds) (event : Next) (buf : List ℕ) → LogsTurn old event buf new →
         IfTick event (AtRounds old.clock new.clock (λ begun quiet now.
         IsTickDue old.timing new.timing new.walled (first_of begun quiet) quiet now)) }
-{}
-
-/// The next round of looks begins with the source after the one where the last event was found,
-/// whatever is put out in between.
-pub fn the_round_goes_on_behind_the_last_event()
-    ensures given { (old new : LiveEnds) (event : Next) (buf : List ℕ) →
-        LogsTurn old event buf new → BeginsBehind event old.first new.first }
-    ensures put { (old new : LiveEnds) (moment : ℕ) (action : Output) →
-        LogsPut old moment action new → new.first ≡ old.first }
 {}
 
 /// No source that always has something hides another. For an event each source of the round was
@@ -139,14 +121,6 @@ pub fn no_source_hides_another()
 pub fn a_close_shuts_the_connection()
     ensures { (old new : LiveEnds) (moment : ℕ) (cause : Close) →
         LogsPut old moment (Closed cause) new → cause ≢ Replaced →
-        (new.connection ≡ None) × (new.held ≡ []) × (new.is_cut_due ≡ false) }
-{}
-
-/// Behind a cut no connection is open, no octets of one are held and no other cut is due: so what
-/// the gateway sends then reaches nobody, and each connection is cut once.
-pub fn a_cut_shuts_the_connection()
-    ensures { (old new : LiveEnds) (event : Next) (buf : List ℕ) → LogsTurn old event buf new →
-        is_cut event ≡ true →
         (new.connection ≡ None) × (new.held ≡ []) × (new.is_cut_due ≡ false) }
 {}
 
@@ -258,56 +232,6 @@ pub fn looks_ask_nothing()
         (new.timing.request ≡ old.timing.request) × (new.timing.answer_ms ≡ old.timing.answer_ms) }
 {}
 
-/// Two events that follow each other never both give the wall clock: whatever the gateway stalls,
-/// the ends are looked at in between.
-pub fn the_ends_are_looked_at_between_wall_moments()
-    ensures { (a b c : LiveEnds) (first second : Next) (buf more : List ℕ) →
-        LogsTurn a first buf b → LogsTurn b second more c → is_wall first ≡ true →
-        is_wall second ≡ false }
-{}
-
-/// The wall clock is given as it stood at the moment that the event bears: what it showed, less the
-/// time that has passed since that moment. And when it was given last is the moment that the clock
-/// gave for it: by that moment it is due again, whatever is put out.
-pub fn the_wall_clock_is_that_of_its_moment()
-    ensures shown { (old new : LiveEnds) (event : Next) (buf : List ℕ) →
-        LogsTurn old event buf new → AtWall event (λ moment number.
-        AtClock new.clock (λ now. AtClock new.walls (λ shown.
-        number ≡ shown - (now - moment)))) }
-    ensures given { (old new : LiveEnds) (event : Next) (buf : List ℕ) →
-        LogsTurn old event buf new → is_wall event ≡ true →
-        AtClock new.clock (λ now. new.walled.given ≡ Some now) }
-    ensures kept { (old new : LiveEnds) (event : Next) (buf : List ℕ) →
-        LogsTurn old event buf new → is_wall event ≡ false →
-        new.walled.given ≡ old.walled.given }
-    ensures put { (old new : LiveEnds) (moment : ℕ) (action : Output) →
-        LogsPut old moment action new → new.walled ≡ old.walled }
-{}
-
-/// An event bears the moment that the clock gave last. Only where that would end an exchange whose
-/// line hasn't been looked at for `answer_ms` since the request was written it bears the last
-/// moment at which the exchange isn't over. So no timer stands still while an answer is awaited.
-pub fn a_moment_is_held_only_before_the_end_of_an_exchange()
-    ensures { (old new : LiveEnds) (event : Next) (buf : List ℕ) → LogsTurn old event buf new →
-        AtMoment event (λ moment. AtClock new.clock (λ now.
-        (moment ≡ now) ⊎ IsEve new.timing new.timing.request moment now)) }
-{}
-
-/// Before a request is written what waits at the line is dropped, and nothing happens there between
-/// the two: so what came late is no answer to it. It is timed by the clock behind its write,
-/// however long that took, and by no other action. It is no look at the line.
-pub fn a_request_is_written_and_timed_behind_what_waits()
-    ensures dropped { (old new : LiveEnds) (moment : ℕ) (octets : List ℕ) →
-        LogsPut old moment (LineOut octets) new → IsWrittenBehind old.line octets new.line }
-    ensures timed { (old new : LiveEnds) (moment : ℕ) (octets : List ℕ) →
-        LogsPut old moment (LineOut octets) new → AtClock new.clock (λ now.
-        new.timing ≡ record old.timing {
-          request = Some (record { moment = moment; written = now });
-        }) }
-    ensures others { (old new : LiveEnds) (moment : ℕ) (action : Output) →
-        LogsPut old moment action new → AsksNothing action → new.timing ≡ old.timing }
-{}
-
 /// By how long the line has been looked at is counted from moments that the clock gave: the latest
 /// look at it is as it was, or began when a round of looks for this event did.
 pub fn looks_at_the_line_are_timed_by_the_clock()
@@ -342,29 +266,6 @@ pub fn a_run_logs_what_passed()
 /// a run: so no law over what they note is about nothing from then on.
 pub fn what_is_noted_is_noted_to_the_end()
     ensures { (start end : LiveEnds) → LiveRun start end → NotesStill start end }
-{}
-
-/// The octets that are late are those that the line dropped before requests, in any run in which
-/// none were counted and nothing had happened at the line before, where the line notes that. Each
-/// is counted, as far as 64 bits do. None are dropped at any look, and nothing happens at the line
-/// at any other action.
-pub fn late_octets_are_those_that_were_dropped()
-    ensures run { (start end : LiveEnds) → start.late ≡ 0 → IsNew start.line →
-        LiveRun start end → CountsLate end }
-    ensures looks { (old new : LiveEnds) (event : Next) (buf : List ℕ) →
-        LogsTurn old event buf new → new.late ≡ old.late }
-    ensures others { (old new : LiveEnds) (moment : ℕ) (action : Output) →
-        LogsPut old moment action new → AsksNothing action →
-        (new.late ≡ old.late) × (new.line ≡ old.line) }
-    ensures counted { (count : ℕ) (before : List Happening) →
-        dropped_of (Dropped count ∷ before) ≡ min (dropped_of before + count) (2 ^ 64 - 1) }
-{}
-
-/// The line fails where its stream is gone, and nowhere else. A run that begins without failures
-/// has as many as looks that found the line's stream gone, where the line notes them.
-pub fn the_line_fails_where_its_stream_is_gone()
-    ensures { (start end : LiveEnds) → start.failed ≡ 0 → IsNew start.line →
-        LiveRun start end → IfSome end.line (λ happened. end.failed ≡ gone_of happened) }
 {}
 
 /// A look gives the octets that its calls brought, all of them and in their order, where the stream

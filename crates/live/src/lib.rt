@@ -7,11 +7,10 @@
 //! [`LineSocket`], [`CentreListener`], [`CentreSocket`] and [`SystemClock`].
 //!
 //! Proved, for any ends that note what happens at them: an event is the first thing found in rounds
-//! of looks, which begin after the source of the last event
-//! ([`the_round_goes_on_behind_the_last_event`]); each source of a round is looked at once, and
-//! none after the one that had something, so no source hides another ([`no_source_hides_another`]).
-//! Where nothing is found a tick is given: 100 ms after the first round began, at once where the
-//! time of an exchange is over, and where the wall clock is due
+//! of looks, which begin after the source of the last event; each source of a round is looked at
+//! once, and none after the one that had something, so no source hides another
+//! ([`no_source_hides_another`]). Where nothing is found a tick is given: 100 ms after the first
+//! round began, at once where the time of an exchange is over, and where the wall clock is due
 //! ([`looks_for_an_event_begin_within_100_ms`],
 //! [`an_exchange_that_is_over_gives_an_event_at_once`], [`a_tick_has_a_reason`]).
 //!
@@ -23,17 +22,14 @@
 //!
 //! And of time, whatever the gateway stalls: an event bears the clock's moment after the looks, but
 //! none that ends an exchange whose line hasn't been looked at for `answer_ms` since the request
-//! was written ([`no_exchange_ends_unread`]), and once it has been, the clock's
-//! ([`a_line_that_is_waited_out_holds_no_moment`],
-//! [`a_moment_is_held_only_before_the_end_of_an_exchange`]); where that moment is more than 50 ms
-//! behind the clock, the line alone is looked at, and octets of a control centre that would bear
-//! such a moment are held ([`what_the_centre_sent_is_given_in_time`]), until a frame has come from
-//! the line, which bears none that is ([`a_frame_catches_the_clock_up`]).
+//! was written ([`no_exchange_ends_unread`]), and once it has been, the clock's; where that moment
+//! is more than 50 ms behind the clock, the line alone is looked at, and octets of a control centre
+//! that would bear such a moment are held ([`what_the_centre_sent_is_given_in_time`]), until a
+//! frame has come from the line, which bears none that is ([`a_frame_catches_the_clock_up`]).
 //!
 //! The wall clock is given at the first call, and again where a second has passed since and the
-//! ends have been looked at in between ([`the_ends_are_looked_at_between_wall_moments`],
-//! [`the_wall_clock_is_given_each_second`]): as it stood at the moment that the event bears. A wall
-//! clock that is set is given as it then shows.
+//! ends have been looked at in between ([`the_wall_clock_is_given_each_second`]): as it stood at
+//! the moment that the event bears. A wall clock that is set is given as it then shows.
 //!
 //! It has a log, and stores none of it: each event that it gave and each action that it put out.
 //! Where the ends note what happens at them, the log's octets are those that the line and the open
@@ -48,7 +44,7 @@
 //! is closed ([`a_stream_that_gives_nothing_is_closed`]).
 //!
 //! Before a request is written what has come from the line is dropped, since it is no answer to it,
-//! and how many octets that were is counted ([`late_octets_are_those_that_were_dropped`]).
+//! and how many octets that were is counted.
 //!
 //! That nobody can be accepted is told at the first fault, and not again until somebody has come
 //! ([`that_nobody_can_be_accepted_is_told_once`]).
@@ -91,7 +87,6 @@ pub use ends::{
 pub use laws::arriving::{
     only_allowed_addresses_connect, only_strangers_are_refused,
     that_nobody_can_be_accepted_is_told_once, who_comes_is_refused_or_let_in,
-    who_is_on_the_list_may_connect, who_was_refused_is_shown,
 };
 pub use laws::reaching::{
     a_clock_begins_at_its_moment, a_line_is_reached_at_its_place, a_try_ends_as_its_connect_does,
@@ -100,23 +95,17 @@ pub use laws::reaching::{
 pub use laws::showing::the_ends_are_shown_as_they_are;
 pub use laws::tries::{
     a_stream_that_gives_nothing_is_closed, a_stream_that_is_away_is_tried_when_due,
-    a_try_goes_on_until_it_ends, tries_lie_farther_apart_while_nothing_comes,
-    what_is_known_of_a_stream_is_what_was_seen,
+    tries_lie_farther_apart_while_nothing_comes,
 };
 pub use laws::{
     a_clock_goes_on_with_the_systems, a_close_shuts_the_connection, a_cut_has_its_reason,
-    a_cut_shuts_the_connection, a_cut_that_is_due_comes_next, a_frame_catches_the_clock_up,
-    a_line_that_is_waited_out_holds_no_moment, a_look_gives_what_its_calls_brought,
-    a_moment_is_held_only_before_the_end_of_an_exchange,
-    a_request_is_written_and_timed_behind_what_waits, a_run_begins_with_the_wall_clock,
-    a_run_logs_what_passed, a_run_that_goes_on_begins_with_a_cut, a_tick_has_a_reason,
-    an_exchange_that_is_over_gives_an_event_at_once, late_octets_are_those_that_were_dropped,
-    looks_ask_nothing, looks_at_the_line_are_timed_by_the_clock,
-    looks_for_an_event_begin_within_100_ms, no_exchange_ends_unread, no_source_hides_another,
-    the_ends_are_looked_at_between_wall_moments, the_line_fails_where_its_stream_is_gone,
-    the_log_has_what_passed, the_round_goes_on_behind_the_last_event,
-    the_wall_clock_is_given_each_second, the_wall_clock_is_that_of_its_moment,
-    what_is_noted_is_noted_to_the_end, what_passed_by_example,
+    a_cut_that_is_due_comes_next, a_frame_catches_the_clock_up,
+    a_look_gives_what_its_calls_brought, a_run_begins_with_the_wall_clock, a_run_logs_what_passed,
+    a_run_that_goes_on_begins_with_a_cut, a_tick_has_a_reason,
+    an_exchange_that_is_over_gives_an_event_at_once, looks_ask_nothing,
+    looks_at_the_line_are_timed_by_the_clock, looks_for_an_event_begin_within_100_ms,
+    no_exchange_ends_unread, no_source_hides_another, the_log_has_what_passed,
+    the_wall_clock_is_given_each_second, what_is_noted_is_noted_to_the_end, what_passed_by_example,
     what_the_centre_sent_is_given_in_time,
 };
 pub use port::Live;
@@ -128,7 +117,7 @@ pub use sockets::{
 };
 pub use stream_laws::{
     a_look_goes_on_until_a_frame_ends, a_write_is_taken_where_all_its_octets_are,
-    answers_of_streams_mean_what_they_say, what_waits_is_dropped_to_its_end,
+    what_waits_is_dropped_to_its_end,
 };
 pub use syncs::SlowSyncs;
 pub use watched::{EndsSight, Failure, Notice, Watched};

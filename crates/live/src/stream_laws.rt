@@ -1,28 +1,11 @@
 //! Laws of the calls to a stream of the system.
 ghost use Rattle.std.specs.Prelude.{◌≡◌, ◌≢◌, ◌⊎◌, ◌↔◌, ℕ, ◌+◌, ◌≤◌, List, [], ◌∷◌, ◌++◌, length};
-ghost use Rattle.std.specs.Prelude.{Bool, true, false, Some, Ok, Err, Result};
+ghost use Rattle.std.specs.Prelude.{Bool, true, false, Some, Result};
 ghost use Rattle.std.specs.declared.io.Error.{Error};
-ghost use Rattle.std.specs.declared.io.ErrorKind.TheVariants.{WouldBlock, TimedOut, Interrupted};
-ghost use Rattle.std.specs.IoError.{error_kind};
 ghost use Rattle.live.specs.CallSums.{BroughtNone, IsHandedOn, IsReadEmpty, brought_in};
 ghost use Rattle.live.specs.CallSums.{received_in};
-ghost use Rattle.live.specs.Streams.{Calls, DropsWaiting, MeansGot, ReadsFrame, SystemCall};
+ghost use Rattle.live.specs.Streams.{Calls, DropsWaiting, ReadsFrame, SystemCall};
 ghost use Rattle.live.specs.Streams.{Waits, WritesAll, WritesInTwo, ends_frame, took};
-ghost use Rattle.live.specs.declared.ends.Got.{Got};
-ghost use Rattle.live.specs.declared.ends.Got.TheVariants.{Octets, Quiet, Gone};
-
-/// What the answer of a call means. Octets are octets, and none at all are the stream's end. A wait
-/// that ended without octets and an interruption are quiet, and each other failure is the end.
-pub fn answers_of_streams_mean_what_they_say()
-    ensures octets { (n : ℕ) (got : Got) → MeansGot (Ok n) got → 1 ≤ n → got ≡ Octets n }
-    ensures none { (got : Got) → MeansGot (Ok 0) got → got ≡ Gone }
-    ensures quiet { (fault : Error) (got : Got) → MeansGot (Err fault) got →
-        (error_kind fault ≡ WouldBlock) ⊎ ((error_kind fault ≡ TimedOut)
-        ⊎ (error_kind fault ≡ Interrupted)) → got ≡ Quiet }
-    ensures broken { (fault : Error) (got : Got) → MeansGot (Err fault) got →
-        error_kind fault ≢ WouldBlock → error_kind fault ≢ TimedOut →
-        error_kind fault ≢ Interrupted → got ≡ Gone }
-{}
 
 /// A write counts as taken exactly where the stream took all its octets, once and in their order:
 /// in one call, and in two. A part of a write isn't the whole. Each write in two is tried: the

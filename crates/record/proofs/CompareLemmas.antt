@@ -288,19 +288,6 @@ module _ (lines run part : List (List ℕ)) (first : ℕ) (ahead page logged : L
             ∙ found.off more later;
       })
 
--- a line that isn't the run's stays so
-pub still_off : (lines run more page : List (List ℕ)) (n : ℕ) (line : List ℕ)
-    → IsOff 1 lines run n line → IsOff 1 (lines ++ more) (run ++ page) n line
-still_off lines run more page n line off = record {
-  numbers = numbers_more 1 lines more n line off.numbers;
-  off = λ rest later. ap (λ ls. first_difference 1 ls ((run ++ page) ++ later))
-      (append_assoc lines more rest)
-      ∙ ap (λ ls. first_difference 1 (lines ++ (more ++ rest)) ls) (append_assoc run page later)
-      ∙ off.off (more ++ rest) (page ++ later);
-}
-
--- A run that goes on behind its record
-
 module _ (lines run more : List (List ℕ)) (n : ℕ) (line : List ℕ) (page : List ℕ)
     (behind : IsBehind 1 lines run n line) where
   behind_to : (rest later : List (List ℕ))

@@ -8,10 +8,7 @@ pub mod DifferenceLaw
 pub mod RunLemmas
 pub mod OpeningLemmas
 pub mod BlockLemmas
-pub mod Telling
 pub mod AuditLaw
-pub mod Carrying
-pub mod Numbering
 pub mod Lengths
 pub mod Cutting
 pub mod Sending

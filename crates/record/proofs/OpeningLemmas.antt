@@ -108,16 +108,6 @@ state_joined (x ∷ xs) ys all =
     ∙ sym (ap (λ (b : Bool). (if b then drop 9 x ++ 10 ∷ first_state xs else [])
     ++ first_state ys) all.0)
 
--- none yet
-pub takes_none : (f : FirstLines) (lines : List (List ℕ)) → Takes f lines f lines
-takes_none f lines = record {
-  front = [];
-  parted = refl;
-  state = tt;
-  said = sym (append-nil f.said.items);
-  counted = omega arith;
-}
-
 -- one line more
 pub takes_next : (old before new : FirstLines) (lines left rest : List (List ℕ)) (line : List ℕ)
     → Takes old lines before left → left ≡ line ∷ rest → says_state line ≡ true

@@ -7,14 +7,13 @@ use Rattle.std.specs.List.{AllByRecursion, count_by}
 use Rattle.std.specs.Option.{is_none}
 use Rattle.gateway.specs.Agrees.{Follows, Rests}
 use Rattle.gateway.specs.Config.{Settings}
-use Rattle.gateway.specs.Log.{Log, Went, Output, events_of}
+use Rattle.gateway.specs.Log.{Log, events_of}
 use Rattle.gateway.specs.Ports.{logged_by}
 use Rattle.gateway.specs.Setups.{setup_of}
 use Rattle.gateway.specs.State.{State}
 use Rattle.gateway.specs.Traffic.{HasRested}
 use Rattle.gateway.specs.declared.ports.Next.{Next}
 use Rattle.gateway.specs.declared.ports.Next.TheVariants as answers
-use Rattle.traces.specs.Actions.{line_of}
 use Rattle.traces.specs.Fields.{parts_after}
 use Rattle.traces.specs.Printed.{IsPrintable, lines_of_log}
 use Rattle.traces.specs.Progress.{events_in, IsRight}
@@ -82,31 +81,6 @@ begun h part earlier same halted = record {
   lines = refl;
   actions = refl;
   page = append-nil (lines_of_log earlier) ∙ ap lines_of_log same;
-}
-
--- an action was printed
-pub went : (r : Rerunning) (page : List ℕ) (now : ℕ) (action : Output) → IsRerunning r
-    → page ≡ r.page ++ line_of now action
-    → IsPrintable (Went now action)
-    → IsRerunning (record r {
-      now = record r.now { log = Went now action ∷ r.now.log };
-      page =
-          page;
-    })
-went r page now action holds printed printable = record {
-  halted = record {
-    few = holds.halted.few;
-    events = holds.halted.events;
-    printable = (printable, holds.halted.printable);
-  };
-  past = holds.past;
-  whole = holds.whole;
-  right = holds.right;
-  lines = holds.lines;
-  actions = holds.actions;
-  page = ap (λ xs. lines_of_log r.start.log ++ xs) printed
-      ∙ sym (append_assoc (lines_of_log r.start.log) r.page (line_of now action))
-      ∙ ap (λ xs. xs ++ line_of now action) holds.page;
 }
 
 -- an event came, or none does any more

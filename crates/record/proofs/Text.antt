@@ -24,10 +24,6 @@ nothing_added : (t : Option (List ℕ)) (a : List ℕ) → added (added t a) [] 
 nothing_added None a = refl
 nothing_added (Some x) a = ap Some (append-nil (x ++ a))
 
-pub nothing_held : (t : Option (List ℕ)) → IsWritten t → IsWritten (added t [])
-nothing_held None w = w
-nothing_held (Some x) w = subst IsText (sym (append-nil x)) w
-
 -- by whether the record was over, and whether there was memory
 noted : (over memory : Bool) (old : Recording) (news : Log) → old.is_over ≡ over →
     grows_by (if over then passed news old else held_by memory news old).is_over old

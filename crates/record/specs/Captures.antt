@@ -1,7 +1,6 @@
 -- Records as captures, entry by entry (profile).
-use Rattle.std.specs.Prelude.{ℕ, Bool, true, false, if◌then◌else◌, List, [], ◌∷◌, ◌++◌, codes}
+use Rattle.std.specs.Prelude.{ℕ, true, false, if◌then◌else◌, List, [], ◌∷◌, ◌++◌, codes}
 use Rattle.std.specs.Prelude.{Option, Some, None}
-use Rattle.std.specs.List.{flat_map}
 use Rattle.ft12.specs.declared.frame.LinkSize.{LinkSize}
 use Rattle.gateway.specs.Log.{LogEntry, Came, Went, LineIn, Opened, TcpIn, CutOff, LineOut, TcpOut}
 use Rattle.gateway.specs.Log.{Closed, GapOut}
@@ -156,30 +155,3 @@ whole_capture size entries =
     packets_in (begun size) entries ++ last_packets (after_all (begun size) entries) ∷ []
 
 -- ---- Octets
-
--- the octets of packets of the line that go one way, joined
-abbrev pub serial_data : (is_request : Bool) → Serial → List ℕ
-serial_data true s = if s.is_request then s.octets else []
-serial_data false s = if s.is_request then [] else s.octets
-
-abbrev pub serial_joined : (is_request : Bool) → List Serial → List ℕ
-serial_joined is_request packets = flat_map (serial_data is_request) packets
-
--- the octets that an entry says TCP took (up) or brought
-abbrev pub tcp_octets : (is_up : Bool) → LogEntry → List ℕ
-tcp_octets true (Went now (TcpOut octets)) = octets
-tcp_octets false (Came now (TcpIn octets)) = octets
-tcp_octets is_up entry = []
-
--- and that the line took (requests) or brought
-abbrev pub line_octets : (is_request : Bool) → LogEntry → List ℕ
-line_octets true (Went now (LineOut octets)) = octets
-line_octets false (Came now (LineIn octets)) = octets
-line_octets is_request entry = []
-
--- the segments of a capture, and its packets of the line
-abbrev pub segments_in : List Packets → List Sent
-segments_in packets = flat_map (λ p. p.segments) packets
-
-abbrev pub serial_in : List Packets → List Serial
-serial_in packets = flat_map (λ p. p.serial) packets

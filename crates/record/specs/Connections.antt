@@ -126,38 +126,3 @@ data_of false s = if s.segment.is_up then [] else s.payload
 
 abbrev pub joined : (is_up : Bool) → List Sent → List ℕ
 joined is_up sent = flat_map (data_of is_up) sent
-
--- the octets that a deed carries that way
-abbrev pub octets_of : (is_up : Bool) → Deed → List ℕ
-octets_of true (Carries is_up octets) = if is_up then octets else []
-octets_of false (Carries is_up octets) = if is_up then [] else octets
-octets_of is_up Opens = []
-octets_of is_up (Closes comment) = []
-octets_of is_up Cuts = []
-
--- ---- Numbers
-
--- The number of an end's next octet behind a segment with this number (RFC 9293, 3.4): its data
--- count (PSH and ACK), and SYN and FIN count as one octet each; ACK and RST alone count as none.
-abbrev pub next_number : ℕ → Sent → ℕ
-next_number n s =
-    if s.segment.flags == 24 then (n + length s.payload) % 2 ^ 32
-    else (if s.segment.flags % 4 == 0 then n else (n + 1) % 2 ^ 32)
-
--- the number that a segment is to have, where its end's next octet has this one: SYN begins at 0
-abbrev pub number_due : ℕ → Sent → ℕ
-number_due n s = if s.segment.flags % 4 == 2 then 0 else n
-
--- what a segment is to acknowledge, where the other end's next octet has this number: all before
--- it, but the first SYN nothing
-abbrev pub acknowledgement_due : ℕ → Sent → ℕ
-acknowledgement_due other s = if s.segment.flags == 2 then 0 else other
-
--- Each end numbers its segments on, and acknowledges what the other has sent.
-abbrev pub RunOn : (up down : ℕ) → List Sent → Type 0
-RunOn up down [] = Unit {0}
-RunOn up down (s ∷ sent) =
-    (s.segment.sequence ≡ number_due (if s.segment.is_up then up else down) s)
-    × (s.segment.acknowledged ≡ acknowledgement_due (if s.segment.is_up then down else up) s)
-    × RunOn (if s.segment.is_up then next_number (number_due up s) s else up)
-    (if s.segment.is_up then down else next_number (number_due down s) s) sent

@@ -1,6 +1,6 @@
 -- Words of the laws of a record (this gateway's own profile).
 use Rattle.std.specs.Prelude.{◌≡◌, ◌≢◌, ◌⊎◌, ℕ, ◌+◌, ◌==◌, ◌||◌, Bool, true, false, List, [], ◌∷◌}
-use Rattle.std.specs.Prelude.{◌++◌, All, if◌then◌else◌, length, count_by}
+use Rattle.std.specs.Prelude.{◌++◌, if◌then◌else◌, length, count_by}
 use Rattle.std.specs.List.{AllByRecursion}
 use Rattle.gateway.specs.Config.{Settings}
 use Rattle.gateway.specs.Log.{Log, events_of}
@@ -17,10 +17,6 @@ use Rattle.record.specs.Recording.{Recording, text_of, added}
 abbrev pub grows_by : (is_over : Bool) → (old : Recording) → List ℕ → (new : Recording) → Type 0
 grows_by true old line new = text_of new ≡ text_of old
 grows_by false old line new = text_of new ≡ added (text_of old) line
-
--- none of these octets is this one
-abbrev pub HasNone : (octet : ℕ) → List ℕ → Type 0
-HasNone octet octets = All (λ b. (b == octet) ≡ false) octets
 
 -- the lines of a record that weren't cut short
 abbrev pub uncut : List (List ℕ) → List (List ℕ)

@@ -12,10 +12,10 @@
 //! Proved: what each call appends are the octets of one definition (`specs/Captures.antt`), and a
 //! line that is neither an event nor an action, nor empty or a comment, is reported, and appends
 //! nothing. Above it, for every record: the data of the segments that go one way, joined, are the
-//! octets that TCP took or brought by its lines, and so for the line
-//! ([`captures_carry_the_octets`]); the packets of each line stand at the time of the wall clock
+//! octets that TCP took or brought by its lines, and so for the line;
+//! the packets of each line stand at the time of the wall clock
 //! ([`packets_stand_at_their_times`]); each end numbers its segments on, from SYN to FIN or RST,
-//! and acknowledges what the other has sent ([`segments_run_on`]). A reader finds each packet in
+//! and acknowledges what the other has sent. A reader finds each packet in
 //! the octets again, by the rules of pcapng, IPv4 and TCP ([`captures_are_read_back`]). Comments
 //! have worked examples ([`comments_by_example`]).
 //!

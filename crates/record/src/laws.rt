@@ -1,25 +1,23 @@
 //! What holds of every record.
 ghost use Rattle.std.specs.Prelude.{◌≡◌, ◌≢◌, ◌+◌, ◌==◌, ◌++◌, ◌∷◌, [], ℕ, List, None, Option};
 ghost use Rattle.std.specs.Prelude.{Some, count_by, length, map, true};
-ghost use Rattle.std.specs.Prelude.{false, codes, Err, Ok};
-ghost use Rattle.std.specs.List.{AllByRecursion, flat_map, slice_split};
+ghost use Rattle.std.specs.Prelude.{false, Err, Ok};
 ghost use Rattle.gateway.specs.Config.{Settings};
 ghost use Rattle.gateway.specs.Log.{Log, events_of};
 ghost use Rattle.gateway.specs.Ports.{logged_by};
 ghost use Rattle.gateway.specs.Setups.{setup_of};
 ghost use Rattle.gateway.specs.Traffic.{IsFaithful};
 ghost use Rattle.gateway.specs.declared.ports.Next.{Next};
-ghost use Rattle.record.specs.Audit.{IsAudited, LeavesOut};
+ghost use Rattle.record.specs.Audit.{IsAudited};
 ghost use Rattle.record.specs.Examples.{line};
-ghost use Rattle.record.specs.Law.{BeginsWith, HasNone, IsFirstOff, IsFirstUnknown, IsOtherRun};
-ghost use Rattle.record.specs.Law.{IsSameRun, grows_by, uncut};
+ghost use Rattle.record.specs.Law.{grows_by};
 ghost use Rattle.record.specs.Lines.{event_line, first_difference, first_state, is_action, is_cut};
 ghost use Rattle.record.specs.Lines.{record_lines, whole_lines};
 ghost use Rattle.record.specs.Opening.{BeginsBehind};
 ghost use Rattle.record.specs.Recording.{Recording, Gives, Receives, Notes, Puts, added, passed};
 ghost use Rattle.record.specs.Recording.{log_of, logged_first, text_of};
 ghost use Rattle.record.specs.Written.{log_in};
-ghost use Rattle.record.specs.declared.audit.Comparison.TheVariants.{Differs, LeftOut, Same};
+ghost use Rattle.record.specs.declared.audit.Comparison.TheVariants.{Differs, Same};
 ghost use Rattle.record.specs.declared.audit.RecordFault.TheVariants.{Line};
 ghost use Rattle.traces.specs.Printed.{lines_of_log};
 ghost use Rattle.traces.specs.Progress.{events_in};
@@ -53,61 +51,6 @@ pub fn a_record_is_the_text_of_what_passed()
         r.taken ≡ Some taken → r.missed ≡ Some missed →
         (log_of r ≡ Some (missed ++ log_in (taken ++ r.held)))
         × (logged_first (Some log) port ≡ Some log) × (logged_first None port ≡ port) }
-{}
-
-/// The lines of a record are those that a line feed ends, as many as there are, and however long;
-/// what stands behind the last one is left out. A line was cut short if it has a `!`, and only
-/// then. Of the others those log an action whose second field is `>`. The rest are read as events,
-/// as they are.
-pub fn lines_of_a_record_are_told_apart()
-    ensures lines { (ls : List (List ℕ)) (l : List ℕ) → AllByRecursion (HasNone 10) ls →
-        HasNone 10 l → whole_lines (flat_map line ls ++ l) ≡ ls }
-    ensures cut { (front behind : List ℕ) → is_cut (front ++ 33 ∷ behind) ≡ true }
-    ensures whole { (l : List ℕ) → HasNone 33 l → is_cut l ≡ false }
-    ensures actions { (l moment : List ℕ) (fields : List (List ℕ)) → is_cut l ≡ false →
-        slice_split (λ b. b == 32) l ≡ moment ∷ codes ">" ∷ fields → is_action l ≡ true }
-    ensures others { (l moment second : List ℕ) (fields : List (List ℕ)) →
-        slice_split (λ b. b == 32) l ≡ moment ∷ second ∷ fields → second ≢ codes ">" →
-        is_action l ≡ false }
-    ensures short { (l moment : List ℕ) → slice_split (λ b. b == 32) l ≡ moment ∷ [] →
-        is_action l ≡ false }
-    ensures cut_short { (l : List ℕ) → is_cut l ≡ true →
-        (is_action l ≡ false) × (event_line l ≡ []) }
-    ensures no_event { (l : List ℕ) → is_action l ≡ true → event_line l ≡ [] }
-    ensures events { (l : List ℕ) → is_cut l ≡ false → is_action l ≡ false → event_line l ≡ l }
-{}
-
-/// What a comparison of a record with its run finds, of all lines. Where it finds none, the run
-/// begins with the record's lines, without those that were cut short. Where it finds a line, the
-/// run begins with those before it, and doesn't go on with that one, which wasn't cut short.
-pub fn comparisons_find_the_first_difference()
-    ensures same { (n : ℕ) (lines run : List (List ℕ)) → first_difference n lines run ≡ None →
-        BeginsWith (uncut lines) run }
-    ensures differs { (n : ℕ) (lines run : List (List ℕ)) (number : ℕ) →
-        first_difference n lines run ≡ Some number → IsFirstOff n lines run number }
-{}
-
-/// What an audit says, of every record whose text its reader gives. If the first lines say a state,
-/// the run goes on with it. The run that an audit speaks of keeps every promise, behind each log
-/// that leads to this state. Its events are those that the record's lines say, in their order.
-/// Where it says 'the same', the run begins with the record's lines, but for those that were cut
-/// short. It has so many events, and so many of the lines are actions. Else the run differs first
-/// at the line that is told, counted from 1, and where that line says so, lines are left out there.
-/// A wrong line that is told is the first that was not cut short and is neither an action, nor an
-/// event, nor passed over.
-pub fn audits_say_what_a_record_has()
-    ensures same { (settings : Settings) (past : Log) (text : List ℕ) (events actions : ℕ) →
-        IsAudited settings past (Some text) (Ok (Same events actions)) →
-        IsSameRun settings past text events actions }
-    ensures differs { (settings : Settings) (past : Log) (text : List ℕ) (number : ℕ) →
-        IsAudited settings past (Some text) (Ok (Differs number)) →
-        IsOtherRun settings past text number }
-    ensures left_out { (settings : Settings) (past : Log) (text : List ℕ) (number : ℕ) →
-        IsAudited settings past (Some text) (Ok (LeftOut number)) →
-        IsOtherRun settings past text number × LeavesOut (record_lines text) number }
-    ensures wrong { (settings : Settings) (past : Log) (text : List ℕ) (number : ℕ) →
-        IsAudited settings past (Some text) (Err (Line number)) →
-        IsFirstUnknown (record_lines text) number }
 {}
 
 /// A record and its run are compared line by line, however many lines there are. A whole line has

@@ -29,18 +29,11 @@ pub use audit::passing::{event_line, is_action, part_of};
 pub use audit::{Comparison, RecordFault, audit_text};
 pub use capture::capturing::Capture;
 pub use capture::examples::comments_by_example;
-pub use capture::laws::{
-    captures_are_read_back, captures_carry_the_octets, packets_stand_at_their_times,
-    segments_run_on,
-};
+pub use capture::laws::{captures_are_read_back, packets_stand_at_their_times};
 pub use capture::pcapng::put_file_header;
 pub use capture::whole::{CaptureFault, capture_text};
 pub use examples::{records_by_example, texts_are_read_by_example};
-pub use laws::{
-    a_record_is_the_text_of_what_passed, audits_say_what_a_record_has,
-    comparisons_find_the_first_difference, lines_of_a_record_are_told_apart,
-    records_are_compared_line_by_line,
-};
+pub use laws::{a_record_is_the_text_of_what_passed, records_are_compared_line_by_line};
 pub use pen::Pen;
 pub use record_sheet::{RecordSheet, StandardOutput};
 pub use recorder::Recorder;

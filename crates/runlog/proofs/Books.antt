@@ -9,7 +9,7 @@ use Rattle.live.specs.declared.watched.EndsSight.{EndsSight}
 use Rattle.live.specs.declared.watched.Failure.{Failure}
 use Rattle.live.specs.declared.watched.Failure.TheVariants as failure
 use Rattle.runlog.specs.Befallen.{IsFollowed, IsWatched}
-use Rattle.runlog.specs.Examples.{at}
+use Rattle.runlog.specs.Trails.{at}
 use Rattle.runlog.specs.Logging.{Book, Closes, LogsAction, LogsEventSeeing, LogsLook, after, kept}
 use Rattle.runlog.specs.Logging.{logged, taken_in, unless_over}
 use Rattle.runlog.specs.Passing.{Between, Came, Passed, Went, passed}
@@ -24,7 +24,7 @@ use Rattle.runlog.proofs.Handed.{handed_on, over_on}
 still_watched : (old new : Book) → IsWatched old → unless_over old new ≡ new
 still_watched old new watched = ap (λ b. if b then old else new) watched
 
-logged_knows : (line : Option LogLine) (taken : Bool) (b : Book)
+pub logged_knows : (line : Option LogLine) (taken : Bool) (b : Book)
     → (logged line taken b).watching ≡ b.watching
 logged_knows None taken b = refl
 logged_knows (Some line) taken b = by_end b.is_over
@@ -136,7 +136,7 @@ kept_over : (line : Option LogLine) (taken : Bool) (b : Book) → b.is_over ≡ 
 kept_over None taken b over = refl
 kept_over (Some line) taken b over = ap (λ (x : Book). x.handed) (over_on line taken b over)
 
-still_over : (line : Option LogLine) (taken : Bool) (b : Book) → b.is_over ≡ true
+pub still_over : (line : Option LogLine) (taken : Bool) (b : Book) → b.is_over ≡ true
     → (logged line taken b).is_over ≡ true
 still_over None taken b over = over
 still_over (Some line) taken b over =

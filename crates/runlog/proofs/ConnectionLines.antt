@@ -158,7 +158,7 @@ moment_of (line ∷ lines) = Some line.moment
 record Kept (l : Limit) (lines : List LogLine) (n : ℕ) : Type 0 where
   apart : AreSecondsBehind lines
   latest : l.logged ≡ moment_of lines
-  counted : n < 2 ^ 64 → spoken_of lines + l.left_out ≡ n
+  counted : n < 2 ^ 64 → spoken_of lines + l.left_out.count ≡ n
 
 no_more_than : (m n : ℕ) → m ≤ n → n + 1 < 2 ^ 64 → min (m + 1) (2 ^ 64 - 1) ≡ m + 1
 no_more_than m n le small = grind (arith, le, small)
@@ -186,7 +186,7 @@ kept_by false l lines n now what free kept = record {
   apart = kept.apart;
   latest = kept.latest;
   counted = λ small. let before = kept.counted (omega (arith, small)) in
-      let more = no_more_than l.left_out n (omega (arith, before)) small in
+      let more = no_more_than l.left_out.count n (omega (arith, before)) small in
       omega (arith, before, more);
 }
 
@@ -239,6 +239,6 @@ apart_so c kind ps = (kept_all kind (new_watching c) ps (first_kept c kind)).apa
 pub counted_so : (c : Settings) (kind : StepKind) (ps : List Passed)
     → steps_in kind (map step_of ps) < 2 ^ 64
     → spoken_of (lines_of kind (new_watching c) ps)
-    + (limit_of kind (watched (new_watching c) ps).connection).left_out
+    + (limit_of kind (watched (new_watching c) ps).connection).left_out.count
     ≡ steps_in kind (map step_of ps)
 counted_so c kind ps small = (kept_all kind (new_watching c) ps (first_kept c kind)).counted small

@@ -5,19 +5,12 @@ use Rattle.link.specs.declared.answer.Answer.{Answer}
 use Rattle.link.specs.declared.answer.Answer.TheVariants as answer
 use Rattle.runlog.specs.Answering.{IsCounted}
 use Rattle.runlog.specs.Limits.{one_more}
-use Rattle.runlog.specs.Orders.{order_of}
-use Rattle.runlog.specs.Orders.{octet}
-use Rattle.runlog.specs.Traffic.{content_noted, content_of, ended, ended_by, fate_noted, replied_by}
-use Rattle.runlog.specs.Traffic.{reply_of, reported, sent, suffered, traffic_line, minute_line}
-use Rattle.runlog.specs.Traffic.{sent_line, confirmed_line, denied_line, terminated_line}
-use Rattle.runlog.specs.Traffic.{failed_line, skips_line, mirrors_line, spoilt_line, late_line}
-use Rattle.runlog.specs.Traffic.{or_else}
+use Rattle.runlog.specs.Traffic.{content_noted, content_of, late_line, mirrors_line, or_else}
+use Rattle.runlog.specs.Traffic.{reported, sent, skips_line, spoilt_line, suffered, traffic_line}
 use Rattle.runlog.specs.Exchange.{traffic_after}
 use Rattle.runlog.specs.declared.content.Content.{Content}
 use Rattle.runlog.specs.declared.content.Content.TheVariants as content
 use Rattle.runlog.specs.declared.content.Skip.{Skip}
-use Rattle.runlog.specs.declared.fate.CommandFate.{CommandFate}
-use Rattle.runlog.specs.declared.fate.CommandFate.TheVariants as fate
 use Rattle.runlog.specs.declared.fate.Mishap.{Mishap}
 use Rattle.runlog.specs.declared.fate.Mishap.TheVariants as mishap
 use Rattle.runlog.specs.declared.note.LogLine.{LogLine}
@@ -30,67 +23,28 @@ Same t v = IsCounted t.reports t.last_report t.skipped t.commands t v
 same : (t : Traffic) → Same t t
 same t = record { address = refl; reported = refl; at = refl; skips = refl; orders = refl }
 
-fate_same : (what : CommandFate) (o : Order) (t : Traffic) → Same t (fate_noted what o t)
-fate_same fate.Sent o t =
+pub mishap_so : (what : Mishap) (now : ℕ) (t : Traffic)
+    → IsCounted t.reports t.last_report t.skipped t.commands t (suffered what now t)
+mishap_so mishap.GivenUp now t = same t
+mishap_so mishap.MirrorDropped now t =
     record { address = refl; reported = refl; at = refl; skips = refl; orders = refl }
-fate_same fate.Confirmed o t =
+mishap_so (mishap.Spoilt by) now t =
     record { address = refl; reported = refl; at = refl; skips = refl; orders = refl }
-fate_same fate.Denied o t =
-    record { address = refl; reported = refl; at = refl; skips = refl; orders = refl }
-fate_same fate.Terminated o t =
-    record { address = refl; reported = refl; at = refl; skips = refl; orders = refl }
-fate_same fate.Busy o t =
-    record { address = refl; reported = refl; at = refl; skips = refl; orders = refl }
-fate_same fate.GivenUp o t =
-    record { address = refl; reported = refl; at = refl; skips = refl; orders = refl }
-
-ended_same : (o : Option Order) (what : CommandFate) (t : Traffic) → Same t (ended_by o what t)
-ended_same None what t = same t
-ended_same (Some o) what t = fate_same what o t
-
-pub fate_so : (what : CommandFate) (t : Traffic)
-    → IsCounted t.reports t.last_report t.skipped t.commands t (ended what t)
-fate_so what t = ended_same t.order what t
-
-pub mishap_so : (what : Mishap) (t : Traffic)
-    → IsCounted t.reports t.last_report t.skipped t.commands t (suffered what t)
-mishap_so mishap.GivenUp t = fate_so fate.GivenUp t
-mishap_so mishap.MirrorDropped t =
-    record { address = refl; reported = refl; at = refl; skips = refl; orders = refl }
-mishap_so (mishap.Spoilt by) t =
-    record { address = refl; reported = refl; at = refl; skips = refl; orders = refl }
-mishap_so (mishap.Late ms) t =
+mishap_so (mishap.Late ms) now t =
     record { address = refl; reported = refl; at = refl; skips = refl; orders = refl }
 
 pub command_so : (o : Option Order) (t : Traffic)
     → IsCounted t.reports t.last_report t.skipped (one_more t.commands) t (sent o t)
-command_so None t =
+command_so o t =
     record { address = refl; reported = refl; at = refl; skips = refl; orders = refl }
-command_so (Some o) t =
-    let x = fate_same fate.Sent o (record t { commands = one_more t.commands; order = Some o }) in
-    record {
-      address = x.address;
-      reported = x.reported;
-      at = x.at;
-      skips = x.skips;
-      orders = x.orders;
-    }
-
-replied_same : (what : Option CommandFate) (o : Option Order) (t : Traffic)
-    → Same t (replied_by what o t)
-replied_same (Some what) (Some o) t = fate_same what o t
-replied_same (Some what) None t = same t
-replied_same None (Some o) t = same t
-replied_same None None t = same t
 
 -- a report that isn't skipped changes no count of the station but its own
-noted_same : (what : Content) (sizes : Sizes) (octets : List ℕ) (t : Traffic)
+noted_same : (what : Content) (now : ℕ) (octets : List ℕ) (t : Traffic)
     → ((why : Skip) → what ≡ content.Skipped why → ⊥)
-    → Same t (content_noted what sizes octets t)
-noted_same content.Report sizes octets t other = same t
-noted_same content.Reply sizes octets t other =
-    replied_same (reply_of (octet octets 2)) (order_of sizes octets) t
-noted_same (content.Skipped why) sizes octets t other = absurd (other why refl)
+    → Same t (content_noted what now octets t)
+noted_same content.Report now octets t other = same t
+noted_same content.Reply now octets t other = same t
+noted_same (content.Skipped why) now octets t other = absurd (other why refl)
 
 abbrev counted : ℕ → Traffic → Traffic
 counted now t = record t { reports = one_more t.reports; last_report = Some now }
@@ -99,7 +53,7 @@ pub passed_on_so : (sizes : Sizes) (now : ℕ) (octets : List ℕ) (t : Traffic)
     → ((why : Skip) → content_of sizes octets ≡ content.Skipped why → ⊥)
     → IsCounted (one_more t.reports) (Some now) t.skipped t.commands t (reported sizes now octets t)
 passed_on_so sizes now octets t other =
-    let x = noted_same (content_of sizes octets) sizes octets (counted now t) other in record {
+    let x = noted_same (content_of sizes octets) now octets (counted now t) other in record {
       address = x.address;
       reported = x.reported;
       at = x.at;
@@ -112,7 +66,7 @@ pub skipped_so : (sizes : Sizes) (now : ℕ) (octets : List ℕ) (why : Skip) (t
     → IsCounted (one_more t.reports) (Some now) (one_more t.skipped) t.commands
     t (reported sizes now octets t)
 skipped_so sizes now octets why t is =
-    let e = ap (λ what. content_noted what sizes octets (counted now t)) is in record {
+    let e = ap (λ what. content_noted what now octets (counted now t)) is in record {
       address = ap (λ v. v.address) e;
       reported = ap (λ v. v.reports) e;
       at = ap (λ v. v.last_report) e;
@@ -122,19 +76,18 @@ skipped_so sizes now octets why t is =
 
 -- ---- Its address stays
 
-noted_address : (what : Content) (sizes : Sizes) (octets : List ℕ) (t : Traffic)
-    → (content_noted what sizes octets t).address ≡ t.address
-noted_address content.Report sizes octets t = refl
-noted_address content.Reply sizes octets t =
-    (replied_same (reply_of (octet octets 2)) (order_of sizes octets) t).address
-noted_address (content.Skipped why) sizes octets t = refl
+noted_address : (what : Content) (now : ℕ) (octets : List ℕ) (t : Traffic)
+    → (content_noted what now octets t).address ≡ t.address
+noted_address content.Report now octets t = refl
+noted_address content.Reply now octets t = refl
+noted_address (content.Skipped why) now octets t = refl
 
 pub answered_address : (answer : Option Answer) (sizes : Sizes) (now : ℕ) (t : Traffic)
     → (traffic_after answer sizes now t).address ≡ t.address
 answered_address None sizes now t = refl
 answered_address (Some (answer.Report octets)) sizes now t =
-    noted_address (content_of sizes octets) sizes octets (counted now t)
-answered_address (Some answer.Busy) sizes now t = (fate_so fate.Busy t).address
+    noted_address (content_of sizes octets) now octets (counted now t)
+answered_address (Some answer.Busy) sizes now t = refl
 answered_address (Some answer.NoData) sizes now t = refl
 answered_address (Some answer.Confirmed) sizes now t = refl
 answered_address (Some answer.Ready) sizes now t = refl
@@ -147,17 +100,8 @@ or_else_address : (x : Traffic × Option LogLine) (f : Traffic → Traffic × Op
 or_else_address (t, Some line) f n is more = is
 or_else_address (t, None) f n is more = more t is
 
-minute_address : (now : ℕ) (t : Traffic) → (minute_line now t).0.address ≡ t.address
-minute_address now t =
+pub line_address : (now : ℕ) (t : Traffic) → (traffic_line now t).0.address ≡ t.address
+line_address now t =
     or_else_address (skips_line now t) _ t.address refl (λ u is.
     or_else_address (mirrors_line now u) _ t.address is (λ v so.
     or_else_address (spoilt_line now v) (late_line now) t.address so (λ x same. same)))
-
-pub line_address : (now : ℕ) (t : Traffic) → (traffic_line now t).0.address ≡ t.address
-line_address now t =
-    or_else_address (sent_line now t) _ t.address refl (λ a is.
-    or_else_address (confirmed_line now a) _ t.address is (λ b is.
-    or_else_address (denied_line now b) _ t.address is (λ c is.
-    or_else_address (terminated_line now c) _ t.address is (λ d is.
-    or_else_address (failed_line now d) (minute_line now) t.address is (λ e is.
-    minute_address now e ∙ is)))))

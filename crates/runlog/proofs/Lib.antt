@@ -28,3 +28,4 @@ pub mod Stepwise
 pub mod Books
 pub mod Systems
 pub mod Meanings
+pub mod Trailing

@@ -23,15 +23,19 @@ use Rattle.runlog.specs.Exchange.{traffic_after}
 use Rattle.runlog.specs.Orders.{order_of}
 use Rattle.runlog.specs.Passing.{Went, passed}
 use Rattle.runlog.specs.Stations.{address_of}
-use Rattle.runlog.specs.Traffic.{sent, suffered}
+use Rattle.runlog.specs.Traffic.{answer_told, mishap_told, sent, suffered}
+use Rattle.runlog.specs.Trails.{fate_told}
 use Rattle.runlog.specs.Watching.{Watching, answer_noted_at, answer_noted_by, answered_by}
 use Rattle.runlog.specs.Watching.{as_late, as_seen, counts_noted, is_repeat, late_noted}
-use Rattle.runlog.specs.Watching.{line_received, order_at, sent_at, sent_by, suffered_at}
-use Rattle.runlog.specs.Watching.{suffered_by, suffered_if}
+use Rattle.runlog.specs.Watching.{line_received, sent_at, sent_by, sent_to, suffered_at}
+use Rattle.runlog.specs.Watching.{suffered_by, suffered_if, with_stations}
 use Rattle.runlog.specs.declared.exchange.AwaitedAnswer.{AwaitedAnswer}
 use Rattle.runlog.specs.declared.exchange.AwaitedAnswer.TheVariants as awaited
+use Rattle.runlog.specs.declared.fate.CommandFate.TheVariants as fate
 use Rattle.runlog.specs.declared.fate.Mishap.{Mishap}
 use Rattle.runlog.specs.declared.fate.Mishap.TheVariants as mishap
+use Rattle.runlog.specs.declared.note.LogLine.{LogLine}
+use Rattle.runlog.specs.declared.stations.StationWatch.{StationWatch}
 use Rattle.runlog.specs.declared.traffic.Traffic.{Traffic}
 use Rattle.runlog.proofs.Addressed.{address_is, at_its_place, its_own, not_its, octets_of}
 use Rattle.runlog.proofs.Answered.{awaited_so, command_so}
@@ -97,26 +101,25 @@ unless_repeat : (b : Bool) (w v : Watching) → v.exchange ≡ w.exchange
 unless_repeat true w v same = refl
 unless_repeat false w v same = same
 
-sent_by_exchange : (found : Option Traffic) (place : ℕ) (octets : List ℕ) (w : Watching)
-    → (sent_by found place octets w).exchange ≡ w.exchange
-sent_by_exchange None place octets w = refl
-sent_by_exchange (Some t) place octets w =
-    unless_repeat (is_repeat place octets w) w
-    (record w { traffic = slice_set w.traffic place (sent (order_at octets w) t) }) refl
+sent_by_exchange : (found : Option Traffic) (place : ℕ) (octets : List ℕ) (now : ℕ)
+    (w : Watching) → (sent_by found place octets now w).exchange ≡ w.exchange
+sent_by_exchange None place octets now w = refl
+sent_by_exchange (Some t) place octets now w =
+    unless_repeat (is_repeat place octets w) w (sent_to t place octets now w) refl
 
-sent_exchange : (place : Option ℕ) (what : AwaitedAnswer) (octets : List ℕ) (w : Watching)
-    → (sent_at place what octets w).exchange ≡ w.exchange
-sent_exchange None awaited.Nothing octets w = refl
-sent_exchange None awaited.Status octets w = refl
-sent_exchange None awaited.Reset octets w = refl
-sent_exchange None awaited.Poll octets w = refl
-sent_exchange None awaited.Command octets w = refl
-sent_exchange (Some place) awaited.Nothing octets w = refl
-sent_exchange (Some place) awaited.Status octets w = refl
-sent_exchange (Some place) awaited.Reset octets w = refl
-sent_exchange (Some place) awaited.Poll octets w = refl
-sent_exchange (Some place) awaited.Command octets w =
-    sent_by_exchange (slice_get w.traffic place) place octets w
+sent_exchange : (place : Option ℕ) (what : AwaitedAnswer) (octets : List ℕ) (now : ℕ)
+    (w : Watching) → (sent_at place what octets now w).exchange ≡ w.exchange
+sent_exchange None awaited.Nothing octets now w = refl
+sent_exchange None awaited.Status octets now w = refl
+sent_exchange None awaited.Reset octets now w = refl
+sent_exchange None awaited.Poll octets now w = refl
+sent_exchange None awaited.Command octets now w = refl
+sent_exchange (Some place) awaited.Nothing octets now w = refl
+sent_exchange (Some place) awaited.Status octets now w = refl
+sent_exchange (Some place) awaited.Reset octets now w = refl
+sent_exchange (Some place) awaited.Poll octets now w = refl
+sent_exchange (Some place) awaited.Command octets now w =
+    sent_by_exchange (slice_get w.traffic place) place octets now w
 
 pub asked_so : (w : Watching) (r : Request) (now : ℕ) (before behind : List Traffic) (t : Traffic)
     → IsInPlace before behind t w → NoneHas t.address before
@@ -125,42 +128,64 @@ asked_so w r now before behind t is none =
     let octets = octets_of w.link t.address r in
     let place = place_of (address_of w.link octets) w.traffic in
     ap (λ (e : RequestWatch). e.place)
-    (sent_exchange place (awaited_of octets) octets
+    (sent_exchange place (awaited_of octets) octets now
     (record w { exchange = exchange.asked w.link octets place (awaited_of octets) now w.exchange }))
     ∙ ap (λ a. place_of a w.traffic) (address_is w.link t.address r)
     ∙ place_here t.address before behind t w.traffic is none refl
 
 -- ---- A command
 
-pub command_here : (w : Watching) (fcb : Bool) (asdu : List ℕ) (now : ℕ)
-    (before behind : List Traffic) (t : Traffic) → IsInPlace before behind t w
-    → NoneHas t.address before
-    → is_repeat (length before)
-    (spelling w.link (request_frame t.address (request.Counted fcb (Command asdu)))) w ≡ false
-    → IsInPlace before behind (sent (order_of w.sizes asdu) t)
-    (passed (Went now (LineOut (spelling w.link
-    (request_frame t.address (request.Counted fcb (Command asdu)))))) w).0
-command_here w fcb asdu now before behind t is none new =
-    let r : Request = request.Counted fcb (Command asdu) in
-    let octets = octets_of w.link t.address r in
-    let begun : Option ℕ → AwaitedAnswer → Watching =
-    λ place what. record w { exchange = exchange.asked w.link octets place what now w.exchange } in
-    ap (λ place. (sent_at place (awaited_of octets) octets
-    (begun place (awaited_of octets))).traffic)
-    (ap (λ a. place_of a w.traffic) (address_is w.link t.address r)
-    ∙ place_here t.address before behind t w.traffic is none refl)
-    ∙ ap (λ what. (sent_at (Some (length before)) what octets
-    (begun (Some (length before)) what)).traffic) (awaited_so w.link t.address r)
-    ∙ ap (λ found. (sent_by found (length before) octets
-    (begun (Some (length before)) awaited.Command)).traffic)
-    (found_here before behind t w.traffic is)
-    ∙ ap (λ b. (if b then begun (Some (length before)) awaited.Command
-    else record (begun (Some (length before)) awaited.Command) {
-      traffic = slice_set w.traffic (length before) (sent (order_at octets w) t);
-    }).traffic) new
-    ∙ ap (λ o. slice_set w.traffic (length before) (sent (order_of w.sizes o) t))
-    (command_so w.link t.address fcb asdu)
-    ∙ changed_here before behind t (sent (order_of w.sizes asdu) t) w.traffic is
+module _ (w : Watching) (fcb : Bool) (asdu : List ℕ) (now : ℕ)
+    (before behind : List Traffic) (t : Traffic) (is : IsInPlace before behind t w)
+    (none : NoneHas t.address before)
+    (new : is_repeat (length before)
+    (spelling w.link (request_frame t.address (request.Counted fcb (Command asdu)))) w ≡ false)
+  where
+    abbrev octets : List ℕ
+    octets = octets_of w.link t.address (request.Counted fcb (Command asdu))
+
+    abbrev begun_at : Option ℕ → AwaitedAnswer → Watching
+    begun_at place what = record w {
+      exchange = exchange.asked w.link octets place what now w.exchange;
+    }
+
+    -- whatever is asked of what is known behind it
+    after_is : {A : Type 0} (f : Watching → A)
+        → ((v : List StationWatch × Option LogLine) (x : Watching)
+        → f (with_stations v x).0 ≡ f x)
+        → f (passed (Went now (LineOut octets)) w).0
+        ≡ f (sent_to t (length before) octets now (begun_at (Some (length before)) awaited.Command))
+    after_is f stations =
+        stations _ _
+        ∙ ap (λ place. f (sent_at place (awaited_of octets) octets now
+        (begun_at place (awaited_of octets))))
+        (ap (λ a. place_of a w.traffic) (address_is w.link t.address
+        (request.Counted fcb (Command asdu)))
+        ∙ place_here t.address before behind t w.traffic is none refl)
+        ∙ ap (λ what. f (sent_at (Some (length before)) what octets now
+        (begun_at (Some (length before)) what)))
+        (awaited_so w.link t.address (request.Counted fcb (Command asdu)))
+        ∙ ap (λ found. f (sent_by found (length before) octets now
+        (begun_at (Some (length before)) awaited.Command)))
+        (found_here before behind t w.traffic is)
+        ∙ ap (λ b. f (if b then begun_at (Some (length before)) awaited.Command
+        else sent_to t (length before) octets now
+        (begun_at (Some (length before)) awaited.Command))) new
+
+    pub command_here : IsInPlace before behind (sent (order_of w.sizes asdu) t)
+        (passed (Went now (LineOut octets)) w).0
+    command_here =
+        after_is (λ x. x.traffic) (λ v x. refl)
+        ∙ ap (λ o. slice_set w.traffic (length before) (sent (order_of w.sizes o) t))
+        (command_so w.link t.address fcb asdu)
+        ∙ changed_here before behind t (sent (order_of w.sizes asdu) t) w.traffic is
+
+    pub command_told : (passed (Went now (LineOut octets)) w).0.gone
+        ≡ fate_told (Some fate.Sent) (order_of w.sizes asdu) t.address now w.gone
+    command_told =
+        after_is (λ x. x.gone) (λ v x. refl)
+        ∙ ap (λ o. fate_told (Some fate.Sent) (order_of w.sizes o) t.address now w.gone)
+        (command_so w.link t.address fcb asdu)
 
 -- ---- Answers
 
@@ -171,34 +196,47 @@ module _ (w : Watching) (octets : List ℕ) (before behind : List Traffic) (t : 
 
   noted_by : (answer : Option (Option Answer))
       → answer_in w.link t.address (received w.link octets w.moment w.exchange) ≡ answer
-      → (line_received octets w).traffic ≡ (answered_by answer t (length before) heard).traffic
+      → line_received octets w ≡ answered_by answer t (length before) heard
   noted_by answer found =
-      ap (λ place. (answer_noted_at place heard).traffic) asked
-      ∙ ap (λ o. (answer_noted_by o (length before) heard).traffic)
+      ap (λ place. answer_noted_at place heard) asked
+      ∙ ap (λ o. answer_noted_by o (length before) heard)
       (found_here before behind t w.traffic is)
-      ∙ ap (λ a. (answered_by a t (length before) heard).traffic) found
+      ∙ ap (λ a. answered_by a t (length before) heard) found
 
   pub answer_here : (answer : Option Answer)
       → answer_in w.link t.address (received w.link octets w.moment w.exchange) ≡ Some answer
       → IsInPlace before behind (traffic_after answer w.sizes w.moment t) (line_received octets w)
   answer_here answer found =
-      noted_by (Some answer) found
+      ap (λ (x : Watching). x.traffic) (noted_by (Some answer) found)
       ∙ changed_here before behind t (traffic_after answer w.sizes w.moment t) w.traffic is
+
+  pub answer_told_here : (answer : Option Answer)
+      → answer_in w.link t.address (received w.link octets w.moment w.exchange) ≡ Some answer
+      → (line_received octets w).trail ≡ answer_told answer w.sizes w.moment t w.trail
+  answer_told_here answer found = ap (λ (x : Watching). x.trail) (noted_by (Some answer) found)
 
   pub no_answer_here : answer_in w.link t.address (received w.link octets w.moment w.exchange) ≡ None
       → IsInPlace before behind t (line_received octets w)
-  no_answer_here found = noted_by None found ∙ is
+  no_answer_here found = ap (λ (x : Watching). x.traffic) (noted_by None found) ∙ is
 
 -- ---- What befell
 
 suffered_here : (place : Option ℕ) (what : Mishap) (w : Watching) (before behind : List Traffic)
     (t : Traffic) → IsInPlace before behind t w → place ≡ Some (length before)
-    → IsInPlace before behind (suffered what t) (suffered_at place what w)
+    → IsInPlace before behind (suffered what w.moment t) (suffered_at place what w)
 suffered_here place what w before behind t is asked =
     ap (λ p. (suffered_at p what w).traffic) asked
     ∙ ap (λ found. (suffered_by found (length before) what w).traffic)
     (found_here before behind t w.traffic is)
-    ∙ changed_here before behind t (suffered what t) w.traffic is
+    ∙ changed_here before behind t (suffered what w.moment t) w.traffic is
+
+told_here : (place : Option ℕ) (what : Mishap) (w : Watching) (before behind : List Traffic)
+    (t : Traffic) → IsInPlace before behind t w → place ≡ Some (length before)
+    → (suffered_at place what w).trail ≡ mishap_told what w.moment t w.trail
+told_here place what w before behind t is asked =
+    ap (λ p. (suffered_at p what w).trail) asked
+    ∙ ap (λ found. (suffered_by found (length before) what w).trail)
+    (found_here before behind t w.traffic is)
 
 stayed : (n m : ℕ) → n ≡ m → nat_lt n m ≡ false
 stayed n m same = grind (arith, same)
@@ -223,16 +261,21 @@ counted_as spoilt mirrors lost counts w a b d =
 pub given_up_here : (counts : Counts) (w : Watching) (before behind : List Traffic) (t : Traffic)
     → IsInPlace before behind t w → w.exchange.before ≡ Some (length before)
     → w.seen.lost < counts.lost → w.seen.mirrors ≡ counts.mirrors → w.seen.spoilt ≡ counts.spoilt
-    → IsInPlace before behind (suffered mishap.GivenUp t) (counts_noted counts w)
+    → IsInPlace before behind t (counts_noted counts w) × ((counts_noted counts w).trail
+    ≡ fate_told (Some fate.GivenUp) t.order t.address w.moment w.trail)
 given_up_here counts w before behind t is asked more mirrors spoilt =
-    ap (λ (v : Watching). v.traffic)
-    (counted_as false false true counts w (stayed _ _ spoilt) (stayed _ _ mirrors) (below _ _ more))
-    ∙ suffered_here w.exchange.before mishap.GivenUp w before behind t is asked
+    let counted = counted_as false false true counts w (stayed _ _ spoilt) (stayed _ _ mirrors)
+    (below _ _ more) in (
+      ap (λ (v : Watching). v.traffic) counted
+          ∙ suffered_here w.exchange.before mishap.GivenUp w before behind t is asked,
+      ap (λ (v : Watching). v.trail) counted
+          ∙ told_here w.exchange.before mishap.GivenUp w before behind t is asked,
+    )
 
 pub dropped_here : (counts : Counts) (w : Watching) (before behind : List Traffic) (t : Traffic)
     → IsInPlace before behind t w → w.exchange.before ≡ Some (length before)
     → w.seen.mirrors < counts.mirrors → w.seen.lost ≡ counts.lost → w.seen.spoilt ≡ counts.spoilt
-    → IsInPlace before behind (suffered mishap.MirrorDropped t) (counts_noted counts w)
+    → IsInPlace before behind (suffered mishap.MirrorDropped w.moment t) (counts_noted counts w)
 dropped_here counts w before behind t is asked more lost spoilt =
     ap (λ (v : Watching). v.traffic)
     (counted_as false true false counts w (stayed _ _ spoilt) (below _ _ more) (stayed _ _ lost))
@@ -241,12 +284,20 @@ dropped_here counts w before behind t is asked more lost spoilt =
 pub spoilt_here : (counts : Counts) (w : Watching) (before behind : List Traffic) (t : Traffic)
     → IsInPlace before behind t w → w.exchange.before ≡ Some (length before)
     → w.seen.spoilt < counts.spoilt → w.seen.lost ≡ counts.lost → w.seen.mirrors ≡ counts.mirrors
-    → IsInPlace before behind (suffered (mishap.Spoilt w.exchange.spoiling) t)
+    → IsInPlace before behind (suffered (mishap.Spoilt w.exchange.spoiling) w.moment t)
     (counts_noted counts w)
 spoilt_here counts w before behind t is asked more lost mirrors =
     ap (λ (v : Watching). v.traffic)
     (counted_as true false false counts w (below _ _ more) (stayed _ _ mirrors) (stayed _ _ lost))
     ∙ suffered_here w.exchange.before (mishap.Spoilt w.exchange.spoiling) w before behind t is asked
+
+-- nothing new was counted
+pub same_counts : (counts : Counts) (w : Watching) → w.seen ≡ counts
+    → counts_noted counts w ≡ as_seen counts w
+same_counts counts w same =
+    counted_as false false false counts w (stayed _ _ (ap (λ (x : Counts). x.spoilt) same))
+    (stayed _ _ (ap (λ (x : Counts). x.mirrors) same))
+    (stayed _ _ (ap (λ (x : Counts). x.lost) same))
 
 pub nothing_befell : (counts : Counts) (w : Watching) → w.seen.lost ≡ counts.lost
     → w.seen.mirrors ≡ counts.mirrors → w.seen.spoilt ≡ counts.spoilt
@@ -273,7 +324,7 @@ late_as b late w is =
 
 pub late_here : (late : ℕ) (w : Watching) (before behind : List Traffic) (t : Traffic)
     → IsInPlace before behind t w → w.exchange.overdue ≡ Some (length before) → w.late < late
-    → IsInPlace before behind (suffered (came_late w) t) (late_noted late w)
+    → IsInPlace before behind (suffered (came_late w) w.moment t) (late_noted late w)
 late_here late w before behind t is asked more =
     ap (λ (v : Watching). v.traffic) (late_as true late w (below _ _ more))
     ∙ suffered_here w.exchange.overdue (came_late w) w before behind t is asked

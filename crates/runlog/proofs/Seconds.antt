@@ -1,7 +1,7 @@
 -- Lines of one kind.
 use Rattle.std.proofs.Common.{◌≡◌, ℕ, ◌+◌, ◌-◌, ◌^◌, ◌<◌, ◌≤◌, Bool, true, false, List, [], ◌∷◌}
 use Rattle.std.proofs.Common.{length, Option, Some, None, nat_le, min, refl, arith}
-use Rattle.runlog.specs.Limits.{is_free, is_free_after, asked_by, one_more, logged_by, logged_in}
+use Rattle.runlog.specs.Limits.{is_free, is_free_after, asked_by, none_left, one_left, logged_by, logged_in}
 use Rattle.runlog.specs.Limits.{IsSecondAfter, AreSecondsApart, logged_of, left_in}
 use Rattle.runlog.specs.declared.limit.Limit.{Limit}
 
@@ -23,10 +23,10 @@ apart_by : (b : Bool) (limit : Limit) (now : ℕ) (moments : List ℕ) → is_fr
 unfolding Apart
 apart_by true limit now moments free others = (
   second_after limit.logged now free,
-  others (record { logged = Some now; left_out = 0 }),
+  others (record { logged = Some now; left_out = none_left }),
 )
 apart_by false limit now moments free others =
-    others (record limit { left_out = one_more limit.left_out })
+    others (record limit { left_out = one_left now limit.left_out })
 
 apart_all : (moments : List ℕ) → Apart moments
 unfolding Apart
@@ -40,25 +40,25 @@ unfolding Apart
 apart limit moments = apart_all moments limit
 
 Counted : List ℕ → Type 0
-Counted moments = (limit : Limit) → limit.left_out + length moments < 2 ^ 64
-    → logged_of (logged_in limit moments) + left_in limit moments ≡ limit.left_out + length moments
+Counted moments = (limit : Limit) → limit.left_out.count + length moments < 2 ^ 64
+    → logged_of (logged_in limit moments) + left_in limit moments ≡ limit.left_out.count + length moments
 
 no_more_than : (n m : ℕ) → n + (m + 1) < 2 ^ 64 → min (n + 1) (2 ^ 64 - 1) ≡ n + 1
 no_more_than n m small = grind (arith, small)
 
 counted_by : (b : Bool) (limit : Limit) (now : ℕ) (moments : List ℕ)
-    → limit.left_out + length (now ∷ moments) < 2 ^ 64
+    → limit.left_out.count + length (now ∷ moments) < 2 ^ 64
     → Counted moments →
     logged_of (logged_by (asked_by b limit now).1 now (logged_in (asked_by b limit now).0 moments))
     + left_in
-    (asked_by b limit now).0 moments ≡ limit.left_out + length (now ∷ moments)
+    (asked_by b limit now).0 moments ≡ limit.left_out.count + length (now ∷ moments)
 unfolding Counted
 counted_by true limit now moments small others =
-    let rest = others (record { logged = Some now; left_out = 0 }) (omega (arith, small)) in
+    let rest = others (record { logged = Some now; left_out = none_left }) (omega (arith, small)) in
     omega (arith, rest)
 counted_by false limit now moments small others =
-    let more = no_more_than limit.left_out (length moments) (omega (arith, small)) in
-    let rest = others (record limit { left_out = one_more limit.left_out })
+    let more = no_more_than limit.left_out.count (length moments) (omega (arith, small)) in
+    let rest = others (record limit { left_out = one_left now limit.left_out })
     (omega (arith, small, more)) in
     omega (arith, rest, more)
 
@@ -68,7 +68,7 @@ counted_all [] limit small = omega arith
 counted_all (now ∷ moments) limit small = counted_by (is_free limit now) limit now moments small
     (counted_all moments)
 
-pub counted : (limit : Limit) (moments : List ℕ) → limit.left_out + length moments < 2 ^ 64
-    → logged_of (logged_in limit moments) + left_in limit moments ≡ limit.left_out + length moments
+pub counted : (limit : Limit) (moments : List ℕ) → limit.left_out.count + length moments < 2 ^ 64
+    → logged_of (logged_in limit moments) + left_in limit moments ≡ limit.left_out.count + length moments
 unfolding Counted
 counted limit moments small = counted_all moments limit small

@@ -10,7 +10,8 @@ use Rattle.live.specs.declared.ends.RefusedPeers.{RefusedPeers}
 use Rattle.live.specs.declared.ends.Presence.{Presence}
 use Rattle.live.specs.declared.ends.Presence.TheVariants as presence
 use Rattle.live.specs.declared.ends.Presence.TheVariants.{Untried, Away}
-use Rattle.runlog.specs.Limits.{asked, is_free, is_minute_after, one_more}
+use Rattle.runlog.specs.Limits.{asked, is_free, is_minute_after, none_left, one_more}
+use Rattle.runlog.specs.declared.limit.LeftOut.{LeftOut}
 use Rattle.runlog.specs.declared.limit.Limit.{Limit}
 use Rattle.runlog.specs.declared.note.LogLine.{LogLine}
 use Rattle.runlog.specs.declared.note.Note.{Note}
@@ -23,9 +24,9 @@ use Rattle.runlog.specs.declared.ends.ConnectionWatch.{ConnectionWatch}
 use Rattle.runlog.specs.declared.ends.OpenConnection.{OpenConnection}
 
 abbrev pub new_limit : Limit
-new_limit = record { logged = None; left_out = 0 }
+new_limit = record { logged = None; left_out = none_left }
 
-abbrev pub line_by : Note → ℕ → Option ℕ → Option LogLine
+abbrev pub line_by : Note → ℕ → Option LeftOut → Option LogLine
 line_by what now None = None
 line_by what now (Some left_out) = Some (record { moment = now; note = what; left_out = left_out })
 

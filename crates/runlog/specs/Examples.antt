@@ -12,7 +12,7 @@ use Rattle.runlog.specs.Ends.{line_seen}
 use Rattle.runlog.specs.Exchange.{RequestWatch, asked as request_sent, new_exchange, received}
 use Rattle.runlog.specs.Gathering.{GatheringCall, Add, Look, nothing, added, line_of}
 use Rattle.runlog.specs.Stations.{asked, asking_of, new_station, station_asked, standing_of}
-use Rattle.runlog.specs.Traffic.{first_line, new_traffic, suffered, traffic_line}
+use Rattle.runlog.specs.Traffic.{new_traffic, suffered, traffic_line}
 use Rattle.runlog.specs.Watching.{Watching, put}
 use Rattle.runlog.specs.declared.exchange.AwaitedAnswer.TheVariants.{Poll}
 use Rattle.runlog.specs.declared.fate.Mishap.{Mishap}
@@ -28,9 +28,6 @@ use Rattle.runlog.specs.declared.spoiling.Spoiling.{Spoiling}
 use Rattle.runlog.specs.declared.spoiling.Spoiling.TheVariants.{Frame as FrameOf}
 use Rattle.runlog.specs.declared.stations.StationWatch.{StationWatch}
 use Rattle.runlog.specs.declared.traffic.Traffic.{Traffic}
-
-abbrev pub at : ℕ → Note → LogLine
-at now what = record { moment = now; note = what; left_out = 0 }
 
 -- the lines of requests, each with its moment, the oldest first
 abbrev pub lines_of_requests : LinkSize → List (ℕ × List ℕ) → List StationWatch → List LogLine
@@ -51,7 +48,7 @@ order kind act ca object value =
 -- the lines of what is gathered
 abbrev pub lines_after : Gathered → List GatheringCall → List LogLine
 lines_after g [] = []
-lines_after g (Add what ∷ calls) = lines_after (added what g) calls
+lines_after g (Add what at ∷ calls) = lines_after (added what at g) calls
 lines_after g (Look now ∷ calls) =
     option_to_list (line_of now g).1 ++ lines_after (line_of now g).0 calls
 
@@ -69,7 +66,7 @@ standings_of size (x ∷ xs) w =
 abbrev pub lines_of_traffic : List (ℕ × Mishap) → Traffic → List LogLine
 lines_of_traffic [] t = []
 lines_of_traffic (x ∷ xs) t =
-    let logged = traffic_line x.0 (suffered x.1 t) in
+    let logged = traffic_line x.0 (suffered x.1 x.0 t) in
     option_to_list logged.1 ++ lines_of_traffic xs logged.0
 
 abbrev pub lines_of_mishaps : List (ℕ × Mishap) → (address : ℕ) → List LogLine
@@ -105,6 +102,8 @@ two_watched w = record w {
   stations = new_station 2 7 ∷ new_station 2 8 ∷ [];
   traffic = two_stations;
   exchange = new_exchange 150;
+  trail = [];
+  gone = [];
 }
 
 -- C_SC_NA_1, on, to object 100 of station 8; the same as its positive confirmation; a poll of it
@@ -143,11 +142,9 @@ abbrev pub spoiling_behind : (now : ℕ) → (octets : List ℕ) → Spoiling
 spoiling_behind now octets =
     (received One octets now (polled_at 100 (new_exchange 150))).spoiling
 
--- the command has gone out to station 8, and that was logged
+-- the command has gone out to station 8
 abbrev pub commanded : Watching → Watching
-commanded w =
-    let asked = (put 5 (LineOut command_to_8) (two_watched w)).0 in
-    record asked { traffic = (first_line 5 asked.traffic).0 }
+commanded w = (put 5 (LineOut command_to_8) (two_watched w)).0
 
 -- and then the station is polled
 abbrev pub polled : Watching → Watching

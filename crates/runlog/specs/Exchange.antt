@@ -12,7 +12,7 @@ use Rattle.ft12.specs.declared.frame.Front.TheVariants as front
 use Rattle.ft12.specs.declared.frame.LinkSize.{LinkSize}
 use Rattle.link.specs.Answers.{answer_of}
 use Rattle.link.specs.declared.answer.Answer.{Answer}
-use Rattle.link.specs.declared.answer.Answer.TheVariants.{Report, Busy}
+use Rattle.link.specs.declared.answer.Answer.TheVariants.{Report}
 use Rattle.link.specs.declared.service.Asked.{Asked}
 use Rattle.link.specs.declared.service.Asked.TheVariants.{Status, Reset, Counted}
 use Rattle.link.specs.declared.service.Service.TheVariants.{Class2, Command}
@@ -22,11 +22,10 @@ use Rattle.asdu.specs.declared.sizes.Sizes.{Sizes}
 use Rattle.runlog.specs.Orders.{octet}
 use Rattle.runlog.specs.Spoilings.{first_of}
 use Rattle.runlog.specs.Stations.{address_of, control_place}
-use Rattle.runlog.specs.Traffic.{reported, ended}
+use Rattle.runlog.specs.Traffic.{reported}
 use Rattle.runlog.specs.declared.exchange.AwaitedAnswer.{AwaitedAnswer}
 use Rattle.runlog.specs.declared.exchange.AwaitedAnswer.TheVariants as awaited
 use Rattle.runlog.specs.declared.exchange.EarlierRequest.{EarlierRequest}
-use Rattle.runlog.specs.declared.fate.CommandFate.TheVariants as fate
 use Rattle.runlog.specs.declared.spoiling.Spoiling.{Spoiling}
 use Rattle.runlog.specs.declared.spoiling.Spoiling.TheVariants.{Echo, Late, Frame as FrameOf}
 use Rattle.runlog.specs.declared.spoiling.Spoiling.TheVariants.{Octets}
@@ -184,8 +183,7 @@ answer_by what size station octets =
 abbrev pub answer_in : LinkSize → (station : ℕ) → RequestWatch → Option (Option Answer)
 answer_in size station e = answer_by e.awaited size station e.octets
 
--- user data, or that the link is busy
+-- user data
 abbrev pub traffic_after : Option Answer → Sizes → (now : ℕ) → Traffic → Traffic
 traffic_after (Some (Report octets)) sizes now t = reported sizes now octets t
-traffic_after (Some Busy) sizes now t = ended fate.Busy t
 traffic_after answer sizes now t = t

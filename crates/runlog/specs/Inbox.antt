@@ -1,7 +1,8 @@
 -- What is logged of the commands that come from the control centre (IEC 60870-5-104, 5, for the
 -- frames; the lines are this gateway's own profile).
-use Rattle.std.specs.Prelude.{ℕ, zero, suc, ◌+◌, ◌-◌, ◌%◌, ◌==◌, ◌&&◌, nat_le, Bool, true, false}
-use Rattle.std.specs.Prelude.{List, [], ◌++◌, length, take, drop, Option, Some, None, if◌then◌else◌}
+use Rattle.std.specs.Prelude.{ℕ, zero, suc, ◌+◌, ◌-◌, ◌%◌, ◌==◌, ◌&&◌, nat_le, nat_lt, Bool, true}
+use Rattle.std.specs.Prelude.{false, List, [], ◌∷◌, ◌++◌, length, take, drop, position, remove}
+use Rattle.std.specs.Prelude.{Option, Some, None, if◌then◌else◌}
 use Rattle.std.specs.declared.net.ip_addr.IpAddr.{IpAddr}
 use Rattle.asdu.specs.Sizes.{tcp}
 use Rattle.command.specs.Refusals.{Seen, seen_judged, glance_of}
@@ -9,18 +10,24 @@ use Rattle.command.specs.declared.refusal.Refusal.{Refusal}
 use Rattle.gateway.specs.State.{State, wall_now}
 use Rattle.runlog.specs.Gathering.{nothing, added}
 use Rattle.runlog.specs.Gathering as gathering
-use Rattle.runlog.specs.Orders.{octet, order_of}
+use Rattle.runlog.specs.Orders.{goes_out_as, octet, order_of}
+use Rattle.runlog.specs.Trails.{added as told}
 use Rattle.runlog.specs.declared.fate.Reason.TheVariants as reason
 use Rattle.runlog.specs.declared.gathered.Gathered.{Gathered}
 use Rattle.runlog.specs.declared.note.LogLine.{LogLine}
 use Rattle.runlog.specs.declared.note.Note.TheVariants as note
 use Rattle.runlog.specs.declared.order.Order.{Order}
 
--- what a judgement looked at before the commands that come, and those that go on or are refused
+-- what a judgement looked at before the commands that come; those of the latest step that go on,
+-- which are to be told; and those that are refused
 pub record Orders : Type 0 where
   pub seen : Seen
-  pub ordered : Gathered
+  pub ordered : List LogLine
   pub refused : Gathered
+  -- those that wait for the line, and those that went out to it in the latest step before they were
+  -- seen to come
+  pub waiting : List Order
+  pub early : List Order
 
 -- what came in the latest step behind what wasn't whole before, and whether the connection was
 -- closed in it
@@ -32,8 +39,10 @@ pub record Inbox : Type 0 where
 abbrev pub new_orders : Orders
 new_orders = record {
   seen = record { waiting = 0; selections = [] };
-  ordered = nothing;
+  ordered = [];
   refused = nothing;
+  waiting = [];
+  early = [];
 }
 
 abbrev pub new_inbox : Inbox
@@ -54,20 +63,52 @@ closed b = record b { is_closed = true }
 
 -- ---- One command
 
+-- it waits, if it isn't out already
+abbrev pub waits_by : Option ℕ → Order → Orders → Orders
+waits_by None o c = record c {
+  waiting = if nat_lt (length c.waiting) 64 then c.waiting ++ o ∷ [] else c.waiting;
+}
+waits_by (Some place) o c = record c { early = remove c.early place }
+
+abbrev pub waits : Order → Orders → Orders
+waits o c = waits_by (position (λ sent. goes_out_as sent o) c.early) o c
+
+-- it goes out to the line so
+abbrev pub gone_by : Option ℕ → (sent : Order) → Orders → Orders
+gone_by None sent c = record c {
+  early = if nat_lt (length c.early) 16 then c.early ++ sent ∷ [] else c.early;
+}
+gone_by (Some place) sent c = record c { waiting = remove c.waiting place }
+
+abbrev pub gone : (sent : Order) → Orders → Orders
+gone sent c = gone_by (position (goes_out_as sent) c.waiting) sent c
+
+abbrev pub gone_out : (sent : Option Order) → Inbox → Inbox
+gone_out None b = b
+gone_out (Some sent) b = record b { orders = gone sent b.orders }
+
+-- its connection has ended, and nothing waits any more
+abbrev pub lost : Inbox → Inbox
+lost b = record b { orders = record b.orders { waiting = [] } }
+
+abbrev pub unsent_told : (now : ℕ) → List Order → List LogLine → List LogLine
+unsent_told now [] lines = lines
+unsent_told now (o ∷ os) lines = unsent_told now os (told (note.Unsent o) now lines)
+
 -- it goes on to its station, or is refused by a rule
-abbrev pub rule_noted : Option Refusal × Seen → Option IpAddr → Order → Orders → Orders
-rule_noted (None, seen) peer o c =
-    record c { seen = seen; ordered = added (note.Ordered o peer) c.ordered }
-rule_noted (Some rule, seen) peer o c =
-    record c { seen = seen; refused = added (note.Refused o peer (reason.Rule rule)) c.refused }
+abbrev pub rule_noted : Option Refusal × Seen → (now : ℕ) → Option IpAddr → Order → Orders → Orders
+rule_noted (None, seen) now peer o c =
+    waits o (record c { seen = seen; ordered = told (note.Ordered o peer) now c.ordered })
+rule_noted (Some rule, seen) now peer o c =
+    record c { seen = seen; refused = added (note.Refused o peer (reason.Rule rule)) now c.refused }
 
 -- Where the connection was closed in the step in which it came, it goes nowhere.
 abbrev pub order_noted : State → (is_closed : Bool) → Option IpAddr → List ℕ → Order → Orders
     → Orders
 order_noted s true peer asdu o c =
-    record c { refused = added (note.Refused o peer reason.Closed) c.refused }
+    record c { refused = added (note.Refused o peer reason.Closed) s.moment c.refused }
 order_noted s false peer asdu o c = rule_noted
-    (seen_judged s.serial.commands asdu s.moment (wall_now s) c.seen) peer o c
+    (seen_judged s.serial.commands asdu s.moment (wall_now s) c.seen) s.moment peer o c
 
 abbrev pub asdu_by : Option Order → State → (is_closed : Bool) → Option IpAddr → List ℕ → Orders
     → Orders
@@ -113,24 +154,21 @@ abbrev pub judged_by : Orders × List ℕ → State → Inbox → Inbox
 judged_by (orders, rest) s b = record {
   octets = if b.is_closed then [] else rest;
   is_closed = false;
-  orders = record orders { seen = glance_of s.serial.commands };
+  orders = record orders { seen = glance_of s.serial.commands; early = [] };
 }
 
 -- the commands of the step are logged, and what the next judgement looks at is seen
 abbrev pub judged : State → Option IpAddr → Inbox → Inbox
 judged s peer b = judged_by (all_noted (length b.octets) s b.is_closed peer b.octets b.orders) s b
 
-abbrev pub refused_line : ℕ → Orders → Orders × Option LogLine
-refused_line now c =
-    let logged = gathering.line_of now c.refused in (record c { refused = logged.0 }, logged.1)
+-- those that go on are told, behind others
+abbrev pub handed_on : Inbox → Inbox
+handed_on b = record b { orders = record b.orders { ordered = [] } }
 
-abbrev pub unless_ordered : Gathered × Option LogLine → ℕ → Orders → Orders × Option LogLine
-unless_ordered (ordered, Some line) now c = (record c { ordered = ordered }, Some line)
-unless_ordered (ordered, None) now c = refused_line now (record c { ordered = ordered })
-
--- a line of the commands that came, if one is to be logged
+-- a line of the commands that were refused, if one is to be logged
 abbrev pub orders_line : ℕ → Orders → Orders × Option LogLine
-orders_line now c = unless_ordered (gathering.line_of now c.ordered) now c
+orders_line now c =
+    let logged = gathering.line_of now c.refused in (record c { refused = logged.0 }, logged.1)
 
 abbrev pub line_of : ℕ → Inbox → Inbox × Option LogLine
 line_of now b = let logged = orders_line now b.orders in (record b { orders = logged.0 }, logged.1)

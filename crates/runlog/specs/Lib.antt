@@ -1,4 +1,5 @@
 pub mod Limits
+pub mod Causes
 pub mod LineLines
 pub mod Orders
 pub mod OrderWords
@@ -11,6 +12,7 @@ pub mod Ends
 pub mod Gathering
 pub mod Inbox
 pub mod Stations
+pub mod Trails
 pub mod Traffic
 pub mod Waiting
 pub mod Exchange

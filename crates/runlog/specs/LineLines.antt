@@ -9,7 +9,7 @@ use Rattle.runlog.specs.declared.note.Note.{Note}
 
 -- a line was logged at this moment, and none of its kind was left out since
 abbrev pub logged_at : ℕ → Limit
-logged_at now = record { logged = Some now; left_out = 0 }
+logged_at now = record { logged = Some now; left_out = none_left }
 
 -- It is logged that the line is away, and known from then on. The limit of such lines begins anew,
 -- and the other one stays.

@@ -1,6 +1,6 @@
 -- The lines of a run, and what they are a function of (this gateway's own profile).
 use Rattle.std.specs.Io.Iter.{u64_saturate}
-use Rattle.std.specs.Prelude.{◌≡◌, ℕ, not, ◌&&◌, Bool, true, false, List, ◌∷◌}
+use Rattle.std.specs.Prelude.{◌≡◌, ℕ, not, ◌&&◌, ◌||◌, Bool, true, false, List, [], ◌∷◌}
 use Rattle.std.specs.Prelude.{length, Option, Some, None, if◌then◌else◌}
 use Rattle.events.specs.Queue.{kept as pieces_kept}
 use Rattle.gateway.specs.Log.{Output}
@@ -10,7 +10,7 @@ use Rattle.live.specs.declared.watched.Failure.{Failure}
 use Rattle.live.specs.declared.watched.Notice.{Notice}
 use Rattle.live.specs.declared.watched.EndsSight.{EndsSight}
 use Rattle.runlog.specs.Watching.{Watching, event_noted, put, is_look_due, looked_at, judged}
-use Rattle.runlog.specs.Watching.{unless_line, line_of, sum_line, failed}
+use Rattle.runlog.specs.Watching.{unless_line, line_of, sum_line, failed, has_trail, told}
 use Rattle.runlog.specs.declared.note.LogLine.{LogLine}
 use Rattle.runlog.specs.declared.note.Note.{Note}
 use Rattle.runlog.specs.declared.note.Note.TheVariants as note
@@ -142,6 +142,22 @@ pub record IsLogged (line : Option LogLine) (old new : Book) : Type 0 where
   pub taken : Bool
   pub done : new ≡ logged line taken old
 
+-- each line is handed over, in this order, as long as the log goes on
+abbrev pub LogsEach : List LogLine → (old new : Book) → Type 0
+LogsEach [] old new = new ≡ old
+LogsEach (line ∷ lines) old new =
+    (book : Book) × IsLogged (Some line) old book × LogsEach lines book new
+
+-- What became of commands is told, unless nobody looks or nothing did.
+abbrev pub TellsUnless : (is_quiet : Bool) → (old new : Book) → Type 0
+TellsUnless true old new = new ≡ old
+TellsUnless false old new =
+    LogsEach old.watching.trail (record old { watching = told old.watching }) new
+
+abbrev pub Tells : (old new : Book) → Type 0
+Tells old new =
+    TellsUnless ((old.is_over && not old.is_watching) || not (has_trail old.watching)) old new
+
 -- something is logged that no event says
 pub record LogsNote (old : Book) (note : Note) (new : Book) : Type 0 where
   pub taken : Bool
@@ -158,9 +174,11 @@ pub record LogsNotice (notice : Option Notice) (old new : Book) : Type 0 where
   pub done : new ≡ unless_over old (logged (line_of_notice notice old.watching) taken old)
 
 -- between two steps: this was logged of the state on the disk, if anything, and then the gateway
--- was looked at
+-- was looked at, and what became of commands was told
 pub record Tends (notice : Option Notice) (old : Book) (gateway : State) (new : Book) : Type 0
   where
     pub between : Book
     pub logs : LogsNotice notice old between
-    pub looks : LogsLook between gateway new
+    pub looked_at : Book
+    pub looks : LogsLook between gateway looked_at
+    pub tells : Tells looked_at new

@@ -9,15 +9,16 @@ use Rattle.live.specs.declared.ends.CutCause.{CutCause}
 use Rattle.live.specs.declared.ends.CutCause.TheVariants as cut
 use Rattle.live.specs.declared.watched.Notice.{Notice}
 use Rattle.live.specs.declared.watched.Notice.TheVariants as notices
+use Rattle.runlog.specs.Causes.{cause_words}
 use Rattle.runlog.specs.OrderWords.{order_words, reason_words, fate_words, type_name}
 use Rattle.runlog.specs.Spoilings.{spoiling_words}
 use Rattle.runlog.specs.declared.content.Skip.{Skip}
 use Rattle.runlog.specs.declared.content.Skip.TheVariants as skip
 use Rattle.runlog.specs.declared.spoiling.Spoiling.{Spoiling}
+use Rattle.runlog.specs.declared.limit.LeftOut.{LeftOut}
 use Rattle.runlog.specs.declared.note.LogLine.{LogLine}
 use Rattle.runlog.specs.declared.note.RunCounts.{RunCounts}
 use Rattle.runlog.specs.declared.note.Obstacle.{Obstacle}
-use Rattle.runlog.specs.declared.note.Obstacle.TheVariants as obstacle
 use Rattle.runlog.specs.declared.note.Remnant.{Remnant}
 use Rattle.runlog.specs.declared.note.Remnant.TheVariants as remnant
 use Rattle.runlog.specs.declared.note.Trouble.{Trouble}
@@ -91,8 +92,13 @@ skipped_words station kind why =
 
 -- why a start can't use the directory of its state
 abbrev pub obstacle_words : Obstacle → List ℕ
-obstacle_words obstacle.Foreign = codes "there are files of something else"
-obstacle_words obstacle.Device = codes "the disk failed"
+obstacle_words why = why.place.now ++ codes ": " ++ cause_words why.cause
+
+-- a sync of the state, and the longest since the run began, in ms
+abbrev pub sync_words : (ms longest : ℕ) → List ℕ
+sync_words ms longest =
+    (codes "state: a sync took " ++ decimal ms ++ codes " ms, ")
+    ++ (codes "the longest so far " ++ decimal longest ++ codes " ms")
 
 abbrev pub damaged_words : (place : ℕ) → List ℕ
 damaged_words place =
@@ -155,12 +161,16 @@ words note.SettingsChanged = codes "state: settings have changed"
 words note.StateStale = codes "state is stale: each link is reset"
 words note.StatePutAside = codes "state can't be read: put aside"
 words (note.StateDamaged place) = damaged_words place
-words (note.StateUnused why) =
+words (note.StateRefused why) =
     codes "state: its directory can't be used, the run goes on without it: " ++ obstacle_words why
+words (note.StateUnkept why) = codes "state can't be kept there: " ++ obstacle_words why
+words note.StateOnBtrfs = codes "state: its directory is on btrfs, which writes 90 KB a sync"
+words (note.SlowSync ms longest) = sync_words ms longest
 words (note.GivenUp what kind ca object) = given_up_words what kind ca object
 words (note.State notice) = notice_words notice
 words (note.Trouble why) = trouble_words why
 words (note.Ordered order peer) = order_words order ++ peer_words peer
+words (note.Unsent order) = order_words order ++ codes " not sent: its connection ended"
 words (note.Refused order peer why) =
     order_words order ++ peer_words peer ++ codes " refused: " ++ reason_words why
 words (note.Fate order station fate) = order_words order ++ fate_words fate station
@@ -171,8 +181,11 @@ words (note.Spoilt address what) = spoilt_words address what
 words (note.Late address ms) = late_words address ms
 words (note.LeftOut count) = decimal count ++ codes " lines left out: nobody read them in time"
 
-abbrev pub left_out_words : ℕ → List ℕ
-left_out_words n = if n == 0 then [] else codes " (" ++ decimal n ++ codes " left out)"
+-- what was left out before it: how many, and the moment of the first of them
+abbrev pub left_out_words : LeftOut → List ℕ
+left_out_words l =
+    if l.count == 0 then []
+    else codes " (" ++ decimal l.count ++ codes " left out since " ++ decimal l.since ++ codes ")"
 
 -- what stands behind the line's UTC time
 abbrev pub line_text : LogLine → List ℕ

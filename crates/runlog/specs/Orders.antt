@@ -68,3 +68,11 @@ abbrev pub order_of : Sizes → List ℕ → Option Order
 order_of sizes octets =
     if nat_le (header_len sizes + ioa_len sizes.ioa) (length octets)
     then Some (order_in sizes octets) else None
+
+-- This command, as it came, is the one that goes out to the line so: without a time tag, and with
+-- the station's own common address. Of several to one object the oldest goes out first.
+abbrev pub goes_out_as : (sent came : Order) → Bool
+goes_out_as sent came =
+    plain came.kind == sent.kind
+    && (came.object == sent.object
+    && ((sent.kind == 100 && came.ca == 65535) || came.ca == sent.ca))

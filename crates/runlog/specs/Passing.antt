@@ -177,7 +177,7 @@ steps_in kind (s ∷ steps) = if is_of kind s then steps_in kind steps + 1 else 
 -- how many steps lines speak of: each of its own, and of those left out before it
 abbrev pub spoken_of : List LogLine → ℕ
 spoken_of [] = 0
-spoken_of (line ∷ lines) = (line.left_out + 1) + spoken_of lines
+spoken_of (line ∷ lines) = (line.left_out.count + 1) + spoken_of lines
 
 -- each line is a second behind the one before
 abbrev pub AreSecondsBehind : List LogLine → Type 0

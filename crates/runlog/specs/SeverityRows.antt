@@ -31,7 +31,8 @@ pub data HasRow : Note → ℕ → Type 0 where
   -- look at the disk
   NotKept : HasRow (note.State notices.NotKept) 3
   PutAside : HasRow note.StatePutAside 3
-  Unused : (why : Obstacle) → HasRow (note.StateUnused why) 3
+  Unused : (why : Obstacle) → HasRow (note.StateRefused why) 3
+  Unkept : (why : Obstacle) → HasRow (note.StateUnkept why) 3
   -- why a run can't begin, or go on
   CannotRun : (why : Trouble) → HasRow (note.Trouble why) 3
   -- look at the control centre
@@ -55,6 +56,7 @@ pub data HasRow : Note → ℕ → Type 0 where
   LeftOut : (n : ℕ) → HasRow (note.LeftOut n) 4
   -- a command that comes to nothing
   Refused : (o : Order) (peer : Option IpAddr) (why : Reason) → HasRow (note.Refused o peer why) 4
+  Unsent : (o : Order) → HasRow (note.Unsent o) 4
   Denied : (o : Order) (a : ℕ) → HasRow (note.Fate o a fate.Denied) 4
   NotTaken : (o : Order) (a : ℕ) → HasRow (note.Fate o a fate.Busy) 4
   GivenUp : (o : Order) (a : ℕ) → HasRow (note.Fate o a fate.GivenUp) 4
@@ -63,6 +65,9 @@ pub data HasRow : Note → ℕ → Type 0 where
   -- nothing: the links are reset
   Stale : HasRow note.StateStale 4
   Damaged : (place : ℕ) → HasRow (note.StateDamaged place) 4
+  -- find out what slows the disk down
+  SlowSync : (ms longest : ℕ) → HasRow (note.SlowSync ms longest) 4
+  OnBtrfs : HasRow note.StateOnBtrfs 4
   -- what was wrong is over, or seldom happens
   Reached : HasRow note.LineReached 5
   ReachedAgain : HasRow note.LineReachedAgain 5

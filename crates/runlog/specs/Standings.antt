@@ -126,7 +126,7 @@ pub record IsLogged (now : ℕ) (what : Note) (so : StationLogged) (before behin
   pub line : told.1
       ≡ Some (record { moment = now; note = what; left_out = before.left_out })
   pub so_far : told.0.logged ≡ so
-  pub limit : behind ≡ record { logged = Some now; left_out = 0 }
+  pub limit : behind ≡ record { logged = Some now; left_out = none_left }
 
 -- Nothing is logged, and what was logged last stays.
 abbrev pub IsQuiet : StationWatch → (told : StationWatch × Option LogLine) → Type 0

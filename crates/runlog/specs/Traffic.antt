@@ -9,9 +9,12 @@ use Rattle.elements.specs.Types.{type_of}
 use Rattle.elements.specs.declared.types.TypeId.{TypeId}
 use Rattle.gateway.specs.Counting.{is_answer_type}
 use Rattle.gateway.specs.declared.settings.StationSettings.{StationSettings}
-use Rattle.runlog.specs.Gathering.{nothing, added, line_of, minute_line_of}
+use Rattle.link.specs.declared.answer.Answer.{Answer}
+use Rattle.link.specs.declared.answer.Answer.TheVariants.{Report, Busy}
+use Rattle.runlog.specs.Gathering.{nothing, added, minute_line_of}
 use Rattle.runlog.specs.Limits.{one_more}
 use Rattle.runlog.specs.Orders.{octet, order_of}
+use Rattle.runlog.specs.Trails.{fate_told}
 use Rattle.runlog.specs.declared.fate.CommandFate.{CommandFate}
 use Rattle.runlog.specs.declared.fate.CommandFate.TheVariants as fate
 use Rattle.runlog.specs.declared.fate.Mishap.{Mishap}
@@ -66,11 +69,6 @@ new_traffic address = record {
   skipped = 0;
   commands = 0;
   order = None;
-  sent = nothing;
-  confirmed = nothing;
-  denied = nothing;
-  terminated = nothing;
-  failed = nothing;
   skips = nothing;
   mirrors = nothing;
   spoilt = nothing;
@@ -80,64 +78,55 @@ new_traffic address = record {
 abbrev pub new_traffics : List StationSettings → List Traffic
 new_traffics settings = map (λ (s : StationSettings). new_traffic s.address) settings
 
--- what became of a command
-abbrev pub fate_noted : CommandFate → Order → Traffic → Traffic
-fate_noted fate.Sent o t = record t { sent = added (note.Fate o t.address fate.Sent) t.sent }
-fate_noted fate.Confirmed o t =
-    record t { confirmed = added (note.Fate o t.address fate.Confirmed) t.confirmed }
-fate_noted fate.Denied o t =
-    record t { denied = added (note.Fate o t.address fate.Denied) t.denied }
-fate_noted fate.Terminated o t =
-    record t { terminated = added (note.Fate o t.address fate.Terminated) t.terminated }
-fate_noted fate.Busy o t =
-    record t { failed = added (note.Fate o t.address fate.Busy) t.failed }
-fate_noted fate.GivenUp o t =
-    record t { failed = added (note.Fate o t.address fate.GivenUp) t.failed }
-
 -- a command went out for the first time
 abbrev pub sent : Option Order → Traffic → Traffic
-sent None t = record t { commands = one_more t.commands; order = None }
-sent (Some o) t =
-    fate_noted fate.Sent o (record t { commands = one_more t.commands; order = Some o })
-
--- and this became of it there
-abbrev pub ended_by : Option Order → CommandFate → Traffic → Traffic
-ended_by None what t = t
-ended_by (Some o) what t = fate_noted what o t
-
-abbrev pub ended : CommandFate → Traffic → Traffic
-ended what t = ended_by t.order what t
+sent o t = record t { commands = one_more t.commands; order = o }
 
 -- this befell the station
-abbrev pub suffered : Mishap → Traffic → Traffic
-suffered mishap.GivenUp t = ended fate.GivenUp t
-suffered mishap.MirrorDropped t =
-    record t { mirrors = added (note.MirrorDropped t.address) t.mirrors }
-suffered (mishap.Spoilt by) t =
-    record t { spoilt = added (note.Spoilt t.address by) t.spoilt }
-suffered (mishap.Late ms) t = record t { late = added (note.Late t.address ms) t.late }
+abbrev pub suffered : Mishap → (now : ℕ) → Traffic → Traffic
+suffered mishap.GivenUp now t = t
+suffered mishap.MirrorDropped now t =
+    record t { mirrors = added (note.MirrorDropped t.address) now t.mirrors }
+suffered (mishap.Spoilt by) now t =
+    record t { spoilt = added (note.Spoilt t.address by) now t.spoilt }
+suffered (mishap.Late ms) now t = record t { late = added (note.Late t.address ms) now t.late }
 
-abbrev pub replied_by : Option CommandFate → Option Order → Traffic → Traffic
-replied_by (Some what) (Some o) t = fate_noted what o t
-replied_by what o t = t
-
-abbrev pub skip_noted : Skip → (kind : ℕ) → Traffic → Traffic
-skip_noted why kind t = record t {
+abbrev pub skip_noted : Skip → (kind now : ℕ) → Traffic → Traffic
+skip_noted why kind now t = record t {
   skipped = one_more t.skipped;
-  skips = added (note.Skipped t.address kind why) t.skips;
+  skips = added (note.Skipped t.address kind why) now t.skips;
 }
 
-abbrev pub content_noted : Content → Sizes → List ℕ → Traffic → Traffic
-content_noted content.Report sizes report t = t
-content_noted content.Reply sizes report t =
-    replied_by (reply_of (octet report 2)) (order_of sizes report) t
-content_noted (content.Skipped why) sizes report t = skip_noted why (octet report 0) t
+abbrev pub content_noted : Content → (now : ℕ) → List ℕ → Traffic → Traffic
+content_noted (content.Skipped why) now report t = skip_noted why (octet report 0) now t
+content_noted what now report t = t
 
 -- the station answered a poll with these user data
 abbrev pub reported : Sizes → (now : ℕ) → List ℕ → Traffic → Traffic
 reported sizes now report t =
-    content_noted (content_of sizes report) sizes report
+    content_noted (content_of sizes report) now report
     (record t { reports = one_more t.reports; last_report = Some now })
+
+-- ---- What becomes of commands there
+
+abbrev pub content_told : Content → Sizes → (now : ℕ) → List ℕ → Traffic → List LogLine
+    → List LogLine
+content_told content.Reply sizes now report t lines =
+    fate_told (reply_of (octet report 2)) (order_of sizes report) t.address now lines
+content_told what sizes now report t lines = lines
+
+-- by the cause octet and the command of the station's own answer, or that its link is busy
+abbrev pub answer_told : Option Answer → Sizes → (now : ℕ) → Traffic → List LogLine → List LogLine
+answer_told (Some (Report octets)) sizes now t lines =
+    content_told (content_of sizes octets) sizes now octets t lines
+answer_told (Some Busy) sizes now t lines =
+    fate_told (Some fate.Busy) t.order t.address now lines
+answer_told answer sizes now t lines = lines
+
+-- that it was given up
+abbrev pub mishap_told : Mishap → (now : ℕ) → Traffic → List LogLine → List LogLine
+mishap_told mishap.GivenUp now t lines = fate_told (Some fate.GivenUp) t.order t.address now lines
+mishap_told what now t lines = lines
 
 -- ---- Its lines
 
@@ -145,23 +134,6 @@ abbrev pub or_else : {A : Type 0} → A × Option LogLine → (A → A × Option
     → A × Option LogLine
 or_else (a, Some line) f = (a, Some line)
 or_else (a, None) f = f a
-
-abbrev pub sent_line : ℕ → Traffic → Traffic × Option LogLine
-sent_line now t = let logged = line_of now t.sent in (record t { sent = logged.0 }, logged.1)
-
-abbrev pub confirmed_line : ℕ → Traffic → Traffic × Option LogLine
-confirmed_line now t =
-    let logged = line_of now t.confirmed in (record t { confirmed = logged.0 }, logged.1)
-
-abbrev pub denied_line : ℕ → Traffic → Traffic × Option LogLine
-denied_line now t = let logged = line_of now t.denied in (record t { denied = logged.0 }, logged.1)
-
-abbrev pub terminated_line : ℕ → Traffic → Traffic × Option LogLine
-terminated_line now t =
-    let logged = line_of now t.terminated in (record t { terminated = logged.0 }, logged.1)
-
-abbrev pub failed_line : ℕ → Traffic → Traffic × Option LogLine
-failed_line now t = let logged = line_of now t.failed in (record t { failed = logged.0 }, logged.1)
 
 abbrev pub skips_line : ℕ → Traffic → Traffic × Option LogLine
 skips_line now t = let logged = minute_line_of now t.skips in
@@ -178,17 +150,11 @@ spoilt_line now t = let logged = minute_line_of now t.spoilt in
 abbrev pub late_line : ℕ → Traffic → Traffic × Option LogLine
 late_line now t = let logged = minute_line_of now t.late in (record t { late = logged.0 }, logged.1)
 
--- the first of its kinds that are logged once a minute that has a line to be logged now
-abbrev pub minute_line : ℕ → Traffic → Traffic × Option LogLine
-minute_line now t =
-    or_else (skips_line now t) (λ t. or_else (mirrors_line now t) (λ t. or_else (spoilt_line now t)
-    (late_line now)))
-
--- the first of all its kinds
+-- the first of its kinds, which are logged once a minute, that has a line to be logged now
 abbrev pub traffic_line : ℕ → Traffic → Traffic × Option LogLine
 traffic_line now t =
-    or_else (sent_line now t) (λ t. or_else (confirmed_line now t) (λ t. or_else (denied_line now t)
-    (λ t. or_else (terminated_line now t) (λ t. or_else (failed_line now t) (minute_line now)))))
+    or_else (skips_line now t) (λ t. or_else (mirrors_line now t) (λ t. or_else (spoilt_line now t)
+    (late_line now)))
 
 abbrev pub first_by : Traffic × Option LogLine → List Traffic → List Traffic × Option LogLine
     → List Traffic × Option LogLine

@@ -2,8 +2,8 @@
 use Rattle.std.specs.Prelude.{◌≡◌, ℕ, List, [], ◌∷◌, Option, Some, None}
 use Rattle.asdu.specs.Refusals.{refusal}
 use Rattle.asdu.specs.declared.sizes.Sizes.{Sizes}
-use Rattle.runlog.specs.Gathering.{line_of, minute_line_of}
-use Rattle.runlog.specs.Inbox.{Orders}
+use Rattle.runlog.specs.Gathering.{minute_line_of}
+use Rattle.runlog.specs.Limits.{none_left}
 use Rattle.runlog.specs.Orders.{octet}
 use Rattle.runlog.specs.Traffic.{first_line, new_traffic, reported}
 use Rattle.runlog.specs.declared.content.Skip.{Skip}
@@ -17,20 +17,10 @@ first_alone now t = (first_line now (t ∷ [])).1
 
 -- no kind of the station's lines has one that may be logged now
 pub record IsNothingFree (now : ℕ) (t : Traffic) : Type 0 where
-  pub sent : (line_of now t.sent).1 ≡ None
-  pub confirmed : (line_of now t.confirmed).1 ≡ None
-  pub denied : (line_of now t.denied).1 ≡ None
-  pub terminated : (line_of now t.terminated).1 ≡ None
-  pub failed : (line_of now t.failed).1 ≡ None
   pub skips : (minute_line_of now t.skips).1 ≡ None
   pub mirrors : (minute_line_of now t.mirrors).1 ≡ None
   pub spoilt : (minute_line_of now t.spoilt).1 ≡ None
   pub late : (minute_line_of now t.late).1 ≡ None
-
--- nor have the commands that came
-pub record IsNothingOrdered (now : ℕ) (c : Orders) : Type 0 where
-  pub ordered : (line_of now c.ordered).1 ≡ None
-  pub refused : (line_of now c.refused).1 ≡ None
 
 -- a report that is refused for this reason is logged so, whatever else it holds
 abbrev pub IsSkippedAs : (n : ℕ) → Skip → Type 0
@@ -39,5 +29,5 @@ IsSkippedAs n why = (address now : ℕ) (s : Sizes) (report : List ℕ) → refu
     ≡ Some (record {
       moment = now;
       note = note.Skipped address (octet report 0) why;
-      left_out = 0;
+      left_out = none_left;
     })

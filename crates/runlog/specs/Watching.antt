@@ -1,6 +1,6 @@
 -- Which line follows from what passes the port (this gateway's own profile).
 use Rattle.std.specs.Io.Iter.{u64_saturate}
-use Rattle.std.specs.Prelude.{ℕ, ◌+◌, ◌-◌, ◌==◌, nat_le, nat_lt, Bool, true, false, List}
+use Rattle.std.specs.Prelude.{ℕ, ◌+◌, ◌-◌, ◌==◌, nat_le, nat_lt, Bool, true, false, not, List, []}
 use Rattle.std.specs.Prelude.{map, take, slice_get, slice_set, Option, Some, None, is_some}
 use Rattle.std.specs.Prelude.{option_map, if◌then◌else◌}
 use Rattle.ft12.specs.declared.frame.LinkSize.{LinkSize}
@@ -28,12 +28,14 @@ use Rattle.link.specs.declared.answer.Answer.{Answer}
 use Rattle.runlog.specs.Exchange as exchange
 use Rattle.runlog.specs.Exchange.{RequestWatch, new_exchange, begun, over, awaited_of, place_of}
 use Rattle.runlog.specs.Exchange.{user_data, answer_in, traffic_after}
-use Rattle.runlog.specs.Limits.{is_minute_after, one_more}
+use Rattle.runlog.specs.Limits.{is_minute_after, none_left, one_more}
 use Rattle.runlog.specs.Orders.{order_of}
 use Rattle.runlog.specs.Traffic as traffic
-use Rattle.runlog.specs.Traffic.{new_traffics, first_line}
+use Rattle.runlog.specs.Traffic.{answer_told, first_line, mishap_told, new_traffics}
+use Rattle.runlog.specs.Trails.{appended, fate_told, is_told}
 use Rattle.runlog.specs.declared.exchange.AwaitedAnswer.{AwaitedAnswer}
 use Rattle.runlog.specs.declared.exchange.AwaitedAnswer.TheVariants as awaited
+use Rattle.runlog.specs.declared.fate.CommandFate.TheVariants as fate
 use Rattle.runlog.specs.declared.fate.Mishap.{Mishap}
 use Rattle.runlog.specs.declared.fate.Mishap.TheVariants as mishap
 use Rattle.runlog.specs.declared.order.Order.{Order}
@@ -105,6 +107,10 @@ pub record Watching : Type 0 where
   pub wall : Option WallShown
   pub stations : List StationWatch
   pub traffic : List Traffic
+  -- what became of commands since that was told last; and the commands that went out to the line in
+  -- the latest step, which are told behind what else it did
+  pub trail : List LogLine
+  pub gone : List LogLine
 
 abbrev pub new_stations : (tries : ℕ) → List StationSettings → List StationWatch
 new_stations tries settings = map (λ (s : StationSettings). new_station tries s.address) settings
@@ -127,6 +133,8 @@ new_watching c = record {
   late = 0;
   sought = 0;
   wall = None;
+  trail = [];
+  gone = [];
   traffic = new_traffics c.stations;
   stations = new_stations (c.line.retries + 1) c.stations;
 }
@@ -160,9 +168,16 @@ abbrev pub received : List ℕ → Watching → Watching
 received octets w =
     if is_some w.connection.opening then record w { inbox = inbox.received octets w.inbox } else w
 
+-- what waits never goes out, since its connection has ended: that is told
+abbrev pub lost_at : ℕ → Inbox → Watching → Watching
+lost_at now b w = record w {
+  inbox = inbox.lost b;
+  trail = inbox.unsent_told now b.orders.waiting w.trail;
+}
+
 -- nothing has come on a connection that begins or is cut
 abbrev pub at_end : ℕ → Watching → Watching
-at_end now w = record (at now w) { inbox = inbox.emptied w.inbox }
+at_end now w = lost_at now (inbox.emptied w.inbox) (at now w)
 
 -- ---- The line
 
@@ -171,6 +186,7 @@ answered_by None t place w = w
 answered_by (Some answer) t place w = record w {
   exchange = over w.exchange;
   traffic = slice_set w.traffic place (traffic_after answer w.sizes w.moment t);
+  trail = answer_told answer w.sizes w.moment t w.trail;
 }
 
 abbrev pub answer_noted_by : Option Traffic → (place : ℕ) → Watching → Watching
@@ -202,23 +218,30 @@ is_repeat place octets w = is_repeat_by (slice_get w.stations place) octets
 abbrev pub order_at : List ℕ → Watching → Option Order
 order_at octets w = order_of w.sizes (user_data w.link octets)
 
-abbrev pub sent_by : Option Traffic → (place : ℕ) → List ℕ → Watching → Watching
-sent_by None place octets w = w
-sent_by (Some t) place octets w =
-    if is_repeat place octets w then w
-    else record w { traffic = slice_set w.traffic place (traffic.sent (order_at octets w) t) }
+-- it went out for the first time, at this moment
+abbrev pub sent_to : Traffic → (place : ℕ) → List ℕ → (now : ℕ) → Watching → Watching
+sent_to t place octets now w = record w {
+  traffic = slice_set w.traffic place (traffic.sent (order_at octets w) t);
+  gone = fate_told (Some fate.Sent) (order_at octets w) t.address now w.gone;
+  inbox = inbox.gone_out (order_at octets w) w.inbox;
+}
+
+abbrev pub sent_by : Option Traffic → (place : ℕ) → List ℕ → (now : ℕ) → Watching → Watching
+sent_by None place octets now w = w
+sent_by (Some t) place octets now w =
+    if is_repeat place octets w then w else sent_to t place octets now w
 
 -- a command goes out, for the first time or again
-abbrev pub command_sent : (place : ℕ) → List ℕ → Watching → Watching
-command_sent place octets w = sent_by (slice_get w.traffic place) place octets w
+abbrev pub command_sent : (place : ℕ) → List ℕ → (now : ℕ) → Watching → Watching
+command_sent place octets now w = sent_by (slice_get w.traffic place) place octets now w
 
-abbrev pub sent_at : Option ℕ → AwaitedAnswer → List ℕ → Watching → Watching
-sent_at (Some place) awaited.Command octets w = command_sent place octets w
-sent_at place what octets w = w
+abbrev pub sent_at : Option ℕ → AwaitedAnswer → List ℕ → (now : ℕ) → Watching → Watching
+sent_at (Some place) awaited.Command octets now w = command_sent place octets now w
+sent_at place what octets now w = w
 
 abbrev pub exchanged : Option ℕ → AwaitedAnswer → List ℕ → (now : ℕ) → Watching → Watching
 exchanged place what octets now w =
-    sent_at place what octets
+    sent_at place what octets now
     (record w { exchange = exchange.asked w.link octets place what now w.exchange })
 
 -- a request goes out
@@ -237,8 +260,10 @@ asked octets now w =
 
 abbrev pub suffered_by : Option Traffic → (place : ℕ) → Mishap → Watching → Watching
 suffered_by None place what w = w
-suffered_by (Some t) place what w =
-    record w { traffic = slice_set w.traffic place (traffic.suffered what t) }
+suffered_by (Some t) place what w = record w {
+  traffic = slice_set w.traffic place (traffic.suffered what w.moment t);
+  trail = mishap_told what w.moment t w.trail;
+}
 
 -- this befell the station at this place, if there is one
 abbrev pub suffered : (place : ℕ) → Mishap → Watching → Watching
@@ -311,7 +336,7 @@ inbox_after cause b = inbox.closed b
 -- the gateway closes the connection
 abbrev pub closed : Close → (now : ℕ) → Watching → Watching × Option LogLine
 closed cause now w = with_connection (connection_closed cause now w.connection)
-    (record w { inbox = inbox_after cause w.inbox })
+    (lost_at now (inbox_after cause w.inbox) w)
 
 -- An action: a request to a station, an APDU, the close of the connection, or a gap in what a
 -- station reported.
@@ -335,7 +360,7 @@ tally counts taken w = record {
 }
 
 abbrev pub line_of : Note → Watching → LogLine
-line_of what w = record { moment = w.moment; note = what; left_out = 0 }
+line_of what w = record { moment = w.moment; note = what; left_out = none_left }
 
 -- The device failed: that the line is away, or that the state can't be kept; nothing where it
 -- didn't.
@@ -365,10 +390,30 @@ looked_at counts taken w =
 
 -- Between two steps
 
+-- the commands that came in the latest step and go on are told
+abbrev pub come_behind : Watching → Watching
+come_behind w = record w {
+  inbox = inbox.handed_on w.inbox;
+  trail = appended w.inbox.orders.ordered w.trail;
+}
+
+-- and those that went out in it, behind all else
+abbrev pub gone_behind : Watching → Watching
+gone_behind w = record w { trail = appended w.gone w.trail; gone = [] }
+
 -- what became of the commands that came in the latest step, and what was counted in it
 abbrev pub judged : State → Watching → Watching
-judged s w = counts_noted (counts_of s)
-    (record w { inbox = inbox.judged s w.connection.peer w.inbox })
+judged s w =
+    gone_behind (counts_noted (counts_of s)
+    (come_behind (record w { inbox = inbox.judged s w.connection.peer w.inbox })))
+
+-- something is to be told of commands
+abbrev pub has_trail : Watching → Bool
+has_trail w = not (is_told w.trail)
+
+-- what became of commands is told
+abbrev pub told : Watching → Watching
+told w = record w { trail = [] }
 
 abbrev pub traffic_logged : Watching → Watching × Option LogLine
 traffic_logged w =

@@ -1,7 +1,7 @@
 //! Laws of the station that answers, commands and mishaps are noted of, of what passes a run that
 //! is watched, of APDUs that come in a step, and of how a run ends.
 ghost use Rattle.std.specs.Prelude.{◌≡◌, ℕ, ◌+◌, ◌%◌, ◌<◌, ◌≤◌, Bool, List, ◌∷◌, ◌++◌, length};
-ghost use Rattle.std.specs.Prelude.{◌-◌, drop, Option, Some, None, true, false, ◌≢◌, ◌⊎◌};
+ghost use Rattle.std.specs.Prelude.{[], ◌-◌, drop, Option, Some, None, true, false, ◌≢◌, ◌⊎◌};
 ghost use Rattle.std.specs.declared.net.ip_addr.IpAddr.{IpAddr};
 ghost use Rattle.asdu.specs.Sizes.{tcp};
 ghost use Rattle.asdu.specs.declared.sizes.Sizes.{Sizes};
@@ -22,7 +22,7 @@ ghost use Rattle.live.specs.declared.watched.EndsSight.{EndsSight};
 ghost use Rattle.live.specs.declared.watched.Failure.{Failure};
 ghost use Rattle.live.specs.declared.watched.Failure.TheVariants as failure;
 ghost use Rattle.runlog.specs.Befallen.{IsFollowed, IsInPlace, IsWatched, NoneHas, place_asked};
-ghost use Rattle.runlog.specs.Examples.{at};
+ghost use Rattle.runlog.specs.Trails.{at, fate_told};
 ghost use Rattle.runlog.specs.Exchange.{RequestWatch, answer_in, asked, begun, lag, received};
 ghost use Rattle.runlog.specs.Exchange.{traffic_after};
 ghost use Rattle.runlog.specs.Inbox as inbox;
@@ -32,12 +32,13 @@ ghost use Rattle.runlog.specs.Logging.{Book, Closes, LogsAction, LogsEventSeeing
 ghost use Rattle.runlog.specs.Logging.{taken_in};
 ghost use Rattle.runlog.specs.Orders.{octet, order_of};
 ghost use Rattle.runlog.specs.Passing.{Between, Came, Went, passed};
-ghost use Rattle.runlog.specs.Traffic.{content_of, sent, suffered};
+ghost use Rattle.runlog.specs.Traffic.{answer_told, content_of, sent, suffered};
 ghost use Rattle.runlog.specs.Watching.{Watching, counts_noted, is_repeat, late_noted};
 ghost use Rattle.runlog.specs.Watching.{line_received};
 ghost use Rattle.runlog.specs.declared.content.Content.TheVariants.{Skipped};
 ghost use Rattle.runlog.specs.declared.content.Skip.{Skip};
 ghost use Rattle.runlog.specs.declared.exchange.AwaitedAnswer.{AwaitedAnswer};
+ghost use Rattle.runlog.specs.declared.fate.CommandFate.TheVariants as fate;
 ghost use Rattle.runlog.specs.declared.fate.Mishap.TheVariants as mishap;
 ghost use Rattle.runlog.specs.declared.note.LogLine.{LogLine};
 ghost use Rattle.runlog.specs.declared.note.Note.TheVariants as note;
@@ -46,8 +47,9 @@ ghost use Rattle.runlog.specs.declared.order.Order.{Order};
 ghost use Rattle.runlog.specs.declared.traffic.Traffic.{Traffic};
 
 /// The station that was asked last is the one whose link address the request bears, however many
-/// stand before it. A command that goes out for the first time is noted of it, and so is each
-/// answer. No other station's counts and commands change, nor do any where nothing is received.
+/// stand before it. A command that goes out for the first time is noted of it, at the moment at
+/// which it goes out, and so is each answer, at the moment of its event: what it says of a command
+/// is told. No other station's counts and commands change, nor do any if nothing is received.
 pub fn answers_are_noted_of_the_station_that_was_asked()
     ensures asked { (w : Watching) (request : Request) (now : ℕ) (before behind : List Traffic)
         (t : Traffic) → IsInPlace before behind t w → NoneHas t.address before →
@@ -58,7 +60,8 @@ pub fn answers_are_noted_of_the_station_that_was_asked()
         w.exchange.place ≡ Some (length before) →
         answer_in w.link t.address (received w.link octets w.moment w.exchange) ≡ Some answer →
         IsInPlace before behind (traffic_after answer w.sizes w.moment t)
-        (line_received octets w) }
+        (line_received octets w) × ((line_received octets w).trail
+        ≡ answer_told answer w.sizes w.moment t w.trail) }
     ensures not_yet { (w : Watching) (octets : List ℕ) (before behind : List Traffic)
         (t : Traffic) → IsInPlace before behind t w →
         w.exchange.place ≡ Some (length before) →
@@ -69,30 +72,32 @@ pub fn answers_are_noted_of_the_station_that_was_asked()
         NoneHas t.address before →
         is_repeat (length before)
         (spelling w.link (request_frame t.address (Counted fcb (Command asdu)))) w ≡ false →
-        IsInPlace before behind (sent (order_of w.sizes asdu) t)
-        (passed (Went now (LineOut (spelling w.link
-        (request_frame t.address (Counted fcb (Command asdu)))))) w).0 }
+        let after = (passed (Went now (LineOut (spelling w.link
+        (request_frame t.address (Counted fcb (Command asdu)))))) w).0 in
+        IsInPlace before behind (sent (order_of w.sizes asdu) t) after
+        × (after.gone ≡ fate_told (Some fate.Sent) (order_of w.sizes asdu) t.address now w.gone) }
 {}
 
 /// What the gateway counted befell the station that was asked last before the latest event, and is
-/// noted once: a command that it gave up, an answer to a command that it dropped, an exchange that
-/// was spoilt.
+/// noted once: that it gave up the latest command that went out to that station, which is told; an
+/// answer to a command that it dropped; an exchange that was spoilt.
 pub fn mishaps_are_noted_of_the_station_that_was_asked()
     ensures given_up { (counts : Counts) (w : Watching) (before behind : List Traffic)
         (t : Traffic) → IsInPlace before behind t w →
         w.exchange.before ≡ Some (length before) → w.seen.lost < counts.lost →
         w.seen.mirrors ≡ counts.mirrors → w.seen.spoilt ≡ counts.spoilt →
-        IsInPlace before behind (suffered mishap.GivenUp t) (counts_noted counts w) }
+        IsInPlace before behind t (counts_noted counts w) × ((counts_noted counts w).trail
+        ≡ fate_told (Some fate.GivenUp) t.order t.address w.moment w.trail) }
     ensures dropped { (counts : Counts) (w : Watching) (before behind : List Traffic)
         (t : Traffic) → IsInPlace before behind t w →
         w.exchange.before ≡ Some (length before) → w.seen.mirrors < counts.mirrors →
         w.seen.lost ≡ counts.lost → w.seen.spoilt ≡ counts.spoilt →
-        IsInPlace before behind (suffered mishap.MirrorDropped t) (counts_noted counts w) }
+        IsInPlace before behind (suffered mishap.MirrorDropped w.moment t) (counts_noted counts w) }
     ensures spoilt { (counts : Counts) (w : Watching) (before behind : List Traffic)
         (t : Traffic) → IsInPlace before behind t w →
         w.exchange.before ≡ Some (length before) → w.seen.spoilt < counts.spoilt →
         w.seen.lost ≡ counts.lost → w.seen.mirrors ≡ counts.mirrors →
-        IsInPlace before behind (suffered (mishap.Spoilt w.exchange.spoiling) t)
+        IsInPlace before behind (suffered (mishap.Spoilt w.exchange.spoiling) w.moment t)
         (counts_noted counts w) }
     ensures none { (counts : Counts) (w : Watching) → w.seen.lost ≡ counts.lost →
         w.seen.mirrors ≡ counts.mirrors → w.seen.spoilt ≡ counts.spoilt →
@@ -107,8 +112,8 @@ pub fn mishaps_are_noted_of_the_station_that_was_asked()
 pub fn late_octets_are_of_the_station_asked_before()
     ensures late { (late : ℕ) (w : Watching) (before behind : List Traffic) (t : Traffic) →
         IsInPlace before behind t w → w.exchange.overdue ≡ Some (length before) →
-        w.late < late → IsInPlace before behind (suffered (mishap.Late (lag w.exchange)) t)
-        (late_noted late w) }
+        w.late < late → IsInPlace before behind
+        (suffered (mishap.Late (lag w.exchange)) w.moment t) (late_noted late w) }
     ensures not_late { (late : ℕ) (w : Watching) → late ≤ w.late →
         (late_noted late w).traffic ≡ w.traffic }
     ensures late_once { (late : ℕ) (w : Watching) → (late_noted late w).late ≡ late }
@@ -153,10 +158,16 @@ pub fn each_apdu_of_a_step_is_read()
         b.is_closed ≡ false → (judged s peer b).octets ≡ start ∷ n ∷ rest }
     ensures foreign { (s : State) (peer : Option IpAddr) (b : Inbox) (start : ℕ)
         (rest : List ℕ) → b.octets ≡ start ∷ rest → start ≢ 0x68 →
-        (judged s peer b).orders ≡ record b.orders { seen = glance_of s.serial.commands } }
+        (judged s peer b).orders ≡ record b.orders {
+          seen = glance_of s.serial.commands;
+          early = [];
+        } }
     ensures no_length { (s : State) (peer : Option IpAddr) (b : Inbox) (start n : ℕ)
         (rest : List ℕ) → b.octets ≡ start ∷ n ∷ rest → (n < 4) ⊎ (253 < n) →
-        (judged s peer b).orders ≡ record b.orders { seen = glance_of s.serial.commands } }
+        (judged s peer b).orders ≡ record b.orders {
+          seen = glance_of s.serial.commands;
+          early = [];
+        } }
     ensures commands { (s : State) (is_closed : Bool) (peer : Option IpAddr) (apdu : List ℕ)
         (o : Order) (c : Orders) → octet apdu 2 % 2 ≡ 0 →
         order_of tcp (drop 6 apdu) ≡ Some o →

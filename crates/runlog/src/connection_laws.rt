@@ -45,7 +45,7 @@ pub fn each_step_of_a_connection_is_logged_or_counted()
     ensures counted { (c : Settings) (kind : StepKind) (ps : List Passed) →
         steps_in kind (map step_of ps) < 2 ^ 64 →
         spoken_of (lines_of kind (new_watching c) ps)
-        + (limit_of kind (watched (new_watching c) ps).connection).left_out
+        + (limit_of kind (watched (new_watching c) ps).connection).left_out.count
         ≡ steps_in kind (map step_of ps) }
 {}
 

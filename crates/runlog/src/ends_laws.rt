@@ -15,7 +15,7 @@ ghost use Rattle.live.specs.declared.watched.EndsSight.{EndsSight};
 ghost use Rattle.runlog.specs.Ends.{line_seen, listener_seen};
 ghost use Rattle.runlog.specs.Inbox.{Inbox, judged};
 ghost use Rattle.runlog.specs.LineLines.{logged_at};
-ghost use Rattle.runlog.specs.Limits.{IsSecondAfter};
+ghost use Rattle.runlog.specs.Limits.{IsSecondAfter, none_left};
 ghost use Rattle.runlog.specs.Logging.{looked_if_due, taken_in};
 ghost use Rattle.runlog.specs.Passing.{Came, Went, passed};
 ghost use Rattle.runlog.specs.Watching.{Watching, looked_at, queue_seen};
@@ -122,7 +122,7 @@ pub fn the_counts_are_logged_each_minute()
             places = w.places;
             connections = w.connection.count;
           });
-          left_out = 0;
+          left_out = none_left;
         })) × ((looked_at counts taken w).0.counted ≡ w.moment) }
     ensures not_yet { (counts : Counts) (taken : ℕ) (w : Watching) →
         (queue_seen taken w.places w.moment w.queue).1 ≡ None → w.moment < w.counted + 60000 →

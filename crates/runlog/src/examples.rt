@@ -10,13 +10,14 @@ ghost use Rattle.runlog.specs.Ends.{new_line, new_listener, new_connection, list
 ghost use Rattle.runlog.specs.Ends.{connection_sent};
 ghost use Rattle.asdu.specs.Sizes.{tcp};
 ghost use Rattle.command.specs.declared.refusal.Refusal.TheVariants as refusal;
-ghost use Rattle.runlog.specs.Examples.{at, lines_of_calls, lines_of_looks, lines_of_requests};
+ghost use Rattle.runlog.specs.Examples.{lines_of_calls, lines_of_looks, lines_of_requests};
 ghost use Rattle.runlog.specs.Examples.{asked_before, counting, lines_of_mishaps, order};
 ghost use Rattle.runlog.specs.Examples.{standings_of, two_stations};
 ghost use Rattle.runlog.specs.Examples.{none_of_7, poll_of_8, polled_at, spoiling_behind};
 ghost use Rattle.runlog.specs.Exchange.{asked as request_sent, new_exchange};
 ghost use Rattle.runlog.specs.Gathering.{Add, Look};
 ghost use Rattle.runlog.specs.Orders.{order_of};
+ghost use Rattle.runlog.specs.Trails.{at};
 ghost use Rattle.runlog.specs.Traffic.{reply_of};
 ghost use Rattle.runlog.specs.declared.content.Skip.TheVariants as skip;
 ghost use Rattle.runlog.specs.declared.fate.CommandFate.TheVariants as fate;
@@ -150,8 +151,11 @@ pub fn moments_by_example()
 /// The lines behind their UTC time (docs/TEXTS.md has them in words).
 pub fn log_lines_by_example()
     ensures lines { (line_text (at 10 (note.Up 1)) ≡ codes "10 station 1 up")
-        × (line_text (record { moment = 10; note = note.LineLost; left_out = 3 })
-        ≡ codes "10 line lost (3 left out)") }
+        × (line_text (record {
+          moment = 10;
+          note = note.LineLost;
+          left_out = record { count = 3; since = 7 };
+        }) ≡ codes "10 line lost (3 left out since 7)") }
     ensures ends { (words note.LineReached ≡ codes "line reached")
         × (words note.LineReachedAgain ≡ codes "line reached again")
         × (words note.LineLost ≡ codes "line lost")
@@ -246,10 +250,15 @@ pub fn commands_by_example()
         × (words (note.Skipped 7 1 skip.OtherLength)
         ≡ codes
         "station 7 report skipped, type 1 M_SP_NA_1: length doesn't fit, look at line.ioa") }
-    // The first at once; of three more within the second the last, once that is over.
-    ensures gathered { lines_of_calls (Add (note.Up 1) ∷ Look 5 ∷ Add (note.Up 2) ∷ Look 6
-        ∷ Add (note.Up 3) ∷ Add (note.Up 4) ∷ Look 1004 ∷ Look 1005 ∷ Look 3000 ∷ [])
-        ≡ at 5 (note.Up 1) ∷ record { moment = 1005; note = note.Up 4; left_out = 2 } ∷ [] }
+    // The first at once; of three more within the second the last, once that is over, with its own
+    // moment, and that of the first of the two others.
+    ensures gathered { lines_of_calls (Add (note.Up 1) 5 ∷ Look 5 ∷ Add (note.Up 2) 6 ∷ Look 6
+        ∷ Add (note.Up 3) 7 ∷ Add (note.Up 4) 900 ∷ Look 1004 ∷ Look 1005 ∷ Look 3000 ∷ [])
+        ≡ at 5 (note.Up 1) ∷ record {
+          moment = 900;
+          note = note.Up 4;
+          left_out = record { count = 2; since = 6 };
+        } ∷ [] }
 {}
 
 /// How a station stands, by the requests to it, each with its moment; since when; and how many
@@ -281,12 +290,12 @@ pub fn late_answers_by_example()
       late = 5;
       exchange = polled_at 150 (new_exchange 150);
       traffic = two_stations;
-    })).traffic).1 ≡ Some (at 200 (note.Late 7 150)) }
+    })).traffic).1 ≡ Some (at w.moment (note.Late 7 150)) }
     ensures spoilt { (w : Watching) → (first_line 200 (counts_noted (counting 0 1) (record w {
       seen = counting 0 0;
       exchange = asked_before 1;
       traffic = two_stations;
-    })).traffic).1 ≡ Some (at 200 (note.Spoilt 8 (FrameOf 9))) }
+    })).traffic).1 ≡ Some (at w.moment (note.Spoilt 8 (FrameOf 9))) }
     // Octets that come behind a poll of station 8, before which station 7 was polled: the poll
     // itself; an answer to the poll before, once 150 ms are over, and earlier; a frame of station
     // 9; the beginning of a frame; and a device server's own text.
@@ -302,11 +311,15 @@ pub fn late_answers_by_example()
       seen = counting 2 1;
       exchange = asked_before 0;
       traffic = two_stations;
-    })).traffic).1 ≡ Some (at 200 (note.MirrorDropped 7)) }
+    })).traffic).1 ≡ Some (at w.moment (note.MirrorDropped 7)) }
     ensures logged { lines_of_mishaps ((0, mishap.Late 212) ∷ (100, mishap.Late 213)
         ∷ (200, mishap.Spoilt Echo) ∷ (300, mishap.MirrorDropped) ∷ (60000, mishap.Late 214) ∷ [])
         7 ≡ at 0 (note.Late 7 212) ∷ at 200 (note.Spoilt 7 Echo) ∷ at 300 (note.MirrorDropped 7)
-        ∷ record { moment = 60000; note = note.Late 7 214; left_out = 1 } ∷ [] }
+        ∷ record {
+          moment = 60000;
+          note = note.Late 7 214;
+          left_out = record { count = 1; since = 100 };
+        } ∷ [] }
     ensures words { (words (note.Late 7 212)
         ≡ codes "answers of station 7 come late, 212 ms behind their request: answer_ms is short")
         × (words (note.Spoilt 7 Echo) ≡ codes "station 7 answer spoilt: its request came back")

@@ -16,11 +16,10 @@ ghost use Rattle.link.specs.declared.service.Service.TheVariants.{Command};
 ghost use Rattle.runlog.specs.Answering.{IsCounted, awaited_for};
 ghost use Rattle.runlog.specs.Exchange.{RequestWatch, answer_in, awaited_of, received, user_data};
 ghost use Rattle.runlog.specs.Limits.{one_more};
-ghost use Rattle.runlog.specs.Traffic.{content_of, ended, reported, sent, suffered};
+ghost use Rattle.runlog.specs.Traffic.{content_of, reported, sent, suffered};
 ghost use Rattle.runlog.specs.declared.content.Content.TheVariants.{Skipped};
 ghost use Rattle.runlog.specs.declared.content.Skip.{Skip};
 ghost use Rattle.runlog.specs.declared.exchange.AwaitedAnswer.TheVariants.{Nothing};
-ghost use Rattle.runlog.specs.declared.fate.CommandFate.{CommandFate};
 ghost use Rattle.runlog.specs.declared.fate.Mishap.{Mishap};
 ghost use Rattle.runlog.specs.declared.order.Order.{Order};
 ghost use Rattle.runlog.specs.declared.traffic.Traffic.{Traffic};
@@ -55,8 +54,8 @@ pub fn answers_are_read_as_of_their_request()
 {}
 
 /// A report that answers a poll counts once, at its moment. It counts once as skipped where it is
-/// skipped. A command counts once as it goes out for the first time. What becomes of a command, and
-/// what befalls the station, counts as none of these.
+/// skipped. A command counts once as it goes out for the first time. What befalls the station, and
+/// so what becomes of a command there, counts as none of these.
 pub fn what_a_station_does_is_counted()
     ensures passed_on { (sizes : Sizes) (now : ℕ) (octets : List ℕ) (t : Traffic) →
         ((why : Skip) → content_of sizes octets ≡ Skipped why → ⊥) →
@@ -68,8 +67,6 @@ pub fn what_a_station_does_is_counted()
         t (reported sizes now octets t) }
     ensures command { (order : Option Order) (t : Traffic) →
         IsCounted t.reports t.last_report t.skipped (one_more t.commands) t (sent order t) }
-    ensures fate { (what : CommandFate) (t : Traffic) →
-        IsCounted t.reports t.last_report t.skipped t.commands t (ended what t) }
-    ensures mishap { (what : Mishap) (t : Traffic) →
-        IsCounted t.reports t.last_report t.skipped t.commands t (suffered what t) }
+    ensures mishap { (what : Mishap) (now : ℕ) (t : Traffic) →
+        IsCounted t.reports t.last_report t.skipped t.commands t (suffered what now t) }
 {}

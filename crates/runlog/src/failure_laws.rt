@@ -4,7 +4,7 @@ ghost use Rattle.live.specs.declared.ends.Presence.TheVariants as presence;
 ghost use Rattle.live.specs.declared.watched.Failure.TheVariants as failure;
 ghost use Rattle.live.specs.declared.watched.Notice.{Notice};
 ghost use Rattle.runlog.specs.Ends.{line_seen};
-ghost use Rattle.runlog.specs.Examples.{at};
+ghost use Rattle.runlog.specs.Trails.{at};
 ghost use Rattle.runlog.specs.LineLines.{IsLoggedAway, IsLoggedThere, IsNotLogged};
 ghost use Rattle.runlog.specs.Limits.{IsSecondAfter};
 ghost use Rattle.runlog.specs.Logging.{line_of_notice};

@@ -1,25 +1,33 @@
 //! Laws of what is logged of each station: of its commands, its reports and its mishaps.
-ghost use Rattle.std.specs.Prelude.{◌≡◌, ◌≢◌, ◌<◌, ◌≤◌, ◌%◌, ◌⊎◌, ◌∷◌, [], ℕ, true, List, Option};
-ghost use Rattle.std.specs.Prelude.{Some, None};
+ghost use Rattle.std.specs.Prelude.{◌≡◌, ◌≢◌, ◌<◌, ◌≤◌, ◌+◌, ◌%◌, ◌⊎◌, ◌∷◌, ◌++◌, [], ℕ, false};
+ghost use Rattle.std.specs.Prelude.{true, List, Option, Some, None, length, slice_get};
 ghost use Rattle.std.specs.declared.net.ip_addr.IpAddr.{IpAddr};
 ghost use Rattle.std.specs.List.{AllByRecursion};
 ghost use Rattle.asdu.specs.declared.sizes.Sizes.{Sizes};
-ghost use Rattle.gateway.specs.State.{State};
-ghost use Rattle.gateway.specs.Log.{LineOut};
-ghost use Rattle.runlog.specs.Examples.{at, order, two_commands, two_watched, command_to_8};
+ghost use Rattle.command.specs.Refusals.{seen_judged};
+ghost use Rattle.gateway.specs.State.{State, counts_of, wall_now};
+ghost use Rattle.link.specs.declared.answer.Answer.TheVariants.{Busy, Report};
+ghost use Rattle.runlog.specs.Examples.{order, two_commands, two_watched};
 ghost use Rattle.runlog.specs.Examples.{busy_8, commanded, confirmed_by_8, polled};
-ghost use Rattle.runlog.specs.Inbox.{Inbox, all_noted, line_of, new_orders};
+ghost use Rattle.runlog.specs.Gathering as gathering;
+ghost use Rattle.runlog.specs.Inbox as inbox;
+ghost use Rattle.runlog.specs.Inbox.{Inbox, Orders, all_noted, line_of, new_orders, order_noted};
+ghost use Rattle.runlog.specs.Logging.{Book, Tells};
 ghost use Rattle.runlog.specs.Orders.{octet, order_of};
-ghost use Rattle.runlog.specs.Traffic.{content_of, ended, fate_noted, first_line, new_traffic};
-ghost use Rattle.runlog.specs.Traffic.{reply_of, reported, sent, suffered, traffic_line};
-ghost use Rattle.runlog.specs.Waiting.{IsNothingFree, IsNothingOrdered, IsSkippedAs, first_alone};
-ghost use Rattle.runlog.specs.Watching.{Watching, line_received, put};
+ghost use Rattle.runlog.specs.Traffic.{answer_told, content_of, first_line, mishap_told};
+ghost use Rattle.runlog.specs.Traffic.{new_traffic, reply_of, sent, suffered, traffic_line};
+ghost use Rattle.runlog.specs.Trails.{added, at, newest_first};
+ghost use Rattle.runlog.specs.Waiting.{IsNothingFree, IsSkippedAs, first_alone};
+ghost use Rattle.runlog.specs.Watching.{Watching, command_sent, is_repeat, judged, line_received};
+ghost use Rattle.runlog.specs.Watching.{lost_at, order_at};
 ghost use Rattle.runlog.specs.declared.content.Content.TheVariants.{Reply};
 ghost use Rattle.runlog.specs.declared.content.Skip.TheVariants as skip;
 ghost use Rattle.runlog.specs.declared.fate.CommandFate.{CommandFate};
 ghost use Rattle.runlog.specs.declared.fate.CommandFate.TheVariants as fate;
 ghost use Rattle.runlog.specs.declared.fate.Reason.TheVariants as reason;
 ghost use Rattle.runlog.specs.declared.fate.Mishap.TheVariants as mishap;
+ghost use Rattle.runlog.specs.declared.note.LogLine.{LogLine};
+ghost use Rattle.runlog.specs.declared.note.Note.{Note};
 ghost use Rattle.runlog.specs.declared.note.Note.TheVariants as note;
 ghost use Rattle.runlog.specs.declared.order.Order.{Order};
 ghost use Rattle.runlog.specs.declared.spoiling.Spoiling.{Spoiling};
@@ -27,35 +35,63 @@ ghost use Rattle.runlog.specs.declared.order.OrderKind.TheVariants as act;
 ghost use Rattle.runlog.specs.declared.order.Value.TheVariants as value;
 ghost use Rattle.runlog.specs.declared.traffic.Traffic.{Traffic};
 
-/// Whatever becomes of a command is logged for the station that it went to, at the next moment at
-/// which a line is sought: that it went out, what the station answers, by the cause octet and the
-/// command of that very answer, or that it was given up. So is each report that isn't passed on,
-/// with its type and the reason, and each mishap.
+/// Whatever becomes of a command that goes on to its station is told for that station, in a line of
+/// its own, with the moment of its event: that it came, that it went out, what the station answers,
+/// by the cause octet and the command of that very answer, that its link is busy, that the latest
+/// command that went out to it was given up, or that it never went out. All that is to be told is handed over behind the step,
+/// in its order, and nothing of it is left out. So is each report that isn't passed on, with its
+/// type and the reason, and each mishap: these at most once a minute.
 pub fn what_becomes_of_commands_is_logged()
-    ensures fates { (address now : ℕ) (what : CommandFate) (o : Order) →
-        first_alone now (fate_noted what o (new_traffic address))
-        ≡ Some (at now (note.Fate o address what)) }
-    ensures sendings { (address now : ℕ) (o : Order) →
-        first_alone now (sent (Some o) (new_traffic address))
-        ≡ Some (at now (note.Fate o address fate.Sent)) }
-    ensures sent_last { (t : Traffic) (o : Order) (what : CommandFate) →
-        ended what (sent (Some o) t) ≡ fate_noted what o (sent (Some o) t) }
-    ensures answers { (address now : ℕ) (s : Sizes) (report : List ℕ) (what : CommandFate)
-        (o : Order) → content_of s report ≡ Reply → reply_of (octet report 2) ≡ Some what →
-        order_of s report ≡ Some o → first_alone now (reported s now report (new_traffic address))
-        ≡ Some (at now (note.Fate o address what)) }
+    ensures told { (what : Note) (now : ℕ) (lines : List LogLine) → length lines < 128 →
+        added what now lines ≡ lines ++ at now what ∷ [] }
+    ensures comings { (g : State) (peer : Option IpAddr) (asdu : List ℕ) (o : Order) (c : Orders) →
+        (seen_judged g.serial.commands asdu g.moment (wall_now g) c.seen).0 ≡ None →
+        (order_noted g false peer asdu o c).ordered
+        ≡ added (note.Ordered o peer) g.moment c.ordered }
+    ensures sendings { (w : Watching) (place now : ℕ) (octets : List ℕ) (t : Traffic) (o : Order) →
+        slice_get w.traffic place ≡ Some t → is_repeat place octets w ≡ false →
+        order_at octets w ≡ Some o → (command_sent place octets now w).gone
+        ≡ added (note.Fate o t.address fate.Sent) now w.gone }
+    ensures answers { (s : Sizes) (now : ℕ) (report : List ℕ) (what : CommandFate) (o : Order)
+        (t : Traffic) (lines : List LogLine) → content_of s report ≡ Reply →
+        reply_of (octet report 2) ≡ Some what → order_of s report ≡ Some o →
+        answer_told (Some (Report report)) s now t lines
+        ≡ added (note.Fate o t.address what) now lines }
+    ensures ends { (s : Sizes) (now : ℕ) (o : Order) (t : Traffic) (lines : List LogLine) →
+        t.order ≡ Some o →
+        (answer_told (Some Busy) s now t lines ≡ added (note.Fate o t.address fate.Busy) now lines)
+        × (mishap_told mishap.GivenUp now t lines
+        ≡ added (note.Fate o t.address fate.GivenUp) now lines) }
+    // Of the commands that wait each has its line when their connection ends, the oldest first.
+    ensures unsent { (now : ℕ) (o : Order) (os : List Order) (lines : List LogLine) →
+        (inbox.unsent_told now [] lines ≡ lines) × (inbox.unsent_told now (o ∷ os) lines
+        ≡ inbox.unsent_told now os (added (note.Unsent o) now lines)) }
+    ensures waits { (b : Inbox) (now : ℕ) (w : Watching) →
+        ((lost_at now b w).trail ≡ inbox.unsent_told now b.orders.waiting w.trail)
+        × ((lost_at now b w).inbox.orders.waiting ≡ []) }
+    ensures latest { (o : Option Order) (t : Traffic) → (sent o t).order ≡ o }
+    // What came in the step stands before what the step made of it, and what went out in it last.
+    ensures order { (s : State) (w : Watching) →
+        let came = inbox.judged s w.connection.peer w.inbox in
+        length w.trail + length came.orders.ordered + length w.gone ≤ 128 →
+        w.seen ≡ counts_of s →
+        (judged s w).trail ≡ (w.trail ++ came.orders.ordered) ++ w.gone }
+    ensures whole { (old new : Book) (before : List LogLine) → Tells old new →
+        old.is_over ≡ false → new.is_over ≡ false → old.handed ≡ Some before →
+        new.handed ≡ Some (newest_first old.watching.trail before) }
+    ensures once { (old new : Book) → Tells old new → old.is_over ≡ false →
+        new.watching.trail ≡ [] }
     ensures skips { IsSkippedAs 1 skip.TooShort × IsSkippedAs 2 skip.TypeUnknown
         × IsSkippedAs 3 skip.NoObjects × IsSkippedAs 4 skip.OtherLength
         × IsSkippedAs 5 skip.PastSize }
     ensures mishaps { (address now : ℕ) →
-        (first_alone now (suffered mishap.MirrorDropped (new_traffic address))
+        (first_alone now (suffered mishap.MirrorDropped now (new_traffic address))
         ≡ Some (at now (note.MirrorDropped address)))
         × ((by : Spoiling) →
-        first_alone now (suffered (mishap.Spoilt by) (new_traffic address))
+        first_alone now (suffered (mishap.Spoilt by) now (new_traffic address))
         ≡ Some (at now (note.Spoilt address by)))
-        × ((ms : ℕ) → first_alone now (suffered (mishap.Late ms) (new_traffic address))
+        × ((ms : ℕ) → first_alone now (suffered (mishap.Late ms) now (new_traffic address))
         ≡ Some (at now (note.Late address ms))) }
-    ensures given_up { (t : Traffic) → suffered mishap.GivenUp t ≡ ended fate.GivenUp t }
 {}
 
 /// What a station answers a command, by the cause octet alone (IEC 60870-5-101, 7.2.3): the causes
@@ -71,15 +107,15 @@ pub fn answers_are_read_by_their_causes()
         cause % 128 ≢ 9 → cause % 128 ≢ 10 → reply_of cause ≡ None }
 {}
 
-/// Where no line is sought among what was gathered, nothing of it waits that may be logged: of no
-/// station, of no kind, and of no command that came.
+/// If no line is found among what was gathered, nothing of it waits that may be logged: of no
+/// station, of no kind, and of no command that was refused.
 pub fn nothing_waits_that_may_be_logged()
     ensures station { (now : ℕ) (t : Traffic) → (traffic_line now t).1 ≡ None →
         IsNothingFree now t }
     ensures stations { (now : ℕ) (ts : List Traffic) → (first_line now ts).1 ≡ None →
         AllByRecursion (IsNothingFree now) ts }
-    ensures orders { (now : ℕ) (b : Inbox) → (line_of now b).1 ≡ None →
-        IsNothingOrdered now b.orders }
+    ensures refused { (now : ℕ) (b : Inbox) → (line_of now b).1 ≡ None →
+        (gathering.line_of now b.orders.refused).1 ≡ None }
 {}
 
 /// The commands of a step are logged one by one, whatever stands between them: here two with an S
@@ -89,25 +125,21 @@ pub fn commands_of_a_step_are_logged_one_by_one()
     ensures commands { (s : State) (peer : Option IpAddr) →
         let noted = (all_noted 41 s true peer two_commands new_orders).0 in
         (noted.refused.last ≡ Some (note.Refused (order 45 act.Execute 300 101 value.Off) peer
-        reason.Closed)) × (noted.refused.limit.left_out ≡ 1) × (noted.ordered.last ≡ None) }
+        reason.Closed)) × (noted.refused.limit.left_out ≡ record { count = 1; since = s.moment })
+        × (noted.ordered ≡ []) }
     ensures rest { (s : State) (peer : Option IpAddr) →
         (all_noted 41 s true peer two_commands new_orders).1 ≡ 0x68 ∷ 0x0E ∷ 0x04 ∷ [] }
 {}
 
 /// Which station a line names, by octets: a command goes out to the second of two stations, its
 /// link is busy, or it is polled and confirms the command. Nothing of it is logged of the first
-/// one, and what comes where no answer is awaited says nothing.
+/// one, and what comes if no answer is awaited says nothing.
 pub fn commands_are_logged_of_their_station()
-    ensures sent { (w : Watching) →
-        let asked = (put 5 (LineOut command_to_8) (two_watched w)).0 in
-        (first_line 5 asked.traffic).1
-        ≡ Some (at 5 (note.Fate (order 45 act.Execute 1 100 value.On) 8 fate.Sent)) }
-    ensures busy { (w : Watching) →
-        (first_line 6 (line_received busy_8 (commanded w)).traffic).1
-        ≡ Some (at 6 (note.Fate (order 45 act.Execute 1 100 value.On) 8 fate.Busy)) }
-    ensures confirmed { (w : Watching) →
-        (first_line 7 (line_received confirmed_by_8 (polled w)).traffic).1
-        ≡ Some (at 7 (note.Fate (order 45 act.Execute 1 100 value.On) 8 fate.Confirmed)) }
-    ensures unasked { (w : Watching) →
-        (first_line 7 (line_received confirmed_by_8 (two_watched w)).traffic).1 ≡ None }
+    ensures sent { (w : Watching) → (commanded w).gone
+        ≡ at 5 (note.Fate (order 45 act.Execute 1 100 value.On) 8 fate.Sent) ∷ [] }
+    ensures busy { (w : Watching) → (line_received busy_8 (commanded w)).trail
+        ≡ at w.moment (note.Fate (order 45 act.Execute 1 100 value.On) 8 fate.Busy) ∷ [] }
+    ensures confirmed { (w : Watching) → (line_received confirmed_by_8 (polled w)).trail
+        ≡ at w.moment (note.Fate (order 45 act.Execute 1 100 value.On) 8 fate.Confirmed) ∷ [] }
+    ensures unasked { (w : Watching) → (line_received confirmed_by_8 (two_watched w)).trail ≡ [] }
 {}

@@ -1,11 +1,13 @@
 //! What is logged of the commands that come from the control centre.
 ghost use Rattle.std.specs.Prelude.{◌≡◌, ◌≤◌, ◌<◌, ◌+◌, length, drop, List, ℕ};
 ghost use Rattle.runlog.specs.Inbox as spec;
+ghost use Rattle.runlog.specs.Trails.{appended};
 
 use crate::fate::Reason;
 use crate::gathered::Gathered;
 use crate::note::{LogLine, Note};
 use crate::order::{Order, octet};
+use crate::trail::Trail;
 use arrayvec::ArrayVec;
 use asdu::Sizes;
 use command::Glance;
@@ -18,8 +20,13 @@ use std::net::IpAddr;
 pub(crate) struct Orders {
     /// What the next judgement looks at.
     glance: Glance,
-    ordered: Gathered,
+    /// Those of the latest step that go on to their stations.
+    ordered: Trail,
     refused: Gathered,
+    /// Those that wait for the line, oldest first.
+    waiting: ArrayVec<Order, 64>,
+    /// Those of the latest step that went out in it: they go out before they are seen to come.
+    early: ArrayVec<Order, 16>,
 }
 
 impl Model for Orders {
@@ -27,7 +34,13 @@ impl Model for Orders {
 
     ghost Value = { Seen };
 
-    ghost view = { λ c. record { seen = c.glance; ordered = c.ordered; refused = c.refused } };
+    ghost view = { λ c. record {
+      seen = c.glance;
+      ordered = c.ordered;
+      refused = c.refused;
+      waiting = c.waiting.items;
+      early = c.early.items;
+    } };
 }
 
 impl Orders {
@@ -36,8 +49,10 @@ impl Orders {
     {
         Orders {
             glance: Glance::new(),
-            ordered: Gathered::new(),
+            ordered: Trail::new(),
             refused: Gathered::new(),
+            waiting: ArrayVec::new(),
+            early: ArrayVec::new(),
         }
     }
 
@@ -53,17 +68,50 @@ impl Orders {
         requires { 9 ≤ length asdu.now }
         ensures { self.new ≡ spec.order_noted gateway.now is_closed peer asdu.now order self.old }
     {
+        let now = gateway.moment();
         // Nothing of the step goes on then, even what was refused before (docs/DECISIONS.md, "The
         // log judges no command").
         if is_closed {
-            self.refused.add(Note::Refused(order, peer, Reason::Closed));
+            self.refused
+                .add(Note::Refused(order, peer, Reason::Closed), now);
             return;
         }
         match gateway.refusal_at(&mut self.glance, asdu) {
-            None => self.ordered.add(Note::Ordered(order, peer)),
+            None => {
+                self.ordered.add(Note::Ordered(order, peer), now);
+                self.wait(order);
+            }
             Some(rule) => self
                 .refused
-                .add(Note::Refused(order, peer, Reason::Rule(rule))),
+                .add(Note::Refused(order, peer, Reason::Rule(rule)), now),
+        }
+    }
+
+    /// A command goes on to its station: it waits, if it isn't out already.
+    fn wait(&mut self, order: Order)
+        ensures { self.new ≡ spec.waits order self.old }
+    {
+        match self.early.iter().position(|sent| order.goes_out_as(*sent)) {
+            Some(place) if place < self.early.len() => {
+                self.early.remove(place);
+            }
+            _ => {
+                let _ = self.waiting.try_push(order);
+            }
+        }
+    }
+
+    /// A command goes out to the line so, for the first time.
+    fn go(&mut self, sent: Order)
+        ensures { self.new ≡ spec.gone sent self.old }
+    {
+        match self.waiting.iter().position(|came| came.goes_out_as(sent)) {
+            Some(place) if place < self.waiting.len() => {
+                self.waiting.remove(place);
+            }
+            _ => {
+                let _ = self.early.try_push(sent);
+            }
         }
     }
 
@@ -111,14 +159,22 @@ impl Orders {
         done
     }
 
-    /// The line of the last command that came, where one is to be logged and may be logged now.
+    /// The line of the last command that was refused, if one is to be logged and may be logged now.
     fn line(&mut self, now: u64) -> Option<LogLine>
         ensures { (self.new, result) ≡ spec.orders_line now self.old }
     {
-        match self.ordered.line(now) {
-            Some(line) => Some(line),
-            None => self.refused.line(now),
-        }
+        self.refused.line(now)
+    }
+}
+
+/// These commands wait no more, since their connection has ended.
+fn tell_unsent(orders: &[Order], now: u64, trail: &mut Trail)
+    ensures { trail.new ≡ spec.unsent_told now orders.now trail.old }
+{
+    let mut left = orders;
+    while let [first, more @ ..] = left {
+        trail.add(Note::Unsent(*first), now);
+        left = more;
     }
 }
 
@@ -226,6 +282,25 @@ impl Inbox {
         // For the next step: how commands were judged is decided by what stood before it
         // (docs/DECISIONS.md, "The log judges no command").
         self.orders.glance = gateway.glance();
+        self.orders.early.clear();
+    }
+
+    /// A command goes out to the line so, for the first time.
+    pub(crate) fn go(&mut self, sent: Option<Order>)
+        ensures { self.new ≡ spec.gone_out sent self.old }
+    {
+        if let Some(sent) = sent {
+            self.orders.go(sent);
+        }
+    }
+
+    /// The connection has ended: what waits never goes out, which is told.
+    pub(crate) fn lose(&mut self, now: u64, trail: &mut Trail)
+        ensures none { self.new ≡ spec.lost self.old }
+        ensures told { trail.new ≡ spec.unsent_told now self.old.orders.waiting trail.old }
+    {
+        tell_unsent(self.orders.waiting.as_slice(), now, trail);
+        self.orders.waiting.clear();
     }
 
     /// Leaves the first octets.
@@ -241,7 +316,15 @@ impl Inbox {
         self.octets = rest;
     }
 
-    /// The line of the last command that came, where one is to be logged and may be logged now.
+    /// The commands that go on to their stations are told behind what stands there.
+    pub(crate) fn hand_on(&mut self, trail: &mut Trail)
+        ensures none { self.new ≡ spec.handed_on self.old }
+        ensures told { trail.new ≡ appended self.old.orders.ordered trail.old }
+    {
+        trail.append(&mut self.orders.ordered);
+    }
+
+    /// The line of the last command that was refused, if one is to be logged and may be logged now.
     pub(crate) fn line(&mut self, now: u64) -> Option<LogLine>
         ensures { (self.new, result) ≡ spec.line_of now self.old }
     {

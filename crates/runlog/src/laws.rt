@@ -17,7 +17,7 @@ ghost use Rattle.runlog.specs.Wordings.{wordings, first_words, age_of, in_second
 ghost use Rattle.runlog.specs.declared.order.Order.{Order};
 ghost use Rattle.runlog.specs.Gathering.{GatheringCall, added, line_of, lines_in};
 ghost use Rattle.runlog.specs.Gathering.{left_in as gathered_after, added_in, count_of};
-ghost use Rattle.runlog.specs.Limits.{is_free};
+ghost use Rattle.runlog.specs.Limits.{is_free, none_left, one_left};
 ghost use Rattle.runlog.specs.Logging.{Book, logged};
 ghost use Rattle.runlog.specs.Severities.{number_of, severity_of};
 ghost use Rattle.runlog.specs.SeverityRows.{HasRow};
@@ -33,26 +33,31 @@ pub fn lines_of_a_kind_are_a_second_apart()
     ensures apart { (limit : Limit) (moments : List ℕ) →
         AreSecondsApart limit.logged (logged_in limit moments) }
     ensures counted { (limit : Limit) (moments : List ℕ) →
-        limit.left_out + length moments < 2 ^ 64 →
+        limit.left_out.count + length moments < 2 ^ 64 →
         logged_of (logged_in limit moments) + left_in limit moments
-        ≡ limit.left_out + length moments }
+        ≡ limit.left_out.count + length moments }
 {}
 
-/// A line says its moment and its words. Where others of its kind were left out before it, it says
-/// behind them how many, however many they are.
+/// A line says its moment and its words. If others of its kind were left out before it, it says
+/// behind them how many, however many they are, and the moment of the first of them.
 pub fn lines_say_how_many_were_left_out()
     ensures none { (moment : ℕ) (what : Note) →
-        line_text (record { moment = moment; note = what; left_out = 0 })
+        line_text (record { moment = moment; note = what; left_out = none_left })
         ≡ decimal moment ++ codes " " ++ words what }
-    ensures some { (moment n : ℕ) (what : Note) →
-        line_text (record { moment = moment; note = what; left_out = suc n })
-        ≡ (decimal moment ++ codes " " ++ words what)
-        ++ (codes " (" ++ decimal (suc n) ++ codes " left out)") }
+    ensures some { (moment n since : ℕ) (what : Note) → line_text (record {
+      moment = moment;
+      note = what;
+      left_out = record { count = suc n; since = since };
+    }) ≡ (decimal moment ++ codes " " ++ words what) ++ (codes " (" ++ decimal (suc n)
+        ++ codes " left out since " ++ decimal since ++ codes ")") }
+    ensures first { (now : ℕ) → one_left now none_left ≡ record { count = 1; since = now } }
+    ensures more { (now n since : ℕ) →
+        (one_left now (record { count = suc n; since = since })).since ≡ since }
 {}
 
 /// Of what is gathered nothing is left out silently: each that came is logged, or counted by the
 /// line of a later one, or is still to be logged. Once a second has passed since the line before,
-/// the last that came is logged.
+/// the last that came is logged, with its own moment.
 pub fn what_is_gathered_is_logged_or_counted()
     ensures apart { (g : Gathered) (calls : List GatheringCall) →
         AreSecondsApart g.limit.logged (lines_in g calls) }
@@ -60,11 +65,11 @@ pub fn what_is_gathered_is_logged_or_counted()
         count_of g + added_in calls < 2 ^ 64 →
         logged_of (lines_in g calls) + count_of (gathered_after g calls)
         ≡ count_of g + added_in calls }
-    ensures last { (g : Gathered) (what : Note) (now : ℕ) → is_free g.limit now ≡ true →
-        (line_of now (added what g)).1 ≡ Some (record {
-          moment = now;
+    ensures last { (g : Gathered) (what : Note) (at now : ℕ) → is_free g.limit now ≡ true →
+        (line_of now (added what at g)).1 ≡ Some (record {
+          moment = at;
           note = what;
-          left_out = (added what g).limit.left_out;
+          left_out = (added what at g).limit.left_out;
         }) }
 {}
 

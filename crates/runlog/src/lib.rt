@@ -1,20 +1,21 @@
-//! What a live run logs: a line for each thing that happens, at most one a second of each kind
-//! (this gateway's own profile).
+//! What a live run logs: a line for each thing that happens, at most one a second of each kind, but
+//! each of what becomes of commands (this gateway's own profile).
 //!
-//! [`RunLog`] is a port around any port: it passes each event and each action on unchanged, so what
-//! is proved of a run over a port holds of a run over it, and logs them to a [`LogSink`].
+//! [`RunLog`] is a port around any port: it passes each event and each action on unchanged, so
+//! what is proved of a run over a port holds of a run over it, and logs them to a [`LogSink`].
 //! [`StandardError`] is the sink of a process.
 //!
 //! [`Watch`] is what is known of the run, for those who show it: each station's standing, what has
-//! passed between it and the gateway, the line, and the connection. It goes on where nothing is
-//! logged, if that is wanted ([`Logger::watching`]).
+//! passed between it and the gateway, the line, and the connection. It goes on if nothing is
+//! logged, where that is wanted ([`Logger::watching`]).
 //!
 //! Proved: the run log's log, script and failures are those of the port inside; which line follows
 //! from which event or action is one small function of what has passed, of what was seen of the
-//! port's ends ([`Watch`]), and of the gateway between two steps; an event, an action or a look has
-//! one line at most; lines of one kind are a second apart, and those left out are counted
-//! ([`lines_of_a_kind_are_a_second_apart`]); of commands, and of reports that are skipped, each is
-//! logged, or counted by a later line ([`what_is_gathered_is_logged_or_counted`]); by which rule a
+//! port's ends ([`Watch`]), and of the gateway between two steps; an event, an action or a look
+//! has one line at most, and behind a step each command has its own; lines of any other kind are a
+//! second apart, and those left out are counted ([`lines_of_a_kind_are_a_second_apart`]); of
+//! refusals, and of reports that are skipped, each is logged, or counted by a later line
+//! ([`what_is_gathered_is_logged_or_counted`]); by which rule a
 //! command is refused is the judgement's own (`command::Commands::refusal_at`), and each rule has
 //! its own words ([`refusals_are_logged_by_their_rules`]); a sink that takes no line any more ends
 //! the log, and nothing else; how severe each line is ([`Note::severity`],
@@ -34,8 +35,8 @@
 //! ([`failures_are_logged_at_the_end`]), who was refused ([`who_was_refused_is_logged`]), and
 //! where the queue fills and is free again
 //! ([`the_queue_is_logged_where_it_fills_and_where_it_is_free_again`]). How a station stands is
-//! known by the requests to it ([`a_station_stands_as_its_requests_say`]), and where it goes and is
-//! back is logged ([`a_station_is_logged_where_it_goes_and_where_it_is_back`]). The wall clock is
+//! known by the requests to it ([`a_station_stands_as_its_requests_say`]), and where it goes and
+//! is back is logged ([`a_station_is_logged_where_it_goes_and_where_it_is_back`]). The wall clock is
 //! shown as it goes on ([`the_wall_clock_goes_on_between_its_events`]). What becomes of a command,
 //! and each mishap, is logged for the station that it befell
 //! ([`what_becomes_of_commands_is_logged`]), and nothing that may be logged waits
@@ -51,6 +52,7 @@
 #![tactic(auto)]
 
 mod befallen_laws;
+mod causes;
 mod connection_laws;
 mod content;
 mod ends;
@@ -81,6 +83,7 @@ mod station_laws;
 mod stations;
 mod system_laws;
 mod traffic;
+mod trail;
 mod watch;
 mod word_examples;
 
@@ -121,6 +124,7 @@ pub use laws::{
     lines_of_a_kind_are_a_second_apart, lines_say_how_many_were_left_out,
     refusals_are_logged_by_their_rules, what_is_gathered_is_logged_or_counted,
 };
+pub use limit::LeftOut;
 pub use logger::{Logger, taken_places};
 pub use name_laws::lines_end_with_the_name_of_what_they_are_about;
 pub use names::{LogNames, NamedLine, NamedStation, name_of};

@@ -1,6 +1,6 @@
 //! A line a second.
 ghost use Rattle.std.specs.Prelude.{◌≡◌, None};
-ghost use Rattle.runlog.specs.Limits.{asked, is_free, is_minute_after, one_more};
+ghost use Rattle.runlog.specs.Limits.{asked, is_free, is_minute_after, none_left, one_left};
 
 /// How long after a line the next one of its kind may follow, in ms.
 const APART_MS: u64 = 1000;
@@ -8,21 +8,49 @@ const APART_MS: u64 = 1000;
 /// How long after a line of what lasts it is logged again, in ms.
 const MINUTE_MS: u64 = 60_000;
 
-/// When a line of a kind was logged last, in ms, and how many have been left out since.
+/// What was left out before a line.
+#[derive(Clone, Copy, PartialEq, Eq, Default)]
+pub struct LeftOut {
+    /// How many lines of its kind.
+    pub count: u64,
+    /// The moment of the first of them, in ms, or 0 if there is none.
+    pub since: u64,
+}
+
+impl LeftOut {
+    /// Nothing.
+    pub fn none() -> LeftOut
+        ensures { result ≡ none_left }
+    {
+        LeftOut { count: 0, since: 0 }
+    }
+
+    /// One more is left out, of this moment.
+    fn add(&mut self, now: u64)
+        ensures { self.new ≡ one_left now self.old }
+    {
+        if self.count == 0 {
+            self.since = now;
+        }
+        self.count = self.count.saturating_add(1);
+    }
+}
+
+/// When a line of a kind was logged last, in ms, and what has been left out since.
 #[derive(Clone, Copy, PartialEq, Eq)]
 pub struct Limit {
     logged: Option<u64>,
-    left_out: u64,
+    left_out: LeftOut,
 }
 
 impl Limit {
     /// That of a kind of which no line was logged yet.
     pub fn new() -> Limit
-        ensures { result ≡ record { logged = None; left_out = 0 } }
+        ensures { result ≡ record { logged = None; left_out = none_left } }
     {
         Limit {
             logged: None,
-            left_out: 0,
+            left_out: LeftOut::none(),
         }
     }
 
@@ -46,25 +74,25 @@ impl Limit {
         }
     }
 
-    /// One more is left out.
-    pub fn leave_out(&mut self)
-        ensures { self.new ≡ record self.old { left_out = one_more self.old.left_out } }
+    /// One more is left out, of this moment.
+    pub fn leave_out(&mut self, now: u64)
+        ensures { self.new ≡ record self.old { left_out = one_left now self.old.left_out } }
     {
-        self.left_out = self.left_out.saturating_add(1);
+        self.left_out.add(now);
     }
 
-    /// Asks for a line at this moment. The answer is how many were left out before it, or none
-    /// where it is left out too.
-    pub fn ask(&mut self, now: u64) -> Option<u64>
+    /// Asks for a line at this moment. The answer is what was left out before it, or none if it is
+    /// left out too.
+    pub fn ask(&mut self, now: u64) -> Option<LeftOut>
         ensures { (self.new, result) ≡ asked self.old now }
     {
         if !self.is_free(now) {
-            self.leave_out();
+            self.leave_out(now);
             return None;
         }
         let left_out = self.left_out;
         self.logged = Some(now);
-        self.left_out = 0;
+        self.left_out = LeftOut::none();
         Some(left_out)
     }
 }

@@ -5,7 +5,7 @@ ghost use Rattle.gateway.specs.Ports.{FitsBuffer, output_of};
 ghost use Rattle.runlog.specs.Logging.{book_fixture, counted, looked_if_due, LogsEventSeeing};
 ghost use Rattle.runlog.specs.Logging.{LogsAction};
 ghost use Rattle.runlog.specs.Logging.{LogsLook, Closes};
-ghost use Rattle.runlog.specs.Logging.{LogsNote, Fails, Sums, LogsNotice, IsLogged};
+ghost use Rattle.runlog.specs.Logging.{LogsNote, Fails, Sums, LogsNotice, IsLogged, LogsEach, Tells};
 
 use crate::note::{LogLine, Note};
 use crate::sink::LogSink;
@@ -180,6 +180,31 @@ impl<S: LogSink + Drop> Logger<S> {
             None => self.watch.gathered(),
         };
         self.log(line);
+    }
+
+    /// Tells what became of commands, if anything did: each has a line of its own, in the order of
+    /// events, and none is left out.
+    pub(crate) fn tell(&mut self)
+        ensures tells { Tells self.old self.new }
+        ensures fixed { book_fixture self.new ≡ book_fixture self.old }
+    {
+        if self.is_idle() || !self.watch.has_trail() {
+            return;
+        }
+        let trail = self.watch.take_trail();
+        self.log_each(trail.as_slice());
+    }
+
+    /// Logs these lines.
+    fn log_each(&mut self, lines: &[LogLine])
+        ensures logs { LogsEach lines.now self.old self.new }
+        ensures fixed { book_fixture self.new ≡ book_fixture self.old }
+    {
+        let mut left = lines;
+        while let [first, more @ ..] = left {
+            self.log(Some(*first));
+            left = more;
+        }
     }
 
     /// Looks at the queue and the counts, if that is due.

@@ -5,11 +5,13 @@ ghost use Rattle.runlog.specs.Notes.{close_words, counts_words, cut_words, late_
 ghost use Rattle.runlog.specs.Notes.{left_out_words, line_text, notice_words, of_station};
 ghost use Rattle.runlog.specs.Notes.{given_up_words, peer_words, refused_peers_words};
 ghost use Rattle.runlog.specs.Notes.{damaged_words, obstacle_words, remnant_words};
-ghost use Rattle.runlog.specs.Notes.{skip_words, skipped_words, spoilt_words, trouble_words};
-ghost use Rattle.runlog.specs.Notes.{words};
+ghost use Rattle.runlog.specs.Notes.{skip_words, skipped_words, spoilt_words, sync_words};
+ghost use Rattle.runlog.specs.Notes.{trouble_words, words};
 
+use crate::causes::cause_words;
 use crate::content::Skip;
 use crate::fate::{CommandFate, Reason};
+use crate::limit::LeftOut;
 use crate::order::Order;
 use crate::order_words::{write_fate, write_order, write_reason, write_type_name};
 use crate::spoiling::{Spoiling, write_spoiling};
@@ -17,6 +19,7 @@ use gateway::Counts;
 use live::{CutCause, Notice};
 use session::Close;
 use std::fmt;
+use std::io::ErrorKind;
 use std::net::{IpAddr, SocketAddr};
 
 /// A line that was closed since nothing came from it.
@@ -25,11 +28,14 @@ const SILENT_LINE: &str = "line silent: requests went out and nothing came, it i
 /// What stands behind a station whose answer to a command is dropped.
 const MIRROR_DROPPED: &str = "answer to a command dropped: data transfer isn't running";
 
+/// What stands before the file that a start can't use, and why.
+const UNUSED: &str = "state: its directory can't be used, the run goes on without it: ";
+
+/// A state whose syncs are long.
+const ON_BTRFS: &str = "state: its directory is on btrfs, which writes 90 KB a sync";
+
 /// What stands behind a station whose link is held though it doesn't answer.
 const STILL_SILENT: &str = "still doesn't answer: if it was restarted, restart telegate too";
-
-/// What stands before the reason why a start can't use the directory of its state.
-const UNUSED: &str = "state: its directory can't be used, the run goes on without it: ";
 
 /// What was counted since the run began.
 #[derive(Clone, Copy, PartialEq, Eq)]
@@ -46,11 +52,11 @@ pub struct RunCounts {
 
 /// Why a start can't use the directory that is to have its state.
 #[derive(Clone, Copy, PartialEq, Eq)]
-pub enum Obstacle {
-    /// What stands there isn't a state's.
-    Foreign,
-    /// The disk failed, or the system refused.
-    Device,
+pub struct Obstacle {
+    /// The name of the file in the directory that can't be used, or `.` for the directory itself.
+    pub place: &'static str,
+    /// What the system answered.
+    pub cause: ErrorKind,
 }
 
 /// What of the connection before it a start gives up.
@@ -144,7 +150,13 @@ pub enum Note {
     /// The file of its log is damaged from this octet on, and nothing behind it is read.
     StateDamaged(u64),
     /// The run begins without the directory that was to have its state.
-    StateUnused(Obstacle),
+    StateRefused(Obstacle),
+    /// The state can't be kept, and the run doesn't begin without it.
+    StateUnkept(Obstacle),
+    /// The directory of the state stands on btrfs.
+    StateOnBtrfs,
+    /// A sync of the state took so many ms, and the longest one since the run began so many.
+    SlowSync(u64, u64),
     /// A start gives up this of the connection before it: its type octet, its common address and
     /// the address of its object.
     GivenUp(Remnant, u8, u16, u32),
@@ -154,6 +166,8 @@ pub enum Note {
     Trouble(Trouble),
     /// This command of the control centre, whose address may be known, goes on to its station.
     Ordered(Order, Option<IpAddr>),
+    /// It never went out to its station, since its connection ended before.
+    Unsent(Order),
     /// It doesn't go on.
     Refused(Order, Option<IpAddr>, Reason),
     /// What became of it at the station with this link address.
@@ -171,14 +185,21 @@ pub enum Note {
     LeftOut(u64),
 }
 
+/// What stands in a place of a list that isn't used.
+impl Default for Note {
+    fn default() -> Note {
+        Note::QueueFree
+    }
+}
+
 /// A line of the log.
-#[derive(Clone, Copy, PartialEq, Eq)]
+#[derive(Clone, Copy, PartialEq, Eq, Default)]
 pub struct LogLine {
-    /// The moment of the run, in ms.
+    /// The moment of its event in the run, in ms.
     pub moment: u64,
     pub note: Note,
-    /// How many lines of this kind were left out before it.
-    pub left_out: u64,
+    /// The lines of this kind that were left out before it.
+    pub left_out: LeftOut,
 }
 
 fn peer_words<W: fmt::Write>(peer: Option<IpAddr>, f: &mut fmt::Formatter<W>) -> fmt::Result
@@ -225,13 +246,19 @@ fn remnant_words(remnant: Remnant) -> &'static str
     }
 }
 
-fn obstacle_words(obstacle: Obstacle) -> &'static str
-    ensures { result.now ≡ obstacle_words obstacle }
+fn write_obstacle<W: fmt::Write>(obstacle: &Obstacle, f: &mut fmt::Formatter<W>) -> fmt::Result
+    ensures { WritesOnOk W.write_str_gives f.old result (obstacle_words obstacle.now) f.new }
 {
-    match obstacle {
-        Obstacle::Foreign => "there are files of something else",
-        Obstacle::Device => "the disk failed",
-    }
+    f.write_str(obstacle.place)?;
+    f.write_str(": ")?;
+    f.write_str(cause_words(obstacle.cause))
+}
+
+fn write_sync<W: fmt::Write>(ms: u64, longest: u64, f: &mut fmt::Formatter<W>) -> fmt::Result
+    ensures { WritesOnOk W.write_str_gives f.old result (sync_words ms longest) f.new }
+{
+    write!(f, "state: a sync took {ms} ms, ")?;
+    write!(f, "the longest so far {longest} ms")
 }
 
 fn trouble_words(trouble: Trouble) -> &'static str
@@ -415,10 +442,16 @@ impl fmt::Display for Note {
             Note::StateStale => f.write_str("state is stale: each link is reset"),
             Note::StatePutAside => f.write_str("state can't be read: put aside"),
             Note::StateDamaged(place) => write_damaged(*place, f),
-            Note::StateUnused(obstacle) => {
+            Note::StateRefused(obstacle) => {
                 f.write_str(UNUSED)?;
-                f.write_str(obstacle_words(*obstacle))
+                write_obstacle(obstacle, f)
             }
+            Note::StateUnkept(obstacle) => {
+                f.write_str("state can't be kept there: ")?;
+                write_obstacle(obstacle, f)
+            }
+            Note::StateOnBtrfs => f.write_str(ON_BTRFS),
+            Note::SlowSync(ms, longest) => write_sync(*ms, *longest, f),
             Note::GivenUp(remnant, kind, ca, object) => {
                 write_given_up(*remnant, *kind, *ca, *object, f)
             }
@@ -427,6 +460,10 @@ impl fmt::Display for Note {
             Note::Ordered(order, peer) => {
                 write_order(order, f)?;
                 peer_words(*peer, f)
+            }
+            Note::Unsent(order) => {
+                write_order(order, f)?;
+                f.write_str(" not sent: its connection ended")
             }
             Note::Refused(order, peer, reason) => {
                 write_order(order, f)?;
@@ -447,13 +484,14 @@ impl fmt::Display for Note {
     }
 }
 
-fn write_left_out<W: fmt::Write>(left_out: u64, f: &mut fmt::Formatter<W>) -> fmt::Result
+fn write_left_out<W: fmt::Write>(left_out: LeftOut, f: &mut fmt::Formatter<W>) -> fmt::Result
     ensures { WritesOnOk W.write_str_gives f.old result (left_out_words left_out) f.new }
 {
-    if left_out == 0 {
+    let LeftOut { count, since } = left_out;
+    if count == 0 {
         return Ok(());
     }
-    write!(f, " ({left_out} left out)")
+    write!(f, " ({count} left out since {since})")
 }
 
 impl fmt::Display for LogLine {

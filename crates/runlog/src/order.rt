@@ -5,6 +5,9 @@ ghost use Rattle.runlog.specs.Orders as spec;
 
 use asdu::{CaSize, CauseSize, IoaSize, Sizes, head};
 
+/// The common address of each station, to which an interrogation may go (IEC 60870-5-101, 7.2.4).
+const GLOBAL: u16 = 65535;
+
 /// What a command wants.
 #[derive(Clone, Copy, PartialEq, Eq)]
 pub enum OrderKind {
@@ -18,6 +21,13 @@ pub enum OrderKind {
     Deactivate,
     /// That its type doesn't say.
     Other,
+}
+
+/// What stands in a place of a list that isn't used.
+impl Default for OrderKind {
+    fn default() -> OrderKind {
+        OrderKind::Other
+    }
 }
 
 /// The value of a command.
@@ -35,8 +45,15 @@ pub enum Value {
     Unknown,
 }
 
+/// What stands in a place of a list that isn't used.
+impl Default for Value {
+    fn default() -> Value {
+        Value::Unknown
+    }
+}
+
 /// What a line says of a command.
-#[derive(Clone, Copy, PartialEq, Eq)]
+#[derive(Clone, Copy, PartialEq, Eq, Default)]
 pub struct Order {
     /// Its type octet.
     pub kind: u8,
@@ -192,5 +209,15 @@ impl Order {
             object: head.ioa,
             value: value_of(kind, element),
         })
+    }
+
+    /// Whether this command, as it came, is the one that goes out to the line so: in the sizes of
+    /// the line, without a time tag, and with the station's own common address.
+    pub(crate) fn goes_out_as(&self, sent: Order) -> bool
+        ensures { result ≡ spec.goes_out_as sent self.now }
+    {
+        let is_global = sent.kind == 100 && self.ca == GLOBAL;
+        plain(self.kind) == sent.kind
+            && (self.object == sent.object && (is_global || self.ca == sent.ca))
     }
 }

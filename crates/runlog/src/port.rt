@@ -41,8 +41,8 @@ impl<P: Watched + Drop, S: LogSink + Drop> RunLog<P, S> {
     }
 
     /// Lets the port look at the gateway between two steps, and logs what it reports of the state
-    /// on the disk, and then the gateway's queue, what it counted, and commands. Answers what was
-    /// reported of the state on the disk, if anything.
+    /// on the disk, then the gateway's queue, what it counted or what is gathered, and then what
+    /// became of commands. Answers what was reported of the state on the disk, if anything.
     pub fn look(&mut self, gateway: &Gateway) -> Option<Notice>
         ensures log { P.log self.new.port ≡ P.log self.old.port }
         ensures failed { P.failed self.new.port ≡ P.failed self.old.port }
@@ -55,6 +55,7 @@ impl<P: Watched + Drop, S: LogSink + Drop> RunLog<P, S> {
         let notice = self.port.tend(gateway);
         self.logger.tend(notice);
         self.logger.look(gateway);
+        self.logger.tell();
         notice
     }
 

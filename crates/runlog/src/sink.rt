@@ -1,6 +1,7 @@
 //! Where the lines go.
 ghost use Rattle.std.specs.Prelude.{◌≡◌, None, true, false};
 
+use crate::limit::LeftOut;
 use crate::names::{LogNames, NamedLine};
 use crate::note::{LogLine, Note};
 use jiff::Timestamp;
@@ -85,7 +86,7 @@ impl<R: Eprint + std::rt::Clock> StandardError<'_, '_, R> {
         self.write_line(&LogLine {
             moment,
             note,
-            left_out: 0,
+            left_out: LeftOut::none(),
         })
     }
 

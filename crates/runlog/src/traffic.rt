@@ -1,14 +1,17 @@
 //! What passes between the gateway and a station, as it is logged.
-ghost use Rattle.std.specs.Prelude.{◌≡◌};
+ghost use Rattle.std.specs.Prelude.{◌≡◌, Some};
 ghost use Rattle.runlog.specs.Exchange.{traffic_after};
 ghost use Rattle.runlog.specs.Orders.{octet as octet_of, order_of};
 ghost use Rattle.runlog.specs.Traffic as spec;
+ghost use Rattle.runlog.specs.Trails.{fate_told};
+ghost use Rattle.runlog.specs.declared.fate.CommandFate.TheVariants.{Sent};
 
 use crate::content::{Content, Skip, content_of, reply_of};
 use crate::fate::{CommandFate, Mishap};
 use crate::gathered::Gathered;
 use crate::note::{LogLine, Note};
 use crate::order::{Order, octet};
+use crate::trail::Trail;
 use asdu::Sizes;
 use link::Answer;
 
@@ -23,11 +26,6 @@ pub struct Traffic {
     commands: u64,
     /// The latest command that went out to it.
     order: Option<Order>,
-    sent: Gathered,
-    confirmed: Gathered,
-    denied: Gathered,
-    terminated: Gathered,
-    failed: Gathered,
     skips: Gathered,
     mirrors: Gathered,
     spoilt: Gathered,
@@ -46,11 +44,6 @@ impl Traffic {
             skipped: 0,
             commands: 0,
             order: None,
-            sent: Gathered::new(),
-            confirmed: Gathered::new(),
-            denied: Gathered::new(),
-            terminated: Gathered::new(),
-            failed: Gathered::new(),
             skips: Gathered::new(),
             mirrors: Gathered::new(),
             spoilt: Gathered::new(),
@@ -93,125 +86,99 @@ impl Traffic {
         self.commands
     }
 
-    /// This became of a command.
-    fn note_fate(&mut self, fate: CommandFate, order: Order)
-        ensures { self.new ≡ spec.fate_noted fate order self.old }
+    /// This became of a command at the station.
+    fn tell(&self, fate: Option<CommandFate>, order: Option<Order>, now: u64, trail: &mut Trail)
+        ensures { trail.new ≡ fate_told fate order self.now.address now trail.old }
     {
-        let note = Note::Fate(order, self.address, fate);
-        match fate {
-            CommandFate::Sent => self.sent.add(note),
-            CommandFate::Confirmed => self.confirmed.add(note),
-            CommandFate::Denied => self.denied.add(note),
-            CommandFate::Terminated => self.terminated.add(note),
-            CommandFate::Busy | CommandFate::GivenUp => self.failed.add(note),
+        if let (Some(fate), Some(order)) = (fate, order) {
+            trail.add(Note::Fate(order, self.address, fate), now);
         }
     }
 
     /// A command went out for the first time.
-    pub(crate) fn send(&mut self, order: Option<Order>)
-        ensures { self.new ≡ spec.sent order self.old }
+    pub(crate) fn send(&mut self, order: Option<Order>, now: u64, trail: &mut Trail)
+        ensures sent { self.new ≡ spec.sent order self.old }
+        ensures told { trail.new ≡ fate_told (Some Sent) order self.old.address now trail.old }
     {
         self.commands = self.commands.saturating_add(1);
         self.order = order;
-        if let Some(order) = order {
-            self.note_fate(CommandFate::Sent, order);
-        }
-    }
-
-    /// This became of the latest command that went out.
-    pub(crate) fn end(&mut self, fate: CommandFate)
-        ensures { self.new ≡ spec.ended fate self.old }
-    {
-        if let Some(order) = self.order {
-            self.note_fate(fate, order);
-        }
+        self.tell(Some(CommandFate::Sent), order, now, trail);
     }
 
     /// This befell the station.
-    pub(crate) fn suffer(&mut self, mishap: Mishap)
-        ensures { self.new ≡ spec.suffered mishap self.old }
+    pub(crate) fn suffer(&mut self, mishap: Mishap, now: u64, trail: &mut Trail)
+        ensures noted { self.new ≡ spec.suffered mishap now self.old }
+        ensures told { trail.new ≡ spec.mishap_told mishap now self.old trail.old }
     {
         let address = self.address;
         match mishap {
-            Mishap::GivenUp => self.end(CommandFate::GivenUp),
-            Mishap::MirrorDropped => self.mirrors.add(Note::MirrorDropped(address)),
-            Mishap::Spoilt(spoiling) => self.spoilt.add(Note::Spoilt(address, spoiling)),
-            Mishap::Late(ms) => self.late.add(Note::Late(address, ms)),
+            // The latest command that went out is the one on its line.
+            Mishap::GivenUp => self.tell(Some(CommandFate::GivenUp), self.order, now, trail),
+            Mishap::MirrorDropped => self.mirrors.add(Note::MirrorDropped(address), now),
+            Mishap::Spoilt(spoiling) => self.spoilt.add(Note::Spoilt(address, spoiling), now),
+            Mishap::Late(ms) => self.late.add(Note::Late(address, ms), now),
         }
     }
 
     /// A report isn't passed on.
-    fn skip(&mut self, why: Skip, kind: u8)
-        ensures { self.new ≡ spec.skip_noted why kind self.old }
+    fn skip(&mut self, why: Skip, kind: u8, now: u64)
+        ensures { self.new ≡ spec.skip_noted why kind now self.old }
     {
         self.skipped = self.skipped.saturating_add(1);
-        self.skips.add(Note::Skipped(self.address, kind, why));
+        self.skips.add(Note::Skipped(self.address, kind, why), now);
     }
 
     /// The station answered a poll with these user data.
-    pub(crate) fn report(&mut self, sizes: Sizes, now: u64, report: &[u8])
-        ensures { self.new ≡ spec.reported sizes now report.now self.old }
+    pub(crate) fn report(&mut self, sizes: Sizes, now: u64, report: &[u8], trail: &mut Trail)
+        ensures noted { self.new ≡ spec.reported sizes now report.now self.old }
+        ensures told { trail.new ≡ spec.content_told (spec.content_of sizes report.now) sizes now
+            report.now self.old trail.old }
     {
         self.reports = self.reports.saturating_add(1);
         self.last_report = Some(now);
         match content_of(sizes, report) {
             Content::Report => {}
-            Content::Reply => self.reply(sizes, report),
-            Content::Skipped(why) => self.skip(why, octet(report, 0)),
+            Content::Reply => self.reply(sizes, now, report, trail),
+            Content::Skipped(why) => self.skip(why, octet(report, 0), now),
         }
     }
 
     /// The station answered so, or not.
-    pub(crate) fn note_answer(&mut self, sizes: Sizes, now: u64, answer: Option<Answer<'_>>)
-        ensures { self.new ≡ traffic_after answer.entry sizes now self.old }
+    pub(crate) fn note_answer(
+        &mut self,
+        sizes: Sizes,
+        now: u64,
+        answer: Option<Answer<'_>>,
+        trail: &mut Trail,
+    )
+        ensures noted { self.new ≡ traffic_after answer.entry sizes now self.old }
+        ensures told { trail.new ≡ spec.answer_told answer.entry sizes now self.old trail.old }
     {
         match answer {
-            Some(Answer::Report(asdu)) => self.report(sizes, now, asdu.octets()),
+            Some(Answer::Report(asdu)) => self.report(sizes, now, asdu.octets(), trail),
             // What else an answer says shows in the station's ASDU, if at all (docs/DECISIONS.md,
             // "What became of a command").
-            Some(Answer::Busy) => self.end(CommandFate::Busy),
+            Some(Answer::Busy) => self.tell(Some(CommandFate::Busy), self.order, now, trail),
             _ => {}
         }
     }
 
     /// The station answered a command so.
-    fn reply(&mut self, sizes: Sizes, report: &[u8])
-        ensures { self.new ≡ spec.replied_by (spec.reply_of (octet_of report.now 2))
-            (order_of sizes report.now) self.old }
+    fn reply(&self, sizes: Sizes, now: u64, report: &[u8], trail: &mut Trail)
+        ensures { trail.new ≡ fate_told (spec.reply_of (octet_of report.now 2))
+            (order_of sizes report.now) self.now.address now trail.old }
     {
-        if let Some(fate) = reply_of(octet(report, 2)) {
-            if let Some(order) = Order::read(sizes, report) {
-                self.note_fate(fate, order);
-            }
-        }
+        self.tell(
+            reply_of(octet(report, 2)),
+            Order::read(sizes, report),
+            now,
+            trail,
+        );
     }
 
-    /// The line of the first of its kinds that has one to be logged now.
+    /// The line of the first of its kinds that has one to be logged now, at most once a minute.
     pub(crate) fn line(&mut self, now: u64) -> Option<LogLine>
         ensures { (self.new, result) ≡ spec.traffic_line now self.old }
-    {
-        // In the order in which a command meets with them.
-        if let Some(line) = self.sent.line(now) {
-            return Some(line);
-        }
-        if let Some(line) = self.confirmed.line(now) {
-            return Some(line);
-        }
-        if let Some(line) = self.denied.line(now) {
-            return Some(line);
-        }
-        if let Some(line) = self.terminated.line(now) {
-            return Some(line);
-        }
-        if let Some(line) = self.failed.line(now) {
-            return Some(line);
-        }
-        self.minute_line(now)
-    }
-
-    /// The same of the kinds that are logged once a minute.
-    fn minute_line(&mut self, now: u64) -> Option<LogLine>
-        ensures { (self.new, result) ≡ spec.minute_line now self.old }
     {
         // A wrong setting brings one of these with each answer, so once a minute is enough.
         if let Some(line) = self.skips.minute_line(now) {

@@ -7,11 +7,12 @@ ghost use Rattle.runlog.specs.Watching as spec;
 use crate::ends::{ConnectionWatch, LineWatch, ListenerWatch, OpenConnection, happened};
 use crate::exchange::RequestWatch;
 use crate::inbox::Inbox;
-use crate::limit::Limit;
+use crate::limit::LeftOut;
 use crate::note::{LogLine, Note, RunCounts, Trouble};
 use crate::queue::QueueWatch;
 use crate::stations::{StationWatch, gap};
 use crate::traffic::{Traffic, traffic_line};
+use crate::trail::Trail;
 use asdu::Sizes;
 use ft12::LinkSize;
 use gateway::{Action, Config, Counts, Gateway, Next};
@@ -72,6 +73,10 @@ pub struct Watch {
     stations: Vec<StationWatch>,
     /// What passes between them and the gateway, in the same order.
     traffic: Vec<Traffic>,
+    /// What became of commands since that was told last.
+    trail: Trail,
+    /// The commands that went out to the line in the latest step: what it did besides is told first.
+    gone: Trail,
 }
 
 impl Model for Watch {
@@ -98,6 +103,8 @@ impl Model for Watch {
       wall = w.wall;
       stations = w.stations.items;
       traffic = w.traffic.items;
+      trail = w.trail;
+      gone = w.gone;
     } };
 }
 
@@ -152,6 +159,8 @@ impl Watch {
             late: 0,
             sought: 0,
             wall: None,
+            trail: Trail::new(),
+            gone: Trail::new(),
             traffic: traffic_of(alloc, config)?,
             stations: stations_of(alloc, config, u64::from(config.line().retries) + 1)?,
         })
@@ -254,11 +263,13 @@ impl Watch {
                 self.begin(now);
                 // Half an APDU of the connection before is no beginning of one on this.
                 self.inbox.empty();
+                self.inbox.lose(now, &mut self.trail);
                 self.connection.open(sight.peer, now)
             }
             Next::Cut(now) => {
                 self.begin(now);
                 self.inbox.empty();
+                self.inbox.lose(now, &mut self.trail);
                 self.connection.cut(sight.why_cut, now)
             }
             Next::Bytes(now, len) => {
@@ -334,6 +345,7 @@ impl Watch {
         if !matches!(cause, Close::Replaced) {
             self.inbox.close();
         }
+        self.inbox.lose(now, &mut self.trail);
         self.connection.close(cause, now)
     }
 
@@ -343,7 +355,24 @@ impl Watch {
         ensures { self.new ≡ spec.judged gateway.now self.old }
     {
         self.inbox.judge(gateway, self.connection.peer());
+        self.inbox.hand_on(&mut self.trail);
         self.note_counts(gateway.counts());
+        self.trail.append(&mut self.gone);
+    }
+
+    /// Something is to be told of commands.
+    pub(crate) fn has_trail(&self) -> bool
+        ensures { result ≡ spec.has_trail self.now }
+    {
+        !self.trail.is_empty()
+    }
+
+    /// What became of commands, which is told now.
+    pub(crate) fn take_trail(&mut self) -> Trail
+        ensures lines { result ≡ self.old.trail }
+        ensures told { self.new ≡ spec.told self.old }
+    {
+        self.trail.take()
     }
 
     /// The next line of what was gathered, if one may be logged now. It is sought once a ms.
@@ -427,7 +456,7 @@ impl Watch {
         LogLine {
             moment: self.moment,
             note,
-            left_out: 0,
+            left_out: LeftOut::none(),
         }
     }
 }

@@ -1,6 +1,7 @@
 //! The words of lines, word by word (docs/TEXTS.md).
 ghost use Rattle.std.specs.Prelude.{◌≡◌, ◌++◌, [], ℕ, codes, Option, Some};
 ghost use Rattle.std.specs.Net.Text.{ip_text, socket_text};
+ghost use Rattle.std.specs.declared.io.ErrorKind.TheVariants.{PermissionDenied};
 ghost use Rattle.std.specs.declared.net.ip_addr.IpAddr.{IpAddr};
 ghost use Rattle.std.specs.declared.net.socket_addr.SocketAddr.{SocketAddr};
 ghost use Rattle.live.specs.declared.ends.CutCause.{CutCause};
@@ -17,7 +18,7 @@ ghost use Rattle.runlog.specs.declared.fate.Reason.TheVariants as reason;
 ghost use Rattle.runlog.specs.declared.note.Note.TheVariants as note;
 ghost use Rattle.runlog.specs.declared.note.RunCounts.{RunCounts};
 ghost use Rattle.runlog.specs.declared.note.Trouble.{Trouble};
-ghost use Rattle.runlog.specs.declared.note.Obstacle.TheVariants as obstacle;
+ghost use Rattle.runlog.specs.declared.note.Obstacle.{Obstacle};
 ghost use Rattle.runlog.specs.declared.note.Remnant.TheVariants as remnant;
 ghost use Rattle.runlog.specs.declared.note.Trouble.TheVariants as trouble;
 ghost use Rattle.runlog.specs.declared.order.Order.{Order};
@@ -56,10 +57,11 @@ pub fn each_word_by_example()
         × (words note.StatePutAside ≡ codes "state can't be read: put aside")
         × (words (note.StateDamaged 4096)
         ≡ codes "state: damaged, nothing is read from octet 4096 of its log on")
-        × (words (note.StateUnused obstacle.Foreign) ≡ codes "state: its directory can't be "
-        ++ codes "used, the run goes on without it: there are files of something else")
-        × (words (note.StateUnused obstacle.Device) ≡ codes "state: its directory can't be "
-        ++ codes "used, the run goes on without it: the disk failed")
+        × ((why : Obstacle) → why.place.now ≡ codes "segments-wal" → why.cause ≡ PermissionDenied →
+        words (note.StateRefused why) ≡ codes "state: its directory can't be used, the run goes "
+        ++ codes "on without it: segments-wal: permission denied")
+        × (words (note.SlowSync 303 305)
+        ≡ codes "state: a sync took 303 ms, the longest so far 305 ms")
         × (words (note.GivenUp remnant.Waiting 45 1 100)
         ≡ codes "waiting command of type 45 to 1/100, given up at a start")
         × (words (note.State notices.NotKept)

@@ -33,13 +33,3 @@ pub reached_newly : (a u nr next sent : ℕ) → u < 32768 → a + u ≡ sent �
     → reached a nr ≡ a + (u - (next + (32768 - nr % 32768)) % 32768)
 reached_newly a u nr next sent small count counter valid =
     omega (arith, reached-valid a u nr small, leb-true _ _ valid)
-
--- the least number that isn't below n and equals nr modulo 32768
-pub reached_above : (n nr : ℕ) → n ≤ reached n nr
-reached_above n nr = omega arith
-
-pub reached_equal : (n nr : ℕ) → reached n nr % 32768 ≡ nr % 32768
-reached_equal n nr = omega arith
-
-pub reached_least : (n nr m : ℕ) → n ≤ m → m % 32768 ≡ nr % 32768 → reached n nr ≤ m
-reached_least n nr m le e = omega arith

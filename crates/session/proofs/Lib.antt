@@ -7,8 +7,4 @@ pub mod Ordered
 mod ReadBack
 pub mod Examples
 pub mod Origins
-pub mod Timers
-pub mod Saying
-pub mod Sequences
 pub mod Stops
-pub mod Acknowledged

@@ -1,7 +1,7 @@
 -- The unacknowledged frames in the order of their moments: the oldest of them waits longest.
 use Rattle.std.proofs.Common.{◌≡◌, ℕ, suc, ◌-◌, ◌<◌, ◌≤◌, ◌&&◌, ◌||◌, Bool, true, false, cond}
-use Rattle.std.proofs.Common.{nat_le, List, [], ◌∷◌, ◌++◌, drop, Option, Some, None, refl, ap, sym}
-use Rattle.std.proofs.Common.{subst, ◌∙◌, ◌⊎◌, arith, inl, inr}
+use Rattle.std.proofs.Common.{nat_le, List, [], ◌∷◌, ◌++◌, drop, Option, Some, None, refl, ap}
+use Rattle.std.proofs.Common.{◌∙◌, ◌⊎◌, arith, inl, inr}
 use Rattle.std.proofs.lemmas.Bool.{lt-leb, leb-false}
 use Rattle.apci.specs.declared.apdu.Apdu.{Apdu}
 use Rattle.apci.specs.declared.apdu.Apdu.TheVariants.{I, S, U}
@@ -16,30 +16,11 @@ use Rattle.session.specs.Session.{newly_by}
 use Rattle.session.specs.Ends.{IsInTime, AreInOrder}
 use Rattle.session.proofs.States.{turned_opens}
 
-pub later : (from : ℕ) (frames : List Unacknowledged) (before now : ℕ) → before ≤ now
-    → AreInOrder from frames before
-    → AreInOrder from frames now
-later from [] before now le order = omega arith
-later from (u ∷ us) before now le order = (order.0, later u.moment us before now le order.1)
-
 pub one_more : (from : ℕ) (frames : List Unacknowledged) (kind : FrameOrigin) (now : ℕ)
     → AreInOrder from frames now
     → AreInOrder from (frames ++ record { kind = kind; moment = now } ∷ []) now
 one_more from [] kind now order = (order, omega arith)
 one_more from (u ∷ us) kind now order = (order.0, one_more u.moment us kind now order.1)
-
-lower : (low from : ℕ) (frames : List Unacknowledged) (now : ℕ) → low ≤ from
-    → AreInOrder from frames now
-    → AreInOrder low frames now
-lower low from [] now le order = omega arith
-lower low from (u ∷ us) now le order = (omega (arith, order.0), order.1)
-
-pub dropped : (n from : ℕ) (frames : List Unacknowledged) (now : ℕ) → AreInOrder from frames now
-    → AreInOrder from (drop n frames) now
-dropped (suc n) from [] now order = order
-dropped (suc n) from (u ∷ us) now order =
-    dropped n from us now (lower from u.moment us now order.0 order.1)
-dropped n from frames now order = order
 
 -- what waits is later than what was acknowledged
 still_in_time : (n from : ℕ) (frames : List Unacknowledged) (now : ℕ) (s : Session)
@@ -186,14 +167,3 @@ pub taken_in_time : (frame : Apdu) (now : ℕ) (s : Session) → AreInOrder 0 s.
     → IsInTime now (taken frame now s)
 taken_in_time frame now s =
     narrow_in_time now s (taken frame now s) (taken_narrows frame now s (refuses s frame))
-
-narrow_in_order : (now : ℕ) (s t : Session) → Narrows s t → AreInOrder 0 s.unacknowledged now
-    → AreInOrder 0 t.unacknowledged now
-narrow_in_order now s t narrow order =
-    subst (λ (frames : List Unacknowledged). AreInOrder 0 frames now) (sym narrow.frames)
-    (dropped narrow.count 0 s.unacknowledged now order)
-
-pub taken_in_order : (frame : Apdu) (now : ℕ) (s : Session) → AreInOrder 0 s.unacknowledged now
-    → AreInOrder 0 (taken frame now s).unacknowledged now
-taken_in_order frame now s =
-    narrow_in_order now s (taken frame now s) (taken_narrows frame now s (refuses s frame))

@@ -1,7 +1,7 @@
 -- Frames of the queue and own answers are counted apart.
 use Rattle.std.proofs.Common.{◌≡◌, ℕ, suc, ◌+◌, cond, List, ◌∷◌, arith}
 use Rattle.std.proofs.lemmas.List.Sums.{sum_by-cons}
-use Rattle.session.specs.declared.kinds.FrameOrigin.TheVariants.{Queue, Own}
+use Rattle.session.specs.declared.kinds.FrameOrigin.TheVariants.{Queue}
 use Rattle.session.specs.declared.kinds.Unacknowledged.{Unacknowledged}
 use Rattle.session.specs.Session.{is_from_queue, from_queue}
 
@@ -12,13 +12,4 @@ one_more moment others =
     ≡ 1 + from_queue others =
     sum_by-cons (λ (u : Unacknowledged). cond (is_from_queue u.kind) 1 0)
     (record { kind = Queue; moment = moment }) others in
-    omega (arith, counted)
-
-pub as_many : (moment : ℕ) (others : List Unacknowledged)
-    → from_queue (record { kind = Own; moment = moment } ∷ others) ≡ from_queue others
-as_many moment others =
-    let counted : from_queue (record { kind = Own; moment = moment } ∷ others)
-    ≡ 0 + from_queue others =
-    sum_by-cons (λ (u : Unacknowledged). cond (is_from_queue u.kind) 1 0)
-    (record { kind = Own; moment = moment }) others in
     omega (arith, counted)

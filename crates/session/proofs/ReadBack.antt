@@ -4,7 +4,7 @@ use Rattle.std.proofs.Common.{false, if◌then◌else◌, List, [], ◌∷◌, �
 use Rattle.std.proofs.Common.{Option, Some, None, refl, sym, ap, ◌∙◌, append_assoc, arith, rules}
 use Rattle.std.specs.Prelude.{Result, Ok, Err, IsOk, OnOk}
 use Rattle.std.proofs.lemmas.Bool.{ne_eqb}
-use Rattle.std.proofs.lemmas.List.{take_more, drop_more, take_all, drop_all, length_push}
+use Rattle.std.proofs.lemmas.List.{take_more, drop_more, length_push}
 use Rattle.std.proofs.lemmas.List.{append-nil, length-append}
 use Rattle.apci.specs.declared.apdu.Uf.{Uf}
 use Rattle.apci.specs.declared.apdu.Uf.TheVariants.{StartAct, StartCon, StopAct, StopCon, TestAct}
@@ -290,15 +290,6 @@ pub has_room : (before now : List Unacknowledged) (lines coming : List (List ℕ
     → length now ≡ length before + n
 has_room before now lines coming n r =
     omega (arith, ap length r.items, length-append before r.frames, r.count)
-
-pub all_read : (before now fs : List Unacknowledged) (rest coming : List (List ℕ)) (i : ℕ)
-    → length fs ≤ i
-    → now ≡ before ++ take i fs → coming ≡ frame_lines (drop i fs) ++ rest → (now ≡ before ++ fs)
-    × (coming ≡ rest)
-all_read before now fs rest coming i le is e = (
-  is ∙ ap (λ (l : List Unacknowledged). before ++ l) (take_all i fs le),
-  e ∙ ap (λ (gs : List Unacknowledged). frame_lines gs ++ rest) (drop_all i fs le),
-)
 
 pub taken_in : (r : Result (Unit {0}) Unacknowledged) (P : Type 0) → IsOk r → OnOk r P → P
 taken_in (Ok x) P is on = on

@@ -1,7 +1,7 @@
 -- When the calls of a session have no more to answer.
 use Rattle.std.specs.Prelude.{◌≡◌, ℕ, ◌≤◌, false, List, [], ◌∷◌, None}
 use Rattle.session.specs.declared.kinds.Unacknowledged.{Unacknowledged}
-use Rattle.session.specs.Session.{Session, may_send, nothing_due, confirmed, pulled, timed_out}
+use Rattle.session.specs.Session.{Session, confirmed, pulled, timed_out}
 
 -- the session after `confirm`, whatever that answers
 abbrev pub after_confirm : Session → Session
@@ -18,13 +18,6 @@ IsConfirmed s = (confirmed s).0 ≡ None
 -- t1 hasn't run out
 abbrev pub IsInTime : ℕ → Session → Type 0
 IsInTime now s = timed_out now s ≡ false
-
--- nothing is due, and nothing goes out
-pub record IsSilent (now : ℕ) (s : Session) : Type 0 where
-  pub confirms : confirmed s ≡ nothing_due s
-  pub pulls : pulled now s ≡ nothing_due s
-  pub sends : may_send s ≡ false
-  pub in_time : IsInTime now s
 
 -- The frames went out one after another, the first not before `from`, and the last not after `now`.
 abbrev pub AreInOrder : ℕ → List Unacknowledged → ℕ → Type 0

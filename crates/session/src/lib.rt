@@ -26,13 +26,7 @@ mod saving;
 pub use connection::{NoMemory, Session};
 pub use kinds::{Close, FrameOrigin, Taken, Transfer, Unacknowledged};
 pub use laws::{
-    a_stop_is_confirmed_once_all_is_acknowledged, a_stop_is_pending_until_its_confirmation,
-    a_test_waits_for_its_confirmation, calls_come_to_an_end, connections_begin_by_open,
-    data_transfer_runs_from_start_to_stop, each_act_is_confirmed, each_close_has_its_cause,
-    each_data_frame_counts, each_thing_is_said_by_its_frames_alone, frames_are_acknowledged_once,
-    frames_are_judged, frames_are_numbered, frames_are_taken_in_sequence, frames_stay_in_order,
-    histories_keep_the_rules, origins_are_counted_apart, reached_is_least,
-    rules_hold_for_each_entry, session_keeps_the_standard, silence_counts_from_the_latest_frame,
-    the_latest_receive_number_counts, timers_are_kept, timers_run_as_set, transfer_is_controlled,
-    window_is_kept, worked_examples_hold,
+    calls_come_to_an_end, frames_are_judged, frames_are_numbered, histories_keep_the_rules,
+    session_keeps_the_standard, timers_are_kept, transfer_is_controlled, window_is_kept,
+    worked_examples_hold,
 };

@@ -7,10 +7,8 @@ pub mod NamedBack
 mod Knowing
 pub mod PlaceLemmas
 mod Filing
-mod FilingBack
 pub mod Refusing
 mod UnknownNamed
-mod Faulting
 mod Wording
 pub mod HereLemmas
 pub mod ChangesLemmas

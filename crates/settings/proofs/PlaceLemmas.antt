@@ -2,7 +2,7 @@
 use Rattle.std.proofs.Common.{◌≡◌, ℕ, ◌+◌, ◌<◌, ◌≤◌, ◌&&◌, ◌||◌, Bool, true, false, List, [], ◌∷◌}
 use Rattle.std.proofs.Common.{◌++◌, length, take, drop, Option, Some, None, refl, sym, ap, ◌∙◌}
 use Rattle.std.proofs.Common.{arith, inl, inr, length-append}
-use Rattle.std.proofs.lemmas.Bool.{and_parts, leb-true, eqb-true}
+use Rattle.std.proofs.lemmas.Bool.{and_parts, leb-true}
 use Rattle.std.proofs.lemmas.List.{take-append-drop}
 use Rattle.std.proofs.lemmas.Slice.Eq.{bytes_eq-Decides}
 use Rattle.std.specs.Prelude.{codes, nat_eq, nat_le, nat_lt, ◌⊎◌}
@@ -43,30 +43,6 @@ pub either : (a b : Bool) → (a || b) ≡ true → (a ≡ true) ⊎ (b ≡ true
 either true b e = inl refl
 either false b e = inr e
 
-port_in : (text : List ℕ) → has_port text ≡ true → PortIn text
-port_in [] e = cc
-port_in (c ∷ text) e =
-    by (either (nat_eq c 58 && is_port text) (has_port text) e) (port_in text)
-  where
-    by : ((nat_eq c 58 && is_port text) ≡ true) ⊎ (has_port text ≡ true)
-        → (has_port text ≡ true → PortIn text) → PortIn (c ∷ text)
-    by (inl here) more =
-        let parts = and_parts (nat_eq c 58) (is_port text) here in
-        record {
-          before = [];
-          digits = text;
-          are = ap (λ k. k ∷ text) (eqb-true c 58 parts.0);
-          port = port_is text parts.1;
-        }
-    by (inr later) more =
-        let rest = more later in
-        record {
-          before = c ∷ rest.before;
-          digits = rest.digits;
-          are = ap (λ t. c ∷ t) rest.are;
-          port = rest.port;
-        }
-
 or_true : (a b : Bool) → b ≡ true → (a || b) ≡ true
 or_true true b e = refl
 or_true false b e = e
@@ -78,18 +54,6 @@ has_port_back [] digits port =
 has_port_back (c ∷ before) digits port =
     or_true (nat_eq c 58 && is_port (before ++ 58 ∷ digits)) (has_port (before ++ 58 ∷ digits))
     (has_port_back before digits port)
-
-pub host_and_port : (text : List ℕ) → is_address text ≡ true → IsHostAndPort text
-host_and_port [] e = cc
-host_and_port (c ∷ text) e =
-    let rest = port_in text e in
-    record {
-      host = c ∷ rest.before;
-      digits = rest.digits;
-      are = ap (λ t. c ∷ t) rest.are;
-      some = omega arith;
-      port = rest.port;
-    }
 
 address_of_host : (host digits : List ℕ) → 1 ≤ length host → IsPort digits
     → is_address (host ++ 58 ∷ digits) ≡ true
@@ -107,25 +71,6 @@ begins head text e =
     let same : take (length head) text ≡ head =
     (bytes_eq-Decides (take (length head) text) head).0 e in
     sym (take-append-drop (length head) text) ∙ ap (λ t. t ++ drop (length head) text) same
-
-pub place_of_line : (text : List ℕ) → is_line text ≡ true → IsPlaceOfLine text
-place_of_line text e =
-    by (either (begins_with (codes "tcp:") text && is_address (drop 4 text))
-    (begins_with (codes "unix:") text && nat_lt 5 (length text)) e)
-  where
-    by : ((begins_with (codes "tcp:") text && is_address (drop 4 text)) ≡ true)
-        ⊎ ((begins_with (codes "unix:") text && nat_lt 5 (length text)) ≡ true)
-        → IsPlaceOfLine text
-    by (inl is) =
-        let parts = and_parts (begins_with (codes "tcp:") text) (is_address (drop 4 text)) is in
-        inl (drop 4 text, begins (codes "tcp:") text parts.0, host_and_port (drop 4 text) parts.1)
-    by (inr is) =
-        let parts = and_parts (begins_with (codes "unix:") text) (nat_lt 5 (length text)) is in
-        let all = begins (codes "unix:") text parts.0 in
-        let long : 5 < length text = grind (arith, parts.1) in
-        let sum : length text ≡ 5 + length (drop 5 text) =
-        ap length all ∙ length-append (codes "unix:") (drop 5 text) in
-        inr (drop 5 text, all, omega (arith, long, sum))
 
 pub line_back : (text : List ℕ) → IsPlaceOfLine text → is_line text ≡ true
 line_back text (inl is) =

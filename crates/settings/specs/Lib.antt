@@ -10,7 +10,6 @@ pub mod Wanted
 pub mod Named
 pub mod Known
 pub mod Files
-pub mod FirstUnknown
 pub mod FirstWrong
 pub mod Here
 pub mod Places

@@ -32,13 +32,11 @@ pub use hints::{explain, explain_site};
 pub use keys::{Flag, Whole, given, section};
 pub use live::{LiveSettings, is_address, is_here};
 pub use named::{
-    each_setting_has_its_key_and_its_bounds, faults_name_the_first_wrong_key,
-    files_may_have_these_keys_and_stations, lines_are_here_by_their_names, named_settings_are_read,
-    other_keys_are_refused, settings_are_named, values_are_those_under_their_keys,
+    files_may_have_these_keys_and_stations, lines_are_here_by_their_names, other_keys_are_refused,
     words_are_those_of_the_rows,
 };
 pub use site::{
     Flags, Names, Places, Site, SiteFault, StationName, named_sites_are_read,
-    other_site_keys_are_refused, read_site, site_values, sites_are_named,
+    other_site_keys_are_refused, read_site, site_values,
 };
 pub use wanted::wanted_values;

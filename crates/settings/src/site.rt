@@ -22,7 +22,7 @@ mod unknown;
 mod wanted;
 
 pub use self::fault::SiteFault;
-pub use self::named::{named_sites_are_read, other_site_keys_are_refused, sites_are_named};
+pub use self::named::{named_sites_are_read, other_site_keys_are_refused};
 pub use self::names::{Names, StationName, wrong_station};
 pub use self::wanted::site_values;
 use crate::fault::WrongKey;

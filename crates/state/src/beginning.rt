@@ -39,7 +39,14 @@ use settings::{ConfigFault, read_config};
 use sqlite_disk::Disk;
 use statetext::TextLines;
 use std::alloc::Global;
+use std::io::ErrorKind;
 use std::marker::Brand;
+
+/// The log can't be read. Which of its two files it is, and why, nobody tells.
+const UNREAD: FolderFault = FolderFault::Unusable("segments", ErrorKind::Other);
+
+/// The mark can't be made.
+const UNMARKED: FolderFault = FolderFault::Unusable("stale", ErrorKind::Other);
 
 /// What a run begins with.
 #[derive(Drop)]
@@ -103,7 +110,7 @@ struct Resumed {
 impl From<StateFault> for FolderFault {
     fn from(fault: StateFault) -> FolderFault {
         match fault {
-            StateFault::Wrong | StateFault::Device => FolderFault::Device,
+            StateFault::Wrong | StateFault::Device => UNREAD,
             StateFault::NoMemory => FolderFault::NoMemory,
         }
     }
@@ -112,7 +119,7 @@ impl From<StateFault> for FolderFault {
 impl From<SegmentFault> for FolderFault {
     fn from(fault: SegmentFault) -> FolderFault {
         match fault {
-            SegmentFault::Full | SegmentFault::Device => FolderFault::Device,
+            SegmentFault::Full | SegmentFault::Device => UNREAD,
             SegmentFault::NoMemory => FolderFault::NoMemory,
         }
     }
@@ -649,7 +656,7 @@ fn carry_on<F: Folder + Drop>(
             put_aside(alloc, config, settings, folder, newest, other)
         }
         Err(StateFault::NoMemory) => Err(FolderFault::NoMemory),
-        Err(StateFault::Device) => Err(FolderFault::Device),
+        Err(StateFault::Device) => Err(UNREAD),
     }
 }
 
@@ -707,10 +714,10 @@ fn put_aside<F: Folder + Drop>(
 {
     let mut folder = folder;
     if !folder.mark_stale() {
-        return Err(FolderFault::Device);
+        return Err(UNMARKED);
     }
     if !folder.put_aside(newest, other) {
-        return Err(FolderFault::Device);
+        return Err(UNREAD);
     }
     let store = DiskStore::new(alloc, folder, settings, 1);
     anew(alloc, config, store, Beginning::PutAside)

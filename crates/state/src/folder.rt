@@ -2,6 +2,7 @@
 
 use segments::Segment;
 use sqlite_disk::{Disk, Files};
+use std::io::ErrorKind;
 use thiserror::Error;
 
 /// That many have 3,997,696 octets.
@@ -13,12 +14,10 @@ pub enum FolderFault {
     /// Another process has it open. Nothing was touched.
     #[error("another process has it open")]
     InUse,
-    /// What stands there isn't a state's: a link, a device, or a database's journal.
-    #[error("there are files of something else")]
-    Foreign,
-    /// The disk failed, or the system refused.
-    #[error("the disk failed")]
-    Device,
+    /// The file of this name in it can't be used, for this cause: the disk failed, the system
+    /// refused, or what stands there isn't a state's.
+    #[error("{0}: {1}")]
+    Unusable(&'static str, ErrorKind),
     /// Memory was refused.
     #[error("no memory")]
     NoMemory,

@@ -1,20 +1,28 @@
 -- Why a directory isn't opened (this gateway's own profile).
-use Rattle.state.specs.declared.folder.FolderFault.{FolderFault}
-use Rattle.state.specs.declared.folder.FolderFault.TheVariants.{InUse, Foreign, Device, NoMemory}
+use Rattle.std.specs.Prelude.{◌≡◌, ℕ, List, codes}
 use Rattle.std.specs.IoError.{error_kind}
 use Rattle.std.specs.declared.io.ErrorKind.{ErrorKind}
-use Rattle.std.specs.declared.io.ErrorKind.TheVariants.{Unsupported, OutOfMemory}
+use Rattle.std.specs.declared.io.ErrorKind.TheVariants.{AlreadyExists, OutOfMemory}
 use Rattle.sqlite_std_file.specs.declared.pair.OpenError.{OpenError}
 use Rattle.sqlite_std_file.specs.declared.pair.OpenError.TheVariants as openings
+use Rattle.state.specs.declared.folder.FolderFault.{FolderFault}
+use Rattle.state.specs.declared.folder.FolderFault.TheVariants.{InUse, NoMemory, Unusable}
 
--- what no such file system has, and want of memory; all else is the device
-abbrev pub fault_by : ErrorKind → FolderFault
-fault_by Unsupported = Foreign
-fault_by OutOfMemory = NoMemory
-fault_by kind = Device
+-- the file of this name can't be used, for this cause
+abbrev pub IsUnusable : (name : List ℕ) → ErrorKind → FolderFault → Type 0
+IsUnusable name cause (Unusable place why) = (place.now ≡ name) × (why ≡ cause)
+IsUnusable name cause fault = ⊥
 
-abbrev pub refusal_of : OpenError → FolderFault
-refusal_of openings.Busy = InUse
-refusal_of openings.HotJournal = Foreign
-refusal_of openings.OutOfMemory = NoMemory
-refusal_of (openings.Io fault) = fault_by (error_kind fault)
+-- and want of memory is told as that
+abbrev pub IsFaultAt : (name : List ℕ) → ErrorKind → FolderFault → Type 0
+IsFaultAt name OutOfMemory fault = fault ≡ NoMemory
+IsFaultAt name cause fault = IsUnusable name cause fault
+
+-- The two files of a log aren't opened, of which the one of this name can't be used. It may be that
+-- another process has them, or that a journal stands there, which only its database can play back.
+abbrev pub IsRefusal : (name : List ℕ) → OpenError → FolderFault → Type 0
+IsRefusal name openings.Busy fault = fault ≡ InUse
+IsRefusal name openings.HotJournal fault =
+    IsUnusable (codes "segments-journal") AlreadyExists fault
+IsRefusal name openings.OutOfMemory fault = fault ≡ NoMemory
+IsRefusal name (openings.Io error) fault = IsFaultAt name (error_kind error) fault

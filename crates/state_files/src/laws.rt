@@ -4,14 +4,14 @@ ghost use Rattle.std.specs.Prelude.{false, Some, codes};
 ghost use Rattle.std.specs.Fmt.{decimal};
 ghost use Rattle.std.specs.IoError.{error_kind};
 ghost use Rattle.std.specs.declared.io.Error.{Error};
-ghost use Rattle.std.specs.declared.io.ErrorKind.TheVariants.{Unsupported, OutOfMemory};
+ghost use Rattle.std.specs.declared.io.ErrorKind.TheVariants.{AlreadyExists, OutOfMemory};
 ghost use Rattle.sqlite_disk.specs.Memory.{memory_bytes};
 ghost use Rattle.sqlite_disk.specs.declared.memory.Memory.{Memory};
 ghost use Rattle.sqlite_std_file.specs.declared.pair.OpenError.TheVariants as openings;
-ghost use Rattle.state.specs.declared.folder.FolderFault.TheVariants.{Device, Foreign, InUse};
-ghost use Rattle.state.specs.declared.folder.FolderFault.TheVariants.{NoMemory};
+ghost use Rattle.state.specs.declared.folder.FolderFault.{FolderFault};
+ghost use Rattle.state.specs.declared.folder.FolderFault.TheVariants.{InUse, NoMemory};
 ghost use Rattle.state_files.specs.Copying.{IsCopied};
-ghost use Rattle.state_files.specs.Faults.{refusal_of};
+ghost use Rattle.state_files.specs.Faults.{IsRefusal, IsUnusable};
 ghost use Rattle.state_files.specs.Names.{HasMark, IsLockTaken, IsMarkedAs, IsPutAside, NameStep};
 ghost use Rattle.state_files.specs.Names.{Locked, Made, Renamed, Sought, Synced};
 
@@ -61,17 +61,21 @@ pub fn a_file_is_looked_at_whole()
         memory_bytes after ≡ memory_bytes before ++ octets }
 {}
 
-/// A directory is refused for its reason. It is in use only where another process has its files. It
-/// isn't a state's where a hot journal stands there, or where its file system lacks what a state
-/// needs. Want of memory is told as that, and all else as a device that failed.
+/// A directory is refused for its reason. It is in use only if another process has its files. If a
+/// hot journal stands there, that is named. Want of memory is told as that. For all else the file
+/// is named that can't be used, and the system's cause.
 pub fn a_directory_is_refused_for_its_reason()
-    ensures busy { refusal_of openings.Busy ≡ InUse }
-    ensures journal { refusal_of openings.HotJournal ≡ Foreign }
-    ensures memory { refusal_of openings.OutOfMemory ≡ NoMemory }
-    ensures unsupported { (fault : Error) → error_kind fault ≡ Unsupported →
-        refusal_of (openings.Io fault) ≡ Foreign }
-    ensures refused { (fault : Error) → error_kind fault ≡ OutOfMemory →
-        refusal_of (openings.Io fault) ≡ NoMemory }
-    ensures device { (fault : Error) → error_kind fault ≢ Unsupported →
-        error_kind fault ≢ OutOfMemory → refusal_of (openings.Io fault) ≡ Device }
+    ensures busy { (name : List ℕ) (why : FolderFault) →
+        IsRefusal name openings.Busy why → why ≡ InUse }
+    ensures journal { (name : List ℕ) (why : FolderFault) →
+        IsRefusal name openings.HotJournal why →
+        IsUnusable (codes "segments-journal") AlreadyExists why }
+    ensures memory { (name : List ℕ) (why : FolderFault) →
+        IsRefusal name openings.OutOfMemory why → why ≡ NoMemory }
+    ensures refused { (name : List ℕ) (fault : Error) (why : FolderFault) →
+        error_kind fault ≡ OutOfMemory → IsRefusal name (openings.Io fault) why →
+        why ≡ NoMemory }
+    ensures device { (name : List ℕ) (fault : Error) (why : FolderFault) →
+        error_kind fault ≢ OutOfMemory → IsRefusal name (openings.Io fault) why →
+        IsUnusable name (error_kind fault) why }
 {}

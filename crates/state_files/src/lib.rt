@@ -24,17 +24,19 @@
 #![tactic(auto)]
 
 ghost use Rattle.std.specs.Prelude.{◌≡◌, IfOk, IsTrue, None, false, true};
-ghost use Rattle.state_files.specs.Faults.{fault_by, refusal_of};
-ghost use Rattle.std.specs.IoError.{error_kind};
+ghost use Rattle.sqlite_std_file.specs.File.{file_is_usable};
 
 mod beside;
+mod faults;
 mod laws;
 mod looking;
 mod marks;
 mod names;
 mod origin;
+mod starts;
 
 use crate::beside::Beside;
+use crate::faults::{at, refusal};
 use crate::marks::Marks;
 use crate::names::SystemNames;
 use gateway::History;
@@ -45,41 +47,20 @@ pub use laws::{
 };
 pub use looking::{Stood, stood_in};
 use segments::Segment;
-use sqlite_disk::{Disk, Files};
-use sqlite_std_file::{File, OpenError, Unknown};
+use sqlite_disk::Files;
+use sqlite_std_file::FileFrom;
+pub use starts::Starts;
 use state::{Folder, FolderFault};
-use std::io::ErrorKind;
-use std::{env, fs, io};
+use std::env;
 
 /// The directory of a state. It is made, and locked, where its files are opened first.
 #[derive(Drop)]
-pub struct Directory {
+pub struct Directory<S: Starts> {
     marks: Marks<SystemNames>,
+    /// What stands in its files.
+    starts: S,
     /// What led to the state at the head of its newest log.
     lineage: History,
-}
-
-/// Why the system refused.
-fn fault_of(error: &io::Error) -> FolderFault
-    ensures { result ≡ fault_by (error_kind error.now) }
-{
-    match error.kind() {
-        ErrorKind::Unsupported => FolderFault::Foreign,
-        ErrorKind::OutOfMemory => FolderFault::NoMemory,
-        _ => FolderFault::Device,
-    }
-}
-
-/// Why the two files aren't opened.
-fn refusal(error: &OpenError) -> FolderFault
-    ensures { result ≡ refusal_of error.now }
-{
-    match error {
-        OpenError::Busy => FolderFault::InUse,
-        OpenError::HotJournal => FolderFault::Foreign,
-        OpenError::OutOfMemory => FolderFault::NoMemory,
-        OpenError::Io(error) => fault_of(error),
-    }
 }
 
 /// A second place for the mark, if the environment names one.
@@ -103,10 +84,10 @@ pub fn mark_beside(rt: HostRuntime) -> bool {
     }
 }
 
-impl Directory {
-    /// The directory at a path, to whose state this history has led. Nothing is asked of the system
-    /// yet but for the second place of its mark.
-    pub fn new(rt: HostRuntime, path: String, lineage: History) -> Directory
+impl<S: Starts> Directory<S> {
+    /// The directory at a path, in whose files this stands, and to whose state this history has
+    /// led. Nothing is asked of the system yet but for the second place of its mark.
+    pub fn new(rt: HostRuntime, path: String, starts: S, lineage: History) -> Directory<S>
         ensures names { result.marks.names ≡ record { rt = rt; path = path; lock = None } }
         ensures unlocked { result.marks.is_locked ≡ false }
         ensures unknown { result.marks.mark ≡ None }
@@ -119,30 +100,28 @@ impl Directory {
         };
         Directory {
             marks: Marks::new(names, second_place(rt)),
+            starts,
             lineage,
         }
     }
 
     /// Opens both files of the directory, which is locked.
-    fn open_files(&self) -> Result<Files<File>, FolderFault>
+    fn open_files(&self) -> Result<Files<FileFrom<S::Found>>, FolderFault>
         requires { IsTrue self.now.marks.is_locked }
-        ensures log { IfOk result (λ files. IsTrue (⟦<File as Disk>⟧.is_usable files.log)) }
-        ensures db { IfOk result (λ files. IsTrue (⟦<File as Disk>⟧.is_usable files.db)) }
+        ensures log { IfOk result (λ files. IsTrue (file_is_usable S.Found.Start files.log)) }
+        ensures db { IfOk result (λ files. IsTrue (file_is_usable S.Found.Start files.db)) }
     {
         let names = &self.marks.names;
-        let path = match names.path_of("segments") {
-            Ok(path) => path,
-            Err(error) => return Err(fault_of(&error)),
-        };
-        match sqlite_std_file::open(&names.rt, path.as_str(), Unknown) {
+        let path = at("segments", names.path_of("segments"))?;
+        match sqlite_std_file::open(&names.rt, path.as_str(), self.starts.found()) {
             Ok(files) => Ok(files),
-            Err(error) => Err(refusal(&error)),
+            Err(error) => Err(refusal(names.unusable(), &error)),
         }
     }
 }
 
-impl Folder for Directory {
-    type File = File;
+impl<S: Starts> Folder for Directory<S> {
+    type File = FileFrom<S::Found>;
 
     ghost mark = { λ d. d.marks.mark };
 
@@ -152,34 +131,27 @@ impl Folder for Directory {
 
     ghost aside = { λ d _ _. d.marks.has_put_aside ≡ true };
 
-    fn open(&mut self) -> Result<Files<File>, FolderFault> {
-        match self.marks.lock() {
-            Ok(true) => {}
-            Ok(false) => return Err(FolderFault::InUse),
-            Err(error) => return Err(fault_of(&error)),
+    fn open(&mut self) -> Result<Files<FileFrom<S::Found>>, FolderFault> {
+        if !at("lock", self.marks.lock())? {
+            return Err(FolderFault::InUse);
         }
-        if let Err(error) = self.marks.make_kept() {
-            return Err(fault_of(&error));
-        }
+        at("kept", self.marks.make_kept())?;
         self.open_files()
     }
 
     fn is_stale(&mut self) -> Result<bool, FolderFault> {
-        match self.marks.is_stale() {
-            Ok(is_stale) => Ok(is_stale),
-            Err(error) => Err(fault_of(&error)),
-        }
+        self.marks.is_stale()
     }
 
     fn mark_stale(&mut self) -> bool {
         self.marks.mark_stale()
     }
 
-    fn unmark(&mut self, _log: &Segment<File>) -> bool {
+    fn unmark(&mut self, _log: &Segment<FileFrom<S::Found>>) -> bool {
         self.marks.unmark()
     }
 
-    fn put_aside(&mut self, newest: File, other: File) -> bool {
+    fn put_aside(&mut self, newest: FileFrom<S::Found>, other: FileFrom<S::Found>) -> bool {
         drop(newest);
         drop(other);
         let alloc = self.marks.names.rt.alloc();

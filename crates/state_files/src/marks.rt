@@ -7,7 +7,9 @@ ghost use Rattle.state_files.specs.Names.{IsMadeGood, IsMarkedAs, IsPutAside, Is
 ghost use Rattle.state_files.specs.Names.{Sought, Synced, noted, unread_name};
 
 use crate::beside::Beside;
+use crate::faults::at;
 use crate::names::{Names, named};
+use state::FolderFault;
 use std::alloc::Global;
 use std::io;
 use std::io::ErrorKind;
@@ -126,16 +128,16 @@ impl<N: Names> Marks<N> {
 
     /// Whether the state is stale: the mark stands, on the disk or in the second place, or the
     /// files are a copy. Both files are open.
-    pub(crate) fn is_stale(&mut self) -> io::Result<bool>
+    pub(crate) fn is_stale(&mut self) -> Result<bool, FolderFault>
         requires { IsTrue self.old.is_locked }
         ensures found { IfOk result (IsFoundStale N.steps (N.steps self.old.names)
             (N.steps self.new.names) self.old.beside self.new.beside) }
         ensures mark { IfOk result (λ is_stale. self.new.mark ≡ Some is_stale) }
         ensures lock { self.new.is_locked ≡ self.old.is_locked }
     {
-        self.names.sync()?;
-        let is_here = self.names.has("stale")?;
-        let is_copy = self.names.is_copy()?;
+        at(".", self.names.sync())?;
+        let is_here = at("stale", self.names.has("stale"))?;
+        let is_copy = at("origin", self.names.is_copy())?;
         let is_there = self.is_marked_beside();
         let is_stale = is_here || is_copy || is_there;
         self.mark = Some(is_stale);

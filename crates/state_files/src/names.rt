@@ -5,6 +5,7 @@ use crate::origin;
 use std::alloc::AllocError;
 use std::fs::OpenOptions;
 use std::io::ErrorKind;
+use std::os::unix::fs::MetadataExt;
 use std::{fs, io};
 
 /// What became of a call, where memory may be refused.
@@ -81,6 +82,31 @@ impl SystemNames {
             ≡ string_bytes self.now.path ++ 47 ∷ name.now) }
     {
         named(format!(in self.rt.alloc(); "{}/{name}", self.path))
+    }
+
+    /// Whether a regular file with this one name stands there, which can be read and written.
+    fn can_open(&self, name: &str) -> io::Result<bool> {
+        let path = self.path_of(name)?;
+        let found = fs::symlink_metadata(&self.rt, path.as_str())?;
+        if !found.is_file() || found.nlink() != 1 {
+            return Ok(false);
+        }
+        let opened = OpenOptions::new()
+            .read(true)
+            .write(true)
+            .open(&self.rt, path.as_str());
+        Ok(opened.is_ok())
+    }
+
+    /// Which of the two files of the log can't be used, as far as that can be told: the second one
+    /// only if the first one can be opened.
+    pub(crate) fn unusable(&self) -> &'static str {
+        let can_open_first = self.can_open("segments").unwrap_or(false);
+        if can_open_first && !self.can_open("segments-wal").unwrap_or(false) {
+            "segments-wal"
+        } else {
+            "segments"
+        }
     }
 
     /// Makes a file that is empty, or opens it.

@@ -1,14 +1,9 @@
 //! What the lines of a state mean.
-ghost use Rattle.std.specs.Prelude.{◌≡◌, ◌≢◌, ◌+◌, ℕ, Bool, List, [], ◌∷◌, ◌++◌, None};
-ghost use Rattle.std.specs.Prelude.{Some, codes, false, length, true};
+ghost use Rattle.std.specs.Prelude.{◌≡◌, ◌≢◌, ◌+◌, ℕ, Bool, List, [], ◌∷◌, ◌++◌};
+ghost use Rattle.std.specs.Prelude.{codes, false, length, true};
 ghost use Rattle.std.specs.Fmt.{decimal};
 ghost use Rattle.link.specs.Carried.{awaits_command};
-ghost use Rattle.link.specs.Primary.{Outstanding, Primary};
-ghost use Rattle.link.specs.Procedure.{is_held};
-ghost use Rattle.link.specs.declared.procedure.Silence.{Silence};
-ghost use Rattle.link.specs.declared.procedure.Link.TheVariants.{Down, Available, Next, Held};
-ghost use Rattle.link.specs.declared.service.Asked.TheVariants.{Counted, Reset, Status};
-ghost use Rattle.link.specs.declared.service.Service.TheVariants.{Class1, Class2, Command};
+ghost use Rattle.link.specs.Primary.{Primary};
 ghost use Rattle.link.specs.declared.turn.StationState.{StationState};
 ghost use Rattle.state.specs.declared.start.Beginning.{Beginning};
 ghost use Rattle.state.specs.declared.start.Beginning.TheVariants as beginnings;
@@ -58,42 +53,4 @@ pub fn each_station_has_its_line()
         ≡ line (codes "station " ++ decimal s.address ++ link_words (link_left p station s)
         ++ codes ", given up at a start, session " ++ decimal s.session.number
         ++ codes ", gap if it is reset") }
-{}
-
-/// The link in a station's line is the one that it has, but for the station whose answer is
-/// awaited. That one is down if its status or a reset is awaited, unless it holds a service: asked
-/// for its status, it stands as before. Else its service has no answer so far. The words tell each
-/// link from the others.
-pub fn links_are_told_as_they_stand()
-    ensures idle { (p : Primary) (station : ℕ) (s : StationState) → p.outstanding ≡ None →
-        link_left p station s ≡ s.link }
-    ensures others { (p : Primary) (station : ℕ) (s : StationState) → p.turn ≢ station →
-        link_left p station s ≡ s.link }
-    ensures awaited { (p : Primary) (s : StationState) (o : Outstanding) →
-        p.outstanding ≡ Some o →
-        (o.request ≡ Status → is_held s.link ≡ false →
-        link_words (link_left p p.turn s) ≡ codes " down")
-        × (o.request ≡ Status → is_held s.link ≡ true →
-        link_words (link_left p p.turn s) ≡ link_words s.link)
-        × (o.request ≡ Reset → link_words (link_left p p.turn s) ≡ codes " down")
-        × ((fcb : Bool) → o.request ≡ Counted fcb Class1 →
-        link_words (link_left p p.turn s) ≡ link_words (Next fcb)
-        ++ codes ", poll of class 1 without an answer")
-        × ((fcb : Bool) → o.request ≡ Counted fcb Class2 →
-        link_words (link_left p p.turn s) ≡ link_words (Next fcb)
-        ++ codes ", poll of class 2 without an answer")
-        × ((fcb : Bool) (asdu : List ℕ) → o.request ≡ Counted fcb (Command asdu) →
-        link_words (link_left p p.turn s) ≡ link_words (Next fcb)
-        ++ codes ", command without an answer") }
-    ensures words { (asdu : List ℕ) (missed : Silence) →
-        (link_words Down ≡ codes " down")
-        × (link_words Available ≡ codes " down, its status is known")
-        × (link_words (Next false) ≡ codes " up, frame count bit 0")
-        × (link_words (Next true) ≡ codes " up, frame count bit 1")
-        × (link_words (Held true Class1 missed)
-        ≡ codes " up, frame count bit 1, poll of class 1 without an answer")
-        × (link_words (Held false Class2 missed)
-        ≡ codes " up, frame count bit 0, poll of class 2 without an answer")
-        × (link_words (Held true (Command asdu) missed)
-        ≡ codes " up, frame count bit 1, command without an answer") }
 {}

@@ -13,8 +13,6 @@ mod notes;
 mod stations;
 mod text;
 
-pub use laws::{
-    each_station_has_its_line, links_are_told_as_they_stand, the_first_lines_say_how_a_run_begins,
-};
+pub use laws::{each_station_has_its_line, the_first_lines_say_how_a_run_begins};
 pub use notes::{note_of, note_of_damage, note_of_given_up, note_of_queue, note_of_settings};
 pub use text::describe_state;

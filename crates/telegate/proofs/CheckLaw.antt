@@ -4,6 +4,7 @@ use Rattle.std.proofs.Common.{arith, refl, subst, ◌∙◌}
 use Rattle.std.specs.Io.KnownBytes.{Appends}
 use Rattle.std.specs.Prelude.{Err, Ok, Result, codes}
 use Rattle.sim.specs.Runs.{IsBegun}
+use Rattle.telegate.proofs.Controlled.{above_0}
 use Rattle.telegate.specs.Checks.{IsCheckDone, IsCheckFault, IsFileRefused, IsGoodFor}
 use Rattle.telegate.specs.Checks.{IsRefusalAnswered}
 use Rattle.telegate.specs.Faults.{status_of}
@@ -34,22 +35,7 @@ module _ (old new : Option (List ℕ)) where
   file_refused false Explain h = omega (arith, h.1)
 
   never_0 : (why : Fault) → 0 ≡ status_of why → ⊥
-  never_0 (fault.Config why) is = omega (arith, is)
-  never_0 (fault.Site why) is = omega (arith, is)
-  never_0 (fault.Trace line) is = omega (arith, is)
-  never_0 (fault.Script line) is = omega (arith, is)
-  never_0 (fault.Record line) is = omega (arith, is)
-  never_0 (fault.Unfit lines) is = omega (arith, is)
-  never_0 fault.Sizes is = omega (arith, is)
-  never_0 fault.Octets is = omega (arith, is)
-  never_0 fault.Address is = omega (arith, is)
-  never_0 fault.NoState is = omega (arith, is)
-  never_0 fault.StateInUse is = omega (arith, is)
-  never_0 fault.StateUnusable is = omega (arith, is)
-  never_0 fault.EndUnusable is = omega (arith, is)
-  never_0 fault.Device is = omega (arith, is)
-  never_0 fault.Unread is = omega (arith, is)
-  never_0 fault.NoMemory is = omega (arith, is)
+  never_0 why is = omega (arith, is, above_0 why)
 
   not_refused : (explain : Bool) (text : List ℕ) (why : Fault)
       → IsRefusalAnswered explain text why old new 0 → ⊥
@@ -64,7 +50,7 @@ module _ (old new : Option (List ℕ)) where
   not_refused explain text fault.Address h = never_0 fault.Address h.1
   not_refused explain text fault.NoState h = never_0 fault.NoState h.1
   not_refused explain text fault.StateInUse h = never_0 fault.StateInUse h.1
-  not_refused explain text fault.StateUnusable h = never_0 fault.StateUnusable h.1
+  not_refused explain text (fault.StateUnusable cause) h = never_0 (fault.StateUnusable cause) h.1
   not_refused explain text fault.EndUnusable h = never_0 fault.EndUnusable h.1
   not_refused explain text fault.Device h = never_0 fault.Device h.1
   not_refused explain text fault.Unread h = never_0 fault.Unread h.1

@@ -21,12 +21,12 @@ use Rattle.telegate.specs.declared.host.Wishes.{Wishes}
 
 pub end_is_kept : (fault : Fault) → IsEndFault fault → IsKeptFault fault
 end_is_kept StateInUse is = tt
-end_is_kept StateUnusable is = tt
+end_is_kept (StateUnusable cause) is = tt
 end_is_kept fault is = is
 
 pub unkept_is_kept : (fault : Fault) (old new : Book) → IsUnkept fault old new → IsKeptFault fault
 unkept_is_kept StateInUse old new is = tt
-unkept_is_kept StateUnusable old new is = tt
+unkept_is_kept (StateUnusable cause) old new is = tt
 unkept_is_kept NoMemory old new is = tt
 unkept_is_kept fault old new is = absurd is
 

@@ -37,3 +37,4 @@ pub mod CheckLaw
 pub mod StartLaw
 pub mod RunLaw
 pub mod PlayLaw
+pub mod Controlled

@@ -239,8 +239,8 @@ misjudged config manner r has closing settings known old read found gives NoStat
     absurd wrong
 misjudged config manner r has closing settings known old read found gives StateInUse wrong =
     absurd wrong
-misjudged config manner r has closing settings known old read found gives StateUnusable wrong =
-    absurd wrong
+misjudged config manner r has closing settings known old read found gives (StateUnusable why)
+    wrong = absurd wrong
 misjudged config manner r has closing settings known old read found gives Sizes wrong =
     absurd wrong
 misjudged config manner r has closing settings known old read found gives Octets wrong =

@@ -12,7 +12,7 @@ use Rattle.telegate.specs.declared.command_line.CommandRequest.{CommandRequest}
 use Rattle.telegate.specs.declared.command_line.CommandRequest.TheVariants.{Show101, Show104, Check}
 use Rattle.telegate.specs.declared.command_line.CommandRequest.TheVariants.{Replay, Sim, Audit, Run}
 use Rattle.telegate.specs.declared.command_line.CommandRequest.TheVariants.{Status, State, Capture}
-use Rattle.telegate.specs.declared.command_line.CommandRequest.TheVariants.{Stations}
+use Rattle.telegate.specs.declared.command_line.CommandRequest.TheVariants.{Stations, Centre}
 
 pub names : (name : Text) (rows : List Row) (request : CommandRequest) → AsksFor name rows request
     → name ≡ name_of request
@@ -27,6 +27,7 @@ names name rows (Status place json) h = h.0
 names name rows (State directory config) h = h.0
 names name rows (Capture config text) h = h.0
 names name rows (Stations config script) h = h.0
+names name rows (Centre words) h = h.0
 
 -- a word that is given, read from its row
 word_is : (text : Text) (given : Option Text) (word : Text) → given ≡ Some text

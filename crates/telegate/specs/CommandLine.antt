@@ -16,7 +16,8 @@ use Rattle.telegate.specs.declared.command_line.CommandRequest.{CommandRequest}
 use Rattle.telegate.specs.declared.command_line.CommandRequest.TheVariants.{Show101, Show104, Check}
 use Rattle.telegate.specs.declared.command_line.CommandRequest.TheVariants.{Replay, Sim, Audit, Run}
 use Rattle.telegate.specs.declared.command_line.CommandRequest.TheVariants.{Status, State, Capture}
-use Rattle.telegate.specs.declared.command_line.CommandRequest.TheVariants.{Stations}
+use Rattle.telegate.specs.declared.command_line.CommandRequest.TheVariants.{Stations, Centre}
+use Rattle.telegate.specs.declared.controlling.CentreWords.{CentreWords}
 
 -- What the commands take
 
@@ -96,6 +97,11 @@ capture = command (codes "capture") (word (codes "CONFIG") ∷ word (codes "RECO
 abbrev pub stations : App
 stations = command (codes "stations") (word (codes "CONFIG") ∷ word (codes "SCRIPT") ∷ [])
 
+abbrev pub centre : App
+centre = command (codes "centre") (word (codes "PLACE") ∷ further_word (codes "CONFIG")
+    ∷ further_word (codes "WHAT") ∷ further_word (codes "TARGET") ∷ further_word (codes "VALUE")
+    ∷ flag (codes "tagged") ∷ flag (codes "json") ∷ single (codes "wait") ∷ [])
+
 -- the program, of whose commands one has to be named
 abbrev pub bare : App
 bare = record {
@@ -114,7 +120,7 @@ with_commands (below ∷ commands) above = with_commands commands (with_subcomma
 
 abbrev pub program : App
 program = with_commands (show101 ∷ show104 ∷ check ∷ replay ∷ sim ∷ audit ∷ run ∷ status
-    ∷ state ∷ capture ∷ stations ∷ []) bare
+    ∷ state ∷ capture ∷ stations ∷ centre ∷ []) bare
 
 -- What the code builds is that
 
@@ -162,6 +168,17 @@ pub record AreRunWords (rows : List Row) (words : RunWords) : Type 0 where
   pub allow : AreGiven rows (codes "allow") (texts_of words.allow)
   pub status : IsNamed rows (codes "status") (text_of words.status)
 
+-- this is said of a control centre
+pub record AreCentreWords (rows : List Row) (words : CentreWords) : Type 0 where
+  pub place : IsGiven rows (codes "PLACE") words.place.now
+  pub config : IsNamed rows (codes "CONFIG") (text_of words.config)
+  pub what : IsNamed rows (codes "WHAT") (text_of words.what)
+  pub target : IsNamed rows (codes "TARGET") (text_of words.target)
+  pub value : IsNamed rows (codes "VALUE") (text_of words.value)
+  pub tagged : IsFlag rows (codes "tagged") words.tagged
+  pub json : IsFlag rows (codes "json") words.json
+  pub wait : IsNamed rows (codes "wait") (text_of words.wait)
+
 -- the command that was named, with what was given for it, asks for this
 abbrev pub AsksFor : (name : Text) → List Row → CommandRequest → Type 0
 AsksFor name rows (Show101 sizes hex words) = (name ≡ codes "show101")
@@ -193,6 +210,7 @@ AsksFor name rows (Capture config text) = (name ≡ codes "capture")
     × IsGiven rows (codes "CONFIG") config.now × IsGiven rows (codes "RECORD") text.now
 AsksFor name rows (Stations config script) = (name ≡ codes "stations")
     × IsGiven rows (codes "CONFIG") config.now × IsGiven rows (codes "SCRIPT") script.now
+AsksFor name rows (Centre words) = (name ≡ codes "centre") × AreCentreWords rows words
 
 -- the request, or none where none is asked for
 abbrev pub IsAsked : (name : Text) → List Row → Option CommandRequest → Type 0

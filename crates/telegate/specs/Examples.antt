@@ -13,7 +13,7 @@ use Rattle.telegate.specs.declared.command_line.CommandRequest.{CommandRequest}
 use Rattle.telegate.specs.declared.command_line.CommandRequest.TheVariants.{Show101, Show104, Check}
 use Rattle.telegate.specs.declared.command_line.CommandRequest.TheVariants.{Replay, Sim, Audit, Run}
 use Rattle.telegate.specs.declared.command_line.CommandRequest.TheVariants.{Status, State, Capture}
-use Rattle.telegate.specs.declared.command_line.CommandRequest.TheVariants.{Stations}
+use Rattle.telegate.specs.declared.command_line.CommandRequest.TheVariants.{Stations, Centre}
 
 -- the command that these words behind the program's name name, with what they give for it
 abbrev pub named_by : List Text → Option (Text × List Row)
@@ -112,3 +112,4 @@ name_of (Status place json) = codes "status"
 name_of (State directory config) = codes "state"
 name_of (Capture config text) = codes "capture"
 name_of (Stations config script) = codes "stations"
+name_of (Centre words) = codes "centre"

@@ -30,7 +30,7 @@ IsEndFault _ = ⊥
 -- or its state
 abbrev pub IsKeptFault : Fault → Type 0
 IsKeptFault StateInUse = Unit {0}
-IsKeptFault StateUnusable = Unit {0}
+IsKeptFault (StateUnusable cause) = Unit {0}
 IsKeptFault fault = IsEndFault fault
 
 -- A run with this beginning is over. The port is that of these settings and this allow list, and

@@ -37,3 +37,4 @@ pub mod ManyLives
 pub mod Law
 pub mod Placed
 pub mod Starts
+pub mod Controlled

@@ -1,5 +1,6 @@
 -- What is logged before a run begins (profile).
 use Rattle.std.specs.Prelude.{◌≡◌, ℕ, Bool, true, false, Option, Some, None, map}
+use Rattle.std.specs.declared.io.ErrorKind.{ErrorKind}
 use Rattle.std.specs.declared.net.socket_addr.SocketAddr.{SocketAddr}
 use Rattle.gateway.specs.Log.{GapOut}
 use Rattle.gateway.specs.State.{State}
@@ -53,17 +54,22 @@ pub record LogsBeginning (o : Origin) (old new : Book) : Type 0 where
 
 -- its directory can't be used, so that it begins without a state
 abbrev pub LogsWithout : (old new : Book) → Type 0
-LogsWithout old new = (why : Obstacle) × LogsNote old (note.StateUnused why) new
+LogsWithout old new = (why : Obstacle) × LogsNote old (note.StateRefused why) new
 
 -- it begins with what its directory has, or without that, where it is marked so
 pub data LogsStart (marked : Type 0) (o : Origin) (old new : Book) : Type 0 where
   LogsFound : LogsBeginning o old new → LogsStart marked o old new
   LogsUnused : LogsWithout old new → marked → LogsStart marked o old new
 
+-- The state can't be kept, for this cause, and what stands in the way is logged.
+abbrev pub LogsCause : ErrorKind → (old new : Book) → Type 0
+LogsCause cause old new =
+    (why : Obstacle) × (why.cause ≡ cause) × LogsNote old (note.StateUnkept why) new
+
 -- The state can't be had, which is logged, unless memory is refused.
 abbrev pub IsUnkept : Fault → (old new : Book) → Type 0
 IsUnkept StateInUse old new = LogsNote old (note.Trouble trouble.StateInUse) new
-IsUnkept StateUnusable old new = LogsNote old (note.Trouble trouble.StateUnusable) new
+IsUnkept (StateUnusable cause) old new = LogsCause cause old new
 IsUnkept NoMemory old new = new ≡ old
 IsUnkept _ old new = ⊥
 

@@ -17,6 +17,7 @@ use Rattle.telegate.specs.Captures.{IsCapturedBy}
 use Rattle.telegate.specs.Faults.{status_of_end}
 use Rattle.telegate.specs.Checks.{IsCheckDone, IsRefusalAnswered}
 use Rattle.telegate.specs.CommandLine.{IsRequestOf, text_of, program}
+use Rattle.telegate.specs.Controlled.{EndsAsSaid}
 use Rattle.telegate.specs.Wishes.{CameAt, HasRunAsAsked, HasRunAsSaid, HasRunLive, HasWrongSite}
 use Rattle.telegate.specs.Wishes.{IsFirstSiteFault, IsGoodSite, site_files}
 use Rattle.telegate.specs.Manners.{manner_of}
@@ -32,7 +33,7 @@ use Rattle.telegate.specs.declared.command_line.CommandRequest.{CommandRequest}
 use Rattle.telegate.specs.declared.command_line.CommandRequest.TheVariants.{Show101, Show104, Check}
 use Rattle.telegate.specs.declared.command_line.CommandRequest.TheVariants.{Replay, Sim, Audit, Run}
 use Rattle.telegate.specs.declared.command_line.CommandRequest.TheVariants.{Status, State, Capture}
-use Rattle.telegate.specs.declared.command_line.CommandRequest.TheVariants.{Stations}
+use Rattle.telegate.specs.declared.command_line.CommandRequest.TheVariants.{Stations, Centre}
 use Rattle.telegate.specs.declared.fault.Fault.{Fault}
 use Rattle.telegate.specs.declared.host.Unread.{Unread}
 use Rattle.telegate.specs.declared.host.Unread.TheVariants.{Unreadable, NoMemory}
@@ -69,6 +70,7 @@ files_of (Status place json) = []
 files_of (State directory config) = site_files (text_of config)
 files_of (Capture config text) = config.now ∷ text.now ∷ []
 files_of (Stations config script) = config.now ∷ script.now ∷ []
+files_of (Centre words) = []
 
 -- this is the first of the files that can't be read
 abbrev pub IsFirstUnread : (has : Text → List ℕ → Type 0) → (lacks : Text → Type 0) → List Text
@@ -333,6 +335,8 @@ IsDone has lacks ran answered silent played stands colours (Capture config text)
     HasCaptured has config.now text.now old new exit
 IsDone has lacks ran answered silent played stands colours (Stations config script) old new exit =
     HavePlayedFiles has played config.now script.now exit × Keeps old new
+IsDone has lacks ran answered silent played stands colours (Centre words) old new exit =
+    EndsAsSaid words.json old new exit
 IsDone has lacks ran answered silent played stands colours request old new exit =
     IsJobDone has colours request old new exit
 

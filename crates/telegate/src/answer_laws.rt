@@ -7,6 +7,7 @@ ghost use Rattle.std.specs.List.{AllByRecursion};
 ghost use Rattle.clap.specs.Words.{Text};
 ghost use Rattle.clap.specs.declared.error.kind.ErrorKind.{ErrorKind};
 ghost use Rattle.clap.specs.declared.error.kind.ErrorKind.TheVariants as kind;
+ghost use Rattle.std.specs.declared.io.ErrorKind.{ErrorKind as Cause};
 ghost use Rattle.record.specs.declared.capture.whole.CaptureFault.{CaptureFault};
 ghost use Rattle.gateway.specs.Log.{Log};
 ghost use Rattle.record.specs.declared.capture.whole.CaptureFault.TheVariants as captures;
@@ -41,8 +42,9 @@ pub fn exit_statuses_say_how_a_command_ended()
     ensures memory { (why : Fault) → (status_of_end (Err why) ≡ 4) ↔ (why ≡ fault.NoMemory) }
     ensures words { (why : Fault) → (status_of_end (Err why) ≡ 2)
         ↔ (why ≡ fault.Address) ⊎ (why ≡ fault.NoState) }
-    ensures devices { All (λ why. status_of_end (Err why) ≡ 3) (fault.StateInUse
-        ∷ fault.StateUnusable ∷ fault.EndUnusable ∷ fault.Device ∷ fault.Unread ∷ []) }
+    ensures devices { (cause : Cause) → All (λ why. status_of_end (Err why) ≡ 3)
+        (fault.StateInUse ∷ fault.StateUnusable cause ∷ fault.EndUnusable ∷ fault.Device
+        ∷ fault.Unread ∷ []) }
     ensures content { (config : ConfigFault) (site : SiteFault) (line : ℕ) →
         All (λ why. status_of_end (Err why) ≡ 1) (fault.Config config ∷ fault.Site site
         ∷ fault.Trace line ∷ fault.Script line ∷ fault.Record line ∷ fault.Unfit line

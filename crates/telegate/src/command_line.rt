@@ -6,6 +6,7 @@ ghost use Rattle.telegate.specs.CommandLine as line;
 ghost use Rattle.telegate.specs.CommandLine.{AreGiven, AreRunWords, texts_of, IsArgument, IsAsked};
 ghost use Rattle.telegate.specs.CommandLine.{IsCommand, IsFlag, IsRequestOf, rule_in, with_all};
 
+use crate::controlling::CentreWords;
 use crate::help;
 use crate::run_words::RunWords;
 use clap::{Arg, ArgAction, ArgMatches, Command, Error};
@@ -79,6 +80,10 @@ pub(crate) enum CommandRequest<'m, 'a> {
     Stations {
         config: &'a str,
         script: &'a str,
+    },
+    /// Where a gateway is, and what is to be done there.
+    Centre {
+        words: CentreWords<'a>,
     },
 }
 
@@ -372,6 +377,28 @@ fn stations<'a>(alloc: Global) -> Result<Command<'a>, AllocError>
     with_words(alloc, command, &words)
 }
 
+fn centre<'a>(alloc: Global) -> Result<Command<'a>, AllocError>
+    ensures { IfOk result (IsCommand line.centre) }
+{
+    let command = Command::new(alloc, "centre")
+        .about("Is a control centre, to try a gateway with, and prints what passes")
+        .after_help(help::CENTRE);
+    let words = [
+        CommandWord::Needed("PLACE", "Where the gateway is: HOST, or HOST:PORT"),
+        CommandWord::Further("CONFIG", "A file of settings, whose stations are asked"),
+        CommandWord::Further("WHAT", "What is to be done; a watch, if it is left out"),
+        CommandWord::Further("TARGET", "A common address; with an object's, as 1/100"),
+        CommandWord::Further("VALUE", "The value of a command"),
+        CommandWord::Flag("tagged", "Gives a command a time tag"),
+        CommandWord::Flag("json", "Prints JSON objects, one a line"),
+        CommandWord::Single(
+            "wait",
+            "How many seconds an answer may take, 1 to 3600; by default 10",
+        ),
+    ];
+    with_words(alloc, command, &words)
+}
+
 /// The program, of whose commands one has to be named.
 fn bare<'a>(alloc: Global) -> Command<'a>
     ensures { IsCommand line.bare result }
@@ -411,7 +438,8 @@ fn program<'a>(alloc: Global) -> Result<Command<'a>, AllocError>
     let program = add_command(program, status(alloc))?;
     let program = add_command(program, state(alloc))?;
     let program = add_command(program, capture(alloc))?;
-    add_command(program, stations(alloc))
+    let program = add_command(program, stations(alloc))?;
+    add_command(program, centre(alloc))
 }
 
 /// Reads the words, or gives the text that is to be printed in place of a run.
@@ -580,6 +608,23 @@ fn stations_of<'m, 'a>(matches: &'m ArgMatches<'a>) -> Option<CommandRequest<'m,
     })
 }
 
+fn centre_of<'m, 'a>(matches: &'m ArgMatches<'a>) -> Option<CommandRequest<'m, 'a>>
+    ensures { IsAsked (codes "centre") (rows_of (found_of matches.now)) result }
+{
+    Some(CommandRequest::Centre {
+        words: CentreWords {
+            place: given(matches, "PLACE")?,
+            config: given(matches, "CONFIG"),
+            what: given(matches, "WHAT"),
+            target: given(matches, "TARGET"),
+            value: given(matches, "VALUE"),
+            tagged: is_given(matches, "tagged"),
+            json: is_given(matches, "json"),
+            wait: given(matches, "wait"),
+        },
+    })
+}
+
 /// The request of the words.
 pub(crate) fn request_of<'m, 'a>(matches: &'m ArgMatches<'a>) -> Option<CommandRequest<'m, 'a>>
     ensures { IsRequestOf (subcommand_rows_of matches.now) result }
@@ -597,6 +642,7 @@ pub(crate) fn request_of<'m, 'a>(matches: &'m ArgMatches<'a>) -> Option<CommandR
         "state" => state_of(matches),
         "capture" => capture_of(matches),
         "stations" => stations_of(matches),
+        "centre" => centre_of(matches),
         _ => None,
     }
 }

@@ -5,6 +5,7 @@ ghost use Rattle.telegate.specs.declared.fault.Fault.TheVariants as fault;
 
 use settings::{ConfigFault, SiteFault};
 use std::alloc::AllocError;
+use std::io::ErrorKind;
 use thiserror::Error;
 
 /// The exit status of a command that is done.
@@ -58,9 +59,9 @@ pub(crate) enum Fault {
     /// Another process keeps its state there.
     #[error("state: in use by another process")]
     StateInUse,
-    /// The state can't be kept there.
-    #[error("state: can't be kept there")]
-    StateUnusable,
+    /// The state can't be kept there, for this cause.
+    #[error("state: can't be kept there: {0}")]
+    StateUnusable(ErrorKind),
     /// An end of a run can't be had.
     #[error("device failed")]
     EndUnusable,
@@ -106,7 +107,7 @@ impl Fault {
             | Fault::Octets => BAD_CONTENT,
             Fault::Address | Fault::NoState => USAGE,
             Fault::StateInUse
-            | Fault::StateUnusable
+            | Fault::StateUnusable(_)
             | Fault::EndUnusable
             | Fault::Device
             | Fault::Unread => DEVICE_FAILED,

@@ -129,3 +129,16 @@ and goes on until it is ended. A station that neither confirms nor refuses comma
 the link alone. Nothing is printed.
 Exit status: 1 wrong settings or script, 2 usage, 3 a file can't be read, or listening failed, \
 4 no memory";
+
+pub(crate) const CENTRE: &str = "\
+Without WHAT each station is interrogated, and what passes is printed until the connection ends.
+Otherwise the answers are waited for, and the last line says what became of it. WHAT is one of:
+  interrogate [CA]      station interrogation: of CA, of the stations of CONFIG, or of all
+  counters [CA]         counter interrogation, the same
+  clock [CA]            sets clocks to this machine's UTC time
+  select CA/IOA VALUE   or execute; operate is both, and deactivate takes a select back
+VALUE is on or off (a single command), double:on or double:off, up or down (a regulating step
+command), normalized:0.5, scaled:-100 or float:1.5 (a set point).
+A file that has the name of one of these words is ./FILE.
+Exit status: 0 confirmed, 1 refused, or wrong settings, 2 usage, 3 no answer in time, no connection,
+or a file or the output failed, 4 no memory";

@@ -1,6 +1,7 @@
 //! What the program needs of the system that it runs on.
 ghost use Rattle.std.specs.Prelude.{◌≡◌, ◌⊎◌, ℕ, Bool, List, Result, IfOk, IfErr};
 ghost use Rattle.sim.specs.Scenarios.{FitsScenario};
+ghost use Rattle.telegate.specs.Controlled.{HasPrinted};
 ghost use Rattle.telegate.specs.Playing.{ArePlayed};
 ghost use Rattle.telegate.specs.Ran.{HasNotBegun, IsOver};
 ghost use Rattle.state_files.specs.declared.looking.Stood.{Stood};
@@ -10,25 +11,27 @@ ghost use Rattle.telegate.specs.declared.fault.Fault.{Fault};
 ghost use Rattle.telegate.specs.declared.host.Unread.TheVariants as unread;
 ghost use Rattle.telegate.specs.declared.host.Wishes.{Wishes};
 
+use crate::controlling::{Errands, Uncontrolled, control_at};
 use crate::fault::Fault;
 use crate::inquiry::ask_at;
 use crate::living::{read_live, run_out};
 use crate::playing::{play_behind, scenario_of};
 use crate::site::Process;
 use crate::source::Source;
+use centre::Outcome;
 use gateway::{Config, History};
 use live::{AllowList, SystemClock};
 use runlog::{LogNames, NamedStation};
 use settings::{LiveSettings, Names as SiteNames};
 use sim::{LineListener, Scenario};
 use sqlite_disk::Disk;
-use sqlite_std_file::File as DiskFile;
+use sqlite_std_file::FileFrom;
 use state::Folder;
-use state_files::{Directory, Stood, stood_in};
+use state_files::{Directory, Starts, Stood, stood_in};
 use std::alloc::{AllocError, Global};
 use std::fs::File;
 use std::io;
-use std::io::Read;
+use std::io::{Read, Write};
 use std::rt::Files;
 
 /// The name of standard input.
@@ -128,6 +131,15 @@ pub(crate) trait Host {
     fn play(&self, config: &[u8], script: &[u8]) -> Result<(), Fault>
         ensures { played self.now config.now script.now result };
 
+    /// Is a control centre of a gateway, and prints what passes. Answers what became of its errand.
+    fn control<W: Write>(
+        &self,
+        errands: &Errands<'_>,
+        addresses: &[u16],
+        out: &mut W,
+    ) -> Result<Outcome, Uncontrolled>
+        ensures { IfOk result (λ _. HasPrinted (W.contents out.old) (W.contents out.new)) };
+
     /// What stands in a directory, in which nothing is changed.
     fn look(&self, directory: &str) -> Result<Stood, Unread>
         ensures stood { IfOk result (stands self.now directory.now) }
@@ -144,17 +156,19 @@ pub(crate) trait Host {
 /// The system of a process. Of what its files hold nothing is known, but what led to the state that
 /// a run may find, which only proofs know.
 #[derive(Drop)]
-pub(crate) struct System<'r> {
+pub(crate) struct System<'r, S: Starts> {
     pub(crate) rt: &'r HostRuntime,
     /// Whether its standard error is a terminal, and its standard output isn't.
     pub(crate) is_watched: bool,
     /// Whether standard output shows colours of itself.
     pub(crate) has_colours: bool,
-    /// What led to the state at the head of the newest log, in the directory that a run is told.
+    /// What stands in the files of the directory that a run is told.
+    pub(crate) starts: S,
+    /// What led to the state at the head of the newest log there.
     pub(crate) lineage: History,
 }
 
-impl Host for System<'_> {
+impl<S: Starts> Host for System<'_, S> {
     ghost has = { λ _ _ _. Unit {0} };
 
     ghost lacks = { λ _ _. Unit {0} };
@@ -162,7 +176,7 @@ impl Host for System<'_> {
     ghost use Rattle.telegate.specs.Ran.{HasRunBy};
 
     ghost ran = { λ old _ text wishes ended. HasRunBy (λ settings. StartsIn
-        ⟦<DiskFile as Disk>⟧ wishes settings old.lineage.entries) text wishes ended };
+        ⟦<FileFrom<S::Found> as Disk>⟧ wishes settings old.lineage.entries) text wishes ended };
 
     ghost use Rattle.telegate.specs.Playing.{ArePlayedBy};
 
@@ -211,13 +225,22 @@ impl Host for System<'_> {
 
     fn run(&mut self, config: &[u8], wishes: Wishes<'_>) -> Result<(), Fault> {
         let (settings, places) = read_live(self.rt.alloc(), config)?;
-        run_process(self.rt, &settings, &places, config, wishes, &self.lineage)
+        run_process(self, &settings, &places, config, wishes)
     }
 
     fn play(&self, config: &[u8], script: &[u8]) -> Result<(), Fault> {
         let (settings, places) = read_live(self.rt.alloc(), config)?;
         let scenario = scenario_of(self.rt.alloc(), &settings, script)?;
         play_at(self.rt, &settings, scenario, places.line.as_str())
+    }
+
+    fn control<W: Write>(
+        &self,
+        errands: &Errands<'_>,
+        addresses: &[u16],
+        out: &mut W,
+    ) -> Result<Outcome, Uncontrolled> {
+        control_at(self.rt, errands, addresses, out)
     }
 
     fn look(&self, directory: &str) -> Result<Stood, Unread> {
@@ -262,18 +285,18 @@ fn play_at(
 }
 
 /// Runs the gateway live with these settings and places, which were read from this text, in a
-/// process to whose state this has led.
-fn run_process(
-    rt: &HostRuntime,
+/// process of this system.
+fn run_process<S: Starts>(
+    system: &System<'_, S>,
     settings: &Config,
     places: &LiveSettings,
     text: &[u8],
     wishes: Wishes<'_>,
-    lineage: &History,
 ) -> Result<(), Fault>
-    ensures { HasNotBegun result ⊎ IsOver (StartsIn ⟦<DiskFile as Disk>⟧ wishes.entry settings.now
-        lineage.now.entries) settings.now places.now wishes.entry result }
+    ensures { HasNotBegun result ⊎ IsOver (StartsIn ⟦<FileFrom<S::Found> as Disk>⟧ wishes.entry
+        settings.now system.now.lineage.entries) settings.now places.now wishes.entry result }
 {
+    let rt = system.rt;
     let Ok(stations) = names_of(rt.alloc(), wishes.names) else {
         return Err(Fault::NoMemory);
     };
@@ -282,29 +305,28 @@ fn run_process(
         return Err(Fault::EndUnusable);
     };
     let names = named_by(wishes.names, stations.as_slice());
-    let lineage = lineage.again();
-    let mut site = process_of(rt, places, names, wishes.log_severity, lineage);
+    let mut site = process_of(system, places, names, wishes.log_severity);
     run_out(&mut site, settings, text, wishes)
 }
 
-/// A process with these settings, names and form of its log, to whose state this has led.
-fn process_of<'a>(
-    rt: &'a HostRuntime,
+/// A process of this system with these settings, names and form of its log.
+fn process_of<'a, S: Starts>(
+    system: &System<'a, S>,
     places: &'a LiveSettings,
     names: LogNames<'a>,
     has_severity: bool,
-    lineage: History,
-) -> Process<'a>
+) -> Process<'a, S>
     ensures severity { result.has_severity ≡ has_severity }
     ensures places { result.places.now ≡ places.now }
-    ensures lineage { result.lineage.entries ≡ lineage.entries }
+    ensures lineage { result.lineage.entries ≡ system.now.lineage.entries }
 {
     Process {
-        rt,
+        rt: system.rt,
         places,
         names,
         has_severity,
-        lineage,
+        starts: system.starts,
+        lineage: system.lineage.again(),
     }
 }
 

@@ -25,6 +25,7 @@ ghost use Rattle.telegate.specs.Running.{IsReadLiveConfig};
 ghost use Rattle.telegate.specs.Served.{HasServedAnew, HasServedOn};
 ghost use Rattle.telegate.specs.Starts.{IsWithout, StartsIn};
 ghost use Rattle.telegate.specs.Turns.{in_life, shown_to};
+ghost use Rattle.telegate.specs.declared.fault.Fault.TheVariants as fault;
 ghost use Rattle.telegate.specs.Logged.{IsRefused, IsUnkept, LogsNoteIf, LogsBeginning, LogsGap};
 ghost use Rattle.telegate.specs.Logged.{LogsStart, LogsWithout, note_if_on, note_of_address};
 
@@ -479,10 +480,20 @@ fn run_kept<T: RunSite>(
 {
     let mut scribes = scribes_of(site, config, &wishes)?;
     let begun = begun_in(site, config, text, directory, &wishes, &mut scribes.logger)?;
+    log_mount(site, directory, &mut scribes.logger);
     let moment = first_moment(begun.origin.moment);
     let ends = opened(site, &wishes, moment, &mut scribes.logger)?;
     begin_record(&begun.origin, &mut scribes.pen);
     Ok(run_from(site, config, begun, ends, wishes, scribes))
+}
+
+/// Logs if the directory of the state stands on btrfs.
+fn log_mount<T: RunSite>(site: &T, directory: &str, logger: &mut Logger<T::Sink>)
+    ensures { book_fixture logger.new ≡ book_fixture logger.old }
+{
+    if site.is_on_btrfs(directory) {
+        logger.note(Note::StateOnBtrfs);
+    }
 }
 
 /// The record of a run that goes on says first with which state it does, for its audit.
@@ -621,8 +632,7 @@ fn origin_without<T: RunSite>(
     ensures asked { T.asked site.new ≡ T.asked site.old }
 {
     let obstacle = match fault {
-        FolderFault::Foreign => Obstacle::Foreign,
-        FolderFault::Device => Obstacle::Device,
+        FolderFault::Unusable(place, cause) => Obstacle { place, cause },
         FolderFault::InUse => {
             logger.note(Note::Trouble(Trouble::StateInUse));
             return Err(Fault::StateInUse);
@@ -632,12 +642,20 @@ fn origin_without<T: RunSite>(
     // Else a later start would take what stands there for what came last (docs/DECISIONS.md, "A
     // disk that fails").
     if !wishes.bears_loss || !site.mark_beside() {
-        logger.note(Note::Trouble(Trouble::StateUnusable));
-        return Err(Fault::StateUnusable);
+        return Err(refuse(obstacle, logger));
     }
     let origin = new_origin(site.alloc(), config)?;
-    logger.note(Note::StateUnused(obstacle));
+    logger.note(Note::StateRefused(obstacle));
     Ok(origin)
+}
+
+/// The state can't be kept, and the run doesn't begin without it, which is logged.
+fn refuse<S: LogSink + Drop>(obstacle: Obstacle, logger: &mut Logger<S>) -> Fault
+    ensures unkept { IsUnkept result logger.old logger.new }
+    ensures cause { result ≡ fault.StateUnusable obstacle.cause }
+{
+    logger.note(Note::StateUnkept(obstacle));
+    Fault::StateUnusable(obstacle.cause)
 }
 
 /// With what a run begins that has no state.

@@ -30,6 +30,7 @@ mod capturing;
 mod check;
 mod closing;
 mod command_line;
+mod controlling;
 mod examples;
 mod fault;
 mod help;
@@ -41,6 +42,7 @@ mod laws;
 mod life;
 mod living;
 mod manner;
+mod mounts;
 mod performing;
 mod piping;
 mod place;
@@ -69,10 +71,24 @@ use host::{Host, System};
 use manner::shows_colours;
 use performing::write_fault;
 use shell::obey;
+use sqlite_std_file::Unknown;
+use state_files::Starts;
 use std::io::{IsTerminal, Write};
 use std::process::ExitCode;
 use std::rt::Env;
 use std::{env, io};
+
+/// What stands in the files of a state, of which nothing is supposed.
+#[derive(Clone, Copy)]
+struct AsTheyStand;
+
+impl Starts for AsTheyStand {
+    type Found = Unknown;
+
+    fn found(self) -> Unknown {
+        Unknown
+    }
+}
 
 fn main(rt: HostRuntime) -> ExitCode {
     let mut out = rt.stdout();
@@ -85,6 +101,7 @@ fn main(rt: HostRuntime) -> ExitCode {
         rt: &rt,
         is_watched,
         has_colours,
+        starts: AsTheyStand,
         lineage: History::new(),
     };
     ExitCode::from(run(&rt, &mut system, &mut out, &mut err))

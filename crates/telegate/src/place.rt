@@ -4,6 +4,7 @@ ghost use Rattle.std.specs.Prelude.{◌≡◌};
 use segments::Segment;
 use sqlite_disk::Files;
 use state::{Folder, FolderFault};
+use std::io::ErrorKind;
 
 /// The directory that a run's state is kept in, or none, where that can't be used.
 #[derive(Drop)]
@@ -36,7 +37,7 @@ impl<F: Folder + Drop> Folder for Place<F> {
     fn open(&mut self) -> Result<Files<F::File>, FolderFault> {
         match self {
             Place::In(folder) => folder.open(),
-            Place::Nowhere => Err(FolderFault::Device),
+            Place::Nowhere => Err(FolderFault::Unusable(".", ErrorKind::Other)),
         }
     }
 

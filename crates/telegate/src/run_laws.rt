@@ -2,6 +2,7 @@
 ghost use Rattle.std.specs.Prelude.{◌≡◌, ◌⊎◌, ◌+◌, ◌++◌, ℕ, List, [], ◌∷◌, length, true, false};
 ghost use Rattle.std.specs.Prelude.{None, Some, Result, Ok, Err, map};
 ghost use Rattle.std.specs.Borrow.{Bor};
+ghost use Rattle.std.specs.declared.io.ErrorKind.{ErrorKind};
 ghost use Rattle.clap.specs.Words.{Text};
 ghost use Rattle.gateway.specs.Agrees.{Follows, Rests};
 ghost use Rattle.gateway.specs.Config.{Settings};
@@ -134,7 +135,7 @@ pub fn a_start_logs_how_the_run_begins()
         LogsBeginning o old new → o.moment ≡ Some m → o.gap ≡ Some (station, session) →
         (before : Book) × LogsAction before m (GapOut station session) new }
     ensures without { (old new : Book) → LogsWithout old new →
-        (why : Obstacle) × LogsAll (note.StateUnused why ∷ []) old new }
+        (why : Obstacle) × LogsAll (note.StateRefused why ∷ []) old new }
 {}
 
 /// A start that can't have what it needs logs why, once: that another process has the state, that
@@ -143,8 +144,9 @@ pub fn a_start_logs_how_the_run_begins()
 pub fn a_start_logs_why_it_ends()
     ensures in_use { (old new : Book) → IsUnkept fault.StateInUse old new →
         LogsAll (note.Trouble trouble.StateInUse ∷ []) old new }
-    ensures unusable { (old new : Book) → IsUnkept fault.StateUnusable old new →
-        LogsAll (note.Trouble trouble.StateUnusable ∷ []) old new }
+    ensures unusable { (cause : ErrorKind) (old new : Book) →
+        IsUnkept (fault.StateUnusable cause) old new → (why : Obstacle) × (why.cause ≡ cause)
+        × LogsAll (note.StateUnkept why ∷ []) old new }
     ensures ends { (why : Fault) (old new : Book) → IsRefused why old new →
         (refusal : EndRefusal) × LogsAll (note.Trouble refusal.trouble ∷ []) old new
         × (refusal.is_memory ≡ true → why ≡ fault.NoMemory)

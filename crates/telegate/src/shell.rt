@@ -23,6 +23,7 @@ use crate::capturing::capture;
 use crate::check::{Checking, check, refuse};
 use crate::closing::Closing;
 use crate::command_line::{CommandRequest, parse, request_of};
+use crate::controlling::be_centre;
 use crate::fault::{DEVICE_FAILED, DONE, Fault, USAGE};
 use crate::host::{Host, HostFile, INPUT, Unread, Wishes};
 use crate::job::Job;
@@ -193,6 +194,7 @@ pub(crate) fn respond<H: Host, W: Write, E: Write>(
             Err(status) => status,
         },
         CommandRequest::Stations { config, script } => play_files(host, *config, *script, err),
+        CommandRequest::Centre { words } => be_centre(alloc, host, words, out, err),
     }
 }
 
@@ -564,7 +566,7 @@ fn read_files<H: Host, E: Write>(
 }
 
 /// The octets of a file, or the exit status where it can't be read, which is written then.
-fn read_file<H: Host, E: Write>(host: &H, name: &str, err: &mut E) -> Result<Vec<u8>, u8>
+pub(crate) fn read_file<H: Host, E: Write>(host: &H, name: &str, err: &mut E) -> Result<Vec<u8>, u8>
     ensures read { IfOk result (λ octets. H.has host.now name.now octets.items) }
     ensures unread { IfErr result (IsNotRead (H.has host.now) (H.lacks host.now) (name.now ∷ [])) }
 {

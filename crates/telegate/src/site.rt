@@ -6,6 +6,7 @@ ghost use Rattle.telegate.specs.Lines.{is_again, of_line};
 ghost use Rattle.telegate.specs.Logged.{fault_of};
 
 use crate::fault::Fault;
+use crate::mounts::is_on_btrfs;
 use gateway::History;
 use live::{
     CentreListener, Got, LineDialler, LineSocket, Listener, OctetStream, Presence, Reached,
@@ -15,7 +16,7 @@ use record::{RecordSheet, StandardOutput};
 use runlog::{LogNames, LogSink, StandardError, Trouble};
 use settings::LiveSettings;
 use state::Folder;
-use state_files::{Directory, mark_beside};
+use state_files::{Directory, Starts, mark_beside};
 use status::VisitorListener;
 use std::alloc::{AllocError, Global};
 use std::io;
@@ -130,6 +131,9 @@ pub(crate) trait RunSite {
         ensures asked { asked self.new
             ≡ asked_for (StateIn name.now (is_ok result) ∷ []) (asked self.old) };
 
+    /// Whether the directory of this name, which is there, stands on btrfs.
+    fn is_on_btrfs(&self, name: &str) -> bool;
+
     /// Marks the state of its directory as stale beside that, for a run without it. `false`: it
     /// couldn't be done.
     fn mark_beside(&mut self) -> bool
@@ -139,13 +143,15 @@ pub(crate) trait RunSite {
 
 /// The ends that a process has at these places.
 #[derive(Drop)]
-pub(crate) struct Process<'r> {
+pub(crate) struct Process<'r, S: Starts> {
     pub(crate) rt: &'r HostRuntime,
     pub(crate) places: &'r LiveSettings,
     /// What the line and the stations are called.
     pub(crate) names: LogNames<'r>,
     /// Each line of the log begins with how severe it is.
     pub(crate) has_severity: bool,
+    /// What stands in the files of its directory.
+    pub(crate) starts: S,
     /// What led to the state at the head of the newest log in its directory.
     pub(crate) lineage: History,
 }
@@ -203,14 +209,14 @@ impl<L: Reached, A: Reached> Reached for ProcessLine<L, A> {
     }
 }
 
-impl<'r> RunSite for Process<'r> {
+impl<'r, S: Starts> RunSite for Process<'r, S> {
     type Line = SystemLine<'r, HostRuntime>;
 
     type Listener = CentreListener<'r, HostRuntime>;
 
     type Clock = SystemClock<'r, HostRuntime>;
 
-    type Folder = Directory;
+    type Folder = Directory<S>;
 
     type Sink = StandardError<'r, 'r, HostRuntime>;
 
@@ -293,9 +299,13 @@ impl<'r> RunSite for Process<'r> {
         }
     }
 
-    fn folder(&mut self, name: &str) -> Result<Directory, AllocError> {
+    fn folder(&mut self, name: &str) -> Result<Directory<S>, AllocError> {
         let path = String::from_str(self.rt.alloc(), name)?;
-        Ok(Directory::new(*self.rt, path, self.lineage.again()))
+        Ok(Directory::new(*self.rt, path, self.starts, self.lineage.again()))
+    }
+
+    fn is_on_btrfs(&self, name: &str) -> bool {
+        is_on_btrfs(self.rt, name)
     }
 
     fn mark_beside(&mut self) -> bool {

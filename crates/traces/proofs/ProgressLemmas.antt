@@ -3,8 +3,8 @@ use Rattle.std.proofs.Common.{◌≡◌, ℕ, ◌+◌, Bool, true, false, not, l
 use Rattle.std.proofs.Common.{◌++◌, take, Option, Some, None, refl, ap, sym, ◌∙◌, subst}
 use Rattle.std.proofs.Common.{append_assoc}
 use Rattle.std.specs.List.{AllByRecursion}
-use Rattle.gateway.specs.Log.{Log, Came, Went, Input, LineIn, Opened, TcpIn, CutOff, Ticked, WallIs}
-use Rattle.gateway.specs.Log.{Output, events_of}
+use Rattle.gateway.specs.Log.{Log, Came, Input, LineIn, Opened, TcpIn, CutOff, Ticked, WallIs}
+use Rattle.gateway.specs.Log.{events_of}
 use Rattle.gateway.specs.Ports.{logged_by}
 use Rattle.gateway.specs.Entries.{event_of as entry_event}
 use Rattle.gateway.specs.declared.entries.Entry.{Entry}
@@ -95,15 +95,6 @@ begun text s earlier same = record {
         ++ events_of_part (not b) text
     by true = ap (λ log. events_of log ++ events_in (lines_of text)) (sym same)
     by false = ap (λ log. events_of log ++ script_in text) (sym same)
-
--- an action was printed
-pub went : (p : Progress) (page : List ℕ) (now : ℕ) (action : Output) → IsProgress p
-    → IsProgress (record p { log = Went now action ∷ p.log; page = page })
-went p page now action holds = record {
-  whole = holds.whole;
-  right = holds.right;
-  first = holds.first;
-}
 
 -- an event came
 event_came : (p : Progress) (left : Option (List ℕ)) (started : Bool) (now : ℕ) (event : Input)

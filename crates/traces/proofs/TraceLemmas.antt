@@ -1,7 +1,7 @@
 -- Lines one by one.
 use Rattle.std.proofs.Common.{◌≡◌, ℕ, ◌+◌, List, [], ◌∷◌, ◌++◌, map, true, false, Some, None}
 use Rattle.std.proofs.Common.{append_assoc}
-use Rattle.std.proofs.lemmas.List.{append-nil, map-append}
+use Rattle.std.proofs.lemmas.List.{map-append}
 use Rattle.std.specs.List.{filter_map, AllByRecursion}
 use Rattle.gateway.specs.declared.entries.Entry.{Entry}
 use Rattle.gateway.specs.Entries.{FitsPort}
@@ -41,10 +41,6 @@ pub wrong_here : (n : ℕ) (lines rest : List (List ℕ)) (line : List ℕ) → 
     → is_skipped line ≡ false
     → event_in line ≡ None → first_wrong n lines ≡ Some n
 wrong_here n lines rest line is e none = rw (is, e, none)
-
--- where no line is left
-pub logged_all : (es : List Entry) → with_logged es [] ≡ map event_of es
-logged_all es = append-nil (map event_of es)
 
 -- one more entry that fits
 pub fits_more : (es : List Entry) (x : Entry) → AllByRecursion FitsPort es → FitsPort x

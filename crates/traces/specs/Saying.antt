@@ -1,6 +1,6 @@
 -- What stands in a line that logs an event, field by field (texts of this gateway's own profile).
 use Rattle.std.specs.Prelude.{◌≡◌, ◌<◌, ◌≤◌, ◌⊎◌, ℕ, ◌*◌, ◌==◌, true, List, [], ◌∷◌, codes}
-use Rattle.std.specs.Prelude.{length, slice_index, Some}
+use Rattle.std.specs.Prelude.{length, Some}
 use Rattle.std.specs.Char.{is_ascii_digit}
 use Rattle.std.specs.List.{slice_split, list_all}
 use Rattle.hex.specs.Hex.{is_hex_digit}
@@ -19,12 +19,6 @@ pub record AreHexOf (text octets : List ℕ) : Type 0 where
   pub are : octets_of text ≡ Some octets
   pub twice : length text ≡ 2 * length octets
   pub all : list_all is_hex_digit text ≡ true
-
--- a digit of this value, from 0 to 15, in hexadecimal, in capital or small letters
-abbrev pub IsHexDigitOf : ℕ → ℕ → Type 0
-IsHexDigitOf value digit =
-    (value < 16) × ((digit ≡ slice_index (codes "0123456789ABCDEF") value)
-    ⊎ (digit ≡ slice_index (codes "0123456789abcdef") value))
 
 abbrev pub letter_of : Event → List ℕ
 letter_of (line now octets) = codes "S"

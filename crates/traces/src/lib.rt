@@ -14,9 +14,8 @@
 //! once; `read_octets` answers the octets that the digits spell, and nothing for any other text;
 //! the events of `Trace`'s log and those still to come are always the tick and all entries; and
 //! unless a write failed, its writer has got the lines of the log's actions in their order, and
-//! nothing else; and each line that is printed, of an event or an action, has its fields, whatever
-//! they are ([`printed_lines_have_these_fields`]), and reads back as that very entry
-//! ([`printed_lines_read_back`]). Literal examples show what the lines of a trace log
+//! nothing else; and each line that is printed, of an event or an action, reads back as that very
+//! entry ([`printed_lines_read_back`]). Literal examples show what the lines of a trace log
 //! ([`trace_lines_by_example`]).
 //!
 //! `Blocks` reads a text on, block by block, each of whole lines: the blocks are the text, and one
@@ -59,11 +58,7 @@ pub use blocks::{BlockFault, Blocks};
 pub use decimal::decimal as read_decimal;
 pub use driving::drive_printed;
 pub use judging::judge;
-pub use laws::{
-    each_line_gives_its_own_event, lines_say_what_they_log, numbers_are_read_digit_by_digit,
-    octets_are_read_two_digits_each, printed_lines_have_these_fields, printed_lines_read_back,
-    texts_are_read_line_by_line,
-};
+pub use laws::{printed_lines_read_back, texts_are_read_line_by_line};
 pub use lines::{cut, is_skipped, parts};
 pub use moments::Moment;
 pub use octets::{hex_digits, read_octets};

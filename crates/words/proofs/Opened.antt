@@ -1,13 +1,9 @@
 -- What the worked examples compute with. To unfold one of these names is to unfold all that its
 -- line names.
 use Rattle.std.specs.Fmt.{digits}
-use Rattle.jiff_core.specs.Calendar.{day_count, days_from_civil, days_of_months, days_of_years}
-use Rattle.jiff_core.specs.Calendar.{weekday_number}
 use Rattle.hex.specs.Hex.{encode_with}
 use Rattle.words.specs.Numbers.{mark, two_digits, three_digits, six_digits, pointed}
 use Rattle.words.specs.Quality.{validity, origin, point_quality, quality}
-use Rattle.words.specs.Tags.{month_text, date_text, minute_text, second_text, time_text}
-use Rattle.words.specs.Tags.{verdict_words, remarks, moment_text, tag_words}
 use Rattle.words.specs.Values.{single_words, double_words, position_words, step_words, bits_words}
 use Rattle.words.specs.Values.{fraction_text, normalised_text, normalised_words, scaled_words}
 use Rattle.words.specs.Values.{size_text, float_text, float_words, counter_marks, sequence_text}
@@ -36,12 +32,6 @@ unfolding numbers_open encode_with validity origin point_quality quality single_
     initialised_words qu_text qualifier single_command double_command step_command ql_text
     set_point_qualifier normalised_set_point scaled_set_point interrogation words_of value_words
 values_open = tt
-
-unfoldable pub tags_open : Unit {0}
-unfolding numbers_open days_from_civil day_count days_of_years days_of_months weekday_number
-    month_text date_text minute_text second_text time_text verdict_words remarks moment_text
-    tag_words
-tags_open = tt
 
 unfoldable pub units_open : Unit {0}
 unfolding digits named type_text cause_text cause_words originator_text ca_text kind_words

@@ -1,6 +1,6 @@
 -- What the laws say of words: bits, digits and numbers as they are told, in the standard's places
 -- (IEC 60870-5-101, 7.2.6). No body has these words.
-use Rattle.std.specs.Prelude.{ℕ, ℤ, ◌+◌, ◌-◌, ◌*◌, ◌/◌, ◌%◌, ◌^◌, ◌==◌, nat_lt, nat_le, codes}
+use Rattle.std.specs.Prelude.{ℕ, ℤ, ◌+◌, ◌-◌, ◌*◌, ◌/◌, ◌%◌, ◌^◌, ◌==◌, nat_le, codes}
 use Rattle.std.specs.Prelude.{List, [], ◌++◌, if◌then◌else◌, unsigned_abs}
 use Rattle.std.specs.Int.{is_negative}
 use Rattle.std.specs.Fmt.{decimal, signed_decimal}
@@ -8,15 +8,6 @@ use Rattle.std.specs.Fmt.{decimal, signed_decimal}
 -- a text where bit n of an octet is 1; bit 0 is the lowest
 abbrev pub told : (n octet : ℕ) → (text : List ℕ) → List ℕ
 told n octet text = if octet / 2 ^ n % 2 == 1 then text else []
-
--- IV, NT, SB and BL (7.2.6.1), and of a measured value OV (7.2.6.3)
-abbrev pub quality_told : (octet : ℕ) → List ℕ
-quality_told q =
-    (told 7 q (codes ", invalid") ++ told 6 q (codes ", not topical"))
-    ++ (told 5 q (codes ", substituted") ++ told 4 q (codes ", blocked"))
-
-abbrev pub measured_told : (octet : ℕ) → List ℕ
-measured_told q = quality_told q ++ told 0 q (codes ", overflow")
 
 -- the last two and three digits of a number
 abbrev pub two_told : ℕ → List ℕ
@@ -37,16 +28,6 @@ fraction_told z =
     ((if is_negative z then codes "-" else []) ++ millionths_told (unsigned_abs z) 15)
     ++ (codes " (" ++ (signed_decimal z ++ codes ")"))
 
--- A short float (7.2.6.8): the sign in bit 31, the exponent in bits 30 to 23, the fraction in bits
--- 22 to 0. A number below 2 ^ -27 is told as 0.
-abbrev pub float_told : ℕ → List ℕ
-float_told n =
-    let e = n / 2 ^ 23 % 256 in let f = n % 2 ^ 23 in
-    (if nat_le (2 ^ 31) n then codes "-" else [])
-    ++ (if e == 255 then (if f == 0 then codes "infinite" else codes "not a number")
-    else (if nat_le 150 e then decimal ((f + 2 ^ 23) * 2 ^ (e - 150))
-    else (if nat_lt e 100 then millionths_told 0 0 else millionths_told (f + 2 ^ 23) (150 - e))))
-
 -- S/E in bit 7 of a qualifier, and QU in bits 6 to 2 (7.2.6.26)
 abbrev pub select_told : (octet : ℕ) → List ℕ
 select_told q = if nat_le 128 q then codes ", select" else codes ", execute"
@@ -64,8 +45,3 @@ command_told q =
 abbrev pub set_point_told : (octet : ℕ) → List ℕ
 set_point_told q =
     select_told q ++ (if q % 128 == 0 then [] else codes ", QL " ++ decimal (q % 128))
-
--- the one of three or four states of two bits
-abbrev pub state_told : (n : ℕ) → (zero one two three : List ℕ) → List ℕ
-state_told n zero one two three =
-    if n == 0 then zero else (if n == 1 then one else (if n == 2 then two else three))

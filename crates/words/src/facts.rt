@@ -9,7 +9,7 @@
 //! Proved: the lines and the condition are those of the frame that stands at the front
 //! (`IsLineShown`, `IsTcpShown`), every field, object, value and time tag with its verdict; an
 //! `Err` is want of memory alone. Octets that are an ASDU are shown as that, object by object
-//! (`asdus_are_shown`), and each field is shown by its name, whatever it is (`fields_are_shown`).
+//! (`asdus_are_shown`), and each field is shown by its name, whatever it is.
 //! What is no frame is a fault (`octets_that_are_no_frame_are_a_fault`).
 mod bits;
 mod condition;
@@ -22,7 +22,7 @@ mod tcp;
 mod units;
 
 pub use condition::{Condition, Shown};
-pub use laws::{asdus_are_shown, fields_are_shown, octets_that_are_no_frame_are_a_fault};
+pub use laws::{asdus_are_shown, octets_that_are_no_frame_are_a_fault};
 pub use line::show_line;
 pub use sizes::{LineSizes, read_sizes};
 pub use tcp::show_tcp;

@@ -1,79 +1,29 @@
 //! What holds of the words of every element, tag and frame.
 ghost use Rattle.std.specs.Prelude.{◌≡◌, ℕ, ◌+◌, ◌-◌, ◌*◌, ◌/◌, ◌%◌, ◌^◌, ◌==◌, ◌&&◌, codes};
-ghost use Rattle.std.specs.Prelude.{[], ◌∷◌, ◌++◌, if◌then◌else◌, nat_le, map, unsigned_abs, List};
+ghost use Rattle.std.specs.Prelude.{[], ◌∷◌, ◌++◌, if◌then◌else◌, nat_le, map, List};
 ghost use Rattle.std.specs.Prelude.{slice_index, Some, None, true, false};
 ghost use Rattle.std.specs.Fmt.{decimal, signed_decimal};
-ghost use Rattle.hex.specs.Hex.{encode_upper};
 ghost use Rattle.ft12.specs.declared.frame.Frame.{Frame};
 ghost use Rattle.ft12.specs.declared.frame.Frame.TheVariants.{Fixed, Data};
 ghost use Rattle.ft12.specs.declared.frame.Front.TheVariants.{Whole, More, Never};
 ghost use Rattle.ft12.specs.declared.frame.Why.{Why};
-ghost use Rattle.apci.specs.declared.apdu.Apdu.{Apdu};
-ghost use Rattle.apci.specs.declared.apdu.Apdu.TheVariants.{I, S, U};
 ghost use Rattle.apci.specs.declared.apdu.Front.TheVariants as apci;
-ghost use Rattle.apci.specs.declared.apdu.Uf.TheVariants.{StartAct, StartCon, StopAct, StopCon};
-ghost use Rattle.apci.specs.declared.apdu.Uf.TheVariants.{TestAct, TestCon};
-ghost use Rattle.apci.specs.declared.apdu.Why.{Why as ApduWhy};
 ghost use Rattle.asdu.specs.Asdu.{AsduValue, Info, IsAsdu};
-ghost use Rattle.asdu.specs.Sizes.{tcp};
 ghost use Rattle.asdu.specs.declared.sizes.Sizes.{Sizes};
 ghost use Rattle.elements.specs.Names.{cause_name, type_name};
-ghost use Rattle.elements.specs.TimeTag.{verdict_of};
 ghost use Rattle.elements.specs.Types.{value_shown};
 ghost use Rattle.elements.specs.declared.types.TypeId.{TypeId};
 ghost use Rattle.elements.specs.declared.types.TypeId.TheVariants as types;
 ghost use Rattle.words.specs.declared.facts.sizes.LineSizes.{LineSizes};
-ghost use Rattle.words.specs.Connections.{apdu_words, fault_of as apdu_fault};
-ghost use Rattle.words.specs.Connections.{front_words as apdu_front};
 ghost use Rattle.words.specs.Faults.{rest_words};
 ghost use Rattle.words.specs.Lines.{control_words, fault_of, frame_words, front_words};
 ghost use Rattle.words.specs.Lines.{primary_name, secondary_name};
-ghost use Rattle.words.specs.Tags.{tag_words, verdict_text};
-ghost use Rattle.words.specs.Told.{command_told, float_told, fraction_told, measured_told};
-ghost use Rattle.words.specs.Told.{quality_told, set_point_told, state_told, three_told, told};
-ghost use Rattle.words.specs.Told.{two_told};
+ghost use Rattle.words.specs.Tags.{tag_words};
+ghost use Rattle.words.specs.Told.{command_told, fraction_told};
+ghost use Rattle.words.specs.Told.{set_point_told, told};
 ghost use Rattle.words.specs.Units.{asdu_words, cause_text, kind_words, object_words};
 ghost use Rattle.words.specs.Units.{objects_words, place_words, type_text};
 ghost use Rattle.words.specs.Values.{value_words};
-
-/// The words of a monitored value say each of its bits, whatever its octets are (IEC 60870-5-101,
-/// 7.2.6). They have its state or its number, and then each mark of quality that is set.
-pub fn values_are_told_bit_by_bit()
-    ensures points { (o : ℕ) → (value_words types.MSpNa1 (o ∷ [])
-        ≡ (if o % 2 == 0 then codes "off" else codes "on") ++ quality_told o)
-        × (value_words types.MDpNa1 (o ∷ [])
-        ≡ state_told (o % 4) (codes "intermediate") (codes "off") (codes "on") (codes "bad")
-        ++ quality_told o) }
-    ensures positions { (o q : ℕ) → let xs = o ∷ q ∷ [] in value_words types.MStNa1 xs
-        ≡ (codes "position " ++ (signed_decimal (value_shown types.MStNa1 xs)
-        ++ told 7 o (codes ", transient"))) ++ measured_told q }
-    ensures measured { (a b q : ℕ) → let xs = a ∷ b ∷ q ∷ [] in
-        (value_words types.MMeNa1 xs
-        ≡ fraction_told (value_shown types.MMeNa1 xs) ++ measured_told q)
-        × (value_words types.MMeNb1 xs
-        ≡ signed_decimal (value_shown types.MMeNb1 xs) ++ measured_told q) }
-    ensures words { (a b c d q : ℕ) → let xs = a ∷ b ∷ c ∷ d ∷ q ∷ [] in
-        (value_words types.MBoNa1 xs
-        ≡ codes "0x" ++ (encode_upper (d ∷ c ∷ b ∷ a ∷ []) ++ measured_told q))
-        × (value_words types.MMeNc1 xs
-        ≡ float_told (unsigned_abs (value_shown types.MMeNc1 xs)) ++ measured_told q)
-        × (value_words types.MItNa1 xs
-        ≡ signed_decimal (value_shown types.MItNa1 xs) ++ ((codes ", sequence " ++ decimal (q % 32))
-        ++ (told 5 q (codes ", carry")
-        ++ (told 6 q (codes ", adjusted") ++ told 7 q (codes ", invalid"))))) }
-    ensures initialisations { (o : ℕ) → value_words types.MEiNa1 (o ∷ [])
-        ≡ state_told (o % 128) (codes "local power on") (codes "local manual reset")
-        (codes "remote reset") (codes "COI " ++ decimal (o % 128))
-        ++ told 7 o (codes ", parameters changed") }
-    ensures tagged { (xs : List ℕ) → (value_words types.MSpTb1 xs ≡ value_words types.MSpNa1 xs)
-        × (value_words types.MDpTb1 xs ≡ value_words types.MDpNa1 xs)
-        × (value_words types.MStTb1 xs ≡ value_words types.MStNa1 xs)
-        × (value_words types.MBoTb1 xs ≡ value_words types.MBoNa1 xs)
-        × (value_words types.MMeTd1 xs ≡ value_words types.MMeNa1 xs)
-        × (value_words types.MMeTe1 xs ≡ value_words types.MMeNb1 xs)
-        × (value_words types.MMeTf1 xs ≡ value_words types.MMeNc1 xs)
-        × (value_words types.MItTb1 xs ≡ value_words types.MItNa1 xs) }
-{}
 
 /// The words of a command say what it is to do, whether it selects or executes, and its qualifier,
 /// whatever its octets are (7.2.6.15 to 7.2.6.17, 7.2.6.22, 7.2.6.26 and 7.2.6.39).
@@ -100,22 +50,6 @@ pub fn commands_are_told_bit_by_bit()
         × (value_words types.CRcTa1 xs ≡ value_words types.CRcNa1 xs)
         × (value_words types.CSeTa1 xs ≡ value_words types.CSeNa1 xs)
         × (value_words types.CSeTb1 xs ≡ value_words types.CSeNb1 xs) }
-{}
-
-/// The words of a time tag have each of its fields with all of its digits, whatever they are
-/// (7.2.6.18). These are the year, month, day, hour, minute, second and millisecond. Behind them
-/// stand IV and SU, and then what is wrong with the tag.
-pub fn tags_are_told_field_by_field()
-    ensures { (low high minute hour day month year : ℕ) →
-        let xs = low ∷ high ∷ minute ∷ hour ∷ day ∷ month ∷ year ∷ [] in
-        let ms = low + 256 * high in
-        tag_words xs ≡ codes ", "
-        ++ ((((decimal (2000 + year % 128) ++ (codes "-" ++ two_told (month % 16)))
-        ++ (codes "-" ++ two_told (day % 32)))
-        ++ (codes " " ++ ((two_told (hour % 32) ++ (codes ":" ++ two_told (minute % 64)))
-        ++ (codes ":" ++ (two_told (ms / 1000) ++ (codes "." ++ three_told ms))))))
-        ++ (told 7 minute (codes " invalid")
-        ++ (told 7 hour (codes " summer time") ++ verdict_text (verdict_of xs)))) }
 {}
 
 /// Octets that are an ASDU are told as that ASDU, whatever its fields are (7.2). First come the
@@ -186,23 +120,4 @@ pub fn frames_are_told_field_by_field()
         ≡ codes "no frame: " ++ (fault_of why ++ (codes " at " ++ decimal place))) }
     ensures rest { (n : ℕ) → (rest_words (n + 1) ≡ codes "  rest " ++ decimal (n + 1))
         × (rest_words 0 ≡ []) }
-{}
-
-/// An APDU is told by its numbers, N(S) first (IEC 60870-5-104, 5.1), or by its function. What it
-/// carries stands behind them, and then how many octets follow.
-pub fn apdus_are_told_field_by_field()
-    ensures apdus { (ns nr first : ℕ) (octets : List ℕ) →
-        (apdu_words (I ns nr (record { items = first ∷ octets }))
-        ≡ (codes "I " ++ (decimal ns ++ (codes " " ++ decimal nr)))
-        ++ (codes "  " ++ asdu_words tcp (first ∷ octets)))
-        × (apdu_words (S nr) ≡ codes "S " ++ decimal nr) }
-    ensures functions { map apdu_words (U StartAct ∷ U StartCon ∷ U StopAct ∷ U StopCon
-        ∷ U TestAct ∷ U TestCon ∷ [])
-        ≡ codes "STARTDT act" ∷ codes "STARTDT con" ∷ codes "STOPDT act" ∷ codes "STOPDT con"
-        ∷ codes "TESTFR act" ∷ codes "TESTFR con" ∷ [] }
-    ensures fronts { (n len place : ℕ) (apdu : Apdu) (why : ApduWhy) →
-        (apdu_front n (apci.Whole apdu len) ≡ apdu_words apdu ++ rest_words (n - len))
-        × (apdu_front n apci.More ≡ codes "octets of a frame (" ++ (decimal n ++ codes ")"))
-        × (apdu_front n (apci.Never place why)
-        ≡ codes "no frame: " ++ (apdu_fault why ++ (codes " at " ++ decimal place))) }
 {}

@@ -11,7 +11,7 @@
 //!
 //! Proved: each text is an exact function of the frame (`AreLineWords`, `AreConnectionWords`), for
 //! every type, value, quality and tag; an `Err` is want of memory alone. Laws say it bit by bit and
-//! field by field, whatever the octets are ([`values_are_told_bit_by_bit`] and its neighbours).
+//! field by field, whatever the octets are ([`commands_are_told_bit_by_bit`] and its neighbours).
 #![tactic(auto)]
 
 mod commands;
@@ -35,14 +35,13 @@ mod units;
 pub use connections::{push_apdu, push_apdu_refusal, words_of_connection};
 pub use described::{both, describe_apdu, describe_apdus, describe_line, describe_line_frames};
 pub use facts::{
-    Condition, LineSizes, Shown, asdus_are_shown, fields_are_shown,
-    octets_that_are_no_frame_are_a_fault, read_sizes, show_line, show_tcp,
+    Condition, LineSizes, Shown, asdus_are_shown, octets_that_are_no_frame_are_a_fault, read_sizes,
+    show_line, show_tcp,
 };
 pub use faults::push_cut_off;
 pub use ladder::{Ladder, Scribe, Style, drive_in_words};
 pub use laws::{
-    apdus_are_told_field_by_field, asdus_are_told_field_by_field, commands_are_told_bit_by_bit,
-    frames_are_told_field_by_field, tags_are_told_field_by_field, values_are_told_bit_by_bit,
+    asdus_are_told_field_by_field, commands_are_told_bit_by_bit, frames_are_told_field_by_field,
 };
 pub use lines::{push_line_frame, push_line_refusal, words_of_line};
 pub use pipes::{apdu_end, line_end, read_line_of_octets};

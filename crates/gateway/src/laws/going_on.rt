@@ -1,5 +1,5 @@
 //! What becomes of each station where a gateway goes on with other settings.
-ghost use Rattle.std.specs.Prelude.{◌≡◌, ◌<◌, ℕ, [], Bool, true, false, Some, None, length};
+ghost use Rattle.std.specs.Prelude.{◌≡◌, ◌<◌, ℕ, [], Bool, true, Some, None, length};
 ghost use Rattle.std.specs.Prelude.{slice_get};
 ghost use Rattle.link.specs.Procedure.{is_up};
 ghost use Rattle.link.specs.Turns.{station_at};
@@ -13,7 +13,7 @@ ghost use Rattle.gateway.specs.Unchanged.{MayGoOn};
 
 use link::{
     frame_count_bits_go_on, giving_up_is_for_one_station, restarts_change_no_link,
-    seats_have_their_addresses, sessions_go_on,
+    seats_have_their_addresses,
 };
 
 /// Each station of the new settings is the one that had its link address before, whatever places
@@ -60,57 +60,3 @@ pub fn no_link_goes_on_but_of_a_station_as_it_was()
 {
     stations_go_on_by_their_addresses();
 }
-
-/// A station that is set as it was goes on, in a state that is trusted, whatever its link address
-/// is: no link is reset without need, since what its latest answer brought may be lost then. It has
-/// the link that its exchange left as it was broken off.
-pub fn a_station_as_it_was_goes_on()
-    ensures { (goes_on : Bool) (before now : Settings) (s : State) (i k : ℕ)
-        (station : StationSettings) →
-        slice_get now.stations i ≡ Some station →
-        place_of station.address before.stations ≡ Some k →
-        k < length s.serial.line.stations →
-        MayGoOn goes_on before now station.address →
-        station_at (carried goes_on before now s).serial.line.stations i
-        ≡ station_carried now.line.retries station.address
-        (station_at (released s.serial.line).stations k) }
-{
-    stations_go_on_by_their_addresses();
-}
-
-/// Where a state is stale, what its stations gave since isn't known: the session of each station
-/// that goes on has a gap then, which is reported at its next answered reset. Where a state is
-/// trusted, each such session stays as it was.
-pub fn a_stale_state_leaves_gaps()
-    ensures stale { (before now : Settings) (s : State) (i k : ℕ) (station : StationSettings) →
-        slice_get now.stations i ≡ Some station →
-        place_of station.address before.stations ≡ Some k →
-        k < length s.serial.line.stations →
-        (station_at (carried false before now s).serial.line.stations i).session
-        ≡ record (station_at s.serial.line.stations k).session { has_gap = true } }
-    ensures trusted { (before now : Settings) (s : State) (i k : ℕ) (station : StationSettings) →
-        slice_get now.stations i ≡ Some station →
-        place_of station.address before.stations ≡ Some k →
-        k < length s.serial.line.stations →
-        (station_at (carried true before now s).serial.line.stations i).session
-        ≡ (station_at s.serial.line.stations k).session }
-{
-    stations_go_on_by_their_addresses();
-    sessions_go_on();
-}
-
-/// What isn't about a connection or an exchange goes on at other settings: the moment, the wall
-/// clock, and what was counted, but for commands given up there, which are counted as lost. Each
-/// piece that was kept is unsent (`Gateway::carried` says that none is dropped).
-pub fn what_is_kept_goes_on()
-    ensures unsent { (goes_on : Bool) (before now : Settings) (s : State) →
-        (carried goes_on before now s).centre.queue.sent ≡ [] }
-    ensures moment { (goes_on : Bool) (before now : Settings) (s : State) →
-        (carried goes_on before now s).moment ≡ s.moment }
-    ensures wall { (goes_on : Bool) (before now : Settings) (s : State) →
-        (carried goes_on before now s).wall ≡ s.wall }
-    ensures counts { (goes_on : Bool) (before now : Settings) (s : State) →
-        ((carried goes_on before now s).serial.counts.skipped ≡ s.serial.counts.skipped)
-        × ((carried goes_on before now s).serial.counts.mirrors ≡ s.serial.counts.mirrors)
-        × ((carried goes_on before now s).serial.line.spoilt ≡ s.serial.line.spoilt) }
-{}

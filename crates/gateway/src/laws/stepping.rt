@@ -1,36 +1,25 @@
 //! What stands before what in a step, and what needs places.
-ghost use Rattle.std.specs.Prelude.{◌≡◌, ◌∷◌, ◌++◌, ◌+◌, ◌<◌, ◌≤◌, ◌↔◌, ℕ, List, true, false, Some};
+ghost use Rattle.std.specs.Prelude.{◌≡◌, ◌∷◌, ◌++◌, ◌+◌, ◌<◌, ◌≤◌, ◌↔◌, ℕ, List, true};
 ghost use Rattle.std.specs.Prelude.{length};
 ghost use Rattle.apci.specs.declared.apdu.Apdu.{Apdu};
 ghost use Rattle.asdu.specs.declared.sizes.Sizes.{Sizes};
 ghost use Rattle.asdu.specs.Asdu.{AsduValue, IsAsdu};
-ghost use Rattle.link.specs.Exchanges.{OpenExchange};
-ghost use Rattle.session.specs.declared.kinds.Close.TheVariants.{Timeout, OwnAnswers};
+ghost use Rattle.session.specs.declared.kinds.Close.TheVariants.{OwnAnswers};
 ghost use Rattle.events.specs.Queue.{Queue, free_places};
-ghost use Rattle.gateway.specs.Log.{Log, LineIn, Came, Went, Closed, latest};
+ghost use Rattle.gateway.specs.Log.{Log, Went, Closed, latest};
 ghost use Rattle.gateway.specs.Walls.{wall_on};
 ghost use Rattle.gateway.specs.Frames.{acknowledged_reports};
 ghost use Rattle.gateway.specs.Connections.{present};
 ghost use Rattle.gateway.specs.Objects.{parts_of};
 ghost use Rattle.gateway.specs.Polls.{has_room};
-ghost use Rattle.gateway.specs.Reports.{Setup, exchanges_of, parts_of_all, reports_in};
+ghost use Rattle.gateway.specs.Reports.{Setup, parts_of_all, reports_in};
 ghost use Rattle.gateway.specs.Course.{Course, here_of, room_in, with_frames, MayTake, TakesFrames};
 ghost use Rattle.gateway.specs.Course.{HandsOver, SendsNext, Runs};
 ghost use Rattle.gateway.specs.Traffic.{IsFaithful, IsAtRest};
-ghost use Rattle.gateway.specs.Stepping.{GoesLast, HasTakenOne, IsAllOut, IsLateBehindAll};
+ghost use Rattle.gateway.specs.Stepping.{HasTakenOne, IsAllOut};
 ghost use Rattle.gateway.specs.Stepping.{unplaced};
 
-use apci::spellings_cancel;
 use asdu::pieces_carry_the_report;
-
-/// An S frame that no confirmation asks for, and a test, go out last: the frames that came come
-/// first, and each I frame that may go out, since that bears N(R) too.
-pub fn s_frames_and_tests_go_last()
-    ensures { (p : Setup) (log : Log) (octets : List ℕ) (now : ℕ) (before after : Course) →
-        HandsOver p log octets now before after → GoesLast p log octets before }
-{
-    spellings_cancel();
-}
 
 /// Each frame is answered before the next one of its step is taken, and before the step's request
 /// goes to the line: what it has made due has gone out then, confirmations, data, S frames and
@@ -44,24 +33,6 @@ pub fn each_frame_is_answered_before_the_next()
     ensures request { (p : Setup) (log : Log) (octets : List ℕ) (before after : Course) →
         SendsNext p log octets before after → HasTakenOne log before →
         IsAllOut p log (latest log) before }
-{}
-
-/// Where an answer is late all that came is taken before the connection is closed: the answer isn't
-/// among it. What came is answered, and a gap is reported.
-pub fn late_answers_close_behind_what_came()
-    ensures { (p : Setup) (log : Log) (now : ℕ) →
-        IsFaithful p (Went now (Closed Timeout) ∷ log) →
-        (c : Course) × Runs p log c × IsLateBehindAll p log c }
-{}
-
-/// Octets of the line count for the request that is outstanding, also where the moment at which
-/// they come ends its time.
-pub fn octets_count_up_to_the_last_moment()
-    ensures { (p : Setup) (log : Log) (at : ℕ) (octets : List ℕ) (x : OpenExchange) →
-        (exchanges_of p log).current ≡ Some x → x.closed ≡ false → x.given_up ≡ false →
-        (y : OpenExchange)
-        × ((exchanges_of p (Came at (LineIn octets) ∷ log)).current ≡ Some y)
-        × (y.octets ≡ x.octets ++ octets) }
 {}
 
 /// An own answer that finds no place closes the connection, and nothing goes on behind it: no frame

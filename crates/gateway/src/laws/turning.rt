@@ -1,16 +1,11 @@
 //! The turns of the line, on logs.
-ghost use Rattle.std.specs.Prelude.{◌≡◌, List};
+ghost use Rattle.std.specs.Prelude.{◌≡◌};
 ghost use Rattle.gateway.specs.Config.{Settings, AreStations};
 ghost use Rattle.gateway.specs.Setups.{setup_of};
-ghost use Rattle.link.specs.Runs.{Call};
 ghost use Rattle.gateway.specs.Log.{Log};
-ghost use Rattle.gateway.specs.Reports.{Setup};
-ghost use Rattle.gateway.specs.Calling.{CallsOf};
 ghost use Rattle.gateway.specs.Traffic.{IsFaithful};
 ghost use Rattle.gateway.specs.Turning.{KeepsTurns};
 
-use apci::{one_front, spellings_cancel};
-use asdu::{objects_are_those_of_the_asdu, one_asdu_one_spelling};
 use command::{commands_are_forwarded, waiting_commands_stay};
 use link::{
     a_turn_is_one_visit, answers_have_their_time, commands_go_before_polls,
@@ -50,17 +45,4 @@ pub fn logs_keep_turns()
     statuses_follow_restarts();
     commands_are_forwarded();
     waiting_commands_stay();
-}
-
-/// A log shows one list of calls. So `logs_keep_turns` speaks of no other: the moment and the leave
-/// of each call, and what waits at it, are those of the log.
-pub fn one_list_of_calls()
-    ensures { (p : Setup) (log : Log) (calls other : List Call) → CallsOf p log calls →
-        CallsOf p log other → calls ≡ other }
-{
-    one_front();
-    spellings_cancel();
-    one_asdu_one_spelling();
-    objects_are_those_of_the_asdu();
-    line_keeps_the_procedures();
 }

@@ -7,11 +7,10 @@ ghost use Rattle.ft12.specs.Fronts.{front_of};
 ghost use Rattle.link.specs.Exchanges.{Exchanges, given_up_at, reports_of_exchanges};
 ghost use Rattle.link.specs.Gaps.{exchanges_at, gaps_at};
 ghost use Rattle.link.specs.Marks.{latest_given_up};
-ghost use Rattle.link.specs.Procedure.{LinkSettings, Down, Held, is_held, is_service};
-ghost use Rattle.link.specs.Procedure.{Silence, Never, silence_so_far, short_silence};
-ghost use Rattle.link.specs.Procedure.{spent_silence};
+ghost use Rattle.link.specs.Procedure.{LinkSettings, Down, Held};
+ghost use Rattle.link.specs.Procedure.{Silence, Never, short_silence};
 ghost use Rattle.link.specs.Turns.{StationState, station_at};
-ghost use Rattle.link.specs.Answers.{Service, Command, Status, Counted};
+ghost use Rattle.link.specs.Answers.{Service, Command, Counted};
 ghost use Rattle.link.specs.Primary.{Primary, Outstanding};
 ghost use Rattle.link.specs.Leave.{is_polling};
 ghost use Rattle.link.specs.Matching.{IsAllowed, Matches};
@@ -76,34 +75,6 @@ pub fn frame_count_bits_go_on()
     ensures released_flags { (p : Primary) (k : ℕ) →
         ((station_at (released p).stations k).acd ≡ (station_at p.stations k).acd)
         × ((station_at (released p).stations k).dfc ≡ (station_at p.stations k).dfc) }
-{}
-
-/// A restart counts nothing as unanswered. A service whose exchange is broken off is held, as often
-/// unanswered as it was before. Where the exchange was to start the link, the link is down, so the
-/// status comes first; a service that is held while the status is asked stays held. No other
-/// station changes, and none where nothing is outstanding. A link that
-/// holds no service goes on as it is.
-pub fn what_is_broken_off_is_held()
-    ensures service { (p : Primary) (o : Outstanding) (fcb : Bool) (service : Service) →
-        p.turn < length p.stations → p.outstanding ≡ Some o → o.request ≡ Counted fcb service →
-        (station_at (released p).stations p.turn).link
-        ≡ Held fcb service (silence_so_far (station_at p.stations p.turn).link) }
-    ensures start { (p : Primary) (o : Outstanding) → p.turn < length p.stations →
-        p.outstanding ≡ Some o → is_service o.request ≡ false →
-        is_held (station_at p.stations p.turn).link ≡ false →
-        (station_at (released p).stations p.turn).link ≡ Down }
-    ensures status { (p : Primary) (o : Outstanding) (fcb : Bool) (service : Service)
-        (silence : Silence) → p.turn < length p.stations →
-        p.outstanding ≡ Some o → o.request ≡ Status →
-        (station_at p.stations p.turn).link ≡ Held fcb service silence →
-        (station_at (released p).stations p.turn).link
-        ≡ Held fcb service (spent_silence p.settings Never) }
-    ensures others { (p : Primary) (k : ℕ) → k ≢ p.turn →
-        station_at (released p).stations k ≡ station_at p.stations k }
-    ensures over { (p : Primary) → (released p).outstanding ≡ None }
-    ensures idle { (p : Primary) → p.outstanding ≡ None → released p ≡ p }
-    ensures carried { (retries address : ℕ) (s : StationState) → is_held s.link ≡ false →
-        (station_carried retries address s).link ≡ s.link }
 {}
 
 /// At new settings each seat has one station, with the address that is set for it, in the order of

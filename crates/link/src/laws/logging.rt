@@ -1,11 +1,11 @@
 //! What an exchange is: the request that went out, and what came of it.
-ghost use Rattle.std.specs.Prelude.{◌≡◌, ◌∷◌, ◌++◌, ◌==◌, [], ℕ, false, List, Some, None, map};
+ghost use Rattle.std.specs.Prelude.{◌≡◌, ◌∷◌, ◌++◌, ◌==◌, [], ℕ, false, List, None, map};
 ghost use Rattle.std.specs.List.{filter};
 ghost use Rattle.ft12.specs.declared.frame.Front.{Front};
 ghost use Rattle.ft12.specs.declared.frame.Front.TheVariants.{Whole};
-ghost use Rattle.link.specs.Answers.{Frame, Report, answer_of};
+ghost use Rattle.link.specs.Answers.{Frame, answer_of};
 ghost use Rattle.link.specs.Exchanges.{Exchanges, OpenExchange, all_of, answer_to, view, views};
-ghost use Rattle.link.specs.Exchanges.{LineExchange, with_station, received_octets, reports_of};
+ghost use Rattle.link.specs.Exchanges.{with_station, received_octets};
 ghost use Rattle.link.specs.Primary.{Primary};
 ghost use Rattle.link.specs.Runs.{Call, exchanged_all};
 ghost use Rattle.link.specs.Sent.{first_of, sent};
@@ -29,18 +29,4 @@ pub fn each_request_is_an_exchange()
     ensures none { (front : List ℕ → Front) (address : ℕ) (x : OpenExchange) →
         ((frame : Frame) (n : ℕ) → front x.octets ≡ Whole frame n → ⊥) →
         answer_to address (view front x).exchange ≡ None }
-{}
-
-/// The reports of the exchanges are the data of each answer that has some, octet for octet, with
-/// the station's index, in order. No other answer bears a report.
-pub fn reports_are_data_of_answers()
-    ensures report { (address : ℕ → ℕ) (before later : List LineExchange) (e : LineExchange)
-        (asdu : List ℕ) → answer_to (address e.station) e.exchange ≡ Some (Report asdu) →
-        reports_of address (before ++ e ∷ later)
-        ≡ reports_of address before ++ (e.station, asdu) ∷ reports_of address later }
-    ensures no_report { (address : ℕ → ℕ) (before later : List LineExchange) (e : LineExchange) →
-        ((asdu : List ℕ) → answer_to (address e.station) e.exchange ≡ Some (Report asdu) → ⊥) →
-        reports_of address (before ++ e ∷ later)
-        ≡ reports_of address before ++ reports_of address later }
-    ensures none { (address : ℕ → ℕ) → reports_of address [] ≡ [] }
 {}

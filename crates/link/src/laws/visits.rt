@@ -1,15 +1,13 @@
 //! Turns end: what goes out to a station in one turn, and how long the others wait.
 ghost use Rattle.std.specs.Prelude.{◌≡◌, ◌≢◌, ◌≤◌, ◌<◌, ◌+◌, ◌*◌, ◌-◌, ◌∷◌, ◌++◌, ℕ, List, All};
-ghost use Rattle.std.specs.Prelude.{length, map};
-ghost use Rattle.std.specs.List.{AllByRecursion};
+ghost use Rattle.std.specs.Prelude.{length};
 ghost use Rattle.ft12.specs.Fronts.{front_of};
 ghost use Rattle.link.specs.Answers.{Reset};
 ghost use Rattle.link.specs.Exchanges.{Exchange, all_of, no_exchanges, views};
 ghost use Rattle.link.specs.Procedure.{LinkSettings, Link, Down};
 ghost use Rattle.link.specs.Requests.{FitsAddress};
-ghost use Rattle.link.specs.Primary.{Primary, start};
+ghost use Rattle.link.specs.Primary.{start};
 ghost use Rattle.link.specs.Runs.{Call, MayCallAll, called_all, exchanged_all};
-ghost use Rattle.link.specs.Sent.{Sent, sent};
 ghost use Rattle.link.specs.Visits.{AreInVisits, EndsReady, IsVisit, most_of_visit, whole_visit};
 ghost use Rattle.link.specs.OneVisit.{TurnsAreVisits};
 ghost use Rattle.link.specs.Waits.{AlwaysWants, stations_asked, waited};
@@ -59,20 +57,6 @@ pub fn no_station_starves()
 {
     front_is_computed();
 }
-
-/// What a station waits is counted by the requests that go out. Each of them counts, whatever it
-/// asks, at the station to which it goes and at no other. The latest to the station itself begins
-/// the count, and each to another station is one more.
-pub fn waits_are_counted_by_requests()
-    ensures asked { (p : Primary) (calls : List Call) →
-        stations_asked p calls ≡ map (λ (s : Sent). s.station) (sent p calls) }
-    ensures others { (station before : ℕ) (asked : List ℕ) →
-        AllByRecursion (λ k. k ≢ station) asked →
-        waited station before asked ≡ before + length asked }
-    ensures since { (station before : ℕ) (first asked : List ℕ) →
-        AllByRecursion (λ k. k ≢ station) asked →
-        waited station before (first ++ station ∷ asked) ≡ length asked }
-{}
 
 /// Whatever is called, a turn is one visit. The first is the first station's. A request goes on
 /// with the visit only as far as that still has it, and a held service only while it has repeats.

@@ -1,9 +1,8 @@
 //! Laws of those who come to the listener.
-ghost use Rattle.std.specs.Prelude.{◌⊎◌, ◌≡◌, ◌≢◌, None, ◌-◌, ℕ, List, [], ◌∷◌, length, min};
+ghost use Rattle.std.specs.Prelude.{◌⊎◌, ◌≡◌, ◌≢◌, None, ◌-◌, ℕ, List, [], ◌∷◌, length};
 ghost use Rattle.std.specs.Prelude.{Option};
-ghost use Rattle.std.specs.Prelude.{Some, Ok, Err, true, false, ◌↔◌, ◌^◌, ◌++◌, Vec, All, Bool};
+ghost use Rattle.std.specs.Prelude.{Some, Ok, Err, true, false, ◌↔◌, ◌^◌, ◌++◌, All, Bool};
 ghost use Rattle.std.specs.declared.net.ip_addr.IpAddr.{IpAddr};
-ghost use Rattle.std.specs.declared.alloc.Global.{Global};
 ghost use Rattle.gateway.specs.declared.ports.Next.{Next};
 ghost use Rattle.live.specs.Ends.{LiveEnds, LogsTurn, LogsPut};
 ghost use Rattle.live.specs.Law.{KeepsOut, peer_of};
@@ -25,9 +24,6 @@ ghost use Rattle.live.specs.declared.allow_list.AllowList.{AllowList};
 ghost use Rattle.std.specs.declared.io.Error.{Error};
 ghost use Rattle.std.specs.declared.net.socket_addr.SocketAddr.{SocketAddr};
 ghost use Rattle.std.specs.declared.net.tcp.TcpStream.{TcpStream};
-ghost use Rattle.live.specs.Sights.{ShowsEnds};
-ghost use Rattle.live.specs.declared.watched.EndsSight.{EndsSight};
-ghost use Rattle.live.specs.declared.allow_list.AllowList.TheVariants.{Anyone, Only};
 ghost use Rattle.gateway.specs.Log.{Output};
 ghost use Rattle.live.specs.Passed.{LiveRun};
 
@@ -53,22 +49,6 @@ pub fn only_strangers_are_refused()
         LogsPut old moment action new → new.refusals ≡ old.refusals }
     ensures run { (start end : LiveEnds) → LiveRun start end →
         RefusesStrangers start.allow_list start.refusals end.refusals }
-{}
-
-/// What is shown of those who were refused in a run, where the listener notes them: how many they
-/// are, as far as 64 bits count, and which of them came last. A new listener says that
-/// nobody was: none is counted, and no address stands there.
-pub fn who_was_refused_is_shown()
-    ensures nobody { (start end : LiveEnds) (sight : EndsSight) →
-        start.refusals ≡ record { peers = Some []; said = nobody } →
-        LiveRun start end → ShowsEnds end sight → end.refusals.peers ≡ Some [] →
-        sight.refused ≡ record { count = 0; last = None } }
-    ensures peers { (start end : LiveEnds) (sight : EndsSight) (peer : IpAddr)
-        (before : List IpAddr) →
-        start.refusals ≡ record { peers = Some []; said = nobody } →
-        LiveRun start end → ShowsEnds end sight → end.refusals.peers ≡ Some (peer ∷ before) →
-        (sight.refused.count ≡ min (length (peer ∷ before)) (2 ^ 64 - 1))
-        × (sight.refused.last ≡ Some peer) }
 {}
 
 /// Whoever comes and may not connect is refused, and whoever may is let in, by the answers of the
@@ -120,17 +100,6 @@ pub fn who_comes_is_refused_or_let_in()
         (newest : Option Comer) → TakesWaiting allow_list (Some old) said newest (Some new) says →
         (answers : List Arrival) × (refused : List IpAddr) × (new ≡ answers ++ old)
         × Sorts allow_list answers refused newest × (says ≡ counted refused said) }
-{}
-
-/// Who may connect: anyone where that is said. Else who has an address of the list, whichever of
-/// them, and nobody where none stands there.
-pub fn who_is_on_the_list_may_connect()
-    ensures anyone { (address : IpAddr) → Allows Anyone address }
-    ensures listed { (list others : Vec IpAddr Global) (first address : IpAddr) →
-        list.items ≡ first ∷ others.items →
-        Allows (Only list) address ↔ (address ≡ first) ⊎ Allows (Only others) address }
-    ensures nobody { (list : Vec IpAddr Global) (address : IpAddr) → list.items ≡ [] →
-        Allows (Only list) address → ⊥ }
 {}
 
 /// That nobody can be accepted is told at the first fault that says so, and not again until

@@ -1,15 +1,15 @@
 //! Laws of a stream that is reached again where it has gone.
 ghost use Rattle.std.specs.Prelude.{◌≡◌, ◌≢◌, IfSome, None, ◌+◌, ◌-◌, ◌<◌, ◌≤◌, ℕ, List, ◌∷◌, Some};
 ghost use Rattle.std.specs.Prelude.{Bool, true, false, is_some};
-ghost use Rattle.live.specs.Law.{AtClock, IsFoundGone};
+ghost use Rattle.live.specs.Law.{AtClock};
 ghost use Rattle.live.specs.Redial.{Redial, clock_read_at, IsPut, HasDropped, BeginsTry, Asked};
-ghost use Rattle.live.specs.Redial.{DialCall, IsRedialled, known_reached, waited};
-ghost use Rattle.live.specs.Silence.{asked_at, begun_anew, borne_longer, is_over, no_silence};
+ghost use Rattle.live.specs.Redial.{IsRedialled, waited};
+ghost use Rattle.live.specs.Silence.{asked_at, borne_longer, is_over, no_silence};
 ghost use Rattle.live.specs.Timing.{read_at};
 ghost use Rattle.live.specs.declared.silence.Silence.{Silence};
 ghost use Rattle.live.specs.declared.ends.Got.{Got};
 ghost use Rattle.live.specs.declared.ends.Got.TheVariants.{Octets, Quiet};
-ghost use Rattle.live.specs.declared.ends.Presence.TheVariants.{Away, Receiving, Silent};
+ghost use Rattle.live.specs.declared.ends.Presence.TheVariants.{Silent};
 ghost use Rattle.live.specs.OctetStreams.{IsNew, StreamHistory, looked, noted, Dropped, WasQuiet, Wrote};
 
 /// A stream that is away is tried at once, and then as soon as its wait has passed since the last
@@ -63,20 +63,6 @@ pub fn a_stream_that_is_away_is_tried_when_due()
         old.stream ≡ None → IfSome new.stream IsNew }
 {}
 
-/// A try that has ended goes on no longer. By it a stream is there, or the dialler noted that it
-/// reached none. One that hasn't ended goes on, and nothing more is known of the stream then.
-pub fn a_try_goes_on_until_it_ends()
-    ensures ended { (old new : Redial) (got : Got) (buf : List ℕ) (tries : List Bool)
-        (reached : Bool) → IsRedialled old got buf new → old.stream ≡ None →
-        old.tries ≡ Some tries → new.tries ≡ Some (reached ∷ tries) →
-        (new.is_trying ≡ false) × (is_some new.stream ≡ reached) }
-    ensures goes_on { (old new : Redial) (got : Got) (buf : List ℕ) (tries : List Bool)
-        (calls : List DialCall) (call : DialCall) → IsRedialled old got buf new →
-        old.stream ≡ None → old.tries ≡ Some tries → new.tries ≡ Some tries →
-        old.calls ≡ Some calls → new.calls ≡ Some (call ∷ calls) →
-        (new.is_trying ≡ true) × (new.stream ≡ None) × (new.presence ≡ old.presence) }
-{}
-
 /// Behind each stream that was reached the wait for the next try is twice as long, up to 30 s. By
 /// octets that come it is a second again. Nothing else changes it.
 pub fn tries_lie_farther_apart_while_nothing_comes()
@@ -94,28 +80,6 @@ pub fn tries_lie_farther_apart_while_nothing_comes()
         IsPut old octets is_taken new → new.wait ≡ old.wait }
     ensures dropped { (old new : Redial) (count : ℕ) → HasDropped old count new →
         new.wait ≡ old.wait }
-{}
-
-/// What is known of a stream that is reached again. It is there once it was reached, and receiving
-/// once octets came. It is away where a look found it gone, and where a try ended without it. None
-/// is left but one that was found gone or closed since it was silent. That one is silent until it
-/// gives octets, is gone or can't be reached.
-pub fn what_is_known_of_a_stream_is_what_was_seen()
-    ensures reached { (old new : Redial) (got : Got) (buf : List ℕ) → IsRedialled old got buf new →
-        old.stream ≡ None → IfSome new.stream (λ _. (new.presence ≡ known_reached old.presence)
-        × (new.silence ≡ begun_anew old.silence)) }
-    ensures failed { (old new : Redial) (got : Got) (buf : List ℕ) (tries : List Bool) →
-        IsRedialled old got buf new → old.stream ≡ None → old.tries ≡ Some tries →
-        new.tries ≡ Some (false ∷ tries) → new.presence ≡ Away }
-    ensures octets { (old new : Redial) (len : ℕ) (buf : List ℕ) →
-        IsRedialled old (Octets len) buf new → new.presence ≡ Receiving }
-    ensures gone { (old new : Redial) (got : Got) (buf : List ℕ) (history : StreamHistory) →
-        IsRedialled old got buf new → old.stream ≡ Some history → new.stream ≡ None →
-        new.presence ≢ Silent →
-        (new.presence ≡ Away) × IsFoundGone (Some (is_some history)) new.gone }
-    ensures quiet { (old new : Redial) (buf : List ℕ) (history : StreamHistory) →
-        IsRedialled old Quiet buf new → old.stream ≡ Some history → new.stream ≢ None →
-        new.presence ≡ old.presence }
 {}
 
 /// A stream that gives nothing while requests go out to it is closed at the next look once they

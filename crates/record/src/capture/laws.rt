@@ -1,5 +1,5 @@
 //! What holds of every capture.
-ghost use Rattle.std.specs.Prelude.{◌≡◌, ◌*◌, ◌^◌, ◌<◌, ◌∷◌, [], ℕ, List, Bool};
+ghost use Rattle.std.specs.Prelude.{◌≡◌, ◌*◌, ◌^◌, ◌<◌, ◌∷◌, [], ℕ, List};
 ghost use Rattle.std.specs.Prelude.{None, Some, map};
 ghost use Rattle.std.specs.List.{AllByRecursion, flat_map};
 ghost use Rattle.ft12.specs.declared.frame.LinkSize.{LinkSize};
@@ -7,27 +7,12 @@ ghost use Rattle.gateway.specs.Log.{Log, LogEntry};
 ghost use Rattle.gateway.specs.Log.{latest};
 ghost use Rattle.gateway.specs.Walls.{wall_on};
 ghost use Rattle.record.specs.Captures.{after_all, begun, blocks_of, last_packets};
-ghost use Rattle.record.specs.Captures.{line_octets, packets_in};
-ghost use Rattle.record.specs.Captures.{segments_in, serial_in, serial_joined, tcp_octets};
+ghost use Rattle.record.specs.Captures.{packets_in};
 ghost use Rattle.record.specs.Captures.{whole_capture};
 ghost use Rattle.record.specs.Clocks.{behind, time_of, times_of};
-ghost use Rattle.record.specs.Connections.{RunOn, joined};
 ghost use Rattle.record.specs.Readers.{ArePackets, IsLogged};
 
 use ft12::front_is_computed;
-
-/// Whatever a record logs: the data of the segments that go one way, joined, are the octets that
-/// TCP took or brought by the lines of the record, in their order; and those of the packets of the
-/// line are the octets that the line took or brought. So no line's octets are left out, none come
-/// twice, and none go the other way.
-pub fn captures_carry_the_octets()
-    ensures connection { (size : LinkSize) (is_up : Bool) (entries : List LogEntry) →
-        joined is_up (segments_in (whole_capture size entries))
-        ≡ flat_map (tcp_octets is_up) entries }
-    ensures line { (size : LinkSize) (is_request : Bool) (entries : List LogEntry) →
-        serial_joined is_request (serial_in (whole_capture size entries))
-        ≡ flat_map (line_octets is_request) entries }
-{}
 
 /// The packets of each line of a record stand at the time that the wall clock shows at the latest
 /// moment, by its latest event. That is a number of milliseconds, of which each counts 1,000
@@ -46,12 +31,6 @@ pub fn packets_stand_at_their_times()
     ensures each { (log : Log) (entry : LogEntry) (entries : List LogEntry) →
         times_of log (entry ∷ entries)
         ≡ time_of (entry ∷ log) ∷ times_of (entry ∷ log) entries }
-{}
-
-/// Each end numbers its segments on, from its SYN on, and acknowledges what the other has sent.
-pub fn segments_run_on()
-    ensures { (size : LinkSize) (entries : List LogEntry) →
-        RunOn 0 0 (segments_in (whole_capture size entries)) }
 {}
 
 /// Whatever a record logs, a reader finds in the octets of its capture one block behind another,

@@ -30,7 +30,7 @@ impl Watch {
         }
         let traffic = &mut self.traffic[place];
         if let Some(answer) = self.exchange.answer(self.link, traffic.address()) {
-            traffic.note_answer(self.sizes, self.moment, answer);
+            traffic.note_answer(self.sizes, self.moment, answer, &mut self.trail);
             // The front decides: what comes behind it is no answer.
             self.exchange.end();
         }
@@ -46,7 +46,7 @@ impl Watch {
         self.exchange.ask(self.link, octets, place, awaited, now);
         // Before the stations count the request: a repeat shows by the bit of the one before.
         if let (Some(place), AwaitedAnswer::Command) = (place, awaited) {
-            self.send(place, octets);
+            self.send(place, octets, now);
         }
         // It reaches no station: that the line is away says it all.
         if is_away {
@@ -56,14 +56,15 @@ impl Watch {
     }
 
     /// A command goes out to the station at this place, for the first time or again.
-    fn send(&mut self, place: usize, octets: &[u8])
-        ensures { self.new ≡ spec.command_sent place octets.now self.old }
+    fn send(&mut self, place: usize, octets: &[u8], now: u64)
+        ensures { self.new ≡ spec.command_sent place octets.now now self.old }
     {
         if place >= self.traffic.len() || self.is_repeat(place, octets) {
             return;
         }
         let order = Order::read(self.sizes, user_data(self.link, octets));
-        self.traffic[place].send(order);
+        self.inbox.go(order);
+        self.traffic[place].send(order, now, &mut self.gone);
     }
 
     /// Whether the request has gone out to the station at this place already.
@@ -129,7 +130,7 @@ impl Watch {
         ensures { self.new ≡ spec.suffered place mishap self.old }
     {
         if place < self.traffic.len() {
-            self.traffic[place].suffer(mishap);
+            self.traffic[place].suffer(mishap, self.moment, &mut self.trail);
         }
     }
 }

@@ -1,10 +1,9 @@
 //! What holds of all octets that are shown.
 ghost use Rattle.std.specs.Prelude.{◌≡◌, ◌+◌, ◌-◌, ◌/◌, ◌%◌, ◌^◌, ◌++◌, ◌∷◌, [], ℕ, List, codes};
-ghost use Rattle.std.specs.Prelude.{length, Some, None};
+ghost use Rattle.std.specs.Prelude.{Some};
 ghost use Rattle.std.specs.Prelude.{if◌then◌else◌};
-ghost use Rattle.std.specs.Fmt.{decimal, signed_decimal};
+ghost use Rattle.std.specs.Fmt.{decimal};
 ghost use Rattle.std.specs.List.{flat_map};
-ghost use Rattle.hex.specs.Hex.{encode_upper};
 ghost use Rattle.ft12.specs.declared.frame.Frame.{Frame};
 ghost use Rattle.ft12.specs.declared.frame.Frame.TheVariants.{Single, Fixed, Data};
 ghost use Rattle.ft12.specs.declared.frame.Front.TheVariants.{Whole, More, Never};
@@ -20,13 +19,10 @@ ghost use Rattle.asdu.specs.Refusals.{refusal};
 ghost use Rattle.asdu.specs.Sizes.{tcp};
 ghost use Rattle.asdu.specs.declared.sizes.Sizes.{Sizes};
 ghost use Rattle.elements.specs.Octets.{AreOctets};
-ghost use Rattle.elements.specs.TimeTag.{verdict_of};
-ghost use Rattle.elements.specs.Types.{row, value_shown};
 ghost use Rattle.elements.specs.declared.tag.Verdict.TheVariants.{Good};
-ghost use Rattle.elements.specs.declared.types.TypeId.{TypeId};
 ghost use Rattle.words.specs.Condition.{rest_line, with_rest};
-ghost use Rattle.words.specs.LineFacts.{control_text, frame_condition, frame_line, frame_lines};
-ghost use Rattle.words.specs.LineFacts.{front_condition, front_lines, number_of};
+ghost use Rattle.words.specs.LineFacts.{frame_condition, frame_line, frame_lines};
+ghost use Rattle.words.specs.LineFacts.{front_condition, front_lines};
 ghost use Rattle.words.specs.TcpFacts.{apdu_condition, apdu_line, apdu_lines, function_text};
 ghost use Rattle.words.specs.TcpFacts.{number_of as apdu_number};
 ghost use Rattle.words.specs.TcpFacts.{front_condition as apdu_front, front_lines as apdu_fronts};
@@ -70,49 +66,6 @@ pub fn asdus_are_shown()
 {
     objects_are_those_of_the_asdu();
 }
-
-/// Each field is shown behind its name with all of its digits, whatever it is. Of a control octet
-/// (IEC 60870-5-2, 5.1.2; bit 0 is the lowest) bit 6 is PRM. Bits 5 and 4 of a primary station are
-/// FCB and FCV, those of a secondary one are ACD and DFC, and bits 3 to 0 are the function.
-pub fn fields_are_shown()
-    ensures primary { (c : ℕ) → c / 2 ^ 6 % 2 ≡ 1 → control_text c
-        ≡ codes "c=" ++ encode_upper (c ∷ []) ++ codes " prm=1 fcb=" ++ decimal (c / 2 ^ 5 % 2)
-        ++ codes " fcv=" ++ decimal (c / 2 ^ 4 % 2) ++ codes " function=" ++ decimal (c % 2 ^ 4) }
-    ensures secondary { (c : ℕ) → c / 2 ^ 6 % 2 ≡ 0 → control_text c
-        ≡ codes "c=" ++ encode_upper (c ∷ []) ++ codes " prm=0 acd=" ++ decimal (c / 2 ^ 5 % 2)
-        ++ codes " dfc=" ++ decimal (c / 2 ^ 4 % 2) ++ codes " function=" ++ decimal (c % 2 ^ 4) }
-    ensures frames { (c address : ℕ) (octets : List ℕ) →
-        (frame_line (Fixed c address)
-        ≡ codes "fixed " ++ control_text c ++ codes " address=" ++ decimal address ++ 10 ∷ [])
-        × (frame_line (Data c address (record { items = octets }))
-        ≡ codes "data " ++ control_text c ++ codes " address=" ++ decimal address
-        ++ codes " octets=" ++ decimal (length octets) ++ 10 ∷ []) }
-    ensures refusals { (s : LineSizes) (n place : ℕ) (why : Why) → front_lines s n (Never place why)
-        ≡ codes "refused " ++ decimal (number_of why) ++ codes " at " ++ decimal place ++ 10 ∷ [] }
-    ensures apdus { (ns nr : ℕ) (octets : List ℕ) →
-        (apdu_line (I ns nr (record { items = octets }))
-        ≡ codes "I ns=" ++ decimal ns ++ codes " nr=" ++ decimal nr
-        ++ codes " octets=" ++ decimal (length octets) ++ 10 ∷ [])
-        × (apdu_line (S nr) ≡ codes "S nr=" ++ decimal nr ++ 10 ∷ []) }
-    ensures headers { (u : AsduValue) → header_line u
-        ≡ (codes "asdu type=" ++ decimal (row u.kind).code
-        ++ codes " sq=" ++ decimal (if u.sequence then 1 else 0)
-        ++ codes " number=" ++ decimal (length u.infos))
-        ++ ((codes " test=" ++ decimal (u.cause / 2 ^ 7 % 2)
-        ++ codes " negative=" ++ decimal (u.cause / 2 ^ 6 % 2)
-        ++ codes " cause=" ++ decimal (u.cause % 2 ^ 6))
-        ++ (codes " originator=" ++ decimal u.originator ++ codes " ca=" ++ decimal u.ca
-        ++ 10 ∷ [])) }
-    ensures objects { (kind : TypeId) (address : ℕ) (element tag : List ℕ) →
-        let value = codes "object address=" ++ decimal address
-        ++ codes " value=" ++ signed_decimal (value_shown kind element) in
-        (object_line kind (record { address = address; element = element; tag = None })
-        ≡ value ++ (codes " element=" ++ encode_upper element ++ [] ++ 10 ∷ []))
-        × (object_line kind (record { address = address; element = element; tag = Some tag })
-        ≡ value ++ (codes " element=" ++ encode_upper element
-        ++ (codes " tag=" ++ encode_upper tag ++ codes " " ++ verdict_text (verdict_of tag))
-        ++ 10 ∷ [])) }
-{}
 
 /// Octets that begin a frame or an APDU are told as truncated, however many they are. Those that
 /// begin none are told by the number of the refusal and its place. Both are a fault, and so is what

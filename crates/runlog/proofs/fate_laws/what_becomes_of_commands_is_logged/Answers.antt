@@ -1,17 +1,31 @@
 use Rattle.std.proofs.Common.{refl}
-use Rattle.runlog.specs.declared.fate.CommandFate.TheVariants as fate
+use Rattle.runlog.proofs.Trailing.{busy_told, comings_so, ordered_so, replied_so, sendings_so}
+use Rattle.runlog.proofs.Trailing.{told_once, told_so, told_whole}
 use Rattle.runlog.proofs.fate_laws.what_becomes_of_commands_is_logged.Goals as goal
 
-pub returns-clause-fates : goal.returns-clause-fates
-returns-clause-fates c address now fate.Sent o = refl
-returns-clause-fates c address now fate.Confirmed o = refl
-returns-clause-fates c address now fate.Denied o = refl
-returns-clause-fates c address now fate.Terminated o = refl
-returns-clause-fates c address now fate.Busy o = refl
-returns-clause-fates c address now fate.GivenUp o = refl
+pub returns-clause-told : goal.returns-clause-told
+returns-clause-told c = told_so
+
+pub returns-clause-comings : goal.returns-clause-comings
+returns-clause-comings c = comings_so
 
 pub returns-clause-sendings : goal.returns-clause-sendings
-returns-clause-sendings c address now o = refl
+returns-clause-sendings c = sendings_so
+
+pub returns-clause-answers : goal.returns-clause-answers
+returns-clause-answers c = replied_so
+
+pub returns-clause-ends : goal.returns-clause-ends
+returns-clause-ends c = busy_told
+
+pub returns-clause-order : goal.returns-clause-order
+returns-clause-order c = ordered_so
+
+pub returns-clause-whole : goal.returns-clause-whole
+returns-clause-whole c = told_whole
+
+pub returns-clause-once : goal.returns-clause-once
+returns-clause-once c = told_once
 
 pub returns-clause-skips : goal.returns-clause-skips
 returns-clause-skips c = (

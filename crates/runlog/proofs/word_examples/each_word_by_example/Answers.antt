@@ -12,5 +12,16 @@ returns-clause-fates c = (refl, refl, refl, refl, refl, refl, refl)
 
 pub returns-clause-states : goal.returns-clause-states
 unfolding digits
-returns-clause-states c =
-    (refl, refl, refl, refl, refl, refl, refl, refl, refl, refl, refl)
+returns-clause-states c = (
+  refl,
+  refl,
+  refl,
+  refl,
+  refl,
+  refl,
+  λ why place cause. rw (place, cause) refl,
+  refl,
+  refl,
+  refl,
+  refl,
+)

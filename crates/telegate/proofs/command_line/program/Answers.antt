@@ -1,6 +1,6 @@
 use Rattle.std.proofs.lemmas.Result.{IfOk-weaker}
 use Rattle.telegate.specs.CommandLine.{IsCommand, bare, show101, show104, check, replay, sim, audit}
-use Rattle.telegate.specs.CommandLine.{run, status, state, capture, stations, program}
+use Rattle.telegate.specs.CommandLine.{run, status, state, capture, stations, centre, program}
 use Rattle.telegate.proofs.command_line.program.Goals as goal
 
 pub returns : goal.returns
@@ -15,6 +15,7 @@ returns c =
     let eighth = c.in_ok-program-8.ensures _ status seventh c.status.ensures in
     let ninth = c.in_ok-program-9.ensures _ state eighth c.state.ensures in
     let tenth = c.in_ok-program-10.ensures _ capture ninth c.capture.ensures in
-    IfOk-weaker c.add_command-11.result _ (IsCommand program)
-    (λ r adds. adds _ stations tenth c.stations.ensures)
-    c.add_command-11.ensures
+    let eleventh = c.in_ok-program-11.ensures _ stations tenth c.stations.ensures in
+    IfOk-weaker c.add_command-12.result _ (IsCommand program)
+    (λ r adds. adds _ centre eleventh c.centre.ensures)
+    c.add_command-12.ensures

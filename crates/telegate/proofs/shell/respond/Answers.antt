@@ -1,5 +1,6 @@
-use Rattle.std.proofs.Common.{ap, subst, Bool, List, ℕ, ◌∷◌, [], ◌∙◌}
-use Rattle.telegate.specs.Shell.{ReplaysFile, files_of}
+use Rattle.std.proofs.Common.{ap, inl, subst, sym, Bool, List, ℕ, ◌∷◌, [], ◌∙◌}
+use Rattle.telegate.specs.Shell.{ReplaysFile, Responds, files_of}
+use Rattle.telegate.specs.declared.command_line.CommandRequest.{CommandRequest}
 use Rattle.telegate.specs.Manners.{manner_of}
 use Rattle.telegate.specs.declared.manner.Manner.{Manner}
 use Rattle.telegate.proofs.Files.{first_of_more, has_checked, has_replayed, has_run, has_shown}
@@ -118,3 +119,14 @@ returns-in-State-clause-responds g c =
     c.args.request.now c.in-State.directory c.in-State.config (g.W.Write.contents c.args.out.now)
     (g.W.Write.contents c.show_state.new.out) c.show_state.result c.in-State.is
     c.show_state.ensures
+
+pub returns-in-Centre-clause-responds : goal.returns-in-Centre-clause-responds
+returns-in-Centre-clause-responds g c =
+    subst (λ (r : CommandRequest). Responds (g.H.Host.has c.args.host.now)
+    (g.H.Host.lacks c.args.host.now)
+    (g.H.Host.ran c.args.host.now c.args.host.now) (g.H.Host.answered c.args.host.now)
+    (g.H.Host.silent c.args.host.now) (g.H.Host.played c.args.host.now)
+    (g.H.Host.stands c.args.host.now) (g.H.Host.colours c.args.host.now)
+    r (g.W.Write.contents c.args.out.now) (g.W.Write.contents c.be_centre.new.out)
+    c.be_centre.result)
+    (sym c.in-Centre.is) (inl c.be_centre.ensures)
