@@ -599,7 +599,10 @@ def slow_syncs(count, program):
         case = Failing(program, folder, 0, slow=150)
         case.begin()
         case.fail()
-        told = until(lambda: re.search(r"sync\D*1[5-9]\d ms|1[5-9]\d ms.*sync", case.gateway.logged()), 10)
+        until(lambda: "sync took" in case.gateway.logged(), 10)
+        told = re.search(r"sync took (\d+) ms", case.gateway.logged())
+        # On a busy machine it lasts longer than it is held up.
+        told = told and int(told[1]) >= 150
         count.judge("a slow sync is told with its time", told, case.gateway.logged())
         queue_up(case.gateway, 1)
         count.judge("and the state is kept", "isn't kept" not in case.gateway.logged(), case.gateway.logged())

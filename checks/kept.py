@@ -379,7 +379,7 @@ def row_of(lines, address):
 
 
 # Parts whose names begin so judge what the program doesn't do yet: they run if --only or --part names them.
-LATER = ("disk sectors", "disk reason", "disk slow", "edges flood")
+LATER = ("disk sectors", "disk reason")
 
 
 def due(parts):
