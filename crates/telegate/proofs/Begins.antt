@@ -3,7 +3,6 @@ use Rattle.std.proofs.Common.{◌≡◌, ◌++◌, ℕ, List, [], Option, Some, 
 use Rattle.gateway.specs.Log.{Log}
 use Rattle.record.specs.Recording.{Recording, added, log_of, logged_behind, logged_first}
 use Rattle.record.specs.Written.{IsText, IsWritten}
-use Rattle.telegate.specs.Lives.{all_passed, behind}
 use Rattle.telegate.specs.Sites.{IsNew}
 
 empty_text : IsText []
@@ -33,10 +32,3 @@ pub new_has_nothing : (r : Recording) → IsNew r.taken r.missed → r.held ≡ 
 new_has_nothing r new none =
     ap (λ held. logged_first (logged_behind (added r.taken held) r.missed) (Some [])) none
     ∙ written_nothing r.taken r.missed new
-
--- and all that passed is what passed before
-pub all_before : (before : Log) (pen : Recording) (written : Option Log)
-    → logged_first (log_of pen) (Some []) ≡ Some []
-    → written ≡ Some [] → all_passed before pen written ≡ Some before
-all_before before pen written new none =
-    ap (λ t. behind before (logged_first (log_of pen) t)) none ∙ ap (behind before) new

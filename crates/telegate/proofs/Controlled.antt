@@ -48,10 +48,10 @@ pub has_said : (style : Style) (outcome : Outcome) (old mid new : Option (List �
 has_said style outcome old mid new exit passed told =
     elim told [
       | inl h ↦ inl (record {
-          outcome = outcome;
-          passed = passed.0;
-          printed = Appends-trans old mid new passed.0 (end_line style outcome) passed.1 h.0;
-          status = h.1;
-        })
+        outcome = outcome;
+        passed = passed.0;
+        printed = Appends-trans old mid new passed.0 (end_line style outcome) passed.1 h.0;
+        status = h.1;
+      })
       | inr above ↦ inr above
     ]

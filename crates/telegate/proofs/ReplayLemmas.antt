@@ -131,12 +131,6 @@ stopped_by manner r closing settings known old new began begins = by
     by Unread want stop = either stop
     by other want stop = absurd want
 
--- memory was refused before the run began
-pub unbegun : (manner : Manner) (r : Bool) (closing : Closing) (settings : Settings) (has : List ℕ
-    → Type 0) (known : Option (List ℕ))
-    → IsEndOf settings manner r has closing known known (Err NoMemory)
-unbegun manner r closing settings has known = inl (keeps_same known)
-
 -- the whole command, where its settings were read and its trace was judged
 pub replayed : (config : List ℕ) (manner : Manner) (r : Bool) (has more : List ℕ → Type 0)
     (closing : Closing) (settings : Settings)
@@ -194,14 +188,6 @@ replayed config manner r has more closing settings old new read found judged wid
     by (Err NoMemory) h = either h
     by (Err Unread) h = either h
     by (Err other) h = absurd h
-
--- a fault before anything was run
-pub wanted : (config : List ℕ) (manner : Manner) (has : List ℕ → Type 0) (closing : Closing)
-    (known : Option (List ℕ)) (fault : Fault)
-    → IsWant fault → IsReplayed config manner has closing known known (Err fault)
-wanted config manner has closing known NoMemory want = inl (keeps_same known)
-wanted config manner has closing known Unread want = inl (keeps_same known)
-wanted config manner has closing known other want = absurd want
 
 -- a trace is wrong
 pub misjudged : (config : List ℕ) (manner : Manner) (r : Bool) (has : List ℕ → Type 0)

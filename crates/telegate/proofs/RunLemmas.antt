@@ -1,18 +1,11 @@
 -- The end of a run.
-use Rattle.std.proofs.Common.{◌≡◌, IfOk, subst, ◌∙◌, sym}
+use Rattle.std.proofs.Common.{◌≡◌, subst, ◌∙◌, sym}
 use Rattle.gateway.specs.Runs.{UnlessDevice}
 use Rattle.std.specs.Prelude.{Result, Ok, Err}
 use Rattle.std.specs.Result.{IsErrAnd}
 use Rattle.gateway.specs.declared.runs.End.{End}
-use Rattle.gateway.specs.declared.runs.End.TheVariants.{Turns, Finished}
+use Rattle.gateway.specs.declared.runs.End.TheVariants.{Finished}
 use Rattle.telegate.specs.declared.fault.Fault.{Fault}
-
--- what an answer promises of this end
-pub at_end : {E : Type 0} (r : Result End E) (end : End) (P : Type 0) → IfOk r (λ e. e ≡ Turns → P)
-    → r ≡ Ok end
-    → end ≡ Turns → P
-at_end (Ok x) end P h is turns = let same : x ≡ end = cc in h (same ∙ turns)
-at_end (Err x) end P h is turns = cc
 
 -- what is promised of a fault that is passed on
 pub as_err : {T : Type 0} (P : Result T Fault → Type 0) (r : Result T Fault) (e : Fault)
@@ -20,10 +13,6 @@ pub as_err : {T : Type 0} (P : Result T Fault → Type 0) (r : Result T Fault) (
     → P (Err e) → P r
 as_err P (Ok x) e is h = absurd is
 as_err P (Err x) e is h = subst (λ (y : Fault). P (Err y)) (sym is) h
-
--- what is promised of each end but that of a device
-pub at_turns : (end : End) (P : Type 0) → end ≡ Turns → UnlessDevice end P → P
-at_turns end P is promised = subst (λ (e : End). UnlessDevice e P) is promised
 
 pub at_finish : (end : End) (P : Type 0) → end ≡ Finished → UnlessDevice end P → P
 at_finish end P is promised = subst (λ (e : End). UnlessDevice e P) is promised

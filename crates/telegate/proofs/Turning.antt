@@ -1,11 +1,8 @@
 -- A run turn by turn.
 use Rattle.std.proofs.Common.{◌≡◌, ℕ, ◌+◌, List, [], length, Option, Some, None, option_map, refl}
-use Rattle.std.proofs.Common.{sym, ap, ap₂, subst, ◌∙◌, arith}
-use Rattle.gateway.specs.Agrees.{Follows, Rests}
+use Rattle.std.proofs.Common.{ap, ap₂, ◌∙◌, arith}
 use Rattle.gateway.specs.Log.{Log, LogEntry}
-use Rattle.gateway.specs.Reports.{Setup}
 use Rattle.gateway.specs.Runs.{MoreEvents, events_logged}
-use Rattle.gateway.specs.State.{State}
 use Rattle.runlog.specs.Logging.{Book, BookFixture, LoggedFixture, logged_fixture}
 
 -- at first nothing has come
@@ -36,14 +33,6 @@ one_more_event n a b c before turn =
     turn
     ∙ (plus_one (events_logged b) ∙ (ap (option_map (λ (m : ℕ). m + 1)) before
     ∙ plus_more n (events_logged a)))
-
--- a gateway that may begin with an empty log
-pub begun : (p : Setup) (s : State) (shown : Option Log) → Follows p s (Some []) → shown ≡ Some []
-    → Follows p s shown × Rests p shown
-begun p s shown begins empty =
-    let P : Option Log → Type 0 = λ t. Follows p s t in
-    let Q : Option Log → Type 0 = λ t. Rests p t in
-    (subst P (sym empty) begins, subst Q (sym empty) tt)
 
 -- what lasts of a port lasts beside its log too, where all that is fixed of it does
 pub lasting_logged : {P F G : Type 0} (script : P → F) (lasting : P → G)

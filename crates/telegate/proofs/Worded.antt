@@ -1,33 +1,11 @@
 -- What literal words ask for.
-use Rattle.std.proofs.Common.{◌≡◌, Bool, true, false, List, Option, Some, None, refl, sym, ◌∙◌, ap}
+use Rattle.std.proofs.Common.{◌≡◌, Bool, true, false, Option, Some, None, refl, sym, ◌∙◌, ap}
 use Rattle.std.proofs.Common.{if◌then◌else◌}
 use Rattle.std.specs.Prelude.{codes}
 use Rattle.std.specs.Borrow.{Bor}
-use Rattle.clap.specs.Words.{Row, Text, all_of, first_of, one_of}
-use Rattle.telegate.specs.CommandLine.{AreRunWords, AsksFor, text_of}
-use Rattle.telegate.specs.Examples.{Agree, Say, name_of}
-use Rattle.telegate.specs.Wishes.{Said}
-use Rattle.telegate.specs.declared.run_words.RunWords.{RunWords}
-use Rattle.telegate.specs.declared.command_line.CommandRequest.{CommandRequest}
-use Rattle.telegate.specs.declared.command_line.CommandRequest.TheVariants.{Show101, Show104, Check}
-use Rattle.telegate.specs.declared.command_line.CommandRequest.TheVariants.{Replay, Sim, Audit, Run}
-use Rattle.telegate.specs.declared.command_line.CommandRequest.TheVariants.{Status, State, Capture}
-use Rattle.telegate.specs.declared.command_line.CommandRequest.TheVariants.{Stations, Centre}
-
-pub names : (name : Text) (rows : List Row) (request : CommandRequest) → AsksFor name rows request
-    → name ≡ name_of request
-names name rows (Show101 sizes hex words) h = h.0
-names name rows (Show104 hex words) h = h.0
-names name rows (Check config site live explain) h = h.0
-names name rows (Replay config trace left counts words color) h = h.0
-names name rows (Sim config script words color) h = h.0
-names name rows (Audit config text) h = h.0
-names name rows (Run config words) h = h.0
-names name rows (Status place json) h = h.0
-names name rows (State directory config) h = h.0
-names name rows (Capture config text) h = h.0
-names name rows (Stations config script) h = h.0
-names name rows (Centre words) h = h.0
+use Rattle.clap.specs.Words.{Text}
+use Rattle.telegate.specs.CommandLine.{text_of}
+use Rattle.telegate.specs.Examples.{Agree}
 
 -- a word that is given, read from its row
 word_is : (text : Text) (given : Option Text) (word : Text) → given ≡ Some text
@@ -63,35 +41,6 @@ flag_is false given flag is = record {
     λ none. let no : None ≡ Some (codes "false") = sym none ∙ is in absurd (cc),
     λ on. let no : Some (codes "true") ≡ Some (codes "false") = sym on ∙ is in absurd (cc),
     λ off. same,
-  );
-}
-
--- a word and a flag, two words and a flag, and two words, by their rows
-pub show104_is : (hex : Text) (words : Bool) (x u : Option Text) (h : Bor Text) (w : Bool)
-    → x ≡ Some hex → u ≡ Some (flag_text words)
-    → Agree ((codes "show104" ≡ codes "show104") × (x ≡ Some h.now) × IsFlagOf u w)
-    ((h.now ≡ hex) × (w ≡ words))
-show104_is hex words x u h w a b = record {
-  there = λ asked. ((word_is hex x h.now a).there asked.1, (flag_is words u w b).there asked.2);
-  back = λ same. (refl, (word_is hex x h.now a).back same.0, (flag_is words u w b).back same.1);
-}
-
-pub show101_is : (sizes hex : Text) (words : Bool) (x y u : Option Text) (s h : Bor Text) (w : Bool)
-    → x ≡ Some sizes → y ≡ Some hex → u ≡ Some (flag_text words)
-    → Agree ((codes "show101" ≡ codes "show101") × (x ≡ Some s.now) × (y ≡ Some h.now)
-    × IsFlagOf u w)
-    ((s.now ≡ sizes) × (h.now ≡ hex) × (w ≡ words))
-show101_is sizes hex words x y u s h w a b d = record {
-  there = λ asked. (
-    (word_is sizes x s.now a).there asked.1,
-    (word_is hex y h.now b).there asked.2,
-    (flag_is words u w d).there asked.3,
-  );
-  back = λ same. (
-    refl,
-    (word_is sizes x s.now a).back same.0,
-    (word_is hex y h.now b).back same.1,
-    (flag_is words u w d).back same.2,
   );
 }
 
@@ -206,51 +155,4 @@ pub state_is : (directory : Text) (config : Option Text) (x y : Option Text) (d 
 state_is directory config x y d c a b = record {
   there = λ asked. ((word_is directory x d.now a).there asked.1, asked.2 ∙ b);
   back = λ same. (refl, (word_is directory x d.now a).back same.0, same.1 ∙ sym b);
-}
-
--- a word, and what is said of a live run, by its rows
-pub run_is : (config : Text) (site : Option Text) (s : Said) (rows : List Row) (c : Bor Text)
-    (w : RunWords)
-    → first_of (codes "CONFIG") rows ≡ Some config → first_of (codes "site") rows ≡ site
-    → one_of (codes "redial") rows ≡ Some (flag_text s.redial) → one_of (codes "log") rows
-    ≡ Some (flag_text s.log)
-    → one_of (codes "log-severity") rows ≡ Some (flag_text s.log_severity)
-    → one_of (codes "record") rows ≡ Some (flag_text s.recorded) → first_of (codes "state") rows
-    ≡ s.state
-    → one_of (codes "state-or-stop") rows ≡ Some (flag_text s.or_stop) → all_of (codes "allow") rows
-    ≡ s.allow
-    → first_of (codes "status") rows ≡ s.status
-    → Agree ((codes "run" ≡ codes "run") × (first_of (codes "CONFIG") rows ≡ Some c.now)
-    × AreRunWords rows w)
-    ((c.now ≡ config) × Say w site s)
-run_is config site s rows c w a b d e f g h i j k = record {
-  there = λ x. (
-    (word_is config _ c.now a).there x.1,
-    record {
-      site = x.2.site ∙ b;
-      redial = (flag_is s.redial _ w.redial d).there x.2.redial;
-      log = (flag_is s.log _ w.log e).there x.2.log;
-      log_severity = (flag_is s.log_severity _ w.log_severity f).there x.2.log_severity;
-      recorded = (flag_is s.recorded _ w.«record» g).there x.2.recorded;
-      state = x.2.state ∙ h;
-      or_stop = (flag_is s.or_stop _ w.state_or_stop i).there x.2.or_stop;
-      allow = x.2.allow ∙ j;
-      status = x.2.status ∙ k;
-    },
-  );
-  back = λ same. (
-    refl,
-    (word_is config _ c.now a).back same.0,
-    record {
-      site = same.1.site ∙ sym b;
-      redial = (flag_is s.redial _ w.redial d).back same.1.redial;
-      log = (flag_is s.log _ w.log e).back same.1.log;
-      log_severity = (flag_is s.log_severity _ w.log_severity f).back same.1.log_severity;
-      recorded = (flag_is s.recorded _ w.«record» g).back same.1.recorded;
-      state = same.1.state ∙ sym h;
-      or_stop = (flag_is s.or_stop _ w.state_or_stop i).back same.1.or_stop;
-      allow = same.1.allow ∙ sym j;
-      status = same.1.status ∙ sym k;
-    },
-  );
 }

@@ -15,9 +15,8 @@
 //! they were printed; the exit status is that of the answer or of the first fault. A run that is
 //! printed in words (`--words`) is the same run, and what is printed are the words of its log;
 //! frames that come by a pipe are shown line by line; and `status` prints what a live run answers,
-//! and ends as its table says. Literal words, with what they ask for or how they end, are worked
-//! examples (`words_by_example`). What the system's files, terminals and sockets do, and the lines
-//! of faults, are tested.
+//! and ends as its table says. What the system's files, terminals and sockets do, and the lines of
+//! faults, are tested.
 #![tactic(auto)]
 
 mod allow_laws;
@@ -31,7 +30,6 @@ mod check;
 mod closing;
 mod command_line;
 mod controlling;
-mod examples;
 mod fault;
 mod help;
 mod host;
@@ -73,7 +71,7 @@ use performing::write_fault;
 use shell::obey;
 use sqlite_std_file::Unknown;
 use state_files::Starts;
-use std::io::{IsTerminal, Write};
+use std::io::Write;
 use std::process::ExitCode;
 use std::rt::Env;
 use std::{env, io};
