@@ -14,7 +14,7 @@ returns-clause-lived g c =
     search rules in
     let port = port_of_run c.args.config.now c.args.wishes.allow_list
     (is_some c.args.begun.origin.moment) c.live.result.run_log.port.port.port.ends.port
-    _ fixed c.live.ensures.shown in
+    _ fixed c.live.ensures.shown.port in
     record {
       behind = search rules;
       port_is = port;
