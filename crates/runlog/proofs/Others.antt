@@ -163,7 +163,7 @@ unless_apart s (l, Some line) w is = is
 unless_apart s (l, None) w is = listener_apart s.refused w.moment w.listener
 
 seen_apart : (s : EndsSight) (w : Watching) → IsOfOthers (seen s w).1
-seen_apart s w = unless_apart s (line_seen s.line w.moment w.line) w
+seen_apart s w = unless_apart s (line_seen s.line w.moment w.line) (record w { syncs = s.syncs })
     (line_apart s.line w.moment w.line)
 
 -- ---- The stations
