@@ -22,19 +22,20 @@ use Rattle.runlog.specs.Exchange.{RequestWatch, answer_in, awaited_of, place_of,
 use Rattle.runlog.specs.Exchange.{traffic_after}
 use Rattle.runlog.specs.Orders.{order_of}
 use Rattle.runlog.specs.Passing.{Went, passed}
+use Rattle.runlog.specs.Ends.{is_away}
+use Rattle.runlog.specs.Stations as stations
 use Rattle.runlog.specs.Stations.{address_of}
 use Rattle.runlog.specs.Traffic.{answer_told, mishap_told, sent, suffered}
 use Rattle.runlog.specs.Trails.{fate_told}
 use Rattle.runlog.specs.Watching.{Watching, answer_noted_at, answer_noted_by, answered_by}
 use Rattle.runlog.specs.Watching.{as_late, as_seen, counts_noted, is_repeat, late_noted}
 use Rattle.runlog.specs.Watching.{line_received, sent_at, sent_by, sent_to, suffered_at}
-use Rattle.runlog.specs.Watching.{suffered_by, suffered_if, with_stations}
+use Rattle.runlog.specs.Watching.{suffered_by, suffered_if, exchanged, unless_away}
 use Rattle.runlog.specs.declared.exchange.AwaitedAnswer.{AwaitedAnswer}
 use Rattle.runlog.specs.declared.exchange.AwaitedAnswer.TheVariants as awaited
 use Rattle.runlog.specs.declared.fate.CommandFate.TheVariants as fate
 use Rattle.runlog.specs.declared.fate.Mishap.{Mishap}
 use Rattle.runlog.specs.declared.fate.Mishap.TheVariants as mishap
-use Rattle.runlog.specs.declared.note.LogLine.{LogLine}
 use Rattle.runlog.specs.declared.stations.StationWatch.{StationWatch}
 use Rattle.runlog.specs.declared.traffic.Traffic.{Traffic}
 use Rattle.runlog.proofs.Addressed.{address_is, at_its_place, its_own, not_its, octets_of}
@@ -149,14 +150,18 @@ module _ (w : Watching) (fcb : Bool) (asdu : List ℕ) (now : ℕ)
       exchange = exchange.asked w.link octets place what now w.exchange;
     }
 
-    -- whatever is asked of what is known behind it
+    abbrev sent_so : Watching
+    sent_so =
+        exchanged (place_of (address_of w.link octets) w.traffic) (awaited_of octets) octets now w
+
+    -- whatever is asked of what is known behind it, but for the stations
     after_is : {A : Type 0} (f : Watching → A)
-        → ((v : List StationWatch × Option LogLine) (x : Watching)
-        → f (with_stations v x).0 ≡ f x)
+        → ((v : List StationWatch) (x : Watching) → f (record x { stations = v }) ≡ f x)
         → f (passed (Went now (LineOut octets)) w).0
         ≡ f (sent_to t (length before) octets now (begun_at (Some (length before)) awaited.Command))
-    after_is f stations =
-        stations _ _
+    after_is f blind =
+        blind (unless_away (is_away w.line.presence)
+        (stations.asked sent_so.link octets now sent_so.stations) sent_so.stations).0 sent_so
         ∙ ap (λ place. f (sent_at place (awaited_of octets) octets now
         (begun_at place (awaited_of octets))))
         (ap (λ a. place_of a w.traffic) (address_is w.link t.address

@@ -33,6 +33,7 @@ use Rattle.runlog.specs.declared.ends.LineLogged.{LineLogged}
 use Rattle.runlog.specs.declared.ends.LineLogged.TheVariants as logged
 use Rattle.runlog.specs.declared.ends.LineWatch.{LineWatch}
 use Rattle.runlog.specs.declared.ends.ListenerWatch.{ListenerWatch}
+use Rattle.runlog.specs.declared.limit.LeftOut.{LeftOut}
 use Rattle.runlog.specs.declared.limit.Limit.{Limit}
 use Rattle.runlog.specs.declared.note.LogLine.{LogLine}
 use Rattle.runlog.specs.declared.note.Note.{Note}
@@ -49,7 +50,7 @@ use Rattle.runlog.proofs.Connections.{line_sent}
 abbrev IsApart : Note → Type 0
 IsApart what = is_of_connection what ≡ false
 
-one_apart : (what : Note) (now : ℕ) (count : Option ℕ) → IsApart what
+one_apart : (what : Note) (now : ℕ) (count : Option LeftOut) → IsApart what
     → IsOfOthers (line_by what now count)
 one_apart what now None is = tt
 one_apart what now (Some left_out) is = is
@@ -163,7 +164,7 @@ unless_apart s (l, Some line) w is = is
 unless_apart s (l, None) w is = listener_apart s.refused w.moment w.listener
 
 seen_apart : (s : EndsSight) (w : Watching) → IsOfOthers (seen s w).1
-seen_apart s w = unless_apart s (line_seen s.line w.moment w.line) w
+seen_apart s w = unless_apart s (line_seen s.line w.moment w.line) (record w { syncs = s.syncs })
     (line_apart s.line w.moment w.line)
 
 -- ---- The stations

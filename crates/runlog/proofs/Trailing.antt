@@ -1,7 +1,8 @@
 -- What becomes of commands is told, in the order of events.
-use Rattle.std.proofs.Common.{◌≡◌, ℕ, ◌+◌, ◌-◌, ◌<◌, ◌≤◌, ◌&&◌, Bool, true, false, not, List, []}
-use Rattle.std.proofs.Common.{◌∷◌, ◌++◌, length, take, Option, Some, None, refl, sym, ap, ◌∙◌}
-use Rattle.std.proofs.Common.{arith, subst, length-append, nat_lt}
+use Rattle.std.proofs.Common.{◌≡◌, ℕ, ◌+◌, ◌-◌, ◌<◌, ◌≤◌, ◌==◌, ◌&&◌, ◌||◌, Bool, true, false, not, List}
+use Rattle.std.proofs.Common.{[], ◌∷◌, ◌++◌, length, take, Option, Some, None, refl, sym, ap, ◌∙◌}
+use Rattle.std.proofs.Common.{arith, length-append, nat_lt, suc}
+use Rattle.std.proofs.lemmas.Bool.Decides.{nat_tests}
 use Rattle.std.proofs.lemmas.List.{take_all}
 use Rattle.std.specs.Prelude.{if◌then◌else◌, slice_get, slice_set}
 use Rattle.std.specs.declared.net.ip_addr.IpAddr.{IpAddr}
@@ -152,9 +153,12 @@ open_tells : (over watched some : Bool) (old new : Book) → over ≡ false
 open_tells false watched some old new lasts tells = tells
 open_tells true watched some old new lasts tells = cc
 
+one_more : (n : ℕ) → (suc n == 0) ≡ false
+one_more n = grind (arith, nat_tests)
+
 none_there : (lines : List LogLine) → is_told lines ≡ true → lines ≡ []
 none_there [] is = refl
-none_there (line ∷ lines) is = cc
+none_there (line ∷ lines) is = let no : false ≡ true = sym (one_more (length lines)) ∙ is in cc
 
 module _ (old new : Book) (tells : Tells old new) (lasts : old.is_over ≡ false) where
   told_as : TellsUnless (not (has_trail old.watching)) old new

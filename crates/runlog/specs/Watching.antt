@@ -166,7 +166,8 @@ unless_logged s (w, Some line) = (w, Some line)
 unless_logged s (w, None) = with_listener (listener_seen s.refused w.moment w.listener) w
 
 abbrev pub seen : EndsSight → Watching → Watching × Option LogLine
-seen s w = unless_logged s (with_line (line_seen s.line w.moment w.line) w)
+seen s w =
+    unless_logged s (with_line (line_seen s.line w.moment w.line) (record w { syncs = s.syncs }))
 
 -- an event begins
 abbrev pub at : ℕ → Watching → Watching
@@ -336,8 +337,7 @@ came next.Done buf s w = (w, None)
 
 -- and what was late before it is noted first
 abbrev pub event_noted : Next → List ℕ → EndsSight → Watching → Watching × Option LogLine
-event_noted event buf s w =
-    came event buf s (late_noted s.late_octets (record w { syncs = s.syncs }))
+event_noted event buf s w = came event buf s (late_noted s.late_octets w)
 
 abbrev pub inbox_after : Close → Inbox → Inbox
 inbox_after close.Replaced b = b

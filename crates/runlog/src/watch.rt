@@ -224,7 +224,7 @@ impl Watch {
         self.line.since()
     }
 
-    /// Which syncs of the state on the disk were slow, behind the latest event.
+    /// Which syncs of the state on the disk were slow, as far as that was seen.
     pub fn syncs(&self) -> SlowSyncs
         ensures { result ≡ self.now.syncs }
     {
@@ -263,7 +263,6 @@ impl Watch {
         requires { FitsBuffer next }
         ensures { (self.new, result) ≡ spec.event_noted next buf.now sight.now self.old }
     {
-        self.syncs = sight.syncs;
         // First: they were dropped before this event, when the latest request went out.
         self.note_late(sight.late_octets);
         self.come(next, buf, sight)
@@ -335,6 +334,7 @@ impl Watch {
         ensures { (self.new, result) ≡ spec.seen sight.now self.old }
     {
         let now = self.moment;
+        self.syncs = sight.syncs;
         match self.line.see(sight.line, now) {
             Some(line) => Some(line),
             None => self.listener.see(sight.refused, now),
