@@ -184,7 +184,8 @@ words (note.LeftOut count) = decimal count ++ codes " lines left out: nobody rea
 abbrev pub left_out_words : (count since : ℕ) → List ℕ
 left_out_words count since =
     if count == 0 then []
-    else codes " (" ++ decimal count ++ codes " left out since " ++ decimal since ++ codes ")"
+    else (codes " (" ++ decimal count ++ codes " left out")
+    ++ (codes " since " ++ decimal since ++ codes ")")
 
 -- what stands behind the line's UTC time
 abbrev pub line_text : LogLine → List ℕ

@@ -48,8 +48,9 @@ pub fn lines_say_how_many_were_left_out()
       moment = moment;
       note = what;
       left_out = record { count = suc n; since = since };
-    }) ≡ (decimal moment ++ codes " " ++ words what) ++ (codes " (" ++ decimal (suc n)
-        ++ codes " left out since " ++ decimal since ++ codes ")") }
+    }) ≡ (decimal moment ++ codes " " ++ words what)
+        ++ ((codes " (" ++ decimal (suc n) ++ codes " left out")
+        ++ (codes " since " ++ decimal since ++ codes ")")) }
     ensures first { (now : ℕ) → one_left now none_left ≡ record { count = 1; since = now } }
     ensures more { (now n since : ℕ) →
         (one_left now (record { count = suc n; since = since })).since ≡ since }

@@ -490,7 +490,8 @@ fn write_left_out<W: fmt::Write>(count: u64, since: u64, f: &mut fmt::Formatter<
     if count == 0 {
         return Ok(());
     }
-    write!(f, " ({count} left out since {since})")
+    write!(f, " ({count} left out")?;
+    write!(f, " since {since})")
 }
 
 impl fmt::Display for LogLine {

@@ -14,7 +14,8 @@ returns c = record {
   none = λ moment what. append-nil (decimal moment ++ codes " " ++ words what);
   some = λ moment n since what. ap (λ b. (decimal moment ++ codes " " ++ words what)
       ++ (if b then []
-      else codes " (" ++ decimal (suc n) ++ codes " left out since " ++ decimal since ++ codes ")"))
+      else (codes " (" ++ decimal (suc n) ++ codes " left out")
+      ++ (codes " since " ++ decimal since ++ codes ")")))
       (some_left_out n);
   first = λ now. refl;
   more = λ now n since. ap (λ b. if b then now else since) (some_left_out n);
