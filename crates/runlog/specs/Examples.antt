@@ -23,7 +23,6 @@ use Rattle.runlog.specs.declared.order.Order.{Order}
 use Rattle.runlog.specs.declared.stations.StationStanding.{StationStanding}
 use Rattle.runlog.specs.declared.ends.LineWatch.{LineWatch}
 use Rattle.runlog.specs.declared.note.LogLine.{LogLine}
-use Rattle.runlog.specs.declared.note.Note.{Note}
 use Rattle.runlog.specs.declared.spoiling.Spoiling.{Spoiling}
 use Rattle.runlog.specs.declared.spoiling.Spoiling.TheVariants.{Frame as FrameOf}
 use Rattle.runlog.specs.declared.stations.StationWatch.{StationWatch}
