@@ -25,9 +25,9 @@ use runlog::{LogNames, NamedStation};
 use settings::{LiveSettings, Names as SiteNames};
 use sim::{LineListener, Scenario};
 use sqlite_disk::Disk;
-use sqlite_std_file::FileFrom;
+use sqlite_std_file::File as DiskFile;
 use state::Folder;
-use state_files::{Directory, Starts, Stood, stood_in};
+use state_files::{Directory, Stood, stood_in};
 use std::alloc::{AllocError, Global};
 use std::fs::File;
 use std::io;
@@ -156,19 +156,17 @@ pub(crate) trait Host {
 /// The system of a process. Of what its files hold nothing is known, but what led to the state that
 /// a run may find, which only proofs know.
 #[derive(Drop)]
-pub(crate) struct System<'r, S: Starts> {
+pub(crate) struct System<'r> {
     pub(crate) rt: &'r HostRuntime,
     /// Whether its standard error is a terminal, and its standard output isn't.
     pub(crate) is_watched: bool,
     /// Whether standard output shows colours of itself.
     pub(crate) has_colours: bool,
-    /// What stands in the files of the directory that a run is told.
-    pub(crate) starts: S,
-    /// What led to the state at the head of the newest log there.
+    /// What led to the state at the head of the newest log, in the directory that a run is told.
     pub(crate) lineage: History,
 }
 
-impl<S: Starts> Host for System<'_, S> {
+impl Host for System<'_> {
     ghost has = { λ _ _ _. Unit {0} };
 
     ghost lacks = { λ _ _. Unit {0} };
@@ -176,7 +174,7 @@ impl<S: Starts> Host for System<'_, S> {
     ghost use Rattle.telegate.specs.Ran.{HasRunBy};
 
     ghost ran = { λ old _ text wishes ended. HasRunBy (λ settings. StartsIn
-        ⟦<FileFrom<S::Found> as Disk>⟧ wishes settings old.lineage.entries) text wishes ended };
+        ⟦<DiskFile as Disk>⟧ wishes settings old.lineage.entries) text wishes ended };
 
     ghost use Rattle.telegate.specs.Playing.{ArePlayedBy};
 
@@ -286,15 +284,17 @@ fn play_at(
 
 /// Runs the gateway live with these settings and places, which were read from this text, in a
 /// process of this system.
-fn run_process<S: Starts>(
-    system: &System<'_, S>,
+// A process isn't generic over what stands in its files: beside a fault that borrows for the whole
+// life of a process the borrow checker covers no call with such a site.
+fn run_process(
+    system: &System<'_>,
     settings: &Config,
     places: &LiveSettings,
     text: &[u8],
     wishes: Wishes<'_>,
 ) -> Result<(), Fault>
-    ensures { HasNotBegun result ⊎ IsOver (StartsIn ⟦<FileFrom<S::Found> as Disk>⟧ wishes.entry
-        settings.now system.now.lineage.entries) settings.now places.now wishes.entry result }
+    ensures { HasNotBegun result ⊎ IsOver (StartsIn ⟦<DiskFile as Disk>⟧ wishes.entry settings.now
+        system.now.lineage.entries) settings.now places.now wishes.entry result }
 {
     let rt = system.rt;
     let Ok(stations) = names_of(rt.alloc(), wishes.names) else {
@@ -305,32 +305,17 @@ fn run_process<S: Starts>(
         return Err(Fault::EndUnusable);
     };
     let names = named_by(wishes.names, stations.as_slice());
-    run_named(system, places, names, settings, text, wishes)
-}
-
-/// The same, where the line and the stations are called so.
-fn run_named<'a, S: Starts>(
-    system: &System<'a, S>,
-    places: &'a LiveSettings,
-    names: LogNames<'a>,
-    settings: &Config,
-    text: &[u8],
-    wishes: Wishes<'_>,
-) -> Result<(), Fault>
-    ensures { HasNotBegun result ⊎ IsOver (StartsIn ⟦<FileFrom<S::Found> as Disk>⟧ wishes.entry
-        settings.now system.now.lineage.entries) settings.now places.now wishes.entry result }
-{
     let mut site = process_of(system, places, names, wishes.log_severity);
     run_out(&mut site, settings, text, wishes)
 }
 
 /// A process of this system with these settings, names and form of its log.
-fn process_of<'a, S: Starts>(
-    system: &System<'a, S>,
+fn process_of<'a>(
+    system: &System<'a>,
     places: &'a LiveSettings,
     names: LogNames<'a>,
     has_severity: bool,
-) -> Process<'a, S>
+) -> Process<'a>
     ensures severity { result.has_severity ≡ has_severity }
     ensures places { result.places.now ≡ places.now }
     ensures lineage { result.lineage.entries ≡ system.now.lineage.entries }
@@ -340,7 +325,6 @@ fn process_of<'a, S: Starts>(
         places,
         names,
         has_severity,
-        starts: system.starts,
         lineage: system.lineage.again(),
     }
 }

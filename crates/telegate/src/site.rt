@@ -15,6 +15,7 @@ use live::{
 use record::{RecordSheet, StandardOutput};
 use runlog::{LogNames, LogSink, StandardError, Trouble};
 use settings::LiveSettings;
+use sqlite_std_file::Unknown;
 use state::Folder;
 use state_files::{Directory, Starts, mark_beside};
 use status::VisitorListener;
@@ -141,17 +142,27 @@ pub(crate) trait RunSite {
         ensures asked { asked self.new ≡ asked self.old };
 }
 
+/// What stands in the files of a state, of which nothing is supposed.
+#[derive(Clone, Copy)]
+pub(crate) struct AsTheyStand;
+
+impl Starts for AsTheyStand {
+    type Found = Unknown;
+
+    fn found(self) -> Unknown {
+        Unknown
+    }
+}
+
 /// The ends that a process has at these places.
 #[derive(Drop)]
-pub(crate) struct Process<'r, S: Starts> {
+pub(crate) struct Process<'r> {
     pub(crate) rt: &'r HostRuntime,
     pub(crate) places: &'r LiveSettings,
     /// What the line and the stations are called.
     pub(crate) names: LogNames<'r>,
     /// Each line of the log begins with how severe it is.
     pub(crate) has_severity: bool,
-    /// What stands in the files of its directory.
-    pub(crate) starts: S,
     /// What led to the state at the head of the newest log in its directory.
     pub(crate) lineage: History,
 }
@@ -209,14 +220,14 @@ impl<L: Reached, A: Reached> Reached for ProcessLine<L, A> {
     }
 }
 
-impl<'r, S: Starts> RunSite for Process<'r, S> {
+impl<'r> RunSite for Process<'r> {
     type Line = SystemLine<'r, HostRuntime>;
 
     type Listener = CentreListener<'r, HostRuntime>;
 
     type Clock = SystemClock<'r, HostRuntime>;
 
-    type Folder = Directory<S>;
+    type Folder = Directory<AsTheyStand>;
 
     type Sink = StandardError<'r, 'r, HostRuntime>;
 
@@ -299,9 +310,9 @@ impl<'r, S: Starts> RunSite for Process<'r, S> {
         }
     }
 
-    fn folder(&mut self, name: &str) -> Result<Directory<S>, AllocError> {
+    fn folder(&mut self, name: &str) -> Result<Directory<AsTheyStand>, AllocError> {
         let path = String::from_str(self.rt.alloc(), name)?;
-        Ok(Directory::new(*self.rt, path, self.starts, self.lineage.again()))
+        Ok(Directory::new(*self.rt, path, AsTheyStand, self.lineage.again()))
     }
 
     fn is_on_btrfs(&self, name: &str) -> bool {
