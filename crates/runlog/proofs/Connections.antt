@@ -45,12 +45,6 @@ sent_so octets now c = sent_by
     (bytes_eq octets (0x68 ∷ 0x04 ∷ 0x0B ∷ 0x00 ∷ 0x00 ∷ 0x00 ∷ []))
     (bytes_eq octets (0x68 ∷ 0x04 ∷ 0x23 ∷ 0x00 ∷ 0x00 ∷ 0x00 ∷ [])) now c
 
-pub line_sent : (octets : List ℕ) (now : ℕ) (c : ConnectionWatch)
-    → sent_step now octets ≡ Nothing → (connection_sent octets now c).1 ≡ None
-unfolding stepped
-line_sent octets now c is =
-    ap (λ x. x.1) (sent_so octets now c) ∙ ap (λ s. (stepped s c).1) is
-
 pub connection_is : (p : Passed) (w : Watching)
     → (passed p w).0.connection ≡ (stepped (step_of p) w.connection).0
 unfolding stepped

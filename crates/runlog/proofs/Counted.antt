@@ -1,5 +1,5 @@
 -- What is counted of a station.
-use Rattle.std.proofs.Common.{◌≡◌, ℕ, List, Option, Some, None, refl, ap, ◌∙◌}
+use Rattle.std.proofs.Common.{◌≡◌, ℕ, List, Option, Some, None, refl}
 use Rattle.asdu.specs.declared.sizes.Sizes.{Sizes}
 use Rattle.link.specs.declared.answer.Answer.{Answer}
 use Rattle.link.specs.declared.answer.Answer.TheVariants as answer
@@ -10,7 +10,6 @@ use Rattle.runlog.specs.Traffic.{reported, sent, skips_line, spoilt_line, suffer
 use Rattle.runlog.specs.Exchange.{traffic_after}
 use Rattle.runlog.specs.declared.content.Content.{Content}
 use Rattle.runlog.specs.declared.content.Content.TheVariants as content
-use Rattle.runlog.specs.declared.content.Skip.{Skip}
 use Rattle.runlog.specs.declared.fate.Mishap.{Mishap}
 use Rattle.runlog.specs.declared.fate.Mishap.TheVariants as mishap
 use Rattle.runlog.specs.declared.note.LogLine.{LogLine}
@@ -38,43 +37,8 @@ pub command_so : (o : Option Order) (t : Traffic)
 command_so o t =
     record { address = refl; reported = refl; at = refl; skips = refl; orders = refl }
 
--- a report that isn't skipped changes no count of the station but its own
-noted_same : (what : Content) (now : ℕ) (octets : List ℕ) (t : Traffic)
-    → ((why : Skip) → what ≡ content.Skipped why → ⊥)
-    → Same t (content_noted what now octets t)
-noted_same content.Report now octets t other = same t
-noted_same content.Reply now octets t other = same t
-noted_same (content.Skipped why) now octets t other = absurd (other why refl)
-
 abbrev counted : ℕ → Traffic → Traffic
 counted now t = record t { reports = one_more t.reports; last_report = Some now }
-
-pub passed_on_so : (sizes : Sizes) (now : ℕ) (octets : List ℕ) (t : Traffic)
-    → ((why : Skip) → content_of sizes octets ≡ content.Skipped why → ⊥)
-    → IsCounted (one_more t.reports) (Some now) t.skipped t.commands t (reported sizes now octets t)
-passed_on_so sizes now octets t other =
-    let x = noted_same (content_of sizes octets) now octets (counted now t) other in record {
-      address = x.address;
-      reported = x.reported;
-      at = x.at;
-      skips = x.skips;
-      orders = x.orders;
-    }
-
-pub skipped_so : (sizes : Sizes) (now : ℕ) (octets : List ℕ) (why : Skip) (t : Traffic)
-    → content_of sizes octets ≡ content.Skipped why
-    → IsCounted (one_more t.reports) (Some now) (one_more t.skipped) t.commands
-    t (reported sizes now octets t)
-skipped_so sizes now octets why t is =
-    let e = ap (λ what. content_noted what now octets (counted now t)) is in record {
-      address = ap (λ v. v.address) e;
-      reported = ap (λ v. v.reports) e;
-      at = ap (λ v. v.last_report) e;
-      skips = ap (λ v. v.skipped) e;
-      orders = ap (λ v. v.commands) e;
-    }
-
--- ---- Its address stays
 
 noted_address : (what : Content) (now : ℕ) (octets : List ℕ) (t : Traffic)
     → (content_noted what now octets t).address ≡ t.address

@@ -1,20 +1,9 @@
 -- The first station that has a line to be logged.
-use Rattle.std.proofs.Common.{◌≡◌, ℕ, zero, suc, ◌<◌, List, [], ◌∷◌, Option, Some, None, length}
+use Rattle.std.proofs.Common.{◌≡◌, ℕ, zero, suc, ◌<◌, List, [], ◌∷◌, Option, Some, length}
 use Rattle.std.proofs.Common.{get_or, set, take, drop, refl, ap, arith}
 use Rattle.runlog.specs.Traffic.{traffic_line, first_line, behind}
 use Rattle.runlog.specs.declared.note.LogLine.{LogLine}
 use Rattle.runlog.specs.declared.traffic.Traffic.{Traffic}
-
--- this one has none
-pub none_more : (now i : ℕ) (xs : List Traffic) (d t : Traffic) → i < length xs
-    → traffic_line now (get_or xs i d) ≡ (t, None)
-    → behind (take (suc i) (set xs i t)) (first_line now (drop (suc i) (set xs i t)))
-    ≡ behind (take i xs) (first_line now (drop i xs))
-none_more now i [] d t less e = absurd (omega (arith, less))
-none_more now zero (x ∷ xs) d t less e = rw e refl
-none_more now (suc i) (x ∷ xs) d t less e =
-    ap (λ (r : List Traffic × Option LogLine). (x ∷ r.0, r.1))
-    (none_more now i xs d t (omega (arith, less)) e)
 
 -- this one has
 pub some_last : (now i : ℕ) (xs : List Traffic) (d t : Traffic) (line : LogLine) → i < length xs

@@ -22,23 +22,6 @@ pub handed_on : (line : LogLine) (taken : Bool) (b : Book) (before : List LogLin
 handed_on line taken b before goes_on is =
     ap (λ (x : Book). x.handed) (logged_on line taken b goes_on) ∙ ap (kept true line) is
 
-pub taken_on : (line : LogLine) (b : Book) (before : List LogLine)
-    → b.is_over ≡ false → b.lines ≡ Some before
-    → ((logged (Some line) true b).lines ≡ Some (line ∷ before))
-    × ((logged (Some line) true b).is_over ≡ false)
-taken_on line b before goes_on is = (
-  ap (λ (x : Book). x.lines) (logged_on line true b goes_on) ∙ ap (kept true line) is,
-  ap (λ (x : Book). x.is_over) (logged_on line true b goes_on),
-)
-
-pub refused_on : (line : LogLine) (b : Book) → b.is_over ≡ false
-    → ((logged (Some line) false b).lines ≡ b.lines)
-    × ((logged (Some line) false b).is_over ≡ true)
-refused_on line b goes_on = (
-  ap (λ (x : Book). x.lines) (logged_on line false b goes_on),
-  ap (λ (x : Book). x.is_over) (logged_on line false b goes_on),
-)
-
 pub over_on : (line : LogLine) (taken : Bool) (b : Book) → b.is_over ≡ true
     → logged (Some line) taken b ≡ b
 over_on line taken b over = ap (λ o. if o then b else on line taken b) over

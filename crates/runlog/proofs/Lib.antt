@@ -12,8 +12,6 @@ pub mod RowLemmas
 pub mod Passings
 pub mod Connections
 pub mod ConnectionLines
-pub mod Others
-pub mod Walls
 pub mod Failures
 pub mod Seen
 pub mod Standing
@@ -27,5 +25,4 @@ pub mod Skipping
 pub mod Stepwise
 pub mod Books
 pub mod Systems
-pub mod Meanings
 pub mod Trailing

@@ -1,14 +1,13 @@
 -- Which station answers, commands and mishaps are noted of.
 use Rattle.std.proofs.Common.{◌≡◌, ℕ, ◌+◌, ◌-◌, ◌==◌, ◌<◌, ◌≤◌, Bool, true, false, List, [], ◌∷◌}
 use Rattle.std.proofs.Common.{◌++◌, length, Option, Some, None, refl, ap, ◌∙◌, arith}
-use Rattle.std.proofs.Common.{nat_le, nat_lt, zero, suc, get_or, length-append}
+use Rattle.std.proofs.Common.{nat_lt, zero, suc, get_or, length-append}
 use Rattle.std.proofs.Math.Seq.{get_or-append_seam, set-append_seam}
 use Rattle.std.proofs.lemmas.List.{get_or_append_left}
 use Rattle.std.proofs.lemmas.List.Sums.{position_or_len_is}
 use Rattle.std.specs.List.{position_or_len}
 use Rattle.std.specs.Prelude.{if◌then◌else◌, slice_get, slice_set}
 use Rattle.ft12.specs.Spelling.{spelling}
-use Rattle.ft12.specs.declared.frame.LinkSize.{LinkSize}
 use Rattle.gateway.specs.Log.{LineOut}
 use Rattle.gateway.specs.declared.counts.Counts.{Counts}
 use Rattle.link.specs.Requests.{request_frame}
@@ -22,19 +21,19 @@ use Rattle.runlog.specs.Exchange.{RequestWatch, answer_in, awaited_of, place_of,
 use Rattle.runlog.specs.Exchange.{traffic_after}
 use Rattle.runlog.specs.Orders.{order_of}
 use Rattle.runlog.specs.Passing.{Went, passed}
+use Rattle.runlog.specs.Ends.{is_away}
+use Rattle.runlog.specs.Stations as stations
 use Rattle.runlog.specs.Stations.{address_of}
-use Rattle.runlog.specs.Traffic.{answer_told, mishap_told, sent, suffered}
+use Rattle.runlog.specs.Traffic.{answer_told, sent}
 use Rattle.runlog.specs.Trails.{fate_told}
 use Rattle.runlog.specs.Watching.{Watching, answer_noted_at, answer_noted_by, answered_by}
-use Rattle.runlog.specs.Watching.{as_late, as_seen, counts_noted, is_repeat, late_noted}
-use Rattle.runlog.specs.Watching.{line_received, sent_at, sent_by, sent_to, suffered_at}
-use Rattle.runlog.specs.Watching.{suffered_by, suffered_if, with_stations}
+use Rattle.runlog.specs.Watching.{as_seen, counts_noted, is_repeat}
+use Rattle.runlog.specs.Watching.{line_received, sent_at, sent_by, sent_to}
+use Rattle.runlog.specs.Watching.{suffered_if, exchanged, unless_away}
 use Rattle.runlog.specs.declared.exchange.AwaitedAnswer.{AwaitedAnswer}
 use Rattle.runlog.specs.declared.exchange.AwaitedAnswer.TheVariants as awaited
 use Rattle.runlog.specs.declared.fate.CommandFate.TheVariants as fate
-use Rattle.runlog.specs.declared.fate.Mishap.{Mishap}
 use Rattle.runlog.specs.declared.fate.Mishap.TheVariants as mishap
-use Rattle.runlog.specs.declared.note.LogLine.{LogLine}
 use Rattle.runlog.specs.declared.stations.StationWatch.{StationWatch}
 use Rattle.runlog.specs.declared.traffic.Traffic.{Traffic}
 use Rattle.runlog.proofs.Addressed.{address_is, at_its_place, its_own, not_its, octets_of}
@@ -149,14 +148,18 @@ module _ (w : Watching) (fcb : Bool) (asdu : List ℕ) (now : ℕ)
       exchange = exchange.asked w.link octets place what now w.exchange;
     }
 
-    -- whatever is asked of what is known behind it
+    abbrev sent_so : Watching
+    sent_so =
+        exchanged (place_of (address_of w.link octets) w.traffic) (awaited_of octets) octets now w
+
+    -- whatever is asked of what is known behind it, but for the stations
     after_is : {A : Type 0} (f : Watching → A)
-        → ((v : List StationWatch × Option LogLine) (x : Watching)
-        → f (with_stations v x).0 ≡ f x)
+        → ((v : List StationWatch) (x : Watching) → f (record x { stations = v }) ≡ f x)
         → f (passed (Went now (LineOut octets)) w).0
         ≡ f (sent_to t (length before) octets now (begun_at (Some (length before)) awaited.Command))
-    after_is f stations =
-        stations _ _
+    after_is f blind =
+        blind (unless_away (is_away w.line.presence)
+        (stations.asked sent_so.link octets now sent_so.stations) sent_so.stations).0 sent_so
         ∙ ap (λ place. f (sent_at place (awaited_of octets) octets now
         (begun_at place (awaited_of octets))))
         (ap (λ a. place_of a w.traffic) (address_is w.link t.address
@@ -221,23 +224,6 @@ module _ (w : Watching) (octets : List ℕ) (before behind : List Traffic) (t : 
 
 -- ---- What befell
 
-suffered_here : (place : Option ℕ) (what : Mishap) (w : Watching) (before behind : List Traffic)
-    (t : Traffic) → IsInPlace before behind t w → place ≡ Some (length before)
-    → IsInPlace before behind (suffered what w.moment t) (suffered_at place what w)
-suffered_here place what w before behind t is asked =
-    ap (λ p. (suffered_at p what w).traffic) asked
-    ∙ ap (λ found. (suffered_by found (length before) what w).traffic)
-    (found_here before behind t w.traffic is)
-    ∙ changed_here before behind t (suffered what w.moment t) w.traffic is
-
-told_here : (place : Option ℕ) (what : Mishap) (w : Watching) (before behind : List Traffic)
-    (t : Traffic) → IsInPlace before behind t w → place ≡ Some (length before)
-    → (suffered_at place what w).trail ≡ mishap_told what w.moment t w.trail
-told_here place what w before behind t is asked =
-    ap (λ p. (suffered_at p what w).trail) asked
-    ∙ ap (λ found. (suffered_by found (length before) what w).trail)
-    (found_here before behind t w.traffic is)
-
 stayed : (n m : ℕ) → n ≡ m → nat_lt n m ≡ false
 stayed n m same = grind (arith, same)
 
@@ -258,39 +244,6 @@ counted_as spoilt mirrors lost counts w a b d =
     ∙ ap (λ x. noted_as spoilt x (nat_lt w.seen.lost counts.lost) counts w) b
     ∙ ap (λ x. noted_as spoilt mirrors x counts w) d
 
-pub given_up_here : (counts : Counts) (w : Watching) (before behind : List Traffic) (t : Traffic)
-    → IsInPlace before behind t w → w.exchange.before ≡ Some (length before)
-    → w.seen.lost < counts.lost → w.seen.mirrors ≡ counts.mirrors → w.seen.spoilt ≡ counts.spoilt
-    → IsInPlace before behind t (counts_noted counts w) × ((counts_noted counts w).trail
-    ≡ fate_told (Some fate.GivenUp) t.order t.address w.moment w.trail)
-given_up_here counts w before behind t is asked more mirrors spoilt =
-    let counted = counted_as false false true counts w (stayed _ _ spoilt) (stayed _ _ mirrors)
-    (below _ _ more) in (
-      ap (λ (v : Watching). v.traffic) counted
-          ∙ suffered_here w.exchange.before mishap.GivenUp w before behind t is asked,
-      ap (λ (v : Watching). v.trail) counted
-          ∙ told_here w.exchange.before mishap.GivenUp w before behind t is asked,
-    )
-
-pub dropped_here : (counts : Counts) (w : Watching) (before behind : List Traffic) (t : Traffic)
-    → IsInPlace before behind t w → w.exchange.before ≡ Some (length before)
-    → w.seen.mirrors < counts.mirrors → w.seen.lost ≡ counts.lost → w.seen.spoilt ≡ counts.spoilt
-    → IsInPlace before behind (suffered mishap.MirrorDropped w.moment t) (counts_noted counts w)
-dropped_here counts w before behind t is asked more lost spoilt =
-    ap (λ (v : Watching). v.traffic)
-    (counted_as false true false counts w (stayed _ _ spoilt) (below _ _ more) (stayed _ _ lost))
-    ∙ suffered_here w.exchange.before mishap.MirrorDropped w before behind t is asked
-
-pub spoilt_here : (counts : Counts) (w : Watching) (before behind : List Traffic) (t : Traffic)
-    → IsInPlace before behind t w → w.exchange.before ≡ Some (length before)
-    → w.seen.spoilt < counts.spoilt → w.seen.lost ≡ counts.lost → w.seen.mirrors ≡ counts.mirrors
-    → IsInPlace before behind (suffered (mishap.Spoilt w.exchange.spoiling) w.moment t)
-    (counts_noted counts w)
-spoilt_here counts w before behind t is asked more lost mirrors =
-    ap (λ (v : Watching). v.traffic)
-    (counted_as true false false counts w (below _ _ more) (stayed _ _ mirrors) (stayed _ _ lost))
-    ∙ suffered_here w.exchange.before (mishap.Spoilt w.exchange.spoiling) w before behind t is asked
-
 -- nothing new was counted
 pub same_counts : (counts : Counts) (w : Watching) → w.seen ≡ counts
     → counts_noted counts w ≡ as_seen counts w
@@ -299,60 +252,5 @@ same_counts counts w same =
     (stayed _ _ (ap (λ (x : Counts). x.mirrors) same))
     (stayed _ _ (ap (λ (x : Counts). x.lost) same))
 
-pub nothing_befell : (counts : Counts) (w : Watching) → w.seen.lost ≡ counts.lost
-    → w.seen.mirrors ≡ counts.mirrors → w.seen.spoilt ≡ counts.spoilt
-    → (counts_noted counts w).traffic ≡ w.traffic
-nothing_befell counts w lost mirrors spoilt =
-    ap (λ (v : Watching). v.traffic)
-    (counted_as false false false counts w (stayed _ _ spoilt) (stayed _ _ mirrors)
-    (stayed _ _ lost))
-
-pub counts_seen : (counts : Counts) (w : Watching) → (counts_noted counts w).seen ≡ counts
-unfolding counts_noted
-counts_seen counts w = refl
-
--- ---- What came late
-
-abbrev came_late : Watching → Mishap
-came_late w = mishap.Late (exchange.lag w.exchange)
-
-late_as : (b : Bool) (late : ℕ) (w : Watching) → nat_lt w.late late ≡ b
-    → late_noted late w
-    ≡ as_late late (if b then suffered_at w.exchange.overdue (came_late w) w else w)
-late_as b late w is =
-    ap (λ x. as_late late (if x then suffered_at w.exchange.overdue (came_late w) w else w)) is
-
-pub late_here : (late : ℕ) (w : Watching) (before behind : List Traffic) (t : Traffic)
-    → IsInPlace before behind t w → w.exchange.overdue ≡ Some (length before) → w.late < late
-    → IsInPlace before behind (suffered (came_late w) w.moment t) (late_noted late w)
-late_here late w before behind t is asked more =
-    ap (λ (v : Watching). v.traffic) (late_as true late w (below _ _ more))
-    ∙ suffered_here w.exchange.overdue (came_late w) w before behind t is asked
-
 no_more : (n m : ℕ) → n ≤ m → nat_lt m n ≡ false
 no_more n m none = grind (arith, none)
-
-pub none_late : (late : ℕ) (w : Watching) → late ≤ w.late
-    → (late_noted late w).traffic ≡ w.traffic
-none_late late w none =
-    ap (λ (v : Watching). v.traffic) (late_as false late w (no_more late w.late none))
-
-over_by : (since ms now : ℕ) → since + ms ≤ now → nat_le ms (now - since) ≡ true
-over_by since ms now past = grind (arith, past)
-
-in_time_by : (since ms now : ℕ) → since ≤ now → now < since + ms
-    → nat_le ms (now - since) ≡ false
-in_time_by since ms now behind early = grind (arith, behind, early)
-
-pub overdue_so : (size : LinkSize) (request : List ℕ) (place : Option ℕ) (what : AwaitedAnswer)
-    (now : ℕ) (e : RequestWatch)
-    → e.since + e.answer_ms ≤ now → (exchange.asked size request place what now e).overdue ≡ e.place
-overdue_so size request place what now e past =
-    ap (λ b. if b then e.place else None) (over_by e.since e.answer_ms now past)
-
-pub in_time_so : (size : LinkSize) (request : List ℕ) (place : Option ℕ) (what : AwaitedAnswer)
-    (now : ℕ) (e : RequestWatch)
-    → e.since ≤ now → now < e.since + e.answer_ms
-    → (exchange.asked size request place what now e).overdue ≡ None
-in_time_so size request place what now e behind early =
-    ap (λ b. if b then e.place else None) (in_time_by e.since e.answer_ms now behind early)

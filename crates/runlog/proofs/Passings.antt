@@ -27,7 +27,8 @@ use Rattle.runlog.specs.Watching.{suffered_by, suffered_at, suffered_if, counts_
 use Rattle.runlog.specs.Ends.{is_away}
 use Rattle.runlog.specs.Watching.{as_late, sent_by, sent_at, asked, is_repeat, judged, unless_away}
 use Rattle.runlog.specs.Watching.{unless_queue, counted, looked_at, is_look_due, queue_seen}
-use Rattle.runlog.specs.Watching.{unless_inbox, gathered, unless_line}
+use Rattle.runlog.specs.Watching.{come_behind, unless_inbox, gathered, sent_to, unless_line}
+use Rattle.runlog.specs.Watching.{unless_traffic}
 use Rattle.runlog.specs.declared.ends.LineWatch.{LineWatch}
 use Rattle.runlog.specs.declared.exchange.AwaitedAnswer.{AwaitedAnswer}
 use Rattle.runlog.specs.declared.exchange.AwaitedAnswer.TheVariants as awaited
@@ -90,7 +91,17 @@ unless_logged_same s (l, None) w = record {
 }
 
 pub seen_same : (s : EndsSight) (w : Watching) → Same (seen s w).0 w
-seen_same s w = unless_logged_same s (line_seen s.line w.moment w.line) w
+seen_same s w =
+    let x = unless_logged_same s (line_seen s.line w.moment w.line)
+    (record w { syncs = s.syncs }) in
+    record {
+      connection = x.connection;
+      wall = x.wall;
+      moment = x.moment;
+      link = x.link;
+      stations = x.stations;
+      addresses = x.addresses;
+    }
 
 suffered_by_same : (t : Option Traffic) (place : ℕ) (what : Mishap) (w : Watching)
     → slice_get w.traffic place ≡ t → Same (suffered_by t place what w) w
@@ -210,11 +221,11 @@ received_same octets w = received_by (is_some w.connection.opening)
 
 -- ---- Actions
 
-sent_by_so : (b : Bool) (w : Watching) (traffic : List Traffic)
-    → addresses_of traffic ≡ addresses_of w.traffic
-    → Same (if b then w else record w { traffic = traffic }) w
-sent_by_so true w traffic are = same w
-sent_by_so false w traffic are = record {
+sent_by_so : (b : Bool) (t : Traffic) (place : ℕ) (octets : List ℕ) (now : ℕ) (w : Watching)
+    → addresses_of (sent_to t place octets now w).traffic ≡ addresses_of w.traffic
+    → Same (if b then w else sent_to t place octets now w) w
+sent_by_so true t place octets now w are = same w
+sent_by_so false t place octets now w are = record {
   connection = refl;
   wall = refl;
   moment = refl;
@@ -223,27 +234,28 @@ sent_by_so false w traffic are = record {
   addresses = are;
 }
 
-sent_by_same : (t : Option Traffic) (place : ℕ) (octets : List ℕ) (w : Watching)
-    → slice_get w.traffic place ≡ t → Same (sent_by t place octets w) w
-sent_by_same None place octets w is = same w
-sent_by_same (Some t) place octets w is =
+sent_by_same : (t : Option Traffic) (place : ℕ) (octets : List ℕ) (now : ℕ) (w : Watching)
+    → slice_get w.traffic place ≡ t → Same (sent_by t place octets now w) w
+sent_by_same None place octets now w is = same w
+sent_by_same (Some t) place octets now w is =
     let v = traffic.sent (order_at octets w) t in
-    sent_by_so (is_repeat place octets w) w (slice_set w.traffic place v)
+    sent_by_so (is_repeat place octets w) t place octets now w
     (replaced w.traffic place t v is (command_so (order_at octets w) t).address)
 
-sent_at_same : (place : Option ℕ) (what : AwaitedAnswer) (octets : List ℕ) (w : Watching)
-    → Same (sent_at place what octets w) w
-sent_at_same None awaited.Command octets w = same w
-sent_at_same None awaited.Poll octets w = same w
-sent_at_same None awaited.Nothing octets w = same w
-sent_at_same None awaited.Status octets w = same w
-sent_at_same None awaited.Reset octets w = same w
-sent_at_same (Some place) awaited.Command octets w =
-    sent_by_same (slice_get w.traffic place) place octets w refl
-sent_at_same (Some place) awaited.Poll octets w = same w
-sent_at_same (Some place) awaited.Nothing octets w = same w
-sent_at_same (Some place) awaited.Status octets w = same w
-sent_at_same (Some place) awaited.Reset octets w = same w
+sent_at_same : (place : Option ℕ) (what : AwaitedAnswer) (octets : List ℕ) (now : ℕ)
+    (w : Watching)
+    → Same (sent_at place what octets now w) w
+sent_at_same None awaited.Command octets now w = same w
+sent_at_same None awaited.Poll octets now w = same w
+sent_at_same None awaited.Nothing octets now w = same w
+sent_at_same None awaited.Status octets now w = same w
+sent_at_same None awaited.Reset octets now w = same w
+sent_at_same (Some place) awaited.Command octets now w =
+    sent_by_same (slice_get w.traffic place) place octets now w refl
+sent_at_same (Some place) awaited.Poll octets now w = same w
+sent_at_same (Some place) awaited.Nothing octets now w = same w
+sent_at_same (Some place) awaited.Status octets now w = same w
+sent_at_same (Some place) awaited.Reset octets now w = same w
 
 -- a request changes the stations, and nothing else of these
 pub asked_same : (octets : List ℕ) (now : ℕ) (w : Watching)
@@ -253,7 +265,7 @@ asked_same octets now w =
     let what = exchange.awaited_of octets in
     let v : Watching =
     record w { exchange = exchange.asked w.link octets place what now w.exchange } in
-    let x = sent_at_same place what octets v in
+    let x = sent_at_same place what octets now v in
     record {
       connection = x.connection;
       wall = x.wall;
@@ -272,9 +284,9 @@ asked_stations octets now w =
     let what = exchange.awaited_of octets in
     let v : Watching =
     record w { exchange = exchange.asked w.link octets place what now w.exchange } in
-    let x = sent_at_same place what octets v in
+    let x = sent_at_same place what octets now v in
     let away = is_away w.line.presence in
-    let ws = (sent_at place what octets v).stations in
+    let ws = (sent_at place what octets now v).stations in
     ap (λ size. unless_away away (stations.asked size octets now ws) ws) x.link
     ∙ ap (λ ws. unless_away away (stations.asked w.link octets now ws) ws) x.stations
 
@@ -367,6 +379,25 @@ lines_addresses now (t ∷ ts) =
     by (v, None) is rest = ap (λ n. n ∷ addresses_of (first_line now ts).0) is
         ∙ ap (λ ns. t.address ∷ ns) rest
 
+traffic_same : (x : List Traffic × Option LogLine) (w : Watching)
+    → addresses_of x.0 ≡ addresses_of w.traffic → Same (unless_traffic x w).0 w
+traffic_same (ts, Some line) w are = record {
+  connection = refl;
+  wall = refl;
+  moment = refl;
+  link = refl;
+  stations = refl;
+  addresses = are;
+}
+traffic_same (ts, None) w are = record {
+  connection = refl;
+  wall = refl;
+  moment = refl;
+  link = refl;
+  stations = refl;
+  addresses = are;
+}
+
 inbox_same : (x : Inbox × Option LogLine) (w : Watching) → Same (unless_inbox x w).0 w
 inbox_same (b, Some line) w = record {
   connection = refl;
@@ -376,14 +407,18 @@ inbox_same (b, Some line) w = record {
   stations = refl;
   addresses = refl;
 }
-inbox_same (b, None) w = record {
-  connection = refl;
-  wall = refl;
-  moment = refl;
-  link = refl;
-  stations = refl;
-  addresses = lines_addresses w.moment w.traffic;
-}
+inbox_same (b, None) w =
+    let v : Watching = record w { inbox = b } in
+    let x = traffic_same (first_line w.moment w.traffic) v
+    (lines_addresses w.moment w.traffic) in
+    record {
+      connection = x.connection;
+      wall = x.wall;
+      moment = x.moment;
+      link = x.link;
+      stations = x.stations;
+      addresses = x.addresses;
+    }
 
 gathered_by : (b : Bool) (v w : Watching) (line : Option LogLine) → Same v w
     → Same (one_of b (w, None) (v, line)).0 w
@@ -411,7 +446,8 @@ unless_line_same (w, None) = gathered_same w
 
 judged_same : (s : State) (w : Watching) → Same (judged s w) w
 judged_same s w =
-    let v : Watching = record w { inbox = inbox.judged s w.connection.peer w.inbox } in
+    let v : Watching =
+    come_behind (record w { inbox = inbox.judged s w.connection.peer w.inbox }) in
     let x = counts_same (counts_of s) v in
     record {
       connection = x.connection;

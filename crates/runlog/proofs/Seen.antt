@@ -1,6 +1,6 @@
 -- What a look finds of the queue, of the listener and of the line.
 use Rattle.std.proofs.Common.{◌≡◌, ◌≢◌, ℕ, ◌-◌, ◌<◌, ◌≤◌, Bool, true, false, [], Option, Some}
-use Rattle.std.proofs.Common.{None, refl, ap, ◌∙◌, nat_le, arith, length}
+use Rattle.std.proofs.Common.{None, refl, ap, ◌∙◌, length}
 use Rattle.std.specs.Prelude.{if◌then◌else◌}
 use Rattle.std.specs.Bool.{beq}
 use Rattle.std.specs.declared.net.ip_addr.IpAddr.{IpAddr}
@@ -10,116 +10,22 @@ use Rattle.gateway.specs.Log.{Closed}
 use Rattle.gateway.specs.State.{State}
 use Rattle.live.specs.declared.ends.Presence.{Presence}
 use Rattle.live.specs.declared.ends.Presence.TheVariants as presence
-use Rattle.live.specs.declared.ends.RefusedPeers.{RefusedPeers}
 use Rattle.runlog.specs.Ends.{changed, is_away, is_receiving, is_there, line_change, line_changed}
 use Rattle.runlog.specs.Ends.{line_logged}
-use Rattle.runlog.specs.Ends.{line_seen, line_seen_so, listener_logged, listener_seen}
-use Rattle.runlog.specs.Ends.{listener_tried, presence_noted, seen_as}
+use Rattle.runlog.specs.Ends.{line_seen, line_seen_so}
+use Rattle.runlog.specs.Ends.{presence_noted, seen_as}
 use Rattle.runlog.specs.Inbox.{Inbox, all_noted, judged}
-use Rattle.runlog.specs.LineLines.{logged_at}
-use Rattle.runlog.specs.Limits.{IsSecondAfter, is_minute_after}
+use Rattle.runlog.specs.Limits.{is_minute_after}
 use Rattle.runlog.specs.Passing.{Went, passed}
-use Rattle.runlog.specs.Watching.{Watching, is_full, queue_by, queue_logged, queue_seen}
+use Rattle.runlog.specs.Watching.{Watching}
 use Rattle.runlog.specs.declared.ends.LineLogged.{LineLogged}
 use Rattle.runlog.specs.declared.ends.LineWatch.{LineWatch}
-use Rattle.runlog.specs.declared.ends.ListenerWatch.{ListenerWatch}
 use Rattle.runlog.specs.declared.note.LogLine.{LogLine}
 use Rattle.runlog.specs.declared.note.Note.{Note}
 use Rattle.runlog.specs.declared.note.Note.TheVariants as note
-use Rattle.runlog.specs.declared.queue.QueueWatch.{QueueWatch}
-use Rattle.runlog.proofs.Failures.{away_so, free_after, line_asked, receiving_so}
+use Rattle.runlog.proofs.Failures.{away_so, receiving_so}
 
 -- ---- The queue
-
-few_free : (taken places : ℕ) → places - taken < 3 → is_full taken places ≡ true
-few_free taken places few = grind (arith, few)
-
-three_free : (taken places : ℕ) → 3 ≤ places - taken → is_full taken places ≡ false
-three_free taken places free = grind (arith, free)
-
-queue_look : (was is : Bool) (taken places now : ℕ) (w : QueueWatch) → w.is_full ≡ was
-    → is_full taken places ≡ is → queue_seen taken places now w ≡ queue_by was is now w
-queue_look was is taken places now w before after =
-    ap (λ b. queue_by b (is_full taken places) now w) before
-    ∙ ap (λ b. queue_by was b now w) after
-
-pub queue_fills : (w : QueueWatch) (taken places now : ℕ) → w.is_full ≡ false
-    → places - taken < 3 → IsSecondAfter w.full.logged now
-    → ((queue_seen taken places now w).1
-    ≡ Some (record { moment = now; note = note.QueueFull; left_out = w.full.left_out }))
-    × ((queue_seen taken places now w).0.is_full ≡ true)
-    × ((queue_seen taken places now w).0.full ≡ logged_at now)
-queue_fills w taken places now was few second =
-    let look = queue_look false true taken places now w was (few_free taken places few) in
-    let full = ap (λ b. queue_logged true (line_asked b note.QueueFull w.full now).1
-    (record w { full = (line_asked b note.QueueFull w.full now).0 }))
-    (free_after w.full.logged now second) in (
-      ap (λ x. x.1) look ∙ ap (λ x. x.1) full,
-      ap (λ x. x.0.is_full) look ∙ ap (λ x. x.0.is_full) full,
-      ap (λ x. x.0.full) look ∙ ap (λ x. x.0.full) full,
-    )
-
-pub queue_frees : (w : QueueWatch) (taken places now : ℕ) → w.is_full ≡ true
-    → 3 ≤ places - taken → IsSecondAfter w.free.logged now
-    → ((queue_seen taken places now w).1
-    ≡ Some (record { moment = now; note = note.QueueFree; left_out = w.free.left_out }))
-    × ((queue_seen taken places now w).0.is_full ≡ false)
-    × ((queue_seen taken places now w).0.free ≡ logged_at now)
-queue_frees w taken places now was free second =
-    let look = queue_look true false taken places now w was (three_free taken places free) in
-    let all = ap (λ b. queue_logged false (line_asked b note.QueueFree w.free now).1
-    (record w { free = (line_asked b note.QueueFree w.free now).0 }))
-    (free_after w.free.logged now second) in (
-      ap (λ x. x.1) look ∙ ap (λ x. x.1) all,
-      ap (λ x. x.0.is_full) look ∙ ap (λ x. x.0.is_full) all,
-      ap (λ x. x.0.free) look ∙ ap (λ x. x.0.free) all,
-    )
-
-pub still_full : (w : QueueWatch) (taken places now : ℕ) → w.is_full ≡ true
-    → places - taken < 3 → queue_seen taken places now w ≡ (w, None)
-still_full w taken places now was few =
-    queue_look true true taken places now w was (few_free taken places few)
-
-pub still_free : (w : QueueWatch) (taken places now : ℕ) → w.is_full ≡ false
-    → 3 ≤ places - taken → queue_seen taken places now w ≡ (w, None)
-still_free w taken places now was free =
-    queue_look false false taken places now w was (three_free taken places free)
-
--- ---- The listener
-
-more_came : (count logged : ℕ) → logged < count → nat_le count logged ≡ false
-more_came count logged more = grind (arith, more)
-
-none_came : (count logged : ℕ) → count ≤ logged → nat_le count logged ≡ true
-none_came count logged none = grind (arith, none)
-
-abbrev listener_by : Bool → RefusedPeers → ℕ → ListenerWatch → ListenerWatch × Option LogLine
-listener_by b s now w = if b then (w, None) else listener_tried s now w
-
-pub refused_so : (s : RefusedPeers) (w : ListenerWatch) (now : ℕ) → w.logged < s.count
-    → IsSecondAfter w.limit.logged now
-    → ((listener_seen s now w).1 ≡ Some (record {
-      moment = now;
-      note = note.RefusedPeers (s.count - w.logged) s.last;
-      left_out = w.limit.left_out;
-    })) × ((listener_seen s now w).0.logged ≡ s.count)
-    × ((listener_seen s now w).0.limit ≡ logged_at now)
-refused_so s w now more second =
-    let what : Note = note.RefusedPeers (s.count - w.logged) s.last in
-    let look = ap (λ b. listener_by b s now w) (more_came s.count w.logged more) in
-    let all = ap (λ b. listener_logged s.count (line_asked b what w.limit now).1
-    (record w { limit = (line_asked b what w.limit now).0 }))
-    (free_after w.limit.logged now second) in (
-      ap (λ x. x.1) look ∙ ap (λ x. x.1) all,
-      ap (λ x. x.0.logged) look ∙ ap (λ x. x.0.logged) all,
-      ap (λ x. x.0.limit) look ∙ ap (λ x. x.0.limit) all,
-    )
-
-pub nobody_so : (s : RefusedPeers) (w : ListenerWatch) (now : ℕ) → s.count ≤ w.logged
-    → listener_seen s now w ≡ (w, None)
-nobody_so s w now none = ap (λ b. listener_by b s now w) (none_came s.count w.logged none)
-
--- ---- The line
 
 logged_since : (l : LineLogged) (line : Option LogLine) (w : LineWatch)
     → (line_logged l line w).0.since ≡ w.since

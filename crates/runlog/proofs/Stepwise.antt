@@ -202,7 +202,10 @@ first_so s peer b start n rest behind whole starts least most is =
     (front_noted s b.is_closed peer start n rest behind b.orders whole starts least most)
 
 foreign_of : (s : State) (peer : Option IpAddr) (b : Inbox) → begins_apdu b.octets ≡ false
-    → (judged s peer b).orders ≡ record b.orders { seen = glance_of s.serial.commands }
+    → (judged s peer b).orders ≡ record b.orders {
+      seen = glance_of s.serial.commands;
+      early = [];
+    }
 foreign_of s peer b begins =
     ap (λ all. (judged_by all s b).orders)
     (foreign_noted s b.is_closed peer (length b.octets) b.octets b.orders begins)
@@ -218,13 +221,19 @@ waits_so s peer b start n rest part is is_open =
 
 pub foreign_so : (s : State) (peer : Option IpAddr) (b : Inbox) (start : ℕ) (rest : List ℕ)
     → b.octets ≡ start ∷ rest → start ≢ 0x68
-    → (judged s peer b).orders ≡ record b.orders { seen = glance_of s.serial.commands }
+    → (judged s peer b).orders ≡ record b.orders {
+      seen = glance_of s.serial.commands;
+      early = [];
+    }
 foreign_so s peer b start rest is other =
     foreign_of s peer b (ap begins_apdu is ∙ foreign_start start rest other)
 
 pub no_length_so : (s : State) (peer : Option IpAddr) (b : Inbox) (start n : ℕ) (rest : List ℕ)
     → b.octets ≡ start ∷ n ∷ rest → (n < 4) ⊎ (253 < n)
-    → (judged s peer b).orders ≡ record b.orders { seen = glance_of s.serial.commands }
+    → (judged s peer b).orders ≡ record b.orders {
+      seen = glance_of s.serial.commands;
+      early = [];
+    }
 no_length_so s peer b start n rest is other =
     foreign_of s peer b (ap begins_apdu is ∙ foreign_length start n rest other)
 

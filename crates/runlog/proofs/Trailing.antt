@@ -1,24 +1,24 @@
 -- What becomes of commands is told, in the order of events.
-use Rattle.std.proofs.Common.{◌≡◌, ℕ, ◌+◌, ◌-◌, ◌<◌, ◌≤◌, ◌&&◌, Bool, true, false, not, List, []}
-use Rattle.std.proofs.Common.{◌∷◌, ◌++◌, length, take, Option, Some, None, refl, sym, ap, ◌∙◌}
-use Rattle.std.proofs.Common.{arith, subst, length-append, nat_lt}
+use Rattle.std.proofs.Common.{◌≡◌, ℕ, ◌+◌, ◌-◌, ◌<◌, ◌≤◌, ◌==◌, ◌&&◌, ◌||◌, Bool, true, false, not, List}
+use Rattle.std.proofs.Common.{[], ◌∷◌, ◌++◌, length, Option, Some, None, refl, sym, ap, ◌∙◌}
+use Rattle.std.proofs.Common.{arith, length-append, nat_lt, suc}
+use Rattle.std.proofs.lemmas.Bool.Decides.{nat_tests}
 use Rattle.std.proofs.lemmas.List.{take_all}
-use Rattle.std.specs.Prelude.{if◌then◌else◌, slice_get, slice_set}
+use Rattle.std.specs.Prelude.{if◌then◌else◌, slice_get}
 use Rattle.std.specs.declared.net.ip_addr.IpAddr.{IpAddr}
 use Rattle.asdu.specs.declared.sizes.Sizes.{Sizes}
 use Rattle.command.specs.Refusals.{Seen, seen_judged}
 use Rattle.command.specs.declared.refusal.Refusal.{Refusal}
 use Rattle.gateway.specs.State.{State, counts_of, wall_now}
-use Rattle.gateway.specs.declared.counts.Counts.{Counts}
 use Rattle.link.specs.declared.answer.Answer.TheVariants.{Busy, Report}
 use Rattle.runlog.specs.Inbox as inbox
 use Rattle.runlog.specs.Inbox.{Inbox, Orders, order_noted, rule_noted, waits_by}
-use Rattle.runlog.specs.Logging.{Book, IsLogged, LogsEach, Tells, TellsUnless, kept, logged}
+use Rattle.runlog.specs.Logging.{Book, LogsEach, Tells, TellsUnless}
 use Rattle.runlog.specs.OrderLists.{sent}
 use Rattle.runlog.specs.Orders.{octet, order_of}
 use Rattle.runlog.specs.Traffic.{answer_told, content_of, content_told, mishap_told, reply_of}
 use Rattle.runlog.specs.Trails.{added, appended, at, fate_told, is_told, newest_first}
-use Rattle.runlog.specs.Watching.{Watching, come_behind, command_sent, counts_noted, has_trail}
+use Rattle.runlog.specs.Watching.{Watching, come_behind, command_sent, has_trail}
 use Rattle.runlog.specs.Watching.{is_repeat, judged, order_at, sent_by, sent_to, told}
 use Rattle.runlog.specs.declared.content.Content.{Content}
 use Rattle.runlog.specs.declared.content.Content.TheVariants.{Reply}
@@ -152,9 +152,12 @@ open_tells : (over watched some : Bool) (old new : Book) → over ≡ false
 open_tells false watched some old new lasts tells = tells
 open_tells true watched some old new lasts tells = cc
 
+one_more : (n : ℕ) → (suc n == 0) ≡ false
+one_more n = grind (arith, nat_tests)
+
 none_there : (lines : List LogLine) → is_told lines ≡ true → lines ≡ []
 none_there [] is = refl
-none_there (line ∷ lines) is = cc
+none_there (line ∷ lines) is = let no : false ≡ true = sym (one_more (length lines)) ∙ is in cc
 
 module _ (old new : Book) (tells : Tells old new) (lasts : old.is_over ≡ false) where
   told_as : TellsUnless (not (has_trail old.watching)) old new

@@ -258,14 +258,15 @@ pub text_so : (g : gateway.State) (s : State) (peer : Option IpAddr) (asdu : Lis
     → option_map words (order_noted g false peer asdu o c).refused.last
     ≡ Some (order_words o ++ peer_words peer ++ codes " refused: " ++ why)
 text_so g s peer asdu o c why same seen first =
-    ap (λ r. option_map words (rule_noted r peer o c).refused.last)
+    ap (λ r. option_map words (rule_noted r g.moment peer o c).refused.last)
     (judged_by_another asdu g.moment (wall_now g) c.seen g.serial.commands s same seen)
     ∙ by (refusal_of asdu g.moment (wall_now g) s)
     (worded_so asdu g.moment (wall_now g) s ∙ first)
   where
     by : (r : Option Refusal) → as_worded r ≡ Some why
         → option_map words
-        (rule_noted (r, glance_of (judged asdu g.moment (wall_now g) s).1) peer o c).refused.last
+        (rule_noted (r, glance_of (judged asdu g.moment (wall_now g) s).1) g.moment peer o
+        c).refused.last
         ≡ Some (order_words o ++ peer_words peer ++ codes " refused: " ++ why)
     by None unlogged = cc
     by (Some rule) is = by_some is

@@ -3,13 +3,10 @@
 use Rattle.std.specs.Prelude.{◌≡◌, ◌&&◌, ℕ, false, not, List, ◌∷◌, ◌++◌, Option, Some}
 use Rattle.std.specs.Prelude.{None}
 use Rattle.std.specs.List.{AllByRecursion}
-use Rattle.gateway.specs.Counting.{one_skipped}
 use Rattle.gateway.specs.Log.{LineOut}
-use Rattle.gateway.specs.declared.counts.Tally.{Tally}
 use Rattle.runlog.specs.Logging.{Book}
 use Rattle.runlog.specs.Passing.{Passed, Went, passed}
 use Rattle.runlog.specs.Watching.{Watching}
-use Rattle.runlog.specs.declared.content.Content.{Content}
 use Rattle.runlog.specs.declared.content.Content.TheVariants as content
 use Rattle.runlog.specs.declared.note.LogLine.{LogLine}
 use Rattle.runlog.specs.declared.traffic.Traffic.{Traffic}
@@ -26,12 +23,6 @@ place_asked w now octets =
 -- In place of this station stands that one, and all others stay.
 abbrev pub IsInPlace : (before behind : List Traffic) → (t : Traffic) → Watching → Type 0
 IsInPlace before behind t w = w.traffic ≡ before ++ t ∷ behind
-
--- what the gateway's count of skipped reports is behind a report with this content
-abbrev pub count_behind : Content → Tally → Tally
-count_behind (content.Skipped why) c = one_skipped c
-count_behind content.Report c = c
-count_behind content.Reply c = c
 
 -- somebody looks, or a log goes on
 abbrev pub IsWatched : Book → Type 0

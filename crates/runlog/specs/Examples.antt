@@ -23,7 +23,6 @@ use Rattle.runlog.specs.declared.order.Order.{Order}
 use Rattle.runlog.specs.declared.stations.StationStanding.{StationStanding}
 use Rattle.runlog.specs.declared.ends.LineWatch.{LineWatch}
 use Rattle.runlog.specs.declared.note.LogLine.{LogLine}
-use Rattle.runlog.specs.declared.note.Note.{Note}
 use Rattle.runlog.specs.declared.spoiling.Spoiling.{Spoiling}
 use Rattle.runlog.specs.declared.spoiling.Spoiling.TheVariants.{Frame as FrameOf}
 use Rattle.runlog.specs.declared.stations.StationWatch.{StationWatch}
@@ -113,16 +112,8 @@ command_to_8 =
     0x68 ∷ 0x09 ∷ 0x09 ∷ 0x68 ∷ 0x73 ∷ 0x08 ∷ 0x2D ∷ 0x01 ∷ 0x06 ∷ 0x01 ∷ 0x64 ∷ 0x00 ∷ 0x01 ∷ 0x15
     ∷ 0x16 ∷ []
 
-abbrev pub confirmed_by_8 : List ℕ
-confirmed_by_8 =
-    0x68 ∷ 0x09 ∷ 0x09 ∷ 0x68 ∷ 0x08 ∷ 0x08 ∷ 0x2D ∷ 0x01 ∷ 0x07 ∷ 0x01 ∷ 0x64 ∷ 0x00 ∷ 0x01 ∷ 0xAB
-    ∷ 0x16 ∷ []
-
 abbrev pub poll_of_8 : List ℕ
 poll_of_8 = 0x10 ∷ 0x5B ∷ 0x08 ∷ 0x63 ∷ 0x16 ∷ []
-
-abbrev pub busy_8 : List ℕ
-busy_8 = 0x10 ∷ 0x11 ∷ 0x08 ∷ 0x19 ∷ 0x16 ∷ []
 
 -- a poll of station 7, and that it has no data
 abbrev pub poll_of_7 : List ℕ

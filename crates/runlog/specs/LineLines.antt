@@ -1,7 +1,6 @@
 -- Words of the laws of what is logged of the line (this gateway's own profile).
 use Rattle.std.specs.Prelude.{◌≡◌, ℕ, Option, Some, None}
 use Rattle.runlog.specs.declared.ends.LineLogged.{LineLogged}
-use Rattle.runlog.specs.declared.ends.LineLogged.TheVariants.{There}
 use Rattle.runlog.specs.declared.ends.LineWatch.{LineWatch}
 use Rattle.runlog.specs.Limits.{none_left}
 use Rattle.runlog.specs.declared.limit.Limit.{Limit}
@@ -21,15 +20,6 @@ pub record IsLoggedAway (now : ℕ) (what : Note) (so : LineLogged) (w : LineWat
   pub so_far : told.0.logged ≡ so
   pub limit : told.0.away ≡ logged_at now
   pub other : told.0.there ≡ w.there
-
--- The same where it is there.
-pub record IsLoggedThere (now : ℕ) (what : Note) (w : LineWatch)
-    (told : LineWatch × Option LogLine) : Type 0 where
-  pub line : told.1
-      ≡ Some (record { moment = now; note = what; left_out = w.there.left_out })
-  pub so_far : told.0.logged ≡ There
-  pub limit : told.0.there ≡ logged_at now
-  pub other : told.0.away ≡ w.away
 
 -- Nothing is logged, and what was logged stays.
 pub record IsNotLogged (w : LineWatch) (told : LineWatch × Option LogLine) : Type 0 where

@@ -15,7 +15,6 @@ use Rattle.runlog.specs.Spoilings.{spoiling_words}
 use Rattle.runlog.specs.declared.content.Skip.{Skip}
 use Rattle.runlog.specs.declared.content.Skip.TheVariants as skip
 use Rattle.runlog.specs.declared.spoiling.Spoiling.{Spoiling}
-use Rattle.runlog.specs.declared.limit.LeftOut.{LeftOut}
 use Rattle.runlog.specs.declared.note.LogLine.{LogLine}
 use Rattle.runlog.specs.declared.note.RunCounts.{RunCounts}
 use Rattle.runlog.specs.declared.note.Obstacle.{Obstacle}
@@ -182,11 +181,12 @@ words (note.Late address ms) = late_words address ms
 words (note.LeftOut count) = decimal count ++ codes " lines left out: nobody read them in time"
 
 -- what was left out before it: how many, and the moment of the first of them
-abbrev pub left_out_words : LeftOut → List ℕ
-left_out_words l =
-    if l.count == 0 then []
-    else codes " (" ++ decimal l.count ++ codes " left out since " ++ decimal l.since ++ codes ")"
+abbrev pub left_out_words : (count since : ℕ) → List ℕ
+left_out_words count since =
+    if count == 0 then []
+    else (codes " (" ++ decimal count ++ codes " left out")
+    ++ (codes " since " ++ decimal since ++ codes ")")
 
 -- what stands behind the line's UTC time
 abbrev pub line_text : LogLine → List ℕ
-line_text l = (decimal l.moment ++ codes " " ++ words l.note) ++ left_out_words l.left_out
+line_text l = (decimal l.moment ++ codes " " ++ words l.note) ++ left_out_words l.left_out.count l.left_out.since

@@ -1,7 +1,7 @@
 -- What passes a run that is watched, the newest first; and what an operator knows by it of the
 -- connections, of their lines and of the wall clock (docs/TEXTS.md, docs/STATUS.md).
 use Rattle.std.specs.Prelude.{◌≡◌, ◌≢◌, ℕ, ◌+◌, ◌<◌, ◌≤◌, Bool, true, false, List, [], ◌∷◌}
-use Rattle.std.specs.Prelude.{Option, Some, None, IfSome, bytes_eq, if◌then◌else◌}
+use Rattle.std.specs.Prelude.{Option, Some, None, bytes_eq, if◌then◌else◌}
 use Rattle.std.specs.declared.net.ip_addr.IpAddr.{IpAddr}
 use Rattle.session.specs.declared.kinds.Close.{Close}
 use Rattle.session.specs.declared.kinds.Close.TheVariants as close
@@ -123,19 +123,6 @@ pub data IsLoggedAs : Step → StepKind → (now : ℕ) → Note → Type 0 wher
   AsStarted : (now : ℕ) → IsLoggedAs (Starts now) Starting now note.Started
   AsStopped : (now : ℕ) → IsLoggedAs (Stops now) Stopping now note.Stopped
 
--- a line that tells of a connection
-abbrev pub is_of_connection : Note → Bool
-is_of_connection (note.Opened peer) = true
-is_of_connection note.Started = true
-is_of_connection note.Stopped = true
-is_of_connection (note.Cut cause) = true
-is_of_connection (note.Closed cause) = true
-is_of_connection what = false
-
--- no line, or one that tells of something else
-abbrev pub IsOfOthers : Option LogLine → Type 0
-IsOfOthers line = IfSome line (λ (l : LogLine). is_of_connection l.note ≡ false)
-
 abbrev pub is_of : StepKind → Step → Bool
 is_of Opening (Opens now peer) = true
 is_of Cutting (Cuts now cause) = true
@@ -187,37 +174,3 @@ AreSecondsBehind (line ∷ before ∷ lines) =
     before.moment + 1000 ≤ line.moment × AreSecondsBehind (before ∷ lines)
 
 -- ---- The wall clock
-
--- the moment of an event
-pub data HasMoment : Next → (now : ℕ) → Type 0 where
-  OfLine : (now len : ℕ) → HasMoment (next.Line now len) now
-  OfOpen : (now : ℕ) → HasMoment (next.Open now) now
-  OfBytes : (now len : ℕ) → HasMoment (next.Bytes now len) now
-  OfCut : (now : ℕ) → HasMoment (next.Cut now) now
-  OfTick : (now : ℕ) → HasMoment (next.Tick now) now
-  OfWall : (now shown : ℕ) → HasMoment (next.Wall now shown) now
-
--- the moment of the latest event that has one
-pub data IsLatest : List Passed → (now : ℕ) → Type 0 where
-  OfEvent : (event : Next) (octets : List ℕ) (s : EndsSight) (now : ℕ) (earlier : List Passed)
-      → HasMoment event now → IsLatest (Came event octets s ∷ earlier) now
-  BehindAction : (at now : ℕ) (action : Output) (earlier : List Passed)
-      → IsLatest earlier now → IsLatest (Went at action ∷ earlier) now
-  BehindLook : (gateway : State) (now : ℕ) (earlier : List Passed)
-      → IsLatest earlier now → IsLatest (Between gateway ∷ earlier) now
-  BehindFault : (octets : List ℕ) (s : EndsSight) (now : ℕ) (earlier : List Passed)
-      → IsLatest earlier now → IsLatest (Came next.Fault octets s ∷ earlier) now
-  BehindEnd : (octets : List ℕ) (s : EndsSight) (now : ℕ) (earlier : List Passed)
-      → IsLatest earlier now → IsLatest (Came next.Done octets s ∷ earlier) now
-
--- it isn't an event that gives what the wall clock shows
-abbrev pub GivesNoWall : Passed → Type 0
-GivesNoWall (Came (next.Wall now shown) octets s) = ⊥
-GivesNoWall p = Unit {0}
-
--- an event gave it last so, at this moment
-pub data IsWallGiven : List Passed → (now shown : ℕ) → Type 0 where
-  Given : (now shown : ℕ) (octets : List ℕ) (s : EndsSight) (earlier : List Passed)
-      → IsWallGiven (Came (next.Wall now shown) octets s ∷ earlier) now shown
-  Before : (p : Passed) (now shown : ℕ) (earlier : List Passed) → GivesNoWall p
-      → IsWallGiven earlier now shown → IsWallGiven (p ∷ earlier) now shown

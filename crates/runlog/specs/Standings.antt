@@ -11,15 +11,10 @@ use Rattle.gateway.specs.Log.{LineOut, GapOut}
 use Rattle.gateway.specs.declared.settings.StationSettings.{StationSettings}
 use Rattle.runlog.specs.Passing.{Passed, Went}
 use Rattle.runlog.specs.Stations.{is_other, link_asked, standing_by, station_asked}
-use Rattle.runlog.specs.Limits.{none_left}
-use Rattle.runlog.specs.declared.limit.Limit.{Limit}
 use Rattle.runlog.specs.declared.stations.LinkKnown.{LinkKnown}
 use Rattle.runlog.specs.declared.stations.LinkKnown.TheVariants as known
-use Rattle.runlog.specs.declared.note.LogLine.{LogLine}
-use Rattle.runlog.specs.declared.note.Note.{Note}
 use Rattle.runlog.specs.declared.stations.Asking.{Asking}
 use Rattle.runlog.specs.declared.stations.Asking.TheVariants.{Status, Reset, Counted, Other, Missed}
-use Rattle.runlog.specs.declared.stations.StationLogged.{StationLogged}
 use Rattle.runlog.specs.declared.stations.StationLogged.TheVariants as logged
 use Rattle.runlog.specs.declared.stations.StationStanding.{StationStanding}
 use Rattle.runlog.specs.declared.stations.StationStanding.TheVariants as standing
@@ -118,52 +113,3 @@ after w [] = w
 after w (x ∷ earlier) = (station_asked x.1 x.0 (after w earlier)).0
 
 -- ---- What is logged
-
--- The line is logged at this moment, and it was logged of the station last that it stands so. The
--- kind of line has its limit anew.
-pub record IsLogged (now : ℕ) (what : Note) (so : StationLogged) (before behind : Limit)
-    (told : StationWatch × Option LogLine)
-    : Type 0 where
-  pub line : told.1
-      ≡ Some (record { moment = now; note = what; left_out = before.left_out })
-  pub so_far : told.0.logged ≡ so
-  pub limit : behind ≡ record { logged = Some now; left_out = none_left }
-
--- Nothing is logged, and what was logged last stays.
-abbrev pub IsQuiet : StationWatch → (told : StationWatch × Option LogLine) → Type 0
-IsQuiet w told = (told.1 ≡ None) × (told.0.logged ≡ w.logged)
-
--- it was logged that the station is up, and since then perhaps that it doesn't answer
-abbrev pub IsLoggedUp : StationLogged → Type 0
-IsLoggedUp logged.Up = Unit {0}
-IsLoggedUp logged.Silent = Unit {0}
-IsLoggedUp l = ⊥
-
--- or that its status is asked, for the first time or again
-abbrev pub IsLoggedAsked : StationLogged → Type 0
-IsLoggedAsked logged.Asked = Unit {0}
-IsLoggedAsked logged.Down = Unit {0}
-IsLoggedAsked l = ⊥
-
--- The service with this frame count bit went out before as often as a station that is there lets
--- it.
-pub record IsAgainTooOften (w : StationWatch) (bit : Bool) : Type 0 where
-  pub again : w.bit ≡ Some bit
-  pub often : w.tries ≤ w.sent
-  pub tries : w.tries < 2 ^ 32
-
--- The question for the status did.
-pub record IsAskedTooOften (w : StationWatch) : Type 0 where
-  pub again : w.bit ≡ None
-  pub often : w.tries ≤ w.sent
-  pub tries : w.tries < 2 ^ 32
-
--- The service before had another frame count bit, and no reset stands between the two: it was
--- answered.
-abbrev pub FollowsAnswer : StationWatch → (bit : Bool) → Type 0
-FollowsAnswer w bit = is_other w.served bit ≡ true
-
--- It is another service, or one that may go out once more.
-pub record IsOftenEnough (w : StationWatch) (bit : Bool) : Type 0 where
-  pub tries : 0 < w.tries
-  pub may : w.bit ≡ Some bit → w.sent < w.tries

@@ -1,7 +1,7 @@
 -- What becomes of commands: a line for each, with the moment of its event, in the order of events
 -- (this gateway's own profile).
 use Rattle.std.specs.Prelude.{ℕ, ◌-◌, ◌==◌, nat_lt, Bool, List, [], ◌∷◌, ◌++◌, length, take}
-use Rattle.std.specs.Prelude.{Option, Some, None, if◌then◌else◌}
+use Rattle.std.specs.Prelude.{Option, Some, if◌then◌else◌}
 use Rattle.runlog.specs.Limits.{none_left}
 use Rattle.runlog.specs.declared.fate.CommandFate.{CommandFate}
 use Rattle.runlog.specs.declared.note.LogLine.{LogLine}

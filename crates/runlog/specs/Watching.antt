@@ -19,7 +19,7 @@ use Rattle.live.specs.declared.watched.EndsSight.{EndsSight}
 use Rattle.live.specs.Syncs.{none_slow}
 use Rattle.live.specs.declared.ends.Presence.TheVariants.{Away}
 use Rattle.live.specs.declared.syncs.SlowSyncs.{SlowSyncs}
-use Rattle.runlog.specs.Ends.{new_limit, changed, happened, new_line, new_listener, new_connection}
+use Rattle.runlog.specs.Ends.{new_limit, changed, new_line, new_listener, new_connection}
 use Rattle.runlog.specs.Ends.{line_seen}
 use Rattle.runlog.specs.Ends.{listener_seen, connection_opened, connection_cut, connection_sent}
 use Rattle.runlog.specs.Ends.{connection_closed, is_away}
@@ -30,7 +30,7 @@ use Rattle.link.specs.declared.answer.Answer.{Answer}
 use Rattle.runlog.specs.Exchange as exchange
 use Rattle.runlog.specs.Exchange.{RequestWatch, new_exchange, begun, over, awaited_of, place_of}
 use Rattle.runlog.specs.Exchange.{user_data, answer_in, traffic_after}
-use Rattle.runlog.specs.Limits.{is_minute_after, none_left, one_more}
+use Rattle.runlog.specs.Limits.{none_left}
 use Rattle.runlog.specs.Orders.{order_of}
 use Rattle.runlog.specs.SyncLines.{new_syncs, syncs_seen}
 use Rattle.runlog.specs.Traffic as traffic
@@ -50,7 +50,6 @@ use Rattle.runlog.specs.Stations.{new_station}
 use Rattle.runlog.specs.declared.ends.LineWatch.{LineWatch}
 use Rattle.runlog.specs.declared.ends.ListenerWatch.{ListenerWatch}
 use Rattle.runlog.specs.declared.ends.ConnectionWatch.{ConnectionWatch}
-use Rattle.runlog.specs.declared.limit.Limit.{Limit}
 use Rattle.runlog.specs.declared.note.LogLine.{LogLine}
 use Rattle.runlog.specs.declared.note.Note.{Note}
 use Rattle.runlog.specs.declared.note.Note.TheVariants as note
@@ -166,7 +165,8 @@ unless_logged s (w, Some line) = (w, Some line)
 unless_logged s (w, None) = with_listener (listener_seen s.refused w.moment w.listener) w
 
 abbrev pub seen : EndsSight → Watching → Watching × Option LogLine
-seen s w = unless_logged s (with_line (line_seen s.line w.moment w.line) w)
+seen s w =
+    unless_logged s (with_line (line_seen s.line w.moment w.line) (record w { syncs = s.syncs }))
 
 -- an event begins
 abbrev pub at : ℕ → Watching → Watching
@@ -336,8 +336,7 @@ came next.Done buf s w = (w, None)
 
 -- and what was late before it is noted first
 abbrev pub event_noted : Next → List ℕ → EndsSight → Watching → Watching × Option LogLine
-event_noted event buf s w =
-    came event buf s (late_noted s.late_octets (record w { syncs = s.syncs }))
+event_noted event buf s w = came event buf s (late_noted s.late_octets w)
 
 abbrev pub inbox_after : Close → Inbox → Inbox
 inbox_after close.Replaced b = b

@@ -1,18 +1,12 @@
 //! Laws of what is known and logged of connections, and of the wall clock.
 ghost use Rattle.std.specs.Prelude.{◌≡◌, ℕ, ◌+◌, ◌-◌, ◌^◌, ◌<◌, List, Option, Some, None, map};
 ghost use Rattle.std.specs.declared.net.ip_addr.IpAddr.{IpAddr};
-ghost use Rattle.std.specs.List.{AllByRecursion};
 ghost use Rattle.gateway.specs.Config.{Settings};
 ghost use Rattle.runlog.specs.Passing.{IsKnown, IsNoneOpen, IsOpen, Passed, Step, opened_in};
 ghost use Rattle.runlog.specs.Passing.{step_of, watched};
 ghost use Rattle.runlog.specs.Passing.{AreSecondsBehind, IsLineOf, IsLoggedAs, StepKind, limit_of};
 ghost use Rattle.runlog.specs.Passing.{lines_of, passed, spoken_of, steps_in};
-ghost use Rattle.runlog.specs.Passing.{GivesNoWall, IsLatest, IsWallGiven};
-ghost use Rattle.runlog.specs.Passing.{Came, IsOfOthers, Nothing, Went};
-ghost use Rattle.gateway.specs.Log.{Output};
-ghost use Rattle.gateway.specs.declared.ports.Next.{Next};
-ghost use Rattle.live.specs.declared.watched.EndsSight.{EndsSight};
-ghost use Rattle.runlog.specs.Watching.{Watching, new_watching, wall_of};
+ghost use Rattle.runlog.specs.Watching.{Watching, new_watching};
 ghost use Rattle.runlog.specs.declared.ends.OpenConnection.{OpenConnection};
 ghost use Rattle.runlog.specs.declared.note.Note.{Note};
 
@@ -47,25 +41,4 @@ pub fn each_step_of_a_connection_is_logged_or_counted()
         spoken_of (lines_of kind (new_watching c) ps)
         + (limit_of kind (watched (new_watching c) ps).connection).left_out.count
         ≡ steps_in kind (map step_of ps) }
-{}
-
-/// No other event is logged as a step of a connection, and no other action. Their lines, if they
-/// have one, tell of the line, of a station or of those who were refused.
-pub fn nothing_else_is_logged_as_a_step_of_a_connection()
-    ensures events { (w : Watching) (event : Next) (octets : List ℕ) (s : EndsSight) →
-        step_of (Came event octets s) ≡ Nothing →
-        IsOfOthers (passed (Came event octets s) w).1 }
-    ensures actions { (w : Watching) (now : ℕ) (action : Output) →
-        step_of (Went now action) ≡ Nothing → IsOfOthers (passed (Went now action) w).1 }
-{}
-
-/// What the wall clock shows at the moment of the latest event: what the latest event that gave it
-/// says, and as many ms more as the run's clock has gone on since, whatever passed in between.
-/// Where no event gave it, that isn't known.
-pub fn the_wall_clock_goes_on_between_its_events()
-    ensures shown { (start : Watching) (ps : List Passed) (given shown now : ℕ) →
-        IsWallGiven ps given shown → IsLatest ps now → shown + (now - given) < 2 ^ 64 →
-        wall_of (watched start ps) ≡ Some (shown + (now - given)) }
-    ensures unknown { (c : Settings) (ps : List Passed) → AllByRecursion GivesNoWall ps →
-        wall_of (watched (new_watching c) ps) ≡ None }
 {}

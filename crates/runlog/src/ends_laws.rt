@@ -10,56 +10,16 @@ ghost use Rattle.gateway.specs.State.{State, counts_of};
 ghost use Rattle.gateway.specs.declared.counts.Counts.{Counts};
 ghost use Rattle.gateway.specs.declared.ports.Next.TheVariants as next;
 ghost use Rattle.live.specs.declared.ends.Presence.TheVariants as presence;
-ghost use Rattle.live.specs.declared.ends.RefusedPeers.{RefusedPeers};
 ghost use Rattle.live.specs.declared.watched.EndsSight.{EndsSight};
-ghost use Rattle.runlog.specs.Ends.{line_seen, listener_seen};
+ghost use Rattle.runlog.specs.Ends.{line_seen};
 ghost use Rattle.runlog.specs.Inbox.{Inbox, judged, lost};
-ghost use Rattle.runlog.specs.LineLines.{logged_at};
-ghost use Rattle.runlog.specs.Limits.{IsSecondAfter, none_left};
+ghost use Rattle.runlog.specs.Limits.{none_left};
 ghost use Rattle.runlog.specs.Logging.{looked_if_due, taken_in};
 ghost use Rattle.runlog.specs.Passing.{Came, Went, passed};
 ghost use Rattle.runlog.specs.Watching.{Watching, looked_at, queue_seen};
 ghost use Rattle.runlog.specs.declared.ends.LineWatch.{LineWatch};
-ghost use Rattle.runlog.specs.declared.ends.ListenerWatch.{ListenerWatch};
 ghost use Rattle.runlog.specs.declared.note.LogLine.{LogLine};
 ghost use Rattle.runlog.specs.declared.note.Note.TheVariants as note;
-ghost use Rattle.runlog.specs.declared.queue.QueueWatch.{QueueWatch};
-
-/// That the queue is full is logged at the look at which fewer than three of its places are free,
-/// and that it is free again at the one at which three are. Nothing is logged while it stays so.
-/// Lines of either kind are a second apart.
-pub fn the_queue_is_logged_where_it_fills_and_where_it_is_free_again()
-    ensures full { (w : QueueWatch) (taken places now : ℕ) → w.is_full ≡ false →
-        places - taken < 3 → IsSecondAfter w.full.logged now →
-        ((queue_seen taken places now w).1
-        ≡ Some (record { moment = now; note = note.QueueFull; left_out = w.full.left_out }))
-        × ((queue_seen taken places now w).0.is_full ≡ true)
-        × ((queue_seen taken places now w).0.full ≡ logged_at now) }
-    ensures free { (w : QueueWatch) (taken places now : ℕ) → w.is_full ≡ true →
-        3 ≤ places - taken → IsSecondAfter w.free.logged now →
-        ((queue_seen taken places now w).1
-        ≡ Some (record { moment = now; note = note.QueueFree; left_out = w.free.left_out }))
-        × ((queue_seen taken places now w).0.is_full ≡ false)
-        × ((queue_seen taken places now w).0.free ≡ logged_at now) }
-    ensures still_full { (w : QueueWatch) (taken places now : ℕ) → w.is_full ≡ true →
-        places - taken < 3 → queue_seen taken places now w ≡ (w, None) }
-    ensures still_free { (w : QueueWatch) (taken places now : ℕ) → w.is_full ≡ false →
-        3 ≤ places - taken → queue_seen taken places now w ≡ (w, None) }
-{}
-
-/// Those who were refused are logged where some came since the line before: how many, and the
-/// address of the last. Nothing is logged where nobody came. These lines are a second apart.
-pub fn who_was_refused_is_logged()
-    ensures some { (s : RefusedPeers) (w : ListenerWatch) (now : ℕ) → w.logged < s.count →
-        IsSecondAfter w.limit.logged now → ((listener_seen s now w).1 ≡ Some (record {
-          moment = now;
-          note = note.RefusedPeers (s.count - w.logged) s.last;
-          left_out = w.limit.left_out;
-        })) × ((listener_seen s now w).0.logged ≡ s.count)
-        × ((listener_seen s now w).0.limit ≡ logged_at now) }
-    ensures none { (s : RefusedPeers) (w : ListenerWatch) (now : ℕ) → s.count ≤ w.logged →
-        listener_seen s now w ≡ (w, None) }
-{}
 
 /// A line is there since the look at which it was there first, and away since the one at which it
 /// was away first. It is away, too, before it was tried. How a look finds it is known until the

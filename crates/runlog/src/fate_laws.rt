@@ -7,8 +7,7 @@ ghost use Rattle.asdu.specs.declared.sizes.Sizes.{Sizes};
 ghost use Rattle.command.specs.Refusals.{seen_judged};
 ghost use Rattle.gateway.specs.State.{State, counts_of, wall_now};
 ghost use Rattle.link.specs.declared.answer.Answer.TheVariants.{Busy, Report};
-ghost use Rattle.runlog.specs.Examples.{order, two_commands, two_watched};
-ghost use Rattle.runlog.specs.Examples.{busy_8, commanded, confirmed_by_8, polled};
+ghost use Rattle.runlog.specs.Examples.{order, two_commands};
 ghost use Rattle.runlog.specs.Gathering as gathering;
 ghost use Rattle.runlog.specs.Inbox as inbox;
 ghost use Rattle.runlog.specs.Inbox.{Inbox, Orders, all_noted, line_of, new_orders, order_noted};
@@ -18,7 +17,7 @@ ghost use Rattle.runlog.specs.Traffic.{answer_told, content_of, first_line, mish
 ghost use Rattle.runlog.specs.Traffic.{new_traffic, reply_of, sent, suffered, traffic_line};
 ghost use Rattle.runlog.specs.Trails.{added, at, newest_first};
 ghost use Rattle.runlog.specs.Waiting.{IsNothingFree, IsSkippedAs, first_alone};
-ghost use Rattle.runlog.specs.Watching.{Watching, command_sent, is_repeat, judged, line_received};
+ghost use Rattle.runlog.specs.Watching.{Watching, command_sent, is_repeat, judged};
 ghost use Rattle.runlog.specs.Watching.{lost_at, order_at};
 ghost use Rattle.runlog.specs.declared.content.Content.TheVariants.{Reply};
 ghost use Rattle.runlog.specs.declared.content.Skip.TheVariants as skip;
@@ -94,19 +93,6 @@ pub fn what_becomes_of_commands_is_logged()
         ≡ Some (at now (note.Late address ms))) }
 {}
 
-/// What a station answers a command, by the cause octet alone (IEC 60870-5-101, 7.2.3): the causes
-/// 44 to 47, or P/N, refuse it; without these, 10 says that it is done, and 7 and 9 confirm it.
-/// Other causes say nothing of it, and the test bit makes no difference.
-pub fn answers_are_read_by_their_causes()
-    ensures unknown { (cause : ℕ) → 44 ≤ cause % 64 → reply_of cause ≡ Some fate.Denied }
-    ensures negative { (cause : ℕ) → 64 ≤ cause % 128 → reply_of cause ≡ Some fate.Denied }
-    ensures done { (cause : ℕ) → cause % 128 ≡ 10 → reply_of cause ≡ Some fate.Terminated }
-    ensures confirmed { (cause : ℕ) → (cause % 128 ≡ 7) ⊎ (cause % 128 ≡ 9) →
-        reply_of cause ≡ Some fate.Confirmed }
-    ensures other { (cause : ℕ) → cause % 64 < 44 → cause % 128 < 64 → cause % 128 ≢ 7 →
-        cause % 128 ≢ 9 → cause % 128 ≢ 10 → reply_of cause ≡ None }
-{}
-
 /// If no line is found among what was gathered, nothing of it waits that may be logged: of no
 /// station, of no kind, and of no command that was refused.
 pub fn nothing_waits_that_may_be_logged()
@@ -129,17 +115,4 @@ pub fn commands_of_a_step_are_logged_one_by_one()
         × (noted.ordered ≡ []) }
     ensures rest { (s : State) (peer : Option IpAddr) →
         (all_noted 41 s true peer two_commands new_orders).1 ≡ 0x68 ∷ 0x0E ∷ 0x04 ∷ [] }
-{}
-
-/// Which station a line names, by octets: a command goes out to the second of two stations, its
-/// link is busy, or it is polled and confirms the command. Nothing of it is logged of the first
-/// one, and what comes if no answer is awaited says nothing.
-pub fn commands_are_logged_of_their_station()
-    ensures sent { (w : Watching) → (commanded w).gone
-        ≡ at 5 (note.Fate (order 45 act.Execute 1 100 value.On) 8 fate.Sent) ∷ [] }
-    ensures busy { (w : Watching) → (line_received busy_8 (commanded w)).trail
-        ≡ at w.moment (note.Fate (order 45 act.Execute 1 100 value.On) 8 fate.Busy) ∷ [] }
-    ensures confirmed { (w : Watching) → (line_received confirmed_by_8 (polled w)).trail
-        ≡ at w.moment (note.Fate (order 45 act.Execute 1 100 value.On) 8 fate.Confirmed) ∷ [] }
-    ensures unasked { (w : Watching) → (line_received confirmed_by_8 (two_watched w)).trail ≡ [] }
 {}

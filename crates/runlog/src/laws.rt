@@ -1,8 +1,7 @@
 //! Laws of what is logged, over any calls.
-ghost use Rattle.std.specs.Prelude.{◌≡◌, ℕ, ◌+◌, ◌^◌, ◌<◌, List, ◌∷◌, length, Bool};
-ghost use Rattle.runlog.specs.Limits.{AreSecondsApart, left_in, logged_in, logged_of};
-ghost use Rattle.std.specs.Prelude.{true, false, Option, Some, option_map, map, suc, ◌++◌, codes};
-ghost use Rattle.std.specs.Fmt.{decimal};
+ghost use Rattle.std.specs.Prelude.{◌≡◌, ℕ, ◌+◌, ◌^◌, ◌<◌, List, ◌∷◌};
+ghost use Rattle.runlog.specs.Limits.{AreSecondsApart, logged_of};
+ghost use Rattle.std.specs.Prelude.{true, false, Option, Some, option_map, map, ◌++◌, codes};
 ghost use Rattle.std.specs.declared.net.ip_addr.IpAddr.{IpAddr};
 ghost use Rattle.command.specs.Refusals.{refusal_of, glance_of};
 ghost use Rattle.command.specs.Restored.{HasSettings};
@@ -11,49 +10,19 @@ ghost use Rattle.command.specs.State.{State};
 ghost use Rattle.command.specs.declared.refusal.Refusal.{Refusal};
 ghost use Rattle.gateway.specs.State.{State as Gateway, wall_now};
 ghost use Rattle.runlog.specs.Inbox.{Orders, order_noted};
-ghost use Rattle.runlog.specs.Notes.{line_text, words, peer_words};
+ghost use Rattle.runlog.specs.Notes.{words, peer_words};
 ghost use Rattle.runlog.specs.OrderWords.{rule_words, order_words};
 ghost use Rattle.runlog.specs.Wordings.{wordings, first_words, age_of, in_seconds};
 ghost use Rattle.runlog.specs.declared.order.Order.{Order};
 ghost use Rattle.runlog.specs.Gathering.{GatheringCall, added, line_of, lines_in};
 ghost use Rattle.runlog.specs.Gathering.{left_in as gathered_after, added_in, count_of};
-ghost use Rattle.runlog.specs.Limits.{is_free, none_left, one_left};
-ghost use Rattle.runlog.specs.Logging.{Book, logged};
+ghost use Rattle.runlog.specs.Limits.{is_free};
+ghost use Rattle.runlog.specs.Logging.{logged};
 ghost use Rattle.runlog.specs.Severities.{number_of, severity_of};
 ghost use Rattle.runlog.specs.SeverityRows.{HasRow};
 ghost use Rattle.runlog.specs.declared.severity.Severity.TheVariants as severity;
 ghost use Rattle.runlog.specs.declared.gathered.Gathered.{Gathered};
-ghost use Rattle.runlog.specs.declared.limit.Limit.{Limit};
-ghost use Rattle.runlog.specs.declared.note.LogLine.{LogLine};
 ghost use Rattle.runlog.specs.declared.note.Note.{Note};
-
-/// Of any requests for lines of one kind, those that are logged are a second apart, and each that
-/// is left out is counted by the next one that is logged, or still waits for that.
-pub fn lines_of_a_kind_are_a_second_apart()
-    ensures apart { (limit : Limit) (moments : List ℕ) →
-        AreSecondsApart limit.logged (logged_in limit moments) }
-    ensures counted { (limit : Limit) (moments : List ℕ) →
-        limit.left_out.count + length moments < 2 ^ 64 →
-        logged_of (logged_in limit moments) + left_in limit moments
-        ≡ limit.left_out.count + length moments }
-{}
-
-/// A line says its moment and its words. If others of its kind were left out before it, it says
-/// behind them how many, however many they are, and the moment of the first of them.
-pub fn lines_say_how_many_were_left_out()
-    ensures none { (moment : ℕ) (what : Note) →
-        line_text (record { moment = moment; note = what; left_out = none_left })
-        ≡ decimal moment ++ codes " " ++ words what }
-    ensures some { (moment n since : ℕ) (what : Note) → line_text (record {
-      moment = moment;
-      note = what;
-      left_out = record { count = suc n; since = since };
-    }) ≡ (decimal moment ++ codes " " ++ words what) ++ (codes " (" ++ decimal (suc n)
-        ++ codes " left out since " ++ decimal since ++ codes ")") }
-    ensures first { (now : ℕ) → one_left now none_left ≡ record { count = 1; since = now } }
-    ensures more { (now n since : ℕ) →
-        (one_left now (record { count = suc n; since = since })).since ≡ since }
-{}
 
 /// Of what is gathered nothing is left out silently: each that came is logged, or counted by the
 /// line of a later one, or is still to be logged. Once a second has passed since the line before,
@@ -103,21 +72,4 @@ pub fn each_line_has_the_severity_of_its_row()
     ensures row { (n : Note) → HasRow n (number_of (severity_of n)) }
     ensures one { (n : Note) (number : ℕ) → HasRow n number →
         number ≡ number_of (severity_of n) }
-{}
-
-/// Each line is handed to where the lines go, once, as long as the log goes on. It goes on where
-/// the line was taken, and is over where it wasn't. Then no other is handed over.
-pub fn lines_are_handed_over_until_one_is_not_taken()
-    ensures handed { (line : LogLine) (taken : Bool) (book : Book) (before : List LogLine) →
-        book.is_over ≡ false → book.handed ≡ Some before →
-        (logged (Some line) taken book).handed ≡ Some (line ∷ before) }
-    ensures taken { (line : LogLine) (book : Book) (before : List LogLine) →
-        book.is_over ≡ false → book.lines ≡ Some before →
-        ((logged (Some line) true book).lines ≡ Some (line ∷ before))
-        × ((logged (Some line) true book).is_over ≡ false) }
-    ensures refused { (line : LogLine) (book : Book) → book.is_over ≡ false →
-        ((logged (Some line) false book).lines ≡ book.lines)
-        × ((logged (Some line) false book).is_over ≡ true) }
-    ensures over { (line : LogLine) (taken : Bool) (book : Book) → book.is_over ≡ true →
-        logged (Some line) taken book ≡ book }
 {}

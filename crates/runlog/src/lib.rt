@@ -13,7 +13,7 @@
 //! from which event or action is one small function of what has passed, of what was seen of the
 //! port's ends ([`Watch`]), and of the gateway between two steps; an event, an action or a look
 //! has one line at most, and behind a step each command has its own; lines of any other kind are a
-//! second apart, and those left out are counted ([`lines_of_a_kind_are_a_second_apart`]); of
+//! second apart, and those left out are counted; of
 //! refusals, and of reports that are skipped, each is logged, or counted by a later line
 //! ([`what_is_gathered_is_logged_or_counted`]); by which rule a
 //! command is refused is the judgement's own (`command::Commands::refusal_at`), and each rule has
@@ -26,28 +26,17 @@
 //!
 //! Which connection is open is known, whatever passes
 //! ([`connections_are_known_from_their_opening_to_their_end`]), and each step of one is logged, or
-//! counted by a later line ([`each_step_of_a_connection_is_logged_or_counted`]), and no other
-//! event or action is logged as one ([`nothing_else_is_logged_as_a_step_of_a_connection`]). No
-//! octets of one are read on the next ([`nothing_of_a_connection_is_read_on_the_next`]). Of a line
-//! it is logged where it goes and where it is back
-//! ([`a_line_is_logged_where_it_goes_and_where_it_is_back`]), and it is known since when
-//! ([`a_line_stands_so_since_the_look_that_found_it_so`]). So is what has failed at the end
-//! ([`failures_are_logged_at_the_end`]), who was refused ([`who_was_refused_is_logged`]), and
-//! where the queue fills and is free again
-//! ([`the_queue_is_logged_where_it_fills_and_where_it_is_free_again`]). How a station stands is
-//! known by the requests to it ([`a_station_stands_as_its_requests_say`]), and where it goes and
-//! is back is logged ([`a_station_is_logged_where_it_goes_and_where_it_is_back`]). The wall clock is
-//! shown as it goes on ([`the_wall_clock_goes_on_between_its_events`]). What becomes of a command,
-//! and each mishap, is logged for the station that it befell
-//! ([`what_becomes_of_commands_is_logged`]), and nothing that may be logged waits
-//! ([`nothing_waits_that_may_be_logged`]). What a station answers is read as of the request before
-//! it ([`answers_are_read_as_of_their_request`]), and counted
-//! ([`what_a_station_does_is_counted`]), of the station that was asked
-//! ([`answers_are_noted_of_the_station_that_was_asked`]); and so is what befell one
-//! ([`mishaps_are_noted_of_the_station_that_was_asked`]). Each APDU of a step is read
-//! ([`each_apdu_of_a_step_is_read`]), all that passes is known and logged
-//! ([`what_passes_is_known_and_logged`]), and a run ends with its counts
-//! ([`a_run_ends_with_its_counts`]). That a line's UTC time is right, and what standard error
+//! counted by a later line ([`each_step_of_a_connection_is_logged_or_counted`]). No octets of one
+//! are read on the next ([`nothing_of_a_connection_is_read_on_the_next`]). Of a line it is known
+//! since when it stands so ([`a_line_stands_so_since_the_look_that_found_it_so`]). So is what has
+//! failed at the end ([`failures_are_logged_at_the_end`]). How a station stands is known by the
+//! requests to it ([`a_station_stands_as_its_requests_say`]). What becomes of a command, and each
+//! mishap, is logged for the station that it befell ([`what_becomes_of_commands_is_logged`]), and
+//! nothing that may be logged waits ([`nothing_waits_that_may_be_logged`]). What a station answers
+//! is read as of the request before it ([`answers_are_read_as_of_their_request`]), and noted of the
+//! station that was asked ([`answers_are_noted_of_the_station_that_was_asked`]). Each APDU of a
+//! step is read ([`each_apdu_of_a_step_is_read`]), all that passes is known and logged
+//! ([`what_passes_is_known_and_logged`]). That a line's UTC time is right, and what standard error
 //! does with it, is no matter of a proof.
 #![tactic(auto)]
 
@@ -72,7 +61,6 @@ mod name_laws;
 mod names;
 mod note;
 mod order;
-mod order_laws;
 mod order_words;
 mod port;
 mod queue;
@@ -90,41 +78,33 @@ mod watch;
 mod word_examples;
 
 pub use befallen_laws::{
-    a_run_ends_with_its_counts, answers_are_noted_of_the_station_that_was_asked,
-    each_apdu_of_a_step_is_read, late_octets_are_of_the_station_asked_before,
-    mishaps_are_noted_of_the_station_that_was_asked,
-    reports_are_skipped_as_the_gateway_counts_them, what_passes_is_known_and_logged,
+    answers_are_noted_of_the_station_that_was_asked, each_apdu_of_a_step_is_read,
+    what_passes_is_known_and_logged,
 };
 pub use connection_laws::{
     connections_are_known_from_their_opening_to_their_end,
     each_step_of_a_connection_is_logged_or_counted,
-    nothing_else_is_logged_as_a_step_of_a_connection, the_wall_clock_goes_on_between_its_events,
 };
 pub use content::Skip;
 pub use ends::OpenConnection;
 pub use ends_laws::{
     a_line_stands_so_since_the_look_that_found_it_so, nothing_of_a_connection_is_read_on_the_next,
     the_counts_are_logged_each_minute,
-    the_queue_is_logged_where_it_fills_and_where_it_is_free_again, who_was_refused_is_logged,
 };
 pub use examples::{
     commands_by_example, late_answers_by_example, log_lines_by_example, moments_by_example,
     standings_by_example, stations_by_example,
 };
-pub use exchange_laws::{answers_are_read_as_of_their_request, what_a_station_does_is_counted};
-pub use failure_laws::{
-    a_line_is_logged_where_it_goes_and_where_it_is_back, failures_are_logged_at_the_end,
-};
+pub use exchange_laws::answers_are_read_as_of_their_request;
+pub use failure_laws::failures_are_logged_at_the_end;
 pub use fate::{CommandFate, Reason};
 pub use fate_laws::{
-    answers_are_read_by_their_causes, commands_are_logged_of_their_station,
     commands_of_a_step_are_logged_one_by_one, nothing_waits_that_may_be_logged,
     what_becomes_of_commands_is_logged,
 };
 pub use laws::{
-    each_line_has_the_severity_of_its_row, lines_are_handed_over_until_one_is_not_taken,
-    lines_of_a_kind_are_a_second_apart, lines_say_how_many_were_left_out,
-    refusals_are_logged_by_their_rules, what_is_gathered_is_logged_or_counted,
+    each_line_has_the_severity_of_its_row, refusals_are_logged_by_their_rules,
+    what_is_gathered_is_logged_or_counted,
 };
 pub use limit::LeftOut;
 pub use logger::{Logger, taken_places};
@@ -132,17 +112,13 @@ pub use name_laws::lines_end_with_the_name_of_what_they_are_about;
 pub use names::{LogNames, NamedLine, NamedStation, name_of};
 pub use note::{LogLine, Note, Obstacle, Remnant, RunCounts, Trouble};
 pub use order::{Order, OrderKind, Value};
-pub use order_laws::{
-    acts_of_commands_are_told_by_their_bits, commands_are_told_with_their_addresses,
-    values_of_commands_are_told_bit_by_bit,
-};
 pub use port::RunLog;
 pub use severity::Severity;
 pub use sink::{LogSink, StandardError};
 pub use spoiling::{FirstOctets, Spoiling};
 pub use station_laws::{
-    a_station_is_logged_where_it_goes_and_where_it_is_back, a_station_stands_as_its_requests_say,
-    each_station_has_its_own_watch, requests_are_noted_of_their_own_station,
+    a_station_stands_as_its_requests_say, each_station_has_its_own_watch,
+    requests_are_noted_of_their_own_station,
 };
 pub use stations::{StationStanding, StationWatch};
 pub use system_laws::what_the_system_answers_is_what_counts;

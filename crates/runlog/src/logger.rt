@@ -2,7 +2,7 @@
 ghost use Rattle.std.specs.Prelude.{◌≡◌, ◌&&◌, false, true, length, not};
 ghost use Rattle.events.specs.Queue.{kept};
 ghost use Rattle.gateway.specs.Ports.{FitsBuffer, output_of};
-ghost use Rattle.runlog.specs.Logging.{book_fixture, counted, looked_if_due, LogsEventSeeing};
+ghost use Rattle.runlog.specs.Logging.{book_fixture, counted, LogsEventSeeing};
 ghost use Rattle.runlog.specs.Logging.{LogsAction};
 ghost use Rattle.runlog.specs.Logging.{LogsLook, Closes};
 ghost use Rattle.runlog.specs.Logging.{LogsNote, Fails, Sums, LogsNotice, IsLogged, LogsEach, Tells};
@@ -173,12 +173,7 @@ impl<S: LogSink + Drop> Logger<S> {
         if self.is_idle() {
             return;
         }
-        self.watch.judge(gateway);
-        let line = self.look_if_due(gateway);
-        let line = match line {
-            Some(line) => Some(line),
-            None => self.watch.gathered(),
-        };
+        let line = self.watch.look_between(gateway);
         self.log(line);
     }
 
@@ -205,18 +200,6 @@ impl<S: LogSink + Drop> Logger<S> {
             self.log(Some(*first));
             left = more;
         }
-    }
-
-    /// Looks at the queue and the counts, if that is due.
-    fn look_if_due(&mut self, gateway: &Gateway) -> Option<LogLine>
-        ensures watching { (self.new.watching, result)
-            ≡ looked_if_due gateway.now self.old.watching }
-        ensures rest { self.new ≡ record self.old { watching = self.new.watching } }
-    {
-        if !self.watch.is_look_due() {
-            return None;
-        }
-        self.watch.look(gateway.counts(), taken_places(gateway))
     }
 
     /// The run is over: logs what has failed, if anything, and then the counts.

@@ -484,15 +484,14 @@ impl fmt::Display for Note {
     }
 }
 
-fn write_left_out<W: fmt::Write>(left_out: LeftOut, f: &mut fmt::Formatter<W>) -> fmt::Result
-    ensures { WritesOnOk W.write_str_gives f.old result (left_out_words left_out) f.new }
+fn write_left_out<W: fmt::Write>(count: u64, since: u64, f: &mut fmt::Formatter<W>) -> fmt::Result
+    ensures { WritesOnOk W.write_str_gives f.old result (left_out_words count since) f.new }
 {
-    let count = left_out.count;
     if count == 0 {
         return Ok(());
     }
-    let since = left_out.since;
-    write!(f, " ({count} left out since {since})")
+    write!(f, " ({count} left out")?;
+    write!(f, " since {since})")
 }
 
 impl fmt::Display for LogLine {
@@ -505,6 +504,6 @@ impl fmt::Display for LogLine {
             left_out,
         } = self;
         write!(f, "{moment} {note}")?;
-        write_left_out(*left_out, f)
+        write_left_out(left_out.count, left_out.since, f)
     }
 }

@@ -1,6 +1,6 @@
 //! Laws of what is logged of the stations, and of how each of them stands.
-ghost use Rattle.std.specs.Prelude.{◌≡◌, ℕ, ◌+◌, ◌^◌, ◌<◌, ◌≤◌, Bool, List, ◌∷◌, ◌++◌, length};
-ghost use Rattle.std.specs.Prelude.{Some, None, map, ◌≢◌, ◌⊎◌, if◌then◌else◌};
+ghost use Rattle.std.specs.Prelude.{◌≡◌, ℕ, ◌+◌, ◌^◌, ◌<◌, ◌≤◌, List, ◌∷◌, ◌++◌, length};
+ghost use Rattle.std.specs.Prelude.{None, map, ◌≢◌, ◌⊎◌, if◌then◌else◌};
 ghost use Rattle.gateway.specs.Config.{Settings};
 ghost use Rattle.gateway.specs.Log.{GapOut, LineOut};
 ghost use Rattle.runlog.specs.Passing.{Passed, Went, passed, watched};
@@ -10,16 +10,13 @@ ghost use Rattle.ft12.specs.Spelling.{spelling};
 ghost use Rattle.link.specs.declared.service.Asked.{Asked as Request};
 ghost use Rattle.link.specs.Requests.{request_frame};
 ghost use Rattle.runlog.specs.Ends.{is_away};
-ghost use Rattle.runlog.specs.Limits.{IsSecondAfter};
-ghost use Rattle.runlog.specs.Standings.{AreOthers, IsAgainTooOften, IsAskedTooOften, IsLogged};
-ghost use Rattle.runlog.specs.Standings.{FollowsAnswer, IsLoggedAsked, IsLoggedUp, IsNoRequest};
-ghost use Rattle.runlog.specs.Standings.{IsOftenEnough, IsQuiet};
+ghost use Rattle.runlog.specs.Standings.{AreOthers};
+ghost use Rattle.runlog.specs.Standings.{IsNoRequest};
 ghost use Rattle.runlog.specs.Standings.{after, asking_for, missed, seat, seat_of, stands};
 ghost use Rattle.runlog.specs.Stations.{asked, gap, new_station, standing_of, station_asked};
 ghost use Rattle.runlog.specs.declared.note.Note.TheVariants as note;
 ghost use Rattle.runlog.specs.declared.stations.Asking.{Asking};
-ghost use Rattle.runlog.specs.declared.stations.Asking.TheVariants.{Status, Reset, Counted};
-ghost use Rattle.runlog.specs.declared.stations.Asking.TheVariants.{Other, Missed};
+ghost use Rattle.runlog.specs.declared.stations.Asking.TheVariants.{Missed};
 ghost use Rattle.runlog.specs.declared.stations.LinkKnown.TheVariants as known;
 ghost use Rattle.runlog.specs.declared.stations.StationLogged.TheVariants as logged;
 ghost use Rattle.runlog.specs.declared.stations.StationWatch.{StationWatch};
@@ -93,79 +90,4 @@ pub fn a_station_stands_as_its_requests_say()
         (after (new_station tries address) requests).gaps ≡ missed requests }
     ensures address { (w : StationWatch) (requests : List (ℕ × Asking)) →
         (after w requests).address ≡ w.address }
-{}
-
-/// A station is logged as up at the first service that follows an answered one, and never before.
-/// It is logged as down where its status is asked while it is up, and where its link is reset
-/// behind a service before it has answered any: never where its status alone is asked between the
-/// repeats of a service, as behind a start. Where a request has gone out more often than a station
-/// that is there lets it, it is logged that the station doesn't answer, and each minute again while
-/// that lasts: for a service, whose link is held, with a hint. That it answers again is logged at
-/// the next service that follows an answered one. Each line names the station by its link address.
-/// A line that comes too early is left to a later request: then what was logged last stays.
-pub fn a_station_is_logged_where_it_goes_and_where_it_is_back()
-    ensures asked { (w : StationWatch) (now : ℕ) → w.logged ≡ logged.Nothing →
-        IsSecondAfter w.asked.logged now → IsLogged now (note.Asked w.address) logged.Asked
-        w.asked (station_asked Status now w).0.asked (station_asked Status now w) }
-    ensures up { (w : StationWatch) (bit : Bool) (now : ℕ) → (IsLoggedUp w.logged → ⊥) →
-        FollowsAnswer w bit → IsSecondAfter w.up.logged now →
-        IsLogged now (note.Up w.address) logged.Up
-        w.up (station_asked (Counted bit) now w).0.up (station_asked (Counted bit) now w) }
-    ensures not_up { (w : StationWatch) (asking : Asking) (now : ℕ) →
-        ((station_asked asking now w).0.link ≡ known.Up → ⊥) → (IsLoggedUp w.logged → ⊥) →
-        IsLoggedUp (station_asked asking now w).0.logged → ⊥ }
-    ensures silent { (w : StationWatch) (bit : Bool) (now : ℕ) → w.logged ≡ logged.Up →
-        IsAgainTooOften w bit → IsSecondAfter w.silent.logged now →
-        IsLogged now (note.Silent w.address) logged.Silent
-        w.silent (station_asked (Counted bit) now w).0.silent (station_asked (Counted bit) now w) }
-    ensures answers { (w : StationWatch) (bit : Bool) (now : ℕ) → w.logged ≡ logged.Up →
-        IsOftenEnough w bit → IsQuiet w (station_asked (Counted bit) now w) }
-    ensures still { (w : StationWatch) (bit : Bool) (now before : ℕ) → w.logged ≡ logged.Silent →
-        IsAgainTooOften w bit → w.silent.logged ≡ Some before → before + 60000 ≤ now →
-        IsLogged now (note.StillSilent w.address) logged.Silent
-        w.silent (station_asked (Counted bit) now w).0.silent (station_asked (Counted bit) now w) }
-    ensures between { (w : StationWatch) (bit : Bool) (now before : ℕ) →
-        w.logged ≡ logged.Silent → IsAgainTooOften w bit → w.silent.logged ≡ Some before →
-        now < before + 60000 → IsQuiet w (station_asked (Counted bit) now w) }
-    ensures again { (w : StationWatch) (bit : Bool) (now : ℕ) → w.logged ≡ logged.Silent →
-        FollowsAnswer w bit → IsOftenEnough w bit → IsSecondAfter w.again.logged now →
-        IsLogged now (note.Again w.address) logged.Up
-        w.again (station_asked (Counted bit) now w).0.again (station_asked (Counted bit) now w) }
-    ensures down { (w : StationWatch) (now : ℕ) → IsLoggedUp w.logged →
-        IsSecondAfter w.down.logged now → IsLogged now (note.Down w.address) logged.Down
-        w.down (station_asked Status now w).0.down (station_asked Status now w) }
-    ensures reset { (w : StationWatch) (now : ℕ) (bit : Bool) → w.link ≡ known.Nothing →
-        w.served ≡ Some bit → IsSecondAfter w.down.logged now →
-        IsLogged now (note.Down w.address) logged.Down
-        w.down (station_asked Reset now w).0.down (station_asked Reset now w) }
-    ensures other_reset { (w : StationWatch) (now : ℕ) →
-        (w.link ≢ known.Nothing) ⊎ (w.served ≡ None) → IsQuiet w (station_asked Reset now w) }
-    ensures unserved { (w : StationWatch) (bit : Bool) (now : ℕ) → IsLoggedAsked w.logged →
-        IsAgainTooOften w bit → w.served ≡ Some bit → w.link ≢ known.Up →
-        IsSecondAfter w.silent.logged now → IsLogged now (note.Silent w.address) logged.Unanswered
-        w.silent (station_asked (Counted bit) now w).0.silent (station_asked (Counted bit) now w) }
-    ensures still_unserved { (w : StationWatch) (bit : Bool) (now before : ℕ) →
-        w.logged ≡ logged.Unanswered → IsAgainTooOften w bit → w.served ≡ Some bit →
-        w.link ≢ known.Up → w.silent.logged ≡ Some before → before + 60000 ≤ now →
-        IsLogged now (note.StillSilent w.address) logged.Unanswered
-        w.silent (station_asked (Counted bit) now w).0.silent (station_asked (Counted bit) now w) }
-    ensures unanswered { (w : StationWatch) (now : ℕ) → IsLoggedAsked w.logged →
-        IsAskedTooOften w → IsSecondAfter w.silent.logged now →
-        IsLogged now (note.Silent w.address) logged.Unanswered
-        w.silent (station_asked Status now w).0.silent (station_asked Status now w) }
-    ensures waits { (w : StationWatch) (now : ℕ) → IsLoggedAsked w.logged → 0 < w.tries →
-        (w.bit ≡ None → w.sent < w.tries) → IsQuiet w (station_asked Status now w) }
-    ensures still_asked { (w : StationWatch) (now before : ℕ) → w.logged ≡ logged.Unanswered →
-        IsAskedTooOften w → w.silent.logged ≡ Some before → before + 60000 ≤ now →
-        IsLogged now (note.Silent w.address) logged.Unanswered
-        w.silent (station_asked Status now w).0.silent (station_asked Status now w) }
-    ensures asked_between { (w : StationWatch) (now before : ℕ) → w.logged ≡ logged.Unanswered →
-        w.silent.logged ≡ Some before → now < before + 60000 →
-        IsQuiet w (station_asked Status now w) }
-    ensures gap { (w : StationWatch) (now : ℕ) → IsSecondAfter w.gap.logged now →
-        IsLogged now (note.Gap w.address) w.logged
-        w.gap (station_asked Missed now w).0.gap (station_asked Missed now w) }
-    ensures other { (w : StationWatch) (now : ℕ) → IsQuiet w (station_asked Other now w) }
-    ensures none { (w : StationWatch) (asking : Asking) (now : ℕ) →
-        (station_asked asking now w).1 ≡ None → IsQuiet w (station_asked asking now w) }
 {}

@@ -1,6 +1,7 @@
 //! Which line follows from what passes the port.
 ghost use Rattle.std.specs.Prelude.{◌≡◌, IfOk};
 ghost use Rattle.gateway.specs.Ports.{FitsBuffer, output_of};
+ghost use Rattle.runlog.specs.Logging.{looked, looked_if_due};
 ghost use Rattle.runlog.specs.Traffic.{new_traffics};
 ghost use Rattle.runlog.specs.Watching as spec;
 
@@ -8,6 +9,7 @@ use crate::ends::{ConnectionWatch, LineWatch, ListenerWatch, OpenConnection, hap
 use crate::exchange::RequestWatch;
 use crate::inbox::Inbox;
 use crate::limit::LeftOut;
+use crate::logger::taken_places;
 use crate::note::{LogLine, Note, RunCounts, Trouble};
 use crate::queue::QueueWatch;
 use crate::stations::{StationWatch, gap};
@@ -224,7 +226,7 @@ impl Watch {
         self.line.since()
     }
 
-    /// Which syncs of the state on the disk were slow, behind the latest event.
+    /// Which syncs of the state on the disk were slow, as far as that was seen.
     pub fn syncs(&self) -> SlowSyncs
         ensures { result ≡ self.now.syncs }
     {
@@ -263,7 +265,6 @@ impl Watch {
         requires { FitsBuffer next }
         ensures { (self.new, result) ≡ spec.event_noted next buf.now sight.now self.old }
     {
-        self.syncs = sight.syncs;
         // First: they were dropped before this event, when the latest request went out.
         self.note_late(sight.late_octets);
         self.come(next, buf, sight)
@@ -335,6 +336,7 @@ impl Watch {
         ensures { (self.new, result) ≡ spec.seen sight.now self.old }
     {
         let now = self.moment;
+        self.syncs = sight.syncs;
         match self.line.see(sight.line, now) {
             Some(line) => Some(line),
             None => self.listener.see(sight.refused, now),
@@ -366,8 +368,30 @@ impl Watch {
     }
 
     /// Between two steps: notes what became of the commands that came in the latest one, and what
+    /// was counted in it. Answers the line of the queue or the counts, or else of what is gathered.
+    pub(crate) fn look_between(&mut self, gateway: &Gateway) -> Option<LogLine>
+        ensures { (self.new, result) ≡ looked gateway.now self.old }
+    {
+        self.judge(gateway);
+        match self.look_if_due(gateway) {
+            Some(line) => Some(line),
+            None => self.gathered(),
+        }
+    }
+
+    /// Looks at the queue and the counts, if that is due.
+    fn look_if_due(&mut self, gateway: &Gateway) -> Option<LogLine>
+        ensures { (self.new, result) ≡ looked_if_due gateway.now self.old }
+    {
+        if !self.is_look_due() {
+            return None;
+        }
+        self.look(gateway.counts(), taken_places(gateway))
+    }
+
+    /// Between two steps: notes what became of the commands that came in the latest one, and what
     /// was counted in it.
-    pub(crate) fn judge(&mut self, gateway: &Gateway)
+    fn judge(&mut self, gateway: &Gateway)
         ensures { self.new ≡ spec.judged gateway.now self.old }
     {
         self.inbox.judge(gateway, self.connection.peer());
@@ -392,7 +416,7 @@ impl Watch {
     }
 
     /// The next line of what was gathered, if one may be logged now. It is sought once a ms.
-    pub(crate) fn gathered(&mut self) -> Option<LogLine>
+    fn gathered(&mut self) -> Option<LogLine>
         ensures { (self.new, result) ≡ spec.gathered self.old }
     {
         let now = self.moment;
@@ -419,7 +443,7 @@ impl Watch {
     }
 
     /// The queue is to be looked at again.
-    pub(crate) fn is_look_due(&self) -> bool
+    fn is_look_due(&self) -> bool
         ensures { result ≡ spec.is_look_due self.now }
     {
         LOOK_MS <= self.moment.saturating_sub(self.looked)
@@ -438,7 +462,7 @@ impl Watch {
     }
 
     /// The gateway has counted this, and so many places of its queue are taken.
-    pub(crate) fn look(&mut self, counts: Counts, taken: u64) -> Option<LogLine>
+    fn look(&mut self, counts: Counts, taken: u64) -> Option<LogLine>
         ensures { (self.new, result) ≡ spec.looked_at counts taken self.old }
     {
         self.looked = self.moment;

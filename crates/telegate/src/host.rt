@@ -305,6 +305,21 @@ fn run_process<S: Starts>(
         return Err(Fault::EndUnusable);
     };
     let names = named_by(wishes.names, stations.as_slice());
+    run_named(system, places, names, settings, text, wishes)
+}
+
+/// The same, where the line and the stations are called so.
+fn run_named<'a, S: Starts>(
+    system: &System<'a, S>,
+    places: &'a LiveSettings,
+    names: LogNames<'a>,
+    settings: &Config,
+    text: &[u8],
+    wishes: Wishes<'_>,
+) -> Result<(), Fault>
+    ensures { HasNotBegun result ⊎ IsOver (StartsIn ⟦<FileFrom<S::Found> as Disk>⟧ wishes.entry
+        settings.now system.now.lineage.entries) settings.now places.now wishes.entry result }
+{
     let mut site = process_of(system, places, names, wishes.log_severity);
     run_out(&mut site, settings, text, wishes)
 }

@@ -71,7 +71,7 @@ use performing::write_fault;
 use shell::obey;
 use sqlite_std_file::Unknown;
 use state_files::Starts;
-use std::io::Write;
+use std::io::{IsTerminal, Write};
 use std::process::ExitCode;
 use std::rt::Env;
 use std::{env, io};

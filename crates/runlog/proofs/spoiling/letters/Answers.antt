@@ -1,4 +1,4 @@
-use Rattle.std.proofs.Common.{◌≡◌, sym, subst}
+use Rattle.std.proofs.Common.{sym, subst}
 use Rattle.std.specs.Str.{IsUtf8}
 use Rattle.runlog.proofs.Letters.{letters_utf8}
 use Rattle.runlog.proofs.spoiling.letters.Goals as goal

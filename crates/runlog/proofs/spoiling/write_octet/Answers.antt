@@ -1,4 +1,4 @@
-use Rattle.std.proofs.Common.{rules, arith}
+use Rattle.std.proofs.Common.{rules}
 use Rattle.std.proofs.lemmas.Fmt.{hex_byte}
 use Rattle.runlog.proofs.spoiling.write_octet.Goals as goal
 

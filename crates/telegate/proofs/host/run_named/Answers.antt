@@ -1,7 +1,7 @@
 use Rattle.std.proofs.Common.{ap}
 use Rattle.settings.specs.Live.{places_of}
 use Rattle.telegate.proofs.RanLemmas.{over_at, starts_by}
-use Rattle.telegate.proofs.host.run_process.Goals as goal
+use Rattle.telegate.proofs.host.run_named.Goals as goal
 
 pub returns : goal.returns
 returns g c =
