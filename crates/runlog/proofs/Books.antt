@@ -1,18 +1,16 @@
 -- What passes is known and logged, and how a run ends.
-use Rattle.std.proofs.Common.{◌≡◌, ℕ, Bool, true, false, not, ◌&&◌, List, ◌∷◌, Option, Some, None}
+use Rattle.std.proofs.Common.{◌≡◌, ℕ, Bool, true, false, not, List, Option, Some, None}
 use Rattle.std.proofs.Common.{refl, sym, ap, subst, ◌∙◌}
 use Rattle.std.specs.Prelude.{if◌then◌else◌}
 use Rattle.gateway.specs.Log.{Output}
 use Rattle.gateway.specs.State.{State}
 use Rattle.gateway.specs.declared.ports.Next.{Next}
 use Rattle.live.specs.declared.watched.EndsSight.{EndsSight}
-use Rattle.live.specs.declared.watched.Failure.TheVariants as failure
 use Rattle.runlog.specs.Befallen.{IsFollowed, IsWatched}
 use Rattle.runlog.specs.Logging.{Book, LogsAction, LogsEventSeeing, LogsLook, after, kept}
 use Rattle.runlog.specs.Logging.{logged, unless_over}
 use Rattle.runlog.specs.Passing.{Between, Came, Passed, Went, passed}
 use Rattle.runlog.specs.declared.note.LogLine.{LogLine}
-use Rattle.runlog.specs.declared.note.Note.TheVariants as note
 use Rattle.runlog.proofs.Handed.{handed_on, over_on}
 
 -- ---- Each that passes

@@ -6,7 +6,7 @@ use Rattle.link.specs.declared.answer.Answer.TheVariants as answer
 use Rattle.runlog.specs.Answering.{IsCounted}
 use Rattle.runlog.specs.Limits.{one_more}
 use Rattle.runlog.specs.Traffic.{content_noted, content_of, late_line, mirrors_line, or_else}
-use Rattle.runlog.specs.Traffic.{reported, sent, skips_line, spoilt_line, suffered, traffic_line}
+use Rattle.runlog.specs.Traffic.{sent, skips_line, spoilt_line, suffered, traffic_line}
 use Rattle.runlog.specs.Exchange.{traffic_after}
 use Rattle.runlog.specs.declared.content.Content.{Content}
 use Rattle.runlog.specs.declared.content.Content.TheVariants as content

@@ -152,7 +152,8 @@ logged_by_last : (last : Option Note) (limit : Limit) (came : ℕ) (what : Note)
     ≡ Some (record {
       moment = at;
       note = what;
-      left_out = (added what at (record { limit = limit; last = last; came = came })).limit.left_out;
+      left_out =
+          (added what at (record { limit = limit; last = last; came = came })).limit.left_out;
     })
 logged_by_last None limit came what at now free = rw free refl
 logged_by_last (Some before) limit came what at now free = rw free refl

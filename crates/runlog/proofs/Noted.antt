@@ -1,5 +1,5 @@
 -- Which station answers, commands and mishaps are noted of.
-use Rattle.std.proofs.Common.{◌≡◌, ℕ, ◌+◌, ◌-◌, ◌==◌, ◌<◌, ◌≤◌, Bool, true, false, List, [], ◌∷◌}
+use Rattle.std.proofs.Common.{◌≡◌, ℕ, ◌==◌, ◌<◌, ◌≤◌, Bool, true, false, List, [], ◌∷◌}
 use Rattle.std.proofs.Common.{◌++◌, length, Option, Some, None, refl, ap, ◌∙◌, arith}
 use Rattle.std.proofs.Common.{nat_lt, zero, suc, get_or, length-append}
 use Rattle.std.proofs.Math.Seq.{get_or-append_seam, set-append_seam}
@@ -218,7 +218,8 @@ module _ (w : Watching) (octets : List ℕ) (before behind : List Traffic) (t : 
       → (line_received octets w).trail ≡ answer_told answer w.sizes w.moment t w.trail
   answer_told_here answer found = ap (λ (x : Watching). x.trail) (noted_by (Some answer) found)
 
-  pub no_answer_here : answer_in w.link t.address (received w.link octets w.moment w.exchange) ≡ None
+  pub no_answer_here : answer_in w.link t.address (received w.link octets w.moment w.exchange)
+      ≡ None
       → IsInPlace before behind t (line_received octets w)
   no_answer_here found = ap (λ (x : Watching). x.traffic) (noted_by None found) ∙ is
 

@@ -112,7 +112,8 @@ suffered_by_same (Some t) place what w is = record {
   moment = refl;
   link = refl;
   stations = refl;
-  addresses = replaced w.traffic place t (suffered what w.moment t) is (mishap_so what w.moment t).address;
+  addresses = replaced w.traffic place t (suffered what w.moment t) is
+      (mishap_so what w.moment t).address;
 }
 
 suffered_at_same : (place : Option ℕ) (what : Mishap) (w : Watching)

@@ -1,7 +1,8 @@
 -- Lines of one kind.
 use Rattle.std.proofs.Common.{◌≡◌, ℕ, ◌+◌, ◌-◌, ◌^◌, ◌<◌, ◌≤◌, Bool, true, false, List, [], ◌∷◌}
 use Rattle.std.proofs.Common.{length, Option, Some, None, nat_le, min, refl, arith}
-use Rattle.runlog.specs.Limits.{is_free, is_free_after, asked_by, none_left, one_left, logged_by, logged_in}
+use Rattle.runlog.specs.Limits.{is_free, is_free_after, asked_by, none_left, one_left, logged_by}
+use Rattle.runlog.specs.Limits.{logged_in}
 use Rattle.runlog.specs.Limits.{IsSecondAfter, AreSecondsApart, logged_of, left_in}
 use Rattle.runlog.specs.declared.limit.Limit.{Limit}
 
@@ -41,7 +42,8 @@ apart limit moments = apart_all moments limit
 
 Counted : List ℕ → Type 0
 Counted moments = (limit : Limit) → limit.left_out.count + length moments < 2 ^ 64
-    → logged_of (logged_in limit moments) + left_in limit moments ≡ limit.left_out.count + length moments
+    → logged_of (logged_in limit moments) + left_in limit moments ≡ limit.left_out.count
+    + length moments
 
 no_more_than : (n m : ℕ) → n + (m + 1) < 2 ^ 64 → min (n + 1) (2 ^ 64 - 1) ≡ n + 1
 no_more_than n m small = grind (arith, small)
@@ -69,6 +71,7 @@ counted_all (now ∷ moments) limit small = counted_by (is_free limit now) limit
     (counted_all moments)
 
 pub counted : (limit : Limit) (moments : List ℕ) → limit.left_out.count + length moments < 2 ^ 64
-    → logged_of (logged_in limit moments) + left_in limit moments ≡ limit.left_out.count + length moments
+    → logged_of (logged_in limit moments) + left_in limit moments ≡ limit.left_out.count
+    + length moments
 unfolding Counted
 counted limit moments small = counted_all moments limit small

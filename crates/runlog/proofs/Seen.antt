@@ -1,5 +1,5 @@
 -- What a look finds of the queue, of the listener and of the line.
-use Rattle.std.proofs.Common.{◌≡◌, ◌≢◌, ℕ, ◌-◌, ◌<◌, ◌≤◌, Bool, true, false, [], Option, Some}
+use Rattle.std.proofs.Common.{◌≡◌, ◌≢◌, ℕ, Bool, true, false, [], Option, Some}
 use Rattle.std.proofs.Common.{None, refl, ap, ◌∙◌, length}
 use Rattle.std.specs.Prelude.{if◌then◌else◌}
 use Rattle.std.specs.Bool.{beq}
@@ -22,7 +22,6 @@ use Rattle.runlog.specs.declared.ends.LineLogged.{LineLogged}
 use Rattle.runlog.specs.declared.ends.LineWatch.{LineWatch}
 use Rattle.runlog.specs.declared.note.LogLine.{LogLine}
 use Rattle.runlog.specs.declared.note.Note.{Note}
-use Rattle.runlog.specs.declared.note.Note.TheVariants as note
 use Rattle.runlog.proofs.Failures.{away_so, receiving_so}
 
 -- ---- The queue

@@ -7,7 +7,6 @@ use Rattle.gateway.specs.Log.{LineOut}
 use Rattle.runlog.specs.Logging.{Book}
 use Rattle.runlog.specs.Passing.{Passed, Went, passed}
 use Rattle.runlog.specs.Watching.{Watching}
-use Rattle.runlog.specs.declared.content.Content.TheVariants as content
 use Rattle.runlog.specs.declared.note.LogLine.{LogLine}
 use Rattle.runlog.specs.declared.traffic.Traffic.{Traffic}
 

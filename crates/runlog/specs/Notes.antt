@@ -189,4 +189,5 @@ left_out_words count since =
 
 -- what stands behind the line's UTC time
 abbrev pub line_text : LogLine → List ℕ
-line_text l = (decimal l.moment ++ codes " " ++ words l.note) ++ left_out_words l.left_out.count l.left_out.since
+line_text l = (decimal l.moment ++ codes " " ++ words l.note) ++ left_out_words l.left_out.count
+    l.left_out.since

@@ -1,7 +1,7 @@
 -- How a station stands by the requests that went out to it, and whose a request is (IEC 60870-5-2,
 -- 5.1.2; what is said of a station is this gateway's own profile, docs/STATUS.md and
 -- docs/TEXTS.md).
-use Rattle.std.specs.Prelude.{◌≡◌, ℕ, ◌+◌, ◌^◌, ◌<◌, ◌≤◌, nat_lt, Bool, true, false, List, [], ◌∷◌}
+use Rattle.std.specs.Prelude.{◌≡◌, ℕ, ◌+◌, nat_lt, Bool, true, false, List, [], ◌∷◌}
 use Rattle.std.specs.Prelude.{Option, Some, None, is_some, if◌then◌else◌}
 use Rattle.std.specs.Bool.{beq}
 use Rattle.std.specs.List.{AllByRecursion}
@@ -15,7 +15,6 @@ use Rattle.runlog.specs.declared.stations.LinkKnown.{LinkKnown}
 use Rattle.runlog.specs.declared.stations.LinkKnown.TheVariants as known
 use Rattle.runlog.specs.declared.stations.Asking.{Asking}
 use Rattle.runlog.specs.declared.stations.Asking.TheVariants.{Status, Reset, Counted, Other, Missed}
-use Rattle.runlog.specs.declared.stations.StationLogged.TheVariants as logged
 use Rattle.runlog.specs.declared.stations.StationStanding.{StationStanding}
 use Rattle.runlog.specs.declared.stations.StationStanding.TheVariants as standing
 use Rattle.runlog.specs.declared.stations.StationWatch.{StationWatch}

@@ -37,9 +37,9 @@ ghost use Rattle.runlog.specs.declared.traffic.Traffic.{Traffic};
 /// Whatever becomes of a command that goes on to its station is told for that station, in a line of
 /// its own, with the moment of its event: that it came, that it went out, what the station answers,
 /// by the cause octet and the command of that very answer, that its link is busy, that the latest
-/// command that went out to it was given up, or that it never went out. All that is to be told is handed over behind the step,
-/// in its order, and nothing of it is left out. So is each report that isn't passed on, with its
-/// type and the reason, and each mishap: these at most once a minute.
+/// command that went out to it was given up, or that it never went out. All that is to be told is
+/// handed over behind the step, in its order, and nothing of it is left out. So is each report that
+/// isn't passed on, with its type and the reason, and each mishap: these at most once a minute.
 pub fn what_becomes_of_commands_is_logged()
     ensures told { (what : Note) (now : ℕ) (lines : List LogLine) → length lines < 128 →
         added what now lines ≡ lines ++ at now what ∷ [] }

@@ -5,7 +5,8 @@ ghost use Rattle.gateway.specs.Ports.{FitsBuffer, output_of};
 ghost use Rattle.runlog.specs.Logging.{book_fixture, counted, LogsEventSeeing};
 ghost use Rattle.runlog.specs.Logging.{LogsAction};
 ghost use Rattle.runlog.specs.Logging.{LogsLook, Closes};
-ghost use Rattle.runlog.specs.Logging.{LogsNote, Fails, Sums, LogsNotice, IsLogged, LogsEach, Tells};
+ghost use Rattle.runlog.specs.Logging.{LogsNote, Fails, Sums, LogsNotice, IsLogged, LogsEach};
+ghost use Rattle.runlog.specs.Logging.{Tells};
 
 use crate::note::{LogLine, Note};
 use crate::sink::LogSink;

@@ -81,7 +81,8 @@ pub struct Watch {
     traffic: Vec<Traffic>,
     /// What became of commands since that was told last.
     trail: Trail,
-    /// The commands that went out to the line in the latest step: what it did besides is told first.
+    /// The commands that went out to the line in the latest step: what it did besides is told
+    /// first.
     gone: Trail,
 }
 
