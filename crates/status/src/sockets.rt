@@ -1,5 +1,6 @@
 //! The streams of visitors on the system's sockets. No call waits.
 ghost use Rattle.std.specs.Prelude.{None};
+ghost use Rattle.status.specs.Streams.{FitsBuffer};
 
 use crate::streams::{Stream, StreamLook, StreamSource, Took};
 use arrayvec::ArrayVec;
@@ -25,18 +26,22 @@ impl VisitorSocket {
         stream.set_nonblocking(true).ok()?;
         // Head and body go out in two writes; the system would hold the second one back.
         stream.set_nodelay(true).ok()?;
-        let mut first = ArrayVec::from([0; 1_024]);
-        match look(&stream, first.as_mut_slice()) {
-            StreamLook::Octets(len) => first.truncate(len),
-            StreamLook::Quiet => first.clear(),
+        let mut room = [0; 1_024];
+        let len = match look(&stream, &mut room) {
+            StreamLook::Octets(len) => len,
+            StreamLook::Quiet => 0,
             StreamLook::Gone => return None,
-        }
+        };
+        let mut first = ArrayVec::from(room);
+        first.truncate(len);
         Some(VisitorSocket { stream, first })
     }
 }
 
 /// What a connection gives now.
-fn look(mut stream: &TcpStream, buf: &mut [u8]) -> StreamLook {
+fn look(mut stream: &TcpStream, buf: &mut [u8; 1_024]) -> StreamLook
+    ensures { FitsBuffer result }
+{
     match stream.read(buf) {
         Ok(0) => StreamLook::Gone,
         Ok(len) => StreamLook::Octets(len),
