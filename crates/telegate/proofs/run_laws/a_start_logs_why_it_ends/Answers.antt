@@ -6,7 +6,7 @@ pub returns-clause-in_use : goal.returns-clause-in_use
 returns-clause-in_use c old new logs = (new, logs, refl)
 
 pub returns-clause-unusable : goal.returns-clause-unusable
-returns-clause-unusable c old new logs = (new, logs, refl)
+returns-clause-unusable c cause old new logs = (logs.0, logs.1, (new, logs.2, refl))
 
 pub returns-clause-ends : goal.returns-clause-ends
 returns-clause-ends c why old new refused = (
