@@ -1,7 +1,7 @@
 //! A log over a sink in memory.
 use crate::runs::config;
 use noted_ends::{NotedLines, note_line};
-use runlog::{LogLine, Logger, Note, Watch};
+use runlog::{LeftOut, LogLine, Logger, Note, Watch};
 use std::test::Fail;
 
 #[test]
@@ -27,7 +27,7 @@ fn a_sink_that_notes_its_lines_has_them(rt: HostRuntime) -> Result<(), Fail> {
     let taken = [Note::LineReached, Note::Up(1)].map(|note| LogLine {
         moment: 0,
         note,
-        left_out: 0,
+        left_out: LeftOut::none(),
     });
     assert!(rt; lines.as_slice() == taken.as_slice());
     Ok(())
