@@ -98,7 +98,7 @@ pub record IsPassedOn (sizes : Sizes) (v : AsduValue) (report : List ℕ)
   pub full : AllButLast (λ piece. IsLargest v piece) pieces
   pub number : length pieces ≡ parts sizes report
 
--- A station's answer to a command: where data transfer runs, these pieces are kept as own answers.
+-- A station's answer to a command. If data transfer runs, these pieces are kept as own answers.
 -- Else it is counted.
 abbrev pub mirrored_works : (at : ℕ) → (is_transferring : Bool) → AsduValue →
     (pieces : List (List ℕ)) → Works → Works
