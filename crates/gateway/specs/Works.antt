@@ -43,7 +43,7 @@ pub record Works : Type 0 where
 abbrev pub first_works : Setup → Works
 first_works p = record { serial = first_serial p; history = []; is_due = false }
 
--- where commands stand
+-- how commands stand
 abbrev pub tasks_of : Works → Run
 tasks_of w = record { state = w.serial.commands; history = w.history }
 

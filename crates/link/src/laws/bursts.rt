@@ -5,7 +5,7 @@ ghost use Rattle.link.specs.Procedure.{LinkSettings};
 ghost use Rattle.link.specs.Primary.{start};
 ghost use Rattle.link.specs.Runs.{Call};
 
-/// Whatever is called: where a poll of a station was answered with ACD set, at its first sending or
+/// Whatever is called: if a poll of a station was answered with ACD set, at its first sending or
 /// when it was repeated, and fewer than `burst` polls of class 1 went to the station in a row, the
 /// next request is one more, if the caller has leave. So a turn has no fewer of them than `burst`,
 /// while class 1 data wait. (`turns_end` says that it has no more.) If a new command was answered
