@@ -41,7 +41,7 @@ use gateway::own_answers_go_out;
 
 /// What comes to the control centre is one run. Of what is handed to TCP on a connection a
 /// beginning comes, wherever TCP is cut: the I frames that stand whole in it are numbered from 0,
-/// none of them missing. Their monitor objects are a contiguous run of the objects taken, which
+/// none of them missing, and their monitor objects are a contiguous run of the objects taken, which
 /// begins at the same place, the first that no connection before acknowledged. And if the control
 /// centre acknowledges only what has come to it, what came on all connections of the log, put
 /// together at these places, is a beginning of the objects taken. Over all closes and new
