@@ -91,7 +91,7 @@ module _ (stations : List StationInfo) (sizes : Sizes) (ms age : ℕ) where
   standing_is_one xs (Answered octets ∷ h) z e = standing_is_one xs h z e
   standing_is_one xs (Ended ∷ h) z e = absurd (no_entry e)
 
-  -- ---- when it came
+  -- ---- where it came
 
   pub faultless : (calls : List Call) (ys : List ℕ) (came : ℕ) (wall : Option ℕ)
       (a : Option (List ℕ))

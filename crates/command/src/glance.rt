@@ -13,7 +13,7 @@ use std::marker::Model;
 pub struct Glance {
     /// How many commands wait.
     pub(crate) waiting: usize,
-    /// The selections, without behind how many commands a select waits.
+    /// The selections. Behind how many commands a select waits is left out.
     pub(crate) selections: ArrayVec<Selection, 16>,
 }
 

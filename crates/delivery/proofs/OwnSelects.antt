@@ -276,7 +276,7 @@ module _ (p : Setup) where
     not_confirmed (Answered octets ∷ h) m f past e = not_confirmed h m f past e
     not_confirmed (Ended ∷ h) m f past e = no_entry e
 
-    -- ---- when it went out, was accepted, and was confirmed: behind its coming
+    -- ---- where it went out, was accepted, and was confirmed: behind its coming
 
     module _ (behind : History) (unconfirmed : (m : ℕ) → confirmed behind ≡ Some m → ⊥)
         (untaken : is_taken p home z.place behind ≡ true → ⊥)

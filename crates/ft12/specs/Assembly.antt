@@ -43,10 +43,10 @@ abbrev pub IsEndDue : LinkSize → List ℕ → Type 0
 IsEndDue size octets =
     (frame : Frame) × IsFront size (octets ++ 0x16 ∷ []) (front.Whole frame (length octets + 1))
 
--- What n octets of a piece are, after the octets so far, if no frame ends in them. With these they
--- are the proper beginning of a frame, whose end octet is due if octets of the piece are left. Or
--- the piece goes on to begin none. Then it is taken as a whole, and none is looked at after the one
--- that shows it. So many were looked at before and after.
+-- What n octets of a piece are, after the octets so far, if no frame ends in them. With the octets
+-- so far they are the proper beginning of a frame, whose end octet is due if octets of the piece
+-- are left. Or the piece goes on to begin none. Then it is taken as a whole, and none is looked at
+-- after the one that shows it. So many were looked at before and after.
 abbrev pub ReceivesInner : LinkSize → (so_far piece : List ℕ) → (n before looked : ℕ) →
     Option (List ℕ) → Type 0
 ReceivesInner size so_far piece n before looked (Some after) =

@@ -82,7 +82,7 @@ pub record IsGivenOn (p : Setup) (at : ℕ) (report : List ℕ) (before after : 
   pub tagged : AreTagged tag plain pieces
   pub given : AreHandedOver pieces (Mirrored at value ∷ before) after
 
--- an exchange that brings a station's answer to a command
+-- if an exchange brings a station's answer to a command, that is given on
 abbrev pub GivesAnswer : Setup → (at : ℕ) → Outcome → (before after : History) → Type 0
 GivesAnswer p at (outcome.Report station asdu) before after =
     is_command_report p.sizes asdu.items ≡ true → IsGivenOn p at asdu.items before after

@@ -184,7 +184,7 @@ settled at s =
 abbrev pub waiting_in : tasks.State → CommandsWaiting
 waiting_in s = λ station. octets_waiting station s
 
--- the request that is next, if the queue has room or if it hasn't
+-- the request that is next, by whether the queue has room
 abbrev pub next_request : (room : Bool) → Serial → Option Sending
 next_request room s = sending s.line room (waiting_in s.commands)
 

@@ -15,7 +15,7 @@
 //! answers before reports, and an S frame only if no I frame can bear its number. The monitor
 //! objects sent on each connection are a contiguous run of those taken from the line, from the
 //! first on that no connection before acknowledged. A connection is closed when a cause stands, and
-//! for no other.
+//! for no other cause.
 //!
 //! All of these speak of one course of the log: there is no other ([`one_course`]), and of two
 //! causes never both stand ([`one_cause`]). What is free is only how far the octets of an event

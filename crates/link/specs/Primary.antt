@@ -344,7 +344,7 @@ due_from p (Some o) now = if is_late p o now then unanswered p o else p
 abbrev pub timed_out : Primary → (now : ℕ) → Primary
 timed_out p now = due_from p p.outstanding now
 
--- The caller learns if the station's link is down now.
+-- If the station's link is down now, the caller learns it.
 abbrev pub miss_outcome : Primary → Asked → Outcome
 miss_outcome p request =
     if goes_down request (after_silence p.settings request true

@@ -43,8 +43,8 @@ pub fn repeats_are_as_many_as_set()
         ≡ nat_le (length sent) settings.retries }
 {}
 
-/// Whatever is called: a turn began with a service that was held, its repeats being used up. If it
-/// was answered and the station's link is up, the next request goes to the same station. It is the
+/// Whatever is called: if a turn began with a held service whose repeats were used up, it was
+/// answered, and the station's link is up, the next request goes to the same station. It is the
 /// command that waits there, if DFC is clear, whether there is leave to poll or not. Else it is the
 /// poll that ACD asks for, if there is leave. So a held service takes the place of none of the
 /// turn's requests.
