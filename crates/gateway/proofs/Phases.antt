@@ -117,7 +117,7 @@ placed_in Crowded log h flushing placed on = absurd flushing
 placed_in Timed log h flushing placed on = absurd flushing
 placed_in Asked log h flushing placed on = placed on
 
--- when a connection has just ended, nothing is lacked_place
+-- when a connection has just ended, nothing has lacked a place
 pub placed_cut : (phase : Phase) (log : Log) (h : happened.History)
     → IsPlaced phase log (happened.Ended ∷ h)
 placed_cut Crowded log h = tt
