@@ -12,8 +12,8 @@ use Rattle.record.specs.Lines.{first_state, is_action, is_cut, record_lines, who
 use Rattle.record.specs.Opening.{BeginsBehind}
 use Rattle.record.specs.Recording.{Recording, text_of, added}
 
--- Where the record goes on its text is the one before and this behind it; where it is over, the one
--- before.
+-- If the record goes on, its text is the one before and this behind it. If it is over, it is the
+-- one before.
 abbrev pub grows_by : (is_over : Bool) → (old : Recording) → List ℕ → (new : Recording) → Type 0
 grows_by true old line new = text_of new ≡ text_of old
 grows_by false old line new = text_of new ≡ added (text_of old) line
@@ -27,7 +27,7 @@ uncut (line ∷ lines) = if is_cut line then uncut lines else line ∷ uncut lin
 abbrev pub BeginsWith : (lines run : List (List ℕ)) → Type 0
 BeginsWith lines run = (rest : List (List ℕ)) × (lines ++ rest ≡ run)
 
--- The run begins with the lines before the one of this number, where they are counted from n, and
+-- The run begins with the lines before the one of this number, if they are counted from n, and
 -- doesn't go on with that one.
 pub record IsFirstOff (n : ℕ) (lines run : List (List ℕ)) (number : ℕ) : Type 0 where
   pub before : List (List ℕ)

@@ -2,7 +2,7 @@
 ghost use Rattle.std.specs.Prelude.{◌≡◌, option_map};
 ghost use Rattle.settings.specs.Wanted.{line_values, other_values, tcp_values, wanted_values};
 
-/// What is wanted of the value of the key with this dotted path, in words; none, where there is no
+/// What is wanted of the value of the key with this dotted path, in words; none, if there is no
 /// such key.
 pub fn wanted_values(path: &str) -> Option<&'static str>
     ensures { option_map (λ values. values.now) result ≡ wanted_values path.now }

@@ -83,8 +83,8 @@ pub fn scripts_by_example()
         × (wrong_line (line (codes "turns 1") ++ line (codes "turns 1")) ≡ Some 2) }
 {}
 
-/// What a script has become of a request, of an answer and of a call, and what it says where it has
-/// no such line.
+/// What a script has become of a request, of an answer and of a call, and what it says if it has no
+/// such line.
 pub fn losses_by_example()
     ensures fates { (fate_of (SpoilAnswer 1 4 ∷ LoseAnswer 1 ∷ LoseRequest 1 ∷ []) 1 ≡ RequestLost)
         × (fate_of (SpoilAnswer 1 4 ∷ LoseAnswer 1 ∷ []) 1 ≡ AnswerLost)

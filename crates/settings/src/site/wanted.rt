@@ -2,7 +2,7 @@
 ghost use Rattle.std.specs.Prelude.{◌≡◌, option_map};
 ghost use Rattle.settings.specs.SiteWanted.{name_values, run_values, site_values};
 
-/// What is wanted of the value of the key with this dotted path, in words; none, where there is no
+/// What is wanted of the value of the key with this dotted path, in words; none, if there is no
 /// such key.
 pub fn site_values(path: &str) -> Option<&'static str>
     ensures { option_map (λ values. values.now) result ≡ site_values path.now }
