@@ -18,9 +18,9 @@
 //! changes nothing.
 //!
 //! Not proved is what the system does. What is proved is what this crate makes of its answers. The
-//! mark counts as made or taken away only where the calls for it and the sync behind them have
-//! succeeded.
-//! No name is looked for or changed, and no file of the log is opened, before the lock is taken.
+//! mark counts as made or taken away only if the calls for it and the sync behind them have
+//! succeeded. No name is looked for or changed, and no file of the log is opened, before the lock
+//! is taken.
 #![tactic(auto)]
 
 ghost use Rattle.std.specs.Prelude.{◌≡◌, IfOk, IsTrue, None, false, true};
