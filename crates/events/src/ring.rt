@@ -156,7 +156,8 @@ fn reach(cells: &mut HeapCircularBuffer<Piece>, count: usize)
 #[inline(never)]
 fn add_cell(cells: &mut HeapCircularBuffer<Piece>)
     requires { length cells.old.items < cells.old.capacity }
-    ensures { cells.new ≡ buffer (cells.old.items ++ record { items = [] } ∷ []) cells.old.capacity }
+    ensures { cells.new
+        ≡ buffer (cells.old.items ++ record { items = [] } ∷ []) cells.old.capacity }
 {
     let _ = cells.try_push_back(Piece::new());
 }
