@@ -14,11 +14,11 @@
 //! ([`looks_for_an_event_begin_within_100_ms`],
 //! [`an_exchange_that_is_over_gives_an_event_at_once`], [`a_tick_has_a_reason`]).
 //!
-//! A connection that is gone is a cut; after a write to the connection that failed the next event
-//! but the wall clock is a cut, no end is looked at before, and nothing more is written to it; a
-//! close ends the connection and that cut; who connects takes the place of the connection, and
-//! stays when the gateway closes the one before ([`a_close_shuts_the_connection`]); a request that
-//! the line doesn't take is lost and no failure; the line's end alone is one.
+//! A connection that is gone is a cut. After a write to the connection that failed the next event
+//! but the wall clock is a cut, no end is looked at before, and nothing more is written to it. A
+//! close ends the connection and that cut. Who connects takes the place of the connection, and
+//! stays when the gateway closes the one before ([`a_close_shuts_the_connection`]). A request that
+//! the line doesn't take is lost and no failure. The line's end alone is one.
 //!
 //! And of time, whatever the gateway stalls: an event bears the clock's moment after the looks, but
 //! none that ends an exchange whose line hasn't been looked at for `answer_ms` since the request
