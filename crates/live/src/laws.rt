@@ -116,8 +116,8 @@ pub fn no_source_hides_another()
         × (r.moment + timing.answer_ms + 50 ≤ now) }
 {}
 
-/// Behind a close no connection is open, no octets of it are held and no cut of it is due, but
-/// where another has replaced the one that was.
+/// Behind a close no connection is open, no octets of it are held and no cut of it is due, unless
+/// another has replaced the one that was.
 pub fn a_close_shuts_the_connection()
     ensures { (old new : LiveEnds) (moment : ℕ) (cause : Close) →
         LogsPut old moment (Closed cause) new → cause ≢ Replaced →
@@ -277,10 +277,10 @@ pub fn a_look_gives_what_its_calls_brought()
         Came old (octets_of got buf) new }
 {}
 
-/// The system's clock has gone on by so many ms where the system's own has, since the start. Where
-/// that can't be read, the moment before is given again. The wall clock shows as many ms as the
-/// system's own does since 1970, and 0 where that can't be read. Each reading asks the system once,
-/// and what it gives follows from that very answer.
+/// The system's clock has gone on by so many ms if the system's own has, since the start. If that
+/// can't be read, the moment before is given again. The wall clock shows as many ms as the system's
+/// own does since 1970, and 0 if that can't be read. Each reading asks the system once, and what it
+/// gives follows from that very answer.
 pub fn a_clock_goes_on_with_the_systems()
     ensures goes_on { (first ms last : ℕ) (start now : Instant) →
         instant_nanos start + ms * 1000000 ≤ instant_nanos now →

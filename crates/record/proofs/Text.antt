@@ -189,7 +189,7 @@ logged_missed None missed news = refl
 logged_missed (Some text) None news = refl
 logged_missed (Some text) (Some log) news = ap Some (append_assoc news log (log_in text))
 
--- what holds where a call succeeds
+-- what holds if a call succeeds
 pub on_success : {T E : Type 0} (r : Result T E) (P : Type 0) → is_err r ≡ false → OnOk r P → P
 on_success (Ok v) P good h = h
 on_success (Err e) P good h = cc

@@ -27,7 +27,7 @@ uncut (line ∷ lines) = if is_cut line then uncut lines else line ∷ uncut lin
 abbrev pub BeginsWith : (lines run : List (List ℕ)) → Type 0
 BeginsWith lines run = (rest : List (List ℕ)) × (lines ++ rest ≡ run)
 
--- The run begins with the lines before the one of this number, where they are counted from n, and
+-- The run begins with the lines before the one of this number, if they are counted from n, and
 -- doesn't go on with that one.
 pub record IsFirstOff (n : ℕ) (lines run : List (List ℕ)) (number : ℕ) : Type 0 where
   pub before : List (List ℕ)

@@ -135,8 +135,8 @@ Brings size so_far octets (x ∷ xs) last left =
 abbrev pub requests_joined : LinkSize → List RequestExchange → List ℕ
 requests_joined size xs = flat_map (λ (x : RequestExchange). spelling size x.request) xs
 
--- What is kept of octets that are left behind those so far, and aren't a whole frame: where none
--- are left those so far, else the beginning of a frame, or nothing where they begin none.
+-- What is kept of octets that are left behind those so far, and aren't a whole frame. If none are
+-- left, those so far are kept, else the beginning of a frame, or nothing if they begin none.
 pub data IsKeptRest (size : LinkSize) (last left : List ℕ) : (kept : List ℕ) → Type 0 where
   NoneLeft : left ≡ [] → IsKeptRest size last left last
   Begun : IsFront size (last ++ left) More → IsKeptRest size last left (last ++ left)

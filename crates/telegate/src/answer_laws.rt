@@ -73,9 +73,9 @@ pub fn a_stop_over_a_record_keeps_its_reason()
 {}
 
 /// What `audit` answers of a record, behind each log that leads to the state that it begins with.
-/// It ends with 0 where the run begins with the record's lines, and tells how many events and
-/// actions these are. It ends with 1 where the run differs, and tells at which line, and whether
-/// lines are left out there. A wrong line is told by its number, counted from 1.
+/// It ends with 0 if the run begins with the record's lines, and tells how many events and actions
+/// these are. It ends with 1 if the run differs, and tells at which line, and whether lines are
+/// left out there. A wrong line is told by its number, counted from 1.
 pub fn an_audit_tells_what_the_record_has()
     ensures same { (config : List ℕ) (past : Log) (text : List ℕ) (answer : CommandAnswer) →
         IsAuditedBy config past (λ octets. octets ≡ text) (Ok answer) → answer.status ≡ 0 →
@@ -88,8 +88,8 @@ pub fn an_audit_tells_what_the_record_has()
         IsFirstUnknown (record_lines text) number }
 {}
 
-/// Where a site's file is named it is read first. So a `check` that ends with 3 before it has
-/// judged anything couldn't read that file, and a `run` that one, or its settings.
+/// If a site's file is named, it is read first. So a `check` that ends with 3 before it has judged
+/// anything couldn't read that file, and a `run` that one, or its settings.
 pub fn the_file_of_a_site_is_read_first()
     ensures site { (files : Text → Option (List ℕ)) (config site : Bor Text)
         (live explain : Bool) →
