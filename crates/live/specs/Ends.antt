@@ -41,14 +41,14 @@ pub record IsAllowedPeer (allow_list : AllowList) (peer : Peer) : Type 0 where
   pub is_new : IsNew peer.stream
   pub allows : Allows allow_list peer.address
 
--- Who may connect; what happened at the line, and whether it is there, if it says that; what
--- happened at the connection, if there is one, and at the listener, and whom that refused; octets
--- of that connection that came and haven't been given; what happened at the stream of a connection
--- that was found gone, until the ends are looked at again; what the clock gave; the source that is
+-- Who may connect. What happened at the line, and whether it is there, if it says that. What
+-- happened at the connection, if there is one, and at the listener, and whom that refused. Octets
+-- of that connection that came and haven't been given. What happened at the stream of a connection
+-- that was found gone, until the ends are looked at again. What the clock gave; the source that is
 -- looked at first; whether a write to the connection failed, so that a cut is due; whether the run
--- goes on after a restart; why the latest connection that was cut was cut; how often the line was
--- gone; how many of its octets were dropped before requests; what decides the moment of an event;
--- what the wall clock showed, and when it was given last; and the log, the newest entry first.
+-- goes on after a restart. Why the latest connection that was cut was cut; how often the line was
+-- gone; how many of its octets were dropped before requests. What decides the moment of an event.
+-- What the wall clock showed, and when it was given last. And the log, the newest entry first.
 pub record LiveEnds : Type 0 where
   pub allow_list : AllowList
   pub line : StreamHistory

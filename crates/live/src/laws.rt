@@ -43,10 +43,10 @@ ghost use Rattle.live.specs.declared.timing.Timing.{Timing};
 ghost use Rattle.live.specs.declared.timing.WrittenRequest.{WrittenRequest};
 ghost use Rattle.live.specs.declared.walled.Walled.{Walled};
 
-/// If an event's moment lets an exchange end (`answer_ms` or more after its request's), one of two
-/// is so. Either a look at the line has begun `answer_ms` or more after that request was written.
-/// Or the event brings octets of the line that end as a frame does, which a gateway takes before it
-/// ends the exchange. So a stall of the gateway ends no exchange whose answer waits.
+/// If an event's moment lets an exchange end (`answer_ms` or more after its request's), a look at
+/// the line has begun `answer_ms` or more after that request was written, or the event brings
+/// octets of the line that end as a frame does, which a gateway takes before it ends the exchange.
+/// So a stall of the gateway ends no exchange whose answer waits.
 #[tactic(auto, using(crate::proofs::Law::waited_out))]
 pub fn no_exchange_ends_unread()
     ensures { (old new : LiveEnds) (event : Next) (buf : List ℕ) (r : WrittenRequest) →

@@ -14,18 +14,18 @@
 //! ([`looks_for_an_event_begin_within_100_ms`],
 //! [`an_exchange_that_is_over_gives_an_event_at_once`], [`a_tick_has_a_reason`]).
 //!
-//! A connection that is gone is a cut; after a write to the connection that failed the next event
-//! but the wall clock is a cut, no end is looked at before, and nothing more is written to it; a
-//! close ends the connection and that cut; who connects takes the place of the connection, and
-//! stays when the gateway closes the one before ([`a_close_shuts_the_connection`]); a request that
-//! the line doesn't take is lost and no failure; the line's end alone is one.
+//! A connection that is gone is a cut. After a write to the connection that failed the next event
+//! but the wall clock is a cut, no end is looked at before, and nothing more is written to it. A
+//! close ends the connection and that cut. Who connects takes the place of the connection, and
+//! stays when the gateway closes the one before ([`a_close_shuts_the_connection`]). A request that
+//! the line doesn't take is lost and no failure. The line's end alone is one.
 //!
 //! And of time, whatever the gateway stalls: an event bears the clock's moment after the looks, but
 //! none that ends an exchange whose line hasn't been looked at for `answer_ms` since the request
-//! was written ([`no_exchange_ends_unread`]), and once it has been, the clock's. If that moment is
-//! more than 50 ms behind the clock, only the line is looked at. Then octets of a control centre
-//! that would bear such a moment are held ([`what_the_centre_sent_is_given_in_time`]), until a
-//! frame has come from the line, which bears none that is ([`a_frame_catches_the_clock_up`]).
+//! was written ([`no_exchange_ends_unread`]). Once the line has been, it bears the clock's. If that
+//! moment is more than 50 ms behind the clock, only the line is looked at. Then octets of a control
+//! centre that would bear such a moment are held ([`what_the_centre_sent_is_given_in_time`]), until
+//! a frame has come from the line, which bears none that is ([`a_frame_catches_the_clock_up`]).
 //!
 //! The wall clock is given at the first call, and again when a second has passed since and the ends
 //! have been looked at in between ([`the_wall_clock_is_given_each_second`]): as it stood at the
@@ -37,11 +37,11 @@
 //! ([`what_is_noted_is_noted_to_the_end`]).
 //!
 //! [`Redialled`] is a stream that is reached again when it has gone. Proved, for any dialler that
-//! notes its tries, is that it is quiet and takes nothing while it is away; that a try begins at
-//! once and then every second, after each stream that was reached and gave nothing at twice the
-//! distance, up to 30 s; that no try begins while one goes on, and a look waits for none; that it
-//! begins as a new stream each time; and that one which gives nothing while requests go out to it
-//! is closed ([`a_stream_that_gives_nothing_is_closed`]).
+//! notes its tries: it is quiet and takes nothing while it is away. A try begins at once and then
+//! every second, after each stream that was reached and gave nothing at twice the distance, up to
+//! 30 s. No try begins while one goes on, and a look waits for none. It begins as a new stream each
+//! time. One which gives nothing while requests go out to it is closed
+//! ([`a_stream_that_gives_nothing_is_closed`]).
 //!
 //! Before a request is written what has come from the line is dropped, since it is no answer to it,
 //! and how many octets that were is counted.

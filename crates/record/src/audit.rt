@@ -7,7 +7,7 @@
 //! state: `. It is read block by block, so that an audit takes as much memory as a block, the lines
 //! of its run and the state do, however long the record is. Proved of [`audit_text`]: it answers
 //! 'the same' exactly if the record's lines are the first of those of the run over its events, and
-//! else the first line that differs; and the log of that run keeps every promise of a gateway with
+//! else the first line that differs. The log of that run keeps every promise of a gateway with
 //! these settings, behind each log that leads to the state. What the lines of a record say has
 //! literal examples ([`record_lines_by_example`]).
 mod comparing;

@@ -24,7 +24,7 @@ ghost use Rattle.traces.specs.Progress.{events_in};
 ghost use Rattle.traces.specs.Trace.{first_wrong};
 
 /// The text of a record grows by the line of what passed, and by nothing else. Once the record is
-/// over it stays as it is, nothing more is given to the sheet, and what passes is missed; until
+/// over it stays as it is, nothing more is given to the sheet, and what passes is missed. Until
 /// then, when an event is passed on, the sheet has taken the text of all that passed before, and
 /// the event's line. An action that goes out is written down, whichever it is, and one that doesn't
 /// changes nothing. What a sheet says that it took and missed is the log of the port: what the text

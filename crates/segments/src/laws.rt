@@ -16,10 +16,10 @@ ghost use Rattle.statetext.specs.Sum.{sum_of};
 
 use sqlite_disk::Disk;
 
-/// Over any crash a start finds the segment that took lines, and no other. What a crash may leave
-/// of its file ([`crate::Segment::survives`]) has the segment whole. If each segment that it may
-/// leave in the other file is older, what [`crate::Start::open`] promises of the newest one speaks
-/// of this one. The lines that the start reads behind the checkpoint begin with all that was
+/// Over any crash a start finds the segment that took lines, and no other: what a crash may leave
+/// of its file ([`crate::Segment::survives`]) has the segment whole, and if each segment that it
+/// may leave in the other file is older, what [`crate::Start::open`] promises of the newest one
+/// speaks of this one. The lines that the start reads behind the checkpoint begin with all that was
 /// synced. If a crash leaves each octet old or new, these are all, or the lines of the write that
 /// wasn't synced follow, whole.
 pub fn a_start_finds_what_was_synced<D: Disk>()

@@ -38,7 +38,7 @@ gateway_values root = do
   s ← stations_of l.link l.sizes.ca (get_member (codes "station") root)
   Ok (record { line = l; tcp = t; stations = s })
 
--- the same, if the table `live` has texts if anything, apart from keys that a file may not have
+-- the same, if the keys of the table `live` are texts, those left out that a file may not have
 abbrev pub known_settings : Members → Result Values Path
 known_settings root = do
   v ← gateway_values root

@@ -3,9 +3,9 @@
 //! `read_config` reads a file's octets into a gateway's `Config`, or answers a `ConfigFault`, which
 //! names the first fault. What the gateway does with a setting is its own matter. Proved: the
 //! settings are those that the definition in `specs/Settings.antt` gives, with each number in its
-//! range, and link addresses and common addresses distinct; a wrong key is the first wrong one in
-//! the definition's order; an unknown key is reported only if no key is wrong, and is the least of
-//! the unknown ones in the order of octets; a file without fault is never refused but for want of
+//! range, and link addresses and common addresses distinct. A wrong key is the first wrong one in
+//! the definition's order. An unknown key is reported only if no key is wrong, and is the least of
+//! the unknown ones in the order of octets. A file without fault is never refused but for want of
 //! memory.
 //!
 //! `site` reads a site's file, `hints` says what is wrong with either file and where, and `places`

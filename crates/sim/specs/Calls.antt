@@ -38,9 +38,9 @@ abbrev pub sending_event : Option (List ℕ) → (ack : ℕ) → Centre → Opti
 sending_event (Some asdu) ack c waiting = TcpIn (data_apdu c asdu)
 sending_event None ack c waiting = quiet_event ack c waiting
 
--- What a call gives if no wall clock is given, the first of seven that applies: a cut that is due
--- at it, the connection being open; an opening, if it isn't; STARTDT act, if it wasn't sent on it
--- yet; an I frame; an acknowledgement; an answer; a tick.
+-- What a call gives if no wall clock is given: the first of seven that applies. These are a cut
+-- that is due at it, the connection being open; an opening, if it isn't; STARTDT act, if it wasn't
+-- sent on it yet; an I frame; an acknowledgement; an answer; a tick.
 abbrev pub usual_event : List Directive → (call : ℕ) → Centre → Option (List ℕ) → Input
 usual_event ds call c waiting =
     if c.is_open && is_cut_at ds call then CutOff

@@ -14,7 +14,7 @@ use Rattle.state.specs.declared.renewal.Patience.{Patience}
 use Rattle.state.specs.declared.standing.Standing.{Standing}
 
 -- the ends that it stands between; how far the received events are on the disk; whether the run
--- goes on if the store has failed; how often it was stopped for that; and what was tried and
+-- goes on once the store has failed; how often it was stopped for that; and what was tried and
 -- reported while the state wasn't kept
 pub record Keeping (E : Type 0) : Type 0 where
   pub ends : E

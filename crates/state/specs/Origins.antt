@@ -54,10 +54,10 @@ module _ {D : Type 0} {g : Ghosts D} where
   IsNumbered number (opens.Current c) = Unit {0}
 
   -- With these settings a run begins so, if the directory has this mark and these files, whose log
-  -- so far was this one. It begins anew if both files are shut, and else with the newer of two
-  -- segments. Each link is reset only if the state is marked as stale, or the other file may have
-  -- had a segment as new, or a line of the log can't be read. If links are trusted, no segment as
-  -- new ever stood in that file, and each line of the log can be read.
+  -- so far was this one. It begins anew only if both files are shut, and goes on with the newer of
+  -- two segments. Each link is reset only if the state is marked as stale, or the other file may
+  -- have had a segment as new, or a line of the log can't be read. If links are trusted, no segment
+  -- as new ever stood in that file, and each line of the log can be read.
   pub record IsBegun (c : Settings) (log : Log) (mark : Option Bool)
       (opened : Opened D g) (o : Origin) : Type 0 where
     pub moment : o.moment ≡ moment_at o.beginning o.gateway.moment

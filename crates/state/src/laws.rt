@@ -64,9 +64,9 @@ use live::Failure;
 use sqlite_disk::Disk;
 
 /// Whatever action was handed out: when it was, all received events were on the disk, or the state
-/// there was marked as stale. If a loss isn't borne, they were on the disk. There they led to the
-/// state at the head of the log, or their lines behind it are synced. So it is in the history of
-/// each keeper ([`crate::Keeper::standing`]).
+/// there was marked as stale; and if a loss isn't borne, they were on the disk. There they led to
+/// the state at the head of the log, or their lines behind it are synced. So it is in the history
+/// of each keeper ([`crate::Keeper::standing`]).
 pub fn nothing_goes_out_before_it_is_on_disk()
     ensures safe { (bears : Bool) (later earlier : Deeds) (action : LogEntry) →
         AreRight bears (later ++ PutOut action ∷ earlier) → IsSafe earlier }

@@ -7,10 +7,10 @@ use Rattle.gateway.specs.Log.{Log}
 use Rattle.settings.specs.Live.{Places}
 use Rattle.telegate.specs.declared.host.Wishes.{Wishes}
 
--- What a site was asked for: where the log goes, and where the record does; the listener for
--- visitors at a place; the directory of a name, in which a state is kept; the listener for control
--- centres at a place; the line at a place, which is reached again when it ends, or not. And whether
--- it gave that.
+-- What a site was asked for, and whether it gave that: where the log goes, and where the record
+-- does; the listener for visitors at a place; the directory of a name, in which a state is kept;
+-- the listener for control centres at a place; and the line at a place, which is reached again when
+-- it ends, or not.
 pub data SiteCall : Type 0 where
   LogAt : SiteCall
   RecordAt : SiteCall

@@ -108,7 +108,7 @@ pub fn what_is_said_keeps_its_name()
         × (text_of w.status ≡ s.status) × (names_of w.names.now ≡ names) }
 {}
 
-/// What is left of a live run that is over is as its wishes name it. It was logged and recorded if
+/// What is left of a live run that is over is as its wishes name it: it was logged and recorded if
 /// that was wished, watched and shown if a place is named for that, and these could connect. If its
 /// state was kept, it bore the loss of that if that was wished.
 #[tactic(auto, using(crate::proofs::RanLemmas::as_wished, crate::proofs::RanLemmas::bears_as_wished))]
