@@ -1,6 +1,5 @@
 pub mod Text
 pub mod Receiving
-pub mod Recorded
 pub mod LineLemmas
 pub mod PassingLemmas
 pub mod CompareLemmas
@@ -14,9 +13,3 @@ pub mod Cutting
 pub mod Sending
 pub mod CaptureLemmas
 pub mod WholeLemmas
-pub mod Timing
-pub mod BlockShapes
-pub mod DatagramShapes
-pub mod SerialShapes
-pub mod Fitting
-pub mod ReadBack

@@ -7,11 +7,6 @@ pub mod Stations
 pub mod Tcp
 pub mod Unknown
 pub mod Wanted
-pub mod Named
-pub mod Known
-pub mod Files
-pub mod FirstWrong
-pub mod Here
 pub mod Places
 pub mod Spans
 pub mod Changes
@@ -23,6 +18,3 @@ pub mod SiteNames
 pub mod Site
 pub mod SiteUnknown
 pub mod SiteWanted
-pub mod SiteNamed
-pub mod SiteKnown
-pub mod SiteFirstWrong

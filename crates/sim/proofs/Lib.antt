@@ -34,7 +34,5 @@ pub mod Placing
 pub mod Rounds
 pub mod BothReadings
 pub mod Replying
-pub mod Requesting
 pub mod Sizes
 pub mod Reporting
-pub mod Timing

@@ -60,7 +60,7 @@ mod text;
 
 pub use beginning::begin;
 pub use directive::{Class, Directive, RequestFate};
-pub use examples::{calls_by_example, losses_by_example, scripts_by_example};
+pub use examples::{calls_by_example, losses_by_example};
 pub use fault::SimFault;
 pub use laws::{connections_are_counted, stations_are_honest};
 pub use line::read_line;
@@ -69,10 +69,6 @@ pub use receiving::{arriving, put_out};
 pub use script::Script;
 pub use sim::Sim;
 pub use simulating::{simulate, simulate_watched};
-pub use stations::{
-    Cue, GatewaySocket, LineListener, OutstationServer, Outstations, Scenario, TimedServer, Timer,
-    lines_are_read_by_example, play, read_scenario, reports_come_at_their_moments,
-    requests_are_what_came, serve, stations_take_their_own_requests_alone,
-};
+pub use stations::{Cue, GatewaySocket, LineListener, OutstationServer, Outstations, Scenario, TimedServer, Timer, play, read_scenario, serve};
 pub use tally::StationTally;
 pub use traces::TextFault;
