@@ -18,7 +18,6 @@ pub mod Honest
 pub mod Few
 pub mod Serviceable
 pub mod Served
-pub mod Closing
 pub mod Keeping
 pub mod BeginningLemmas
 pub mod TextLemmas

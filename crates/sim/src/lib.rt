@@ -21,11 +21,10 @@
 //! gives the script's reports of each class in order, each once, and what is taken from it is what
 //! it gave, or all but the last: in each session of its link, and where unanswered services are
 //! held in the whole run. What is counted of the sessions of each link ([`StationTally`]) is what
-//! its exchanges and turns say, and what is counted of each connection is what its frames bear
-//! ([`connections_are_counted`], `specs/Closing.antt`). [`Sim::closing`] promises that a run of as
-//! many calls as the script says, in which the gateway keeps every promise of a gateway, keeps the
-//! order of actions in each step and delivers what was taken, and that its lines have the numbers
-//! of that run (`specs/Runs.antt`).
+//! its exchanges and turns say. [`Sim::closing`] promises that a run of as many calls as the script
+//! says, in which the gateway keeps every promise of a gateway, keeps the order of actions in each
+//! step and delivers what was taken, and that its lines have the numbers of that run
+//! (`specs/Runs.antt`).
 //!
 //! Worked examples have literal texts and octets: of scripts ([`scripts_by_example`]), of what they
 //! do to requests and answers ([`losses_by_example`]), and of calls ([`calls_by_example`]).
@@ -62,7 +61,7 @@ pub use beginning::begin;
 pub use directive::{Class, Directive, RequestFate};
 pub use examples::{calls_by_example, losses_by_example};
 pub use fault::SimFault;
-pub use laws::{connections_are_counted, stations_are_honest};
+pub use laws::stations_are_honest;
 pub use line::read_line;
 pub use reading::read_script;
 pub use receiving::{arriving, put_out};
