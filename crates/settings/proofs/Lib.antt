@@ -2,9 +2,6 @@ pub mod LiveLemmas
 pub mod SettingsLemmas
 pub mod StationLemmas
 pub mod UnknownLemmas
-pub mod ChangesLemmas
-pub mod WrongStationLemmas
-pub mod TwinLemmas
 pub mod SiteKeyLemmas
 pub mod SiteNameLemmas
 pub mod SiteLemmas

@@ -6,15 +6,9 @@ pub mod Settings
 pub mod Stations
 pub mod Tcp
 pub mod Unknown
-pub mod Wanted
-pub mod Places
 pub mod Spans
-pub mod Changes
-pub mod Explained
-pub mod WrongStations
 pub mod SiteFaults
 pub mod SiteKeys
 pub mod SiteNames
 pub mod Site
 pub mod SiteUnknown
-pub mod SiteWanted

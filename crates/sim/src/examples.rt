@@ -1,4 +1,4 @@
-//! Scripts, losses and calls by worked examples: literal texts and octets.
+//! Losses and calls by worked examples: literal octets.
 ghost use Rattle.std.specs.Prelude.{◌≡◌, ◌∷◌, [], true, false};
 ghost use Rattle.std.specs.Prelude.{Some, None};
 ghost use Rattle.ft12.specs.declared.frame.Frame.TheVariants.{Single, Fixed};

@@ -26,8 +26,8 @@
 //! step and delivers what was taken, and that its lines have the numbers of that run
 //! (`specs/Runs.antt`).
 //!
-//! Worked examples have literal texts and octets: of scripts ([`scripts_by_example`]), of what they
-//! do to requests and answers ([`losses_by_example`]), and of calls ([`calls_by_example`]).
+//! Worked examples have literal octets: of what scripts do to requests and answers
+//! ([`losses_by_example`]), and of calls ([`calls_by_example`]).
 //!
 //! Not proved: that a report is ever asked for, or that a port whose device fails wanted memory (it
 //! fails too where more than 2^64 requests or frames would be counted).
@@ -68,6 +68,9 @@ pub use receiving::{arriving, put_out};
 pub use script::Script;
 pub use sim::Sim;
 pub use simulating::{simulate, simulate_watched};
-pub use stations::{Cue, GatewaySocket, LineListener, OutstationServer, Outstations, Scenario, TimedServer, Timer, play, read_scenario, serve};
+pub use stations::{
+    Cue, GatewaySocket, LineListener, OutstationServer, Outstations, Scenario, TimedServer, Timer, play,
+    read_scenario, serve,
+};
 pub use tally::StationTally;
 pub use traces::TextFault;
