@@ -3,11 +3,9 @@ pub mod Receiving
 pub mod LineLemmas
 pub mod PassingLemmas
 pub mod CompareLemmas
-pub mod DifferenceLaw
 pub mod RunLemmas
 pub mod OpeningLemmas
 pub mod BlockLemmas
-pub mod AuditLaw
 pub mod Lengths
 pub mod Cutting
 pub mod Sending
