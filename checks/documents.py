@@ -133,10 +133,6 @@ def judge_version(judge, program, texts):
         judge.case(name == "CHANGELOG.md" or named <= {version}, f"{name} names telegate {sorted(named)}, the program is {version}")
 
 
-# A column too wide: to wrap them has all crates above proved again, so it waits for a change of these crates.
-WIDE = {"crates/events/src/ring.rt:159", "crates/statetext/specs/Sealed.antt:68"}
-
-
 def is_one_line(line):
     """An import or an attribute, which the formatter keeps in one line."""
     return re.match(r"\s*((pub |ghost |pub ghost )?use |#\[)", line) is not None
@@ -152,7 +148,6 @@ def judge_sources(judge):
             text = read(name)
             judge_alone(judge, name, text)
             wide += [f"{name}:{number}" for number, line in enumerate(text.splitlines(), 1) if len(line) > COLUMNS and not is_one_line(line)]
-        wide = [place for place in wide if place not in WIDE]
         judge.case(not wide, f"{crate}: more than {COLUMNS} columns in {len(wide)} lines, the first {wide[:1]}")
 
 

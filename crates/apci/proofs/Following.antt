@@ -1,4 +1,4 @@
--- Where an APDU's octets come, the APDU is received, and nothing of what stands behind it is taken.
+-- When an APDU's octets come, the APDU is received, and nothing of what stands behind it is taken.
 use Rattle.std.proofs.Common.{◌≡◌, ℕ, ◌+◌, List, [], ◌++◌, length, arith, refl, ap, sym, ◌∙◌, Some}
 use Rattle.std.proofs.lemmas.List.{length-append}
 use Rattle.std.proofs.Math.Seq.{take-append_seam}

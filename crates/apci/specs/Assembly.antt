@@ -8,8 +8,8 @@ use Rattle.apci.specs.declared.assembling.Received.TheVariants as arrived
 use Rattle.apci.specs.Reading.{IsFront, IsMore, IsDecidedAt}
 use Rattle.apci.specs.Spelling.{spelling, IsOctet}
 
--- What contracts see of an assembler: the octets since the last APDU (none where it is deaf), the
--- APDU that is whole and isn't taken yet, and how many octets it has looked at.
+-- What contracts see of an assembler: the octets since the last APDU (none if it is deaf), the APDU
+-- that is whole and isn't taken yet, and how many octets it has looked at.
 pub record Assembly : Type 0 where
   pub so_far : Option (List ℕ)
   pub whole : Option Apdu
@@ -29,9 +29,9 @@ Receives so_far piece n (arrived.Never place why) after =
     × (after.so_far ≡ None) × (after.whole ≡ None)
 Receives so_far piece n arrived.Deaf after = ⊥
 
--- How often octets were looked at, where n octets of the piece were taken: each once. Where they
--- begin no APDU, the last one looked at is the one that decides it; those behind it aren't looked
--- at. The count saturates.
+-- How often octets were looked at, if n octets of the piece were taken: each once. If they begin no
+-- APDU, the last one looked at is the one that decides it; those behind it aren't looked at. The
+-- count saturates.
 abbrev pub HasLooked : List ℕ → List ℕ → ℕ → ℕ → Received → ℕ → Type 0
 HasLooked so_far piece before n arrived.Whole after = after ≡ min (2 ^ 64 - 1) (before + n)
 HasLooked so_far piece before n arrived.More after = after ≡ min (2 ^ 64 - 1) (before + n)
@@ -47,7 +47,7 @@ pub record IsReceivedWhole (a : Apdu) (n : ℕ) (h : Received) (after : Assembly
   pub taken : n ≡ length (spelling a)
   pub listening : after.so_far ≡ Some []
 
--- The octets since the last APDU as numbers, 1 before them; 0 alone where the assembler is deaf
+-- The octets since the last APDU as numbers, 1 before them; 0 alone if the assembler is deaf
 -- (profile).
 abbrev pub so_far_numbers : Option (List ℕ) → List ℕ
 so_far_numbers None = 0 ∷ []

@@ -12,7 +12,7 @@ use Rattle.apci.specs.declared.assembling.OctetStep.TheVariants as step
 use Rattle.apci.specs.Spelling.{counter, function, IsOctet}
 use Rattle.apci.specs.Reading.{IsFront}
 
--- the octets that came since the last APDU, or none where the assembler is deaf
+-- the octets that came since the last APDU, or none if the assembler is deaf
 abbrev pub so_far : State → List ℕ → Option (List ℕ)
 so_far state.Deaf asdu = None
 so_far state.Start asdu = Some []
@@ -45,7 +45,7 @@ IsLong len = (13 ≤ len) × (len ≤ 253)
 abbrev pub IsLow : ℕ → Type 0
 IsLow low = (low < 256) × (low % 2 ≡ 0)
 
--- the octets so far begin an APDU, and nothing of an ASDU is kept where none has come
+-- the octets so far begin an APDU, and nothing of an ASDU is kept if none has come
 abbrev pub IsState : State → List ℕ → Type 0
 IsState state.Deaf asdu = Unit {0}
 IsState (state.Control len) asdu = (asdu ≡ []) × (4 ≤ len) × (len ≤ 253)

@@ -47,7 +47,7 @@ function_of o =
     if o == 0x13 then Some StopAct else if o == 0x23 then Some StopCon else
     if o == 0x43 then Some TestAct else if o == 0x83 then Some TestCon else None
 
--- The place and the refusal that are given where the octet at a place decides. The control octet
+-- The place and the refusal that are given if the octet at a place decides. The control octet
 -- decides on the length too: an S or U format has 4, an I format at least 13.
 abbrev pub refusal : List ℕ → ℕ → ℕ × Why
 refusal octets place =

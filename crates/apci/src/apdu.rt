@@ -24,7 +24,7 @@ pub enum Uf {
 
 /// An application protocol data unit.
 ///
-/// It has octets where its counters are below 32768 and its ASDU has 9 to 249 octets (`Fits`).
+/// It has octets if its counters are below 32768 and its ASDU has 9 to 249 octets (`Fits`).
 #[derive(Debug, PartialEq, Eq, Drop)]
 pub enum Apdu {
     /// I format, numbered information transfer: send and receive sequence number, and an ASDU.
@@ -58,7 +58,7 @@ pub enum ApduRef<'a> {
 
 /// An APDU that has no ASDU, so that it has six octets.
 ///
-/// It has octets where its counter is below 32768.
+/// It has octets if its counter is below 32768.
 #[derive(Clone, Copy, Debug, PartialEq, Eq)]
 pub enum Short {
     /// S format.

@@ -218,8 +218,8 @@ fn stepped(state: State, asdu: &[u8], octet: u8) -> OctetStep
 /// Makes APDUs out of pieces of a stream.
 ///
 /// It keeps the fields so far, and no octet but those of an ASDU. Contracts see the octets since
-/// the last APDU, or none where it is deaf, the APDU that is whole and isn't taken yet, and how
-/// many octets it has looked at.
+/// the last APDU, or none if it is deaf, the APDU that is whole and isn't taken yet, and how many
+/// octets it has looked at.
 #[derive(Drop)]
 pub struct Assembler {
     state: State,
@@ -274,7 +274,7 @@ impl Assembler {
         }
     }
 
-    /// An assembler that was fed these octets. Where an APDU may go on from them, it goes on.
+    /// An assembler that was fed these octets. If an APDU may go on from them, it goes on.
     pub fn resumed(octets: &[u8]) -> Self
         ensures fed { (n : ℕ) × (arrived : Received) × Receives [] octets.now n arrived result }
         ensures so_far { IsMore octets.now → result.so_far ≡ Some octets.now }
@@ -318,7 +318,7 @@ impl Assembler {
     }
 
     /// Takes octets of a piece, up to the last one of an APDU, and says how many and what arrived.
-    /// It takes them all where no APDU ends in the piece. After a refusal it takes and drops all
+    /// It takes them all if no APDU ends in the piece. After a refusal it takes and drops all
     /// octets until `clear`. An APDU that wasn't taken before is dropped.
     pub fn feed(&mut self, piece: &[u8]) -> (usize, Received)
         ensures listening { IfSome self.old.so_far (λ so_far.
@@ -338,7 +338,7 @@ impl Assembler {
         self.listen(piece)
     }
 
-    /// Takes octets of a piece, where it isn't deaf and no APDU is left to be taken.
+    /// Takes octets of a piece, if it isn't deaf and no APDU is left to be taken.
     fn listen(&mut self, piece: &[u8]) -> (usize, Received)
         requires listens { (so_far : List ℕ) × (self.old.so_far ≡ Some so_far) }
         requires taken { self.old.whole ≡ None }

@@ -7,11 +7,11 @@
 //! says.
 //!
 //! Proved: an APDU and its octets are one relation, `IsApdu`. What is written is the one spelling.
-//! `front` answers the whole APDU exactly where one stands there, that more is due exactly where
-//! the octets begin one, and else the refusal of the least place that decides. `feed` receives what
-//! `front` finds in the joined octets, takes exactly the APDU's, and looks at no octet twice. What
-//! an assembler has so far can be put as numbers, and an assembler that is fed them goes on alike.
-//! No call but `put_so_far` takes memory.
+//! `front` answers the whole APDU exactly if one stands there, and that more is due exactly if the
+//! octets begin one. Else it answers the refusal of the least place that decides. `feed` receives
+//! what `front` finds in the joined octets, takes exactly the APDU's, and looks at no octet twice.
+//! What an assembler has so far can be put as numbers, and an assembler that is fed them goes on
+//! alike. No call but `put_so_far` takes memory.
 #![tactic(auto)]
 
 mod apdu;

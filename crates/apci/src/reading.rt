@@ -107,7 +107,7 @@ fn u_format(len: u8, f: Uf, rest: &[u8]) -> FrontRef<'_>
 #[inline(always)]
 pub fn front_ref(octets: &[u8]) -> FrontRef<'_>
     ensures right { IsFront octets.now (owned_front result) }
-    // No other answer is right: so it is this one exactly where `IsFront` holds of it.
+    // No other answer is right: so it is this one exactly if `IsFront` holds of it.
     ensures only { (other : Front) → IsFront octets.now other → other ≡ owned_front result }
 {
     first_of(octets)

@@ -21,8 +21,7 @@ pub record Info : Type 0 where
   pub tag : Option (List ℕ)
 
 -- What stands in an ASDU. The cause is the whole octet, with test and P/N (7.2.3). The originator
--- is 0 where the cause has one octet. `sequence` is SQ (7.2.2): the objects have successive
--- addresses.
+-- is 0 if the cause has one octet. `sequence` is SQ (7.2.2): the objects have successive addresses.
 pub record AsduValue : Type 0 where
   pub kind : TypeId
   pub sequence : Bool
@@ -82,7 +81,7 @@ spelled s u =
 
 -- ---- What fits the sizes
 
--- a tag of seven octets where the type is tagged, and else none
+-- a tag of seven octets if the type is tagged, and else none
 abbrev pub IsTag : Bool → Option (List ℕ) → Type 0
 IsTag true None = ⊥
 IsTag true (Some octets) = (length octets ≡ 7) × AreOctets octets
@@ -106,7 +105,7 @@ AreInOrder false is = ⊤
 AreInOrder true [] = ⊤
 AreInOrder true (i ∷ is) = AreSuccessive i.address (i ∷ is)
 
--- no originator where the cause has one octet
+-- no originator if the cause has one octet
 abbrev pub IsOriginator : CauseSize → ℕ → Type 0
 IsOriginator causes.One o = o ≡ 0
 IsOriginator causes.Two o = o < 256

@@ -132,10 +132,10 @@ refusal_examples =
     -- an unknown type, also with number 0; types 63 and 64 aren't carried
     ∷ is_refused (Some 2) small (0x02 ∷ 0x00 ∷ 0x03 ∷ 0x01 ∷ 0x64 ∷ [])
     ∷ is_refused (Some 2) small (0x3F ∷ 0x01 ∷ 6 ∷ 1 ∷ 10 ∷ 0x81 ∷ thursday)
-    -- number 0, with SQ 0 and 1, also where the length is wrong
+    -- number 0, with SQ 0 and 1, also if the length is wrong
     ∷ is_refused (Some 3) small (0x01 ∷ 0x00 ∷ 0x03 ∷ 0x01 ∷ 0x64 ∷ [])
     ∷ is_refused (Some 3) small (0x01 ∷ 0x80 ∷ 0x03 ∷ 0x01 ∷ 0x64 ∷ 0x01 ∷ [])
-    -- an octet too few or too many, also where the last address is past the size
+    -- an octet too few or too many, also if the last address is past the size
     ∷ is_refused (Some 4) small (0x01 ∷ 0x01 ∷ 0x03 ∷ 0x01 ∷ 0x64 ∷ [])
     ∷ is_refused (Some 4) small (0x01 ∷ 0x01 ∷ 0x03 ∷ 0x01 ∷ 0x64 ∷ 0x01 ∷ 0x00 ∷ [])
     ∷ is_refused (Some 4) small (0x01 ∷ 0x82 ∷ 0x03 ∷ 0x01 ∷ 0xFF ∷ 0x01 ∷ [])

@@ -21,7 +21,7 @@ number_at xs = slice_index xs 1 % 128
 abbrev pub is_sequence : List ℕ → Bool
 is_sequence xs = nat_le 128 (slice_index xs 1)
 
--- the originator, 0 where the cause has one octet (7.2.3)
+-- the originator, 0 if the cause has one octet (7.2.3)
 abbrev pub originator_at : CauseSize → List ℕ → ℕ
 originator_at causes.One xs = 0
 originator_at causes.Two xs = slice_index xs 3

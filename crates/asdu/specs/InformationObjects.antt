@@ -9,7 +9,7 @@ use Rattle.asdu.specs.Asdu.{AsduValue, Info}
 use Rattle.asdu.specs.Fields.{value_at}
 use Rattle.asdu.specs.Refusals.{is_read}
 
--- type, cause octet, originator (0 where the cause has one octet), common address, object address,
+-- type, cause octet, originator (0 if the cause has one octet), common address, object address,
 -- element octets, and tag octets or none
 pub record InformationObject : Type 0 where
   pub kind : TypeId
@@ -39,7 +39,7 @@ abbrev pub typed_objects : Sizes → Option TypeId → List ℕ → List Informa
 typed_objects s None xs = []
 typed_objects s (Some t) xs = value_objects (value_at s t xs)
 
--- the objects of the ASDU that the octets are, and none where they are none
+-- the objects of the ASDU that the octets are, and none if they are none
 unfoldable pub objects_of : Sizes → List ℕ → List InformationObject
 objects_of s xs = if is_read s xs then typed_objects s (type_of (slice_index xs 0)) xs else []
 
@@ -57,7 +57,7 @@ is_typed_passed_on (Some t) cause = is_passed_on t cause
 abbrev pub only_if : Bool → List InformationObject → List InformationObject
 only_if passed objects = if passed then objects else []
 
--- the objects of the octets, where they are passed on
+-- the objects of the octets, if they are passed on
 unfoldable pub monitor_objects_of : Sizes → List ℕ → List InformationObject
 monitor_objects_of s xs =
     only_if (is_typed_passed_on (type_of (slice_index xs 0)) (slice_index xs 2)) (objects_of s xs)

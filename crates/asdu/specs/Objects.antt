@@ -7,7 +7,7 @@ use Rattle.asdu.specs.Rest.{rest_at}
 use Rattle.asdu.specs.declared.objects.Object.{Object}
 use Rattle.asdu.specs.declared.objects.Objects.{Objects}
 
--- an object without where it lies in memory
+-- an object without its place in memory
 abbrev pub info_of : Object → Info
 info_of o = record { address = o.address; element = o.element.now; tag = option_copied o.tag }
 

@@ -18,7 +18,7 @@ abbrev pub carried_originator : CauseSize → ℕ → ℕ
 carried_originator causes.One o = 0
 carried_originator causes.Two o = o
 
--- the ASDU in other sizes: numbers keep their value, and there is no originator where the cause has
+-- the ASDU in other sizes: numbers keep their value, and there is no originator if the cause has
 -- one octet
 abbrev pub carried : Sizes → AsduValue → AsduValue
 carried s v = record v { originator = carried_originator s.cause v.originator }
@@ -35,7 +35,7 @@ pub record CanBeWritten (s : Sizes) (v : AsduValue) : Type 0 where
 abbrev pub header_of : Sizes → AsduValue → ℕ → List ℕ
 header_of s v n = header s v.kind v.sequence n v.cause v.originator v.ca
 
--- the address before the first content, where addresses are counted
+-- the address before the first content, if addresses are counted
 abbrev pub lead : ℕ → Option ℕ → List ℕ
 lead w None = []
 lead w (Some a) = little_bytes w a
@@ -44,7 +44,7 @@ abbrev pub lead_len : ℕ → Option ℕ → ℕ
 lead_len w None = 0
 lead_len w (Some a) = w
 
--- an object: its content, where addresses are counted, and else its address before it
+-- an object: its content if addresses are counted, and else its address before it
 abbrev pub spelled_info : ℕ → Bool → Info → List ℕ
 spelled_info w true i = content i
 spelled_info w false i = located w i

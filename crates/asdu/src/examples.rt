@@ -8,8 +8,8 @@ ghost use Rattle.asdu.specs.Sizes.{tcp};
 ghost use Rattle.asdu.specs.Writing.{carried};
 
 /// What [`crate::write`] makes of ASDUs in other sizes (IEC 60870-5-101, 7.1): all numbers keep
-/// their values, the cause octet its test bit and P/N; an originator is left out where causes have
-/// one octet, and is 0 where the ASDU had none.
+/// their values, the cause octet its test bit and P/N. An originator is left out if causes have one
+/// octet, and is 0 if the ASDU had none.
 pub fn resized_asdus_by_example()
     // a negative confirmation, as a test: C7, originator 9, common address 1, object 10
     ensures smaller { spelled small (carried small (value_at tcp CScNa1

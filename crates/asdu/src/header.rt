@@ -10,7 +10,7 @@ pub struct Head {
     pub vsq: u8,
     /// The cause of transmission: bit 7 test, bit 6 P/N (negative), bits 5 to 0 the cause.
     pub cause: u8,
-    /// The originator address, 0 where the cause has one octet.
+    /// The originator address, 0 if the cause has one octet.
     pub originator: u8,
     /// The common address.
     pub ca: u16,

@@ -26,8 +26,8 @@ pub fn one_asdu_one_spelling()
 {}
 
 /// Whether octets are read, their objects, those that are passed on, and the number of pieces are
-/// those of the ASDU that the octets are; where they are none, nothing is read, and there is no
-/// object and no piece.
+/// those of the ASDU that the octets are. If they are none, nothing is read, and there is no object
+/// and no piece.
 pub fn objects_are_those_of_the_asdu()
     ensures read { (s : Sizes) (u : AsduValue) (xs : List ℕ) → IsAsdu s u xs → is_read s xs ≡ true }
     ensures objects { (s : Sizes) (u : AsduValue) (xs : List ℕ) → IsAsdu s u xs →

@@ -22,7 +22,7 @@ pub struct Object<'a> {
     pub address: u32,
     /// The octets of its element, as many as its type has.
     pub element: &'a [u8],
-    /// The seven octets of its time tag (CP56Time2a), where its type is tagged.
+    /// The seven octets of its time tag (CP56Time2a), if its type is tagged.
     pub tag: Option<&'a [u8]>,
     pub ghost sized: { length element.now ≡ (row kind).size },
     pub ghost tagged: { ForSome tag (λ octets. length octets.now ≡ 7) },
@@ -33,7 +33,7 @@ pub struct Object<'a> {
 pub struct Objects<'a> {
     pub(crate) kind: TypeId,
     pub(crate) ioa: IoaSize,
-    /// The next object's address, where the octets don't have it.
+    /// The next object's address, if the octets don't have it.
     pub(crate) next_address: Option<u32>,
     pub(crate) left: usize,
     pub(crate) octets: &'a [u8],
@@ -153,7 +153,7 @@ fn split_address(ioa: IoaSize, next: Option<u32>, octets: &[u8]) -> (u32, &[u8])
     }
 }
 
-/// The address after it, where addresses are counted.
+/// The address after it, if addresses are counted.
 fn next_after(next: Option<u32>) -> Option<u32>
     requires { ForSome next (λ a. a < 2 ^ 24) }
     ensures { result ≡ following next }

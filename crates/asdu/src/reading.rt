@@ -12,7 +12,7 @@ use crate::objects::content_octets;
 use crate::{Asdu, CauseSize, Head, IoaSize, Refused, Sizes};
 use elements::{TypeId, kind};
 
-/// Reads the header and the first object address, and judges neither; None where the octets are too
+/// Reads the header and the first object address, and judges neither; None if the octets are too
 /// short for both.
 pub fn head(sizes: Sizes, octets: &[u8]) -> Option<Head>
     ensures some { IsSome result ↔ (header_len sizes + ioa_len sizes.ioa ≤ length octets.now) }
@@ -43,7 +43,7 @@ pub fn read(sizes: Sizes, octets: &[u8]) -> Result<Asdu<'_>, Refused>
     ensures source { IfOk result (λ asdu. (asdu.sizes ≡ sizes) × (asdu.octets.now ≡ octets.now)) }
     // What is read is the ASDU that the octets are.
     ensures found { IfOk result (λ asdu. IsAsdu sizes (value_of asdu) octets.now) }
-    // Where the octets are an ASDU, it is read.
+    // If the octets are an ASDU, it is read.
     ensures only { (v : AsduValue) → IsAsdu sizes v octets.now →
         IsOkAnd result (λ asdu. value_of asdu ≡ v) }
     // The first fault that applies.

@@ -84,9 +84,9 @@ impl<'a> Translation<'a> {
 }
 
 /// A report of a serial line, of at most 253 octets, as ASDUs of a connection (`Sizes::TCP`).
-/// Numbers keep their value, SQ is kept, and the originator is 0 where the source's cause has one
+/// Numbers keep their value, SQ is kept, and the originator is 0 if the source's cause has one
 /// octet. Each piece has as many objects as fit 249 octets, at most 127, and the last one what is
-/// left; with SQ 1 a piece begins at its own first address.
+/// left. With SQ 1 a piece begins at its own first address.
 pub fn translate(asdu: &Asdu) -> Pieces
     requires { length asdu.now.octets.now ≤ 253 }
     ensures spelled { map (λ p. p.items) result.items ≡ report_pieces (value_of asdu.now) }

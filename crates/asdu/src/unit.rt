@@ -64,7 +64,7 @@ impl<'a> Asdu<'a> {
         self.octets[2]
     }
 
-    /// The originator address, 0 where the cause has one octet.
+    /// The originator address, 0 if the cause has one octet.
     pub fn originator(&self) -> u8
         ensures { result ≡ (value_of self.now).originator }
     {

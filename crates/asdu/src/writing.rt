@@ -18,7 +18,7 @@ use crate::reading::body_octets;
 use crate::{Asdu, CaSize, CauseSize, IoaSize, Objects, Sizes};
 use arrayvec::ArrayVec;
 
-/// The same ASDU in other sizes, without its originator where the cause has one octet; in its own
+/// The same ASDU in other sizes, without its originator if the cause has one octet; in its own
 /// sizes its own octets.
 pub fn write(sizes: Sizes, asdu: &Asdu) -> ArrayVec<u8, 253>
     requires ca { (value_of asdu.now).ca < 256 ^ ca_len sizes.ca }
@@ -190,7 +190,7 @@ fn append_objects<const N: usize>(out: &mut ArrayVec<u8, N>, size: IoaSize, obje
     }
 }
 
-/// Appends objects with their addresses. Where these keep their size the octets stay as they are.
+/// Appends objects with their addresses. If these keep their size the octets stay as they are.
 #[inline(always)]
 fn append_located<const N: usize>(out: &mut ArrayVec<u8, N>, size: IoaSize, objects: Objects)
     requires mode { objects.next_address ≡ None }

@@ -43,7 +43,7 @@ with_centre c s = record s { desk = record s.desk { centre = c } }
 abbrev pub stepped : (now : ℕ) → Scene → Scene
 stepped now s = with_centre (next_of now s.desk.centre).1 s
 
--- an APDU is told and written; where the stream doesn't take it the connection is lost
+-- an APDU is told and written; if the stream doesn't take it, the connection is lost
 abbrev pub put_out : (now : ℕ) → Apdu → (is_taken : Bool) → Scene → Scene
 put_out now a is_taken s = record {
   desk = record s.desk {

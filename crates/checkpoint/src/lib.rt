@@ -60,7 +60,7 @@ pub trait Lines {
         ensures some { OnOk result (coming self.old ≡ line.new.items ∷ coming self.new) }
         ensures none { result ≡ Err Wrong → coming self.old ≡ [] };
 
-    /// Puts the next line, where it is one of octets, in place of this one. `Wrong` says that none
+    /// Puts the next line, if it is one of octets, in place of this one. `Wrong` says that none
     /// comes, or that the next one has a number above 255.
     fn next_octets(&mut self, line: &mut Vec<u8>) -> Result<(), StateFault>
         ensures some { OnOk result (coming self.old ≡ line.new.items ∷ coming self.new) }

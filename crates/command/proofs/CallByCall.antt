@@ -42,7 +42,7 @@ module _ (stations : List StationInfo) (sizes : Sizes) (ms age : ℕ) where
   abbrev next_at : ℕ → List Call → Option (List ℕ)
   next_at k calls = next_for sizes stations ms age k (after calls).history
 
-  -- where something is to go out, something waits
+  -- if something is to go out, something waits
   is_there : (k : ℕ) (calls : List Call) (xs : List ℕ) → next_at k calls ≡ Some xs
       → oldest_for k (after calls).state ≡ None → ⊥
   is_there k calls xs next none =

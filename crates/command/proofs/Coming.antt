@@ -1,4 +1,4 @@
--- Where nothing waits for a station each command that was forwarded to it went out.
+-- If nothing waits for a station, each command that was forwarded to it went out.
 use Rattle.std.proofs.Common.{◌≡◌, ℕ, ◌≤◌, List, [], length}
 use Rattle.std.proofs.Common.{drop, refl, ap, ◌∙◌, arith, rules}
 use Rattle.std.specs.Prelude.{Option, Some, None, option_map}

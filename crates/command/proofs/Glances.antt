@@ -245,7 +245,7 @@ judged_by_another xs now wall g t s same is =
     ∙ (ap (λ h. answer_at xs now wall h s.stations s.sizes s.select_ms s.max_age_ms) is
     ∙ seen_of xs now wall s))
 
--- ---- there is a rule exactly where there is an answer
+-- ---- there is a rule exactly if there is an answer
 
 placing : (xs : List ℕ) (c : Command) (now : ℕ) (s : State) (b : Bool) → lacks_place c s ≡ b
     → is_some (place_rule c s) ≡ is_some (placed xs c now s).0

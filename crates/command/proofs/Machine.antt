@@ -52,9 +52,8 @@ module _ (sizes : Sizes) (stations : List StationInfo) (select_ms max_age_ms : �
   abbrev pub station_of : Command → ℕ
   station_of c = station_number c.ca stations
 
-  -- The select that stands for this target: the latest that was forwarded on the open connection,
-  -- where no execute or
-  -- deactivation without a fault of its own, and no negative con, came since.
+  -- The select that stands for this target: the latest that was forwarded on the open connection.
+  -- Since then came no execute or deactivation without a fault of its own, and no negative con.
   abbrev pub standing : Target → History → Option Select
   standing t [] = None
   standing t (Judged now wall xs a ∷ h) =

@@ -66,7 +66,7 @@ module _ (xs : List ℕ) (wall : Option ℕ) where
       ap (λ (b : Bool). form_at b (not (is_permitted (command_at xs))))
       (sym (single_read xs) ∙ is)
 
-  -- its state is read where it is one whole object
+  -- its state is read if it is one whole object
   single_told : (malformed xs).applies ≡ false
       → form_rule wall xs ≡ form_at false (not_permitted xs).applies
   single_told is =

@@ -124,7 +124,7 @@ first_of P zero (x ∷ xss) xs all e = (let same : x ≡ xs = cc in subst P same
 first_of P (suc n) [] xs all e = cc
 first_of P (suc n) (x ∷ xss) xs all e = first_of P n xss xs all.1 e
 
--- the type is known where there is no fault
+-- the type is known if there is no fault
 typed : (sizes : Sizes) (stations : List StationInfo) (age : ℕ) (wall : Option ℕ) (xs : List ℕ)
     → cause_of_fault sizes stations age wall xs ≡ None → is_command_type (slice_index xs 0) ≡ true
 typed sizes stations age wall xs e = ap (λ (b : Bool). b || slice_index xs 0 == 100)

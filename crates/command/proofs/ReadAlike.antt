@@ -462,7 +462,7 @@ faults_read sizes stations age wall xs = by _ _ _ _ _ (operates_read xs)
         ≡ cause_of_fault sizes stations age wall xs
     by t c a o f e1 e2 e3 e4 e5 = rw (e1, e2, e3, e4, e5) refl
 
--- ---- where nothing is wrong with the command
+-- ---- if nothing is wrong with the command
 
 pub record IsGood (xs : List ℕ) : Type 0 where
   pub cause : (is_activation xs || is_deactivating xs) ≡ true

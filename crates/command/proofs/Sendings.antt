@@ -88,7 +88,7 @@ there : (sizes : Sizes) (xs : List ℕ) (i j : ℕ) (st : StationInfo) (sts : Li
 there sizes xs i j st sts rest less hyp true a = rw (a, differ i j less) hyp
 there sizes xs i j st sts rest less hyp false a = rw a hyp
 
--- a command's copy for station i + k, where the first station here has number i
+-- a command's copy for station i + k, if the first station here has number i
 pub copies_for : (sizes : Sizes) (xs : List ℕ) (k i j : ℕ) (sts : List StationInfo) → j ≡ i + k
     → waiting_for j (copies sizes xs i sts) ≡ if_for (is_for_at xs (slice_get sts k)) xs
 copies_for sizes xs k i j [] e = refl
@@ -232,7 +232,7 @@ pub others_wait : (k j : ℕ) (ws : List Waiting) → (j == k) ≡ false
 others_wait k j [] d = refl
 others_wait k j (x ∷ ws) d = others_step k j x ws (x.station == j) refl d (others_wait k j ws d)
 
--- none is oldest where nothing waits
+-- none is oldest if nothing waits
 none_step : (k : ℕ) (x : Waiting) (ws : List Waiting) (b : Bool) → (x.station == k) ≡ b
     → oldest k (x ∷ ws) ≡ None
     → (oldest k ws ≡ None → waiting_for k ws ≡ []) → waiting_for k (x ∷ ws) ≡ []

@@ -96,7 +96,7 @@ module _ (stations : List StationInfo) (sizes : Sizes) (select_ms max_age_ms : �
         GoOn (λ other before. is_put k other) (call ∷ calls) free →
         refusal_of (line_of k (after free).state) ≡ None
 
-  -- An own answer that is handed over is the last that waits, where fewer than 16 do, and the first
+  -- An own answer that is handed over is the last that waits, if fewer than 16 do, and the first
   -- goes out. Nothing else changes them on one connection.
   pub record WaitInTurn : Type 0 where
     pub kept : (octets : List ℕ) → length (after calls).state.answers < 16 →

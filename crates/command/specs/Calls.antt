@@ -29,7 +29,7 @@ pub record Run : Type 0 where
   pub state : State
   pub history : History
 
--- a call to put on the line where nothing waits logs nothing
+-- a call to put on the line logs nothing if nothing waits
 abbrev pub after_sending : Option Waiting → ℕ → Run → Run
 after_sending None k r = r
 after_sending (Some waiting) k r = record {

@@ -145,7 +145,7 @@ module _ (sizes : Sizes) (stations : List StationInfo) (select_ms max_age_ms : �
   walls_of k (Ended ∷ h) = []
   walls_of k (_ ∷ h) = walls_of k h
 
-  -- that of the oldest that didn't go out; none where it wasn't known, or nothing waits
+  -- that of the oldest that didn't go out; none if it wasn't known, or nothing waits
   abbrev pub next_wall : ℕ → History → Option ℕ
   next_wall k h = first_known (drop (sent_count k h) (walls_of k h))
 
@@ -167,7 +167,7 @@ module _ (sizes : Sizes) (stations : List StationInfo) (select_ms max_age_ms : �
   first_sendings (_ ∷ h) = first_sendings h
 
   -- The tag with which a station's answer is passed on: that of the newest first sending of its
-  -- type and addresses among the latest sixteen, where it has one object.
+  -- type and addresses among the latest sixteen, if it has one object.
   abbrev pub mirror_tag : AsduValue → List Info → History → Option (List ℕ)
   mirror_tag v [] h = None
   mirror_tag v (i ∷ []) h = tag_among (take 16 (first_sendings h)) v i
@@ -203,7 +203,7 @@ module _ (sizes : Sizes) (stations : List StationInfo) (select_ms max_age_ms : �
   cause_given wall xs =
       unwrap_or (cause_of_fault sizes stations max_age_ms wall xs) (negative_of xs)
 
-  -- the answer that a busy station's command gets: a negative one, where its connection is open
+  -- the answer that a busy station's command gets: a negative one, if its connection is open
   abbrev pub busy_answer : ℕ → History → Option (List ℕ)
   busy_answer k h = option_map (λ xs. answer (negative_of xs) xs) (on_line k h)
 
@@ -220,7 +220,7 @@ module _ (sizes : Sizes) (stations : List StationInfo) (select_ms max_age_ms : �
   GivesOwnAnswers (_ ∷ h) = GivesOwnAnswers h
 
   -- Each ASDU that isn't forwarded gets one answer, and so does a command that a busy station had,
-  -- where its connection is open: the whole ASDU that came, refused. No other has one.
+  -- if its connection is open: the whole ASDU that came, refused. No other has one.
   abbrev pub AnswersWholly : History → Type 0
   AnswersWholly [] = Unit {0}
   AnswersWholly (Judged now wall xs (Some a) ∷ h) =
@@ -263,7 +263,7 @@ module _ (sizes : Sizes) (stations : List StationInfo) (select_ms max_age_ms : �
   standing xs (Ended ∷ h) = None
   standing xs (_ ∷ h) = standing xs h
 
-  -- the place of the command that stands on the line of station k, where its connection is open
+  -- the place of the command that stands on the line of station k, if its connection is open
   abbrev pub place_on_line : ℕ → History → Option ℕ
   place_on_line k [] = None
   place_on_line k (Sent j octets ∷ h) = if k == j then Some (sent_count k h) else place_on_line k h
@@ -355,7 +355,7 @@ own_sent (Answered octets ∷ h) = own_sent h ++ octets ∷ []
 own_sent (Ended ∷ h) = []
 own_sent (_ ∷ h) = own_sent h
 
--- an own answer is kept exactly where fewer than 16 are kept that didn't go out
+-- an own answer is kept exactly if fewer than 16 are kept that didn't go out
 abbrev pub KeepsOwnAnswers : History → Type 0
 KeepsOwnAnswers [] = Unit {0}
 KeepsOwnAnswers (Offered octets kept ∷ h) =

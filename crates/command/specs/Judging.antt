@@ -62,7 +62,7 @@ cause_fault sizes stations max_age_ms wall xs =
     else address_fault sizes stations max_age_ms wall xs
 
 -- The cause of the answer, by the first fault of the ASDU: its type, its cause, its addresses, its
--- form, its age where it has a tag, which needs a wall moment (ms since 1970-01-01).
+-- form, and its age if it has a tag, which needs a wall moment (ms since 1970-01-01).
 abbrev pub fault : Sizes → List StationInfo → ℕ → Option ℕ → List ℕ → Option ℕ
 fault sizes stations max_age_ms wall xs =
     if not (is_command_type (slice_index xs 0)) then Some 44

@@ -14,7 +14,7 @@ AfterEachRun P =
     (run stations sizes select_ms max_age_ms calls).state
     (run stations sizes select_ms max_age_ms calls).history
 
--- the same at each moment that isn't before them, where their moments never fall
+-- the same at each moment that isn't before them, if their moments never fall
 abbrev pub AtEachMoment :
     (List StationInfo → Sizes → ℕ → ℕ → ℕ → State → History → Type 0) → Type 0
 AtEachMoment P =

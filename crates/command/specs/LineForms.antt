@@ -10,7 +10,7 @@ use Rattle.command.specs.History.{line_octets}
 use Rattle.command.specs.Numbers.{Numbers, Tag, command_with, object_of, one_octet, set_point}
 use Rattle.command.specs.Numbers.{one_octet_tagged, set_point_tagged}
 
--- The type without a tag, one object, and the cause octet as it came; the originator, where causes
+-- The type without a tag, one object, and the cause octet as it came; the originator, if causes
 -- have two octets; the station's common address; the object address; and the element as it came,
 -- with its S/E and all other bits.
 abbrev pub HasLineForm : (kind plain : ℕ) → (rest element : List ℕ) → Type 0

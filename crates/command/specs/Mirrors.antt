@@ -48,7 +48,7 @@ mirrored v now s =
     else (if is_con false v.cause then one_confirmed v v.infos now s
     else s)
 
--- the tag of the newest first sending of its type and addresses, where the answer has one object
+-- the tag of the newest first sending of its type and addresses, if the answer has one object
 abbrev pub tag_for : AsduValue → List Info → State → Option Cp56
 tag_for v [] s = None
 tag_for v (i ∷ []) s = newest_tag (target_at v i) None s.sendings

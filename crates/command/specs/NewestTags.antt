@@ -33,8 +33,8 @@ NoneHas v i xss = AllByRecursion (λ xs. is_object_of xs v i ≡ false) xss
 
 module _ (sizes : Sizes) (stations : List StationInfo) (select_ms max_age_ms : ℕ) where
   -- An answer with one object bears the tag of the command of its type and addresses that went out
-  -- last, where fewer than sixteen went out since. It bears none where there is no such command,
-  -- and none where it hasn't one object.
+  -- last, if fewer than sixteen went out since. It bears none if there is no such command. One that
+  -- hasn't one object bears none.
   pub record NewestIsBorne (h : History) : Type 0 where
     pub newest : (v : AsduValue) (i : Info) (since earlier : List (List ℕ)) (xs : List ℕ) →
         v.infos ≡ i ∷ [] →

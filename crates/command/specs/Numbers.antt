@@ -77,7 +77,7 @@ pub record AddressesAreRead : Type 0 where
       address_of n ≡ station.ca →
       ((j : ℕ) (other : StationInfo) → j < k → slice_get stations j ≡ Some other →
       address_of n ≡ other.ca → ⊥) → station_of stations (command_with kind n rest) ≡ k
-  -- a select is needed where the settings of a station with its address ask for one, and only there
+  -- a select is needed if the settings of a station with its address ask for one, and only then
   pub guarded : (stations : List StationInfo) (k kind : ℕ) (n : Numbers) (rest : List ℕ)
       (station : StationInfo) → slice_get stations k ≡ Some station →
       address_of n ≡ station.ca → station.select ≡ true →

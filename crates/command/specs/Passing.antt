@@ -1,4 +1,4 @@
--- What a command needs to be forwarded where nothing is wrong with it (this gateway's own profile).
+-- What a command needs to be forwarded if nothing is wrong with it (this gateway's own profile).
 use Rattle.std.specs.Prelude.{ℕ, suc, ◌+◌, ◌≤◌, List, [], ◌∷◌, count_by, if◌then◌else◌}
 use Rattle.command.specs.Standard.{is_for_station}
 use Rattle.command.specs.History.{History, forwarded_in_all, sent_in_all}

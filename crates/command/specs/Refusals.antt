@@ -61,7 +61,7 @@ abbrev pub rule_by : Option ℕ → List ℕ → ℕ → Option ℕ → State �
 rule_by (Some cause) xs now wall s = Some (fault_rule cause wall xs)
 rule_by None xs now wall s = admission_rule (command_at xs) now s
 
--- the rule by which the ASDU is refused, the first that applies, or none where it is forwarded
+-- the rule by which the ASDU is refused, the first that applies, or none if it is forwarded
 abbrev pub refusal_of : List ℕ → ℕ → Option ℕ → State → Option Refusal
 refusal_of xs now wall s =
     rule_by (fault s.sizes s.stations s.max_age_ms wall xs) xs now wall s

@@ -141,7 +141,7 @@ abbrev pub refuses_command : List ℕ → AsduValue → Bool
 refuses_command xs v = is_negative_confirmation v.cause && list_any (is_object_of xs v) v.infos
 
 -- ---- Stations (this gateway's own profile: a station has one common address, and the settings say
--- where a command has to be selected)
+-- whether a command has to be selected)
 
 -- 7.2.4: 65535 is each station, here for interrogations (type 100) alone
 abbrev pub is_for_each : List ℕ → Bool
@@ -250,8 +250,8 @@ malformed xs = record {
   cause = negative_of xs;
 }
 
--- QOI is 20 for the station and 21 to 36 for its groups (7.2.6.22); a double or step command's
--- state is in bits 1 and 0, where 0 and 3 are not permitted (7.2.6.16 and 7.2.6.17)
+-- QOI is 20 for the station and 21 to 36 for its groups (7.2.6.22). A double or step command's
+-- state is in bits 1 and 0, and 0 and 3 are not permitted there (7.2.6.16 and 7.2.6.17).
 abbrev pub may_operate : List ℕ → Bool
 may_operate xs =
     if plain_type (slice_index xs 0) == 100
@@ -277,7 +277,7 @@ own_rules sizes stations max_age_ms wall xs =
     unknown_type xs ∷ unknown_cause xs ∷ unknown_station stations xs ∷ unknown_object sizes xs
     ∷ malformed xs ∷ not_permitted xs ∷ not_fresh max_age_ms wall xs ∷ []
 
--- the cause of the answer that the command gets for what it is itself; none where nothing is wrong
+-- the cause of the answer that the command gets for what it is itself; none if nothing is wrong
 -- with it
 abbrev pub cause_of_fault : Sizes → List StationInfo → ℕ → Option ℕ → List ℕ → Option ℕ
 cause_of_fault sizes stations max_age_ms wall xs =

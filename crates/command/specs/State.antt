@@ -100,8 +100,7 @@ accepted station s = with_line station Free (heeded (sign.Acceptance station) s)
 abbrev pub given_up : ℕ → State → State
 given_up station s = with_line station Free (heeded (sign.Loss station) s)
 
--- the answer to a command that a busy station refused: a negative one, where its connection is
--- open
+-- the answer to a command that a busy station refused: a negative one, if its connection is open
 abbrev pub refusal_of : Line → Option (List ℕ)
 refusal_of Free = None
 refusal_of (Holds received) = Some (answer (negative received) received)
@@ -120,7 +119,7 @@ has_answer_place s = nat_lt (length s.answers) 16
 abbrev pub kept : List ℕ → State → State
 kept octets s = record s { answers = s.answers ++ octets ∷ [] }
 
--- an own answer is kept where fewer than 16 are
+-- an own answer is kept if fewer than 16 are
 abbrev pub offered : List ℕ → State → State
 offered octets s = if has_answer_place s then kept octets s else s
 

@@ -151,10 +151,10 @@ impl Commands {
         Ok(())
     }
 
-    /// What was put, made again of the lines that come, with the settings that `new` takes: the
+    /// What was put, made again of the lines that come, with the settings that `new` takes. The
     /// lines of a state are never refused as wrong, and what comes behind them is left. Others are
-    /// wrong where a line says nothing, or more is kept than there are places. `line` is used on
-    /// the way.
+    /// wrong if a line says nothing, or more is kept than there are places. `line` is used on the
+    /// way.
     pub fn read_state<L: Lines>(
         alloc: Global,
         stations: &[StationInfo],
@@ -349,7 +349,7 @@ impl Commands {
         }
     }
 
-    /// A command that may go, where there are places for it: else the cause of its answer.
+    /// A command that may go, if there are places for it: else the cause of its answer.
     fn place(&mut self, octets: &[u8], command: Command, now: u64) -> Option<u8>
         requires long { 9 ≤ length octets.now }
         requires whole { length octets.now ≡ command_len (slice_index octets.now 0) }
@@ -503,7 +503,7 @@ impl Commands {
     }
 
     /// The station refused the command on its line as busy. The answer is for the control centre,
-    /// and no report; there is none where the connection that sent the command has ended.
+    /// and no report. There is none if the connection that sent the command has ended.
     pub fn busy(&mut self, station: usize) -> Option<OwnAnswer>
         ensures answer { option_map (λ answer. answer.items) result ≡
             refusal_of (line_of station self.old) }
@@ -616,7 +616,7 @@ impl Commands {
         }
     }
 
-    /// Keeps an own answer of 9 to 249 octets, as it is. It is false, and nothing changes, where 16
+    /// Keeps an own answer of 9 to 249 octets, as it is. It is false, and nothing changes, if 16
     /// are kept. That it is no report to the control centre is for the caller to see to: the
     /// answers that are made here are none.
     pub fn own(&mut self, octets: &[u8]) -> bool

@@ -13,7 +13,7 @@ use std::marker::Model;
 pub struct Glance {
     /// How many commands wait.
     pub(crate) waiting: usize,
-    /// The selections, where behind how many commands a select waits is left out.
+    /// The selections. Behind how many commands a select waits is left out.
     pub(crate) selections: ArrayVec<Selection, 16>,
 }
 

@@ -111,7 +111,7 @@ fn cut(line: &mut Line)
     }
 }
 
-/// The negative answer to the command on the station's line, where its connection is open.
+/// The negative answer to the command on the station's line, if its connection is open.
 pub(crate) fn refusal_at(lines: &[Line], station: usize) -> Option<OwnAnswer>
     ensures answer { option_map (λ answer. answer.items) result ≡
         refusal_of (get_or lines.now station Free) }

@@ -41,8 +41,8 @@ ghost use Rattle.command.specs.Laws.{AfterEachRun, AtEachMoment};
 ghost use Rattle.command.specs.CommandLaws.{CommandLaws};
 ghost use Rattle.command.specs.Carried.{carried};
 
-/// The answer to an ASDU is the one that the first rule that applies gives; where none applies it
-/// is forwarded.
+/// The answer to an ASDU is the one that the first rule that applies gives; if none applies it is
+/// forwarded.
 pub fn judgement_is_the_first_rule_that_applies()
     ensures { (xs : List ℕ) (now : ℕ) (wall : Option ℕ) (s : State) →
         (judged xs now wall s).0
@@ -79,9 +79,8 @@ pub fn sent_activations_are_fresh()
 
 /// A command with which nothing is wrong, and which finds its places, is forwarded, whatever its
 /// station and its addresses. Two things alone can keep it back, and only at a station that asks
-/// for selects: an execute that isn't selected is refused, and so is a select where 16 selections
-/// of other targets are kept. So a deactivation needs no selection, and neither does an
-/// interrogation.
+/// for selects: an execute that isn't selected is refused, and so is a select if 16 selections of
+/// other targets are kept. So a deactivation needs no selection, and neither does an interrogation.
 pub fn faultless_commands_pass()
     ensures others { AfterEachRun (λ stations sizes select_ms max_age_ms s h. (xs : List ℕ)
         (now : ℕ) (wall : Option ℕ) →
@@ -101,10 +100,10 @@ pub fn faultless_commands_pass()
 {}
 
 /// The tag with which a station's answer to a command is passed on is that of the newest first
-/// sending of its type and addresses, among the latest sixteen of the open connection; there is
-/// none where that command came without one, and where the answer hasn't one object. A command is
-/// noted as it came when it goes out, whatever its station and its addresses. So it counts
-/// until sixteen others went out behind it, or its connection ends.
+/// sending of its type and addresses, among the latest sixteen of the open connection. There is
+/// none if that command came without one, and none if the answer hasn't one object. A command is
+/// noted as it came when it goes out, whatever its station and its addresses. So it counts until
+/// sixteen others went out behind it, or its connection ends.
 pub fn mirrors_bear_the_newest_tag()
     ensures among { AfterEachRun (λ stations sizes select_ms max_age_ms s h. (v : AsduValue) →
         option_map (λ tag. tag.0) (tag_for v v.infos s)
@@ -145,11 +144,11 @@ pub fn selections_let_one_execute_through()
 {}
 
 /// Each answer is the right one: the ASDU that came, with another cause, P/N 1, and its test bit
-/// and all other octets as they were, however many they are; an ASDU that isn't forwarded gets one,
-/// and so does a command that a busy station had, where its connection is open, and no other has
-/// one. The own answers that are kept go out first in, first out: 16 of them at most wait, and the
-/// end of a connection removes them. Call by call, a command that went out and is refused as busy
-/// gets its answer, whatever lies between. What stands on no line gets none.
+/// and all other octets as they were, however many they are. An ASDU that isn't forwarded gets one,
+/// and so does a command that a busy station had, if its connection is open. No other has one. The
+/// own answers that are kept go out first in, first out: 16 of them at most wait, and the end of a
+/// connection removes them. Call by call, a command that went out and is refused as busy gets its
+/// answer, whatever lies between. What stands on no line gets none.
 pub fn own_answers_are_given()
     ensures right { AfterEachRun (λ stations sizes select_ms max_age_ms s h.
         GivesOwnAnswers sizes stations select_ms max_age_ms h) }

@@ -10,32 +10,31 @@
 //! commands. Own answers are handed over and taken back first in, first out. The crate knows no
 //! frames, sockets or clock: moments are handed in, in ms, and never fall from call to call.
 //!
-//! Proved: each call is one small function on a record of plain fields. Above it, for every list of
-//! calls: an ASDU gets the answer of the first rule that applies; first sendings to a station are
-//! the commands forwarded to it, in order, each once, and only while their connection is open;
-//! before each forwarded execute to a station that asks for selects its select stands, accepted on
-//! the line and confirmed in time, with nothing between that ends it, and where that is so the
-//! execute is refused for no want of a selection, and forwarded where it has a place (as long as
-//! moments never fall); kept selections have distinct targets, each is the select that stands, and
-//! after `due` each one's select, or its latest confirmation, came less than `select_ms` ago; each
+//! Proved: each call is one small function on a record of plain fields. The rest holds for every
+//! list of calls. An ASDU gets the answer of the first rule that applies. First sendings to a
+//! station are the commands forwarded to it, in order, each once, and only while their connection
+//! is open. Before each forwarded execute to a station that asks for selects its select stands,
+//! accepted on the line and confirmed in time, with nothing between that ends it. If that is so the
+//! execute is refused for no want of a selection, and forwarded if it has a place (as long as
+//! moments never fall). Kept selections have distinct targets, and each is the select that stands.
+//! After `due` each one's select, or its latest confirmation, came less than `select_ms` ago. Each
 //! answer that is made here is the ASDU that came with its cause octet replaced, and bears no
-//! object that is passed on as a station's report; own answers go out first in, first out, 16 of
-//! them at most wait; what waits for a station stays what is next until it goes out; and the
+//! object that is passed on as a station's report. Own answers go out first in, first out, and 16
+//! of them at most wait. What waits for a station stays what is next until it goes out, and the
 //! settings stay. Places come back: what waits is what was forwarded less what went out. These laws
-//! speak of octets, in words of their own (specs/Standard) that no call is built of; a table of
+//! speak of octets, in words of their own (specs/Standard) that no call is built of. A table of
 //! worked examples holds too.
 //!
 //! By which rule an ASDU is refused is asked apart from its judgement ([`Commands::refusal_of`]),
 //! and also behind it, by a [`Glance`] that was taken before ([`Commands::refusal_at`]). Proved:
-//! there is a rule exactly where the judgement is an own answer, it is the first of nine that
-//! applies, and the rule that is answered behind it is that of the state of which the glance was
-//! taken.
+//! there is a rule exactly if the judgement is an own answer, it is the first of nine that applies,
+//! and the rule that is answered behind it is that of the state of which the glance was taken.
 //!
 //! What is kept is put as lines of numbers ([`Commands::put_state`]) and made again of them
 //! ([`Commands::read_state`]). Proved: each state that a `Commands` has is one that can be saved
 //! (`IsSavable`), and its lines, with the settings, give that state and are never refused as wrong.
 //! What isn't the lines of a state gives none. `new`, `read_state` and `carried` take memory, and a
-//! line grows where it is too short; no other call does.
+//! line grows if it is too short; no other call does.
 #![tactic(auto)]
 
 mod act;

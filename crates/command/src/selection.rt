@@ -211,7 +211,7 @@ impl Selection {
         }
     }
 
-    /// What becomes of it where a positive con of this target and element came.
+    /// What becomes of it when a positive con of this target and element came.
     fn after_con(
         self,
         select_ms: u64,
@@ -222,8 +222,9 @@ impl Selection {
         ensures { result ≡ next_of select_ms (ConSign target element now) self }
     {
         // A con before the acceptance answers an older select, and one past `select_ms` is too late
-        // (docs/DECISIONS.md, "An answer to an older select"). Also where it is live already: then
-        // its time begins anew (docs/DECISIONS.md, "A second positive confirmation").
+        // (docs/DECISIONS.md, "An answer to an older select"). A con in time counts also when the
+        // select is live already: then its time begins anew (docs/DECISIONS.md, "A second positive
+        // confirmation").
         if self.is_named(target, element)
             && self.is_accepted()
             && now.saturating_sub(self.came) < select_ms

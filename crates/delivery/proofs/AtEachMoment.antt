@@ -65,7 +65,7 @@ no_close (Closes cause) e = cc
 no_close Asdu e = refl
 no_close Nothing e = refl
 
--- each frame that came, where a history keeps the rules, came without fault
+-- each frame that came, if a history keeps the rules, came without fault
 without_fault : (settings : session.Settings) (h : History) → KeepsRules settings h
     → Passes (length (sent_frames h)) (came_frames h)
 without_fault settings [] k = tt

@@ -80,7 +80,7 @@ stands_after stands (Confirmed asdu ∷ steps) = stands_after false steps
 stands_after stands (Busy asdu ∷ steps) = stands_after false steps
 stands_after stands (Lost ∷ steps) = stands_after false steps
 
--- how many are lost by one step, where one stands there or doesn't
+-- how many are lost by one step, by whether one stands there
 abbrev lost_by : Bool → LineStep → ℕ
 lost_by true Lost = 1
 lost_by false Lost = 0

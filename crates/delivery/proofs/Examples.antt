@@ -218,7 +218,7 @@ answered_between : steps_of_reset (Came 330 Ticked ∷ Went 230 (LineOut command
 unfolding front_of
 answered_between = refl
 
--- where the service is held instead, silence takes no link down
+-- if the service is held instead, silence takes no link down
 held_back : steps (Came 320 Ticked ∷ Went 220 (LineOut command) ∷ Came 220 Ticked ∷ sent_again)
     ≡ Begun to_line ∷ []
 unfolding front_of
@@ -362,7 +362,7 @@ came_before : arrivals (Came 5 CutOff ∷ in_pieces) (new_connection ∷ with_on
     ≡ record { asdu = 1 ∷ []; log = in_pieces } ∷ []
 came_before = refl
 
--- the wall clock stands where the latest event says, and not where one before it said
+-- the wall clock shows what the latest event says, and not what one before it said
 shows_latest : ShowsAt (Came 4 (WallIs 9) ∷ in_pieces) 5 10
 shows_latest = record {
   since = [];
@@ -388,7 +388,7 @@ not_turned (inl h) = cc
 not_turned (inr (inl h)) = h.1
 not_turned (inr (inr h)) = h
 
--- a command is none of the centre's where none came, and one is not two
+-- a command is none of the centre's if none came, and one is not two
 not_invented : AreCommandsOf example 0 [] (to_line ∷ []) → ⊥
 not_invented h = go h.given h.received h.whole
   where

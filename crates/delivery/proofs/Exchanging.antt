@@ -61,7 +61,7 @@ at_append front i (x ∷ xs) ys = go (x.station == i) (at_append front i xs ys)
     go true ih = ap (λ (l : List Exchange). (view front x).exchange ∷ l) ih
     go false ih = ih
 
--- the one exchange, where it is with this station
+-- the one exchange, if it is with this station
 abbrev pub alone : ℕ → LineExchange → List Exchange
 alone i v = if v.station == i then v.exchange ∷ [] else []
 

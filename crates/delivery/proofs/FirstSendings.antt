@@ -311,7 +311,7 @@ of_the_open_one p k now octets log before c joined later sends forwards gives =
             }
         one (a ∷ b ∷ more) part is = cc
 
--- where no connection is open it is none
+-- if no connection is open, it is none
 pub of_none : (p : Setup) (k now : ℕ) (octets : List ℕ) (log : Log) (c : Course)
     → came_frames c.talk ≡ []
     → SendsNoneFirst p k now octets log ⊎ SendsFirst p k now octets log (open_arrivals log c)

@@ -1,4 +1,4 @@
--- The frames of a course: they fit, and where no connection is open there are none.
+-- The frames of a course: they fit, and if no connection is open there are none.
 use Rattle.std.proofs.Common.{◌≡◌, ℕ, Bool, true, false, List, [], ◌∷◌, ◌++◌, length, refl, ap, sym}
 use Rattle.std.proofs.Common.{◌∙◌, length-append, arith, if◌then◌else◌}
 use Rattle.apci.specs.declared.apdu.Apdu.{Apdu}
@@ -28,7 +28,7 @@ no_frames (frame ∷ older) rest h =
       length-append (spelled older) (spelling frame),
     ))
 
--- octets come, where a connection is open
+-- octets come, if a connection is open
 abbrev pub joined_by : Bool → Channel → List ℕ → Channel
 joined_by b c octets = if b then record {
   is_open = true;
@@ -73,7 +73,7 @@ logged_came (I ns nr asdu) now h = refl
 logged_came (S nr) now h = refl
 logged_came (U u) now h = refl
 
--- Where no connection is open, none came.
+-- If no connection is open, none came.
 
 taken_none : (log : Log) (frames : List Apdu) (rest : List ℕ) → (present log).is_open ≡ false
     → (present log).received ≡ spelled frames ++ rest → frames ≡ []

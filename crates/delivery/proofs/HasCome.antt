@@ -171,7 +171,7 @@ are_runs taken (c ∷ before) [] o parts = absurd parts
 are_runs taken (c ∷ before) (x ∷ came) o parts =
     (part_run taken c before x o.0 parts.0, are_runs taken before came o.1 parts.1)
 
--- what a connection acknowledged has come, where it acknowledges only what came
+-- what a connection acknowledged has come, if it acknowledges only what came
 acknowledged_came : (c : Connection) (came : List Sent) → IsPart came c.sent_frames
     → acknowledged_count c.received_frames ≤ length came
     → length (objects_of_frames (acknowledged_frames c)) ≤ length (objects_of_frames came)

@@ -20,7 +20,7 @@ use Rattle.gateway.specs.Traffic.{HasRested}
 use Rattle.delivery.specs.Sessions.{ended, gaps_in, given_in, taken_in, LosesNone, LosesLastAtMost}
 use Rattle.delivery.specs.Sessions.{LoseAsReported}
 
--- each that ended is reported where it has a gap
+-- each that ended is reported if it has a gap
 as_logged : (station number : ℕ) (ss : List Session) → AllByRecursion (λ s. HasReports station s) ss
     → LoseAsReported station number ss (ended_with_gap station number ss)
 as_logged station number [] all = refl

@@ -21,7 +21,7 @@ use Rattle.link.specs.Carried.{reseated}
 use Rattle.link.specs.declared.seat.ResumedStation.{ResumedStation}
 use Rattle.delivery.specs.NextRequests.{Begins, ArePassing, IsOutNoMore}
 
--- A request goes out only where none is outstanding.
+-- A request goes out only if none is outstanding.
 free : (p : Primary) (o : Option Outstanding) (may_poll : Bool) (waiting : CommandsWaiting)
     (s : Sending) → sending_from p o may_poll waiting ≡ Some s → o ≡ None
 free p (Some o) may_poll waiting s goes = cc

@@ -39,8 +39,8 @@ take_less {A} (suc n) (suc m) [] h = refl
 take_less {A} (suc n) (suc m) (x ∷ xs) h =
     ap (λ (l : List A). x ∷ l) (take_less n m xs (omega (arith, h)))
 
--- Elements are put at a place, and what stood there gives way: where all were a beginning, and so
--- are those from the place on, all are one.
+-- Elements are put at a place, and what stood there gives way. If all were a beginning, and so are
+-- those from the place on, all are one.
 
 module _ {A : Type 0} (n : ℕ) (xs old all : List A) (within : n ≤ length old) (was : old
     ≡ take (length old) all) (run : xs ≡ take (length xs) (drop n all)) where

@@ -34,7 +34,7 @@ use Rattle.delivery.proofs.Exchanging.{lost_far, sent_far}
 
 -- A request goes out
 
--- what a request that goes out logs, where it is a command's first sending
+-- what a request that goes out logs, if it is a command's first sending
 abbrev pub logged_asked : Bool → (station : ℕ) → Asked → History → History
 logged_asked true station (Counted fcb (Command asdu)) h = Sent station asdu ∷ h
 logged_asked first station request h = h

@@ -108,7 +108,7 @@ exchange_holds s a x link n may c holds = go x.given_up holds
     go true holds = cc
     go false holds = outcome_holds s x.request (answer_to a x) x.closed link n may c holds
 
--- Where its latest exchange leaves a command held, giving up the link is one step more.
+-- If its latest exchange leaves a command held, giving up the link is one step more.
 steps_given : (s : LinkSettings) (a : ℕ) (link : Link) (missed : Silence) (pending : Option Service)
     (xs : List Exchange) → KeepsFrameCountBit s a link xs → Counts s link missed
     → (xs ≡ [] → ⊥) → holds_command (link_after s a link xs) ≡ true
@@ -169,7 +169,7 @@ given_logged s a k xs h new keeps holds same t = record {
 
 -- ---- What the course logs
 
--- The works, where some stations' links have been given up: the line is what the exchanges make it,
+-- The works, when some stations' links have been given up: the line is what the exchanges make it,
 -- and what becomes of commands is what they show.
 pub record IsGiven (p : Setup) (w z : Works) (e : Exchanges) : Type 0 where
   pub matches : Matches p.link p.addresses z.serial.line e

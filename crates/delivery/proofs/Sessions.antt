@@ -88,7 +88,7 @@ exchanges_join station xs turns honest =
     }) station xs
     turns (taken station unreset honest.end xs turns honest.run)
 
--- Where all that was done was done in the sessions, nothing was done before.
+-- If all that was done was done in the sessions, nothing was done before.
 pub none_done : (station : ℕ) (xs : List Exchange) (turns : List Turn) → IsHonest station xs turns →
     flat_map (λ (s : Session). all_done s.turns) (sessions station xs turns) ≡ all_done turns
     → all_done (before_reset station xs turns).turns ≡ []

@@ -22,7 +22,7 @@ use Rattle.gateway.specs.Counting.{counted}
 use Rattle.gateway.specs.Works.{is_command_by, is_command_report}
 use Rattle.delivery.specs.Joined.{is_skipped, skipped_among}
 
--- one more, where there is nothing to be passed on
+-- one more, if there is nothing to be passed on
 abbrev skips_if : Bool → ℕ → ℕ
 skips_if b n = if b then one_more n else n
 

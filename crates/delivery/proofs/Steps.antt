@@ -428,7 +428,7 @@ counts s a link n (x ∷ xs) h c =
     (by_mark (λ (l : Link). Counts s l (missed_by x.request x.closed (answer_to a x) n)) x.given_up
     _ (one_counts s x.request (answer_to a x) x.front x.closed link n h.0 c) tt)
 
--- No link goes down where an answer is still awaited.
+-- No link goes down while an answer is still awaited.
 pub still_up : (s : LinkSettings) (missed : Silence) (request : Asked)
     → goes_down s missed request false None ≡ false
 still_up s missed Status = refl

@@ -46,7 +46,7 @@ use Rattle.delivery.proofs.Requests.{logged_asked, logged_due}
 abbrev pub all_logged : Works → History
 all_logged w = (unless_silent_works w.serial.silent w).history
 
--- where the step is done, nothing is still to be logged
+-- when the step is done, nothing is still to be logged
 abbrev pub IsAllLogged : Works → Type 0
 IsAllLogged w = w.is_due ≡ false → w.serial.silent ≡ None
 

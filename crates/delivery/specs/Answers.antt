@@ -19,8 +19,8 @@ use Rattle.gateway.specs.Counting.{is_answer_code}
 use Rattle.gateway.specs.Reports.{Setup}
 use Rattle.gateway.specs.Works.{IsPassedOn}
 
--- the cause octet as it came, with P/N and the test bit, and the originator, which is 0 where
--- causes of the line have one octet (7.2.3)
+-- the cause octet as it came, with P/N and the test bit, and the originator, which is 0 if causes
+-- of the line have one octet (7.2.3)
 abbrev pub cause_in_two : CauseSize → List ℕ → List ℕ
 cause_in_two causes.One xs = slice_index xs 2 ∷ 0 ∷ []
 cause_in_two causes.Two xs = slice_index xs 2 ∷ slice_index xs 3 ∷ []
@@ -41,7 +41,7 @@ object_address_in_three ioas.Three place xs =
 
 -- The answer that came on a line of these sizes, as it goes to the control centre: its type, SQ and
 -- number, its cause and originator, its common address, its object's address, and all octets behind
--- that: those of the element, and of the time tag where there is one.
+-- that: those of the element, and of the time tag if there is one.
 abbrev pub answer_form : Sizes → List ℕ → List ℕ
 answer_form sizes xs =
     slice_index xs 0 ∷ slice_index xs 1
@@ -61,9 +61,9 @@ form_with (Some tag) xs =
     then (slice_index xs 0 + 13) ∷ (drop 1 xs ++ tag) else xs
 
 -- Of a station's answer with one object one ASDU is handed over, right behind what it did to
--- selections, and nothing more: the answer in the sizes of IEC 60870-5-104, with the tag of the
--- newest command of its type and addresses that went to the line on the connection, where that came
--- with one. Either it has a place, or it has none (which closes the connection: profile).
+-- selections, and nothing more. It is the answer in the sizes of IEC 60870-5-104, with the tag of
+-- the newest command of its type and addresses that went to the line on the connection, if that
+-- came with one. Either it has a place, or it has none (which closes the connection: profile).
 pub record IsGivenOnce (p : Setup) (at : ℕ) (report : List ℕ) (before after : History) : Type 0
   where
     pub value : AsduValue
@@ -96,7 +96,7 @@ pub record IsGivenInPieces (p : Setup) (at : ℕ) (report : List ℕ) (before af
     pub passed : IsPassedOn p.sizes value report pieces
     pub given : AreGiven pieces (Mirrored at value ∷ before) after
 
--- what a station said, where its type is a command's: 45 to 49, and 100 (7.2.1.1)
+-- what a station said, if its type is a command's: 45 to 49, and 100 (7.2.1.1)
 abbrev pub answer_in : Outcome → Option (List ℕ)
 answer_in (outcome.Report station asdu) =
     if is_answer_code (slice_index asdu.items 0) then Some asdu.items else None

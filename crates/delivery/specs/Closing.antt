@@ -76,7 +76,7 @@ pub record HasDoneAll (p : Setup) (log : Log) (c : Course) : Type 0 where
   pub in_time : talk.has_timed_out p.session.t1 (latest log) c.talk ≡ false
   -- each own answer that was handed over was kept: none was dropped for want of a place
   pub placed : (present log).is_open ≡ true → own_given c.works.history ≡ own_kept c.works.history
-  -- where data may go out, each own answer that was kept has gone out in an I frame
+  -- if data may go out, each own answer that was kept has gone out in an I frame
   pub answers : MaySendData p c → own_kept c.works.history ≡ answers_among c.sent
   -- and all objects taken have: those that no connection before acknowledged went out on this one
   pub objects : MaySendData p c →

@@ -55,8 +55,8 @@ said_of (Counted fcb (Command asdu)) (Some answer.Confirmed) = Confirmed asdu �
 said_of (Counted fcb (Command asdu)) (Some answer.Busy) = Busy asdu ∷ []
 said_of request said = []
 
--- how often in a row a counted request had no answer in time, with this exchange, where it was so
--- often before; a status that is answered meanwhile makes the count begin anew, and counts itself
+-- How often in a row a counted request had no answer in time, with this exchange, if it was so
+-- often before. A status that is answered meanwhile makes the count begin anew, and counts itself.
 abbrev pub missed_by : Asked → (closed : Bool) → Option Answer → Silence → Silence
 missed_by (Counted fcb service) closed None missed =
     if closed then short_silence (suc missed.missed) missed.probed else missed
@@ -71,16 +71,16 @@ is_silent settings missed (Counted fcb service) true =
     not (is_kept settings missed.probed) && nat_lt settings.retries (suc missed.missed)
 is_silent settings missed request closed = false
 
--- The link goes down where the station answers that it can't serve (function 14 or 15), and where
--- it is silent.
+-- The link goes down if the station answers that it can't serve (function 14 or 15), and if it is
+-- silent.
 abbrev pub goes_down : LinkSettings → (missed : Silence) → Asked → (closed : Bool) →
     Option Answer → Bool
 goes_down settings missed request closed (Some answer.Unable) = true
 goes_down settings missed request closed (Some said) = false
 goes_down settings missed request closed None = is_silent settings missed request closed
 
--- an exchange: its command, where it isn't the repeat of an unanswered one, what the answer says of
--- it, and whether the link goes down; it does, too, where it is given up at a restart
+-- An exchange: its command, if it isn't the repeat of an unanswered one, what the answer says of
+-- it, and whether the link goes down. It does, too, if it is given up at a restart.
 abbrev pub steps_at : LinkSettings → (station : ℕ) → (missed : Silence) → Option Service →
     Exchange → List LineStep
 steps_at settings station missed pending x =
@@ -119,7 +119,7 @@ last_sent k [] = []
 last_sent k (Sent j octets ∷ h) = if k == j then octets else last_sent k h
 last_sent k (_ ∷ h) = last_sent k h
 
--- what became of the commands to station k, and where what stood on its line was given up, the
+-- what became of the commands to station k, and that what stood on its line was given up, the
 -- oldest first
 abbrev pub steps_logged : ℕ → History → List LineStep
 steps_logged k [] = []
@@ -188,8 +188,8 @@ pub record IsCommandTo (p : Setup) (k : ℕ) (x : Arrival) : Type 0 where
 
 -- The command as it goes to a line of these sizes, octet by octet (IEC 60870-5-101, 7.1 and 7.2):
 -- its type, for types 58 to 62 (IEC 60870-5-104, 8) that of the command without a time tag, 45 to
--- 49; one object; the cause octet, and the originator where causes have two octets; the station's
--- own common address; the object address; and the element, without the tag.
+-- 49; one object; the cause octet, and the originator if causes have two octets; the station's own
+-- common address; the object address; and the element, without the tag.
 abbrev pub line_form : Sizes → List ℕ → StationInfo → List ℕ
 line_form sizes xs station =
     plain_type (slice_index xs 0) ∷ 1 ∷ slice_index xs 2

@@ -73,9 +73,9 @@ pub record IsIdle (station : ℕ) (session : Session) : Type 0 where
   pub done : all_done session.turns ≡ []
 
 -- What was taken from an outstation that took these turns is what it reported, or all but the last
--- report; and all of it where its latest exchange was answered. The commands that it accepted are
+-- report. It is all of it if its latest exchange was answered. The commands that it accepted are
 -- those put on the line for it (a repeat of an unanswered one not counted) that weren't answered
--- busy, in that order, or all but the last; and all of them where the service without an outcome,
+-- busy, in that order, or all but the last. They are all of them if the service without an outcome,
 -- if there is one, is no command.
 pub record IsRelayed (p : Setup) (log : Log) (i : ℕ) (turns : List Turn) : Type 0 where
   pub most : IsAllOrButLast (reports (all_done turns)) (reports_from p log i)
@@ -91,13 +91,13 @@ pub record IsRelayed (p : Setup) (log : Log) (i : ℕ) (turns : List Turn) : Typ
 
 -- Nothing is lost, and nothing taken twice: the monitor objects sent on each connection are a
 -- contiguous run of the objects taken, from the first that no earlier connection acknowledged. (The
--- log's one course shows which that is, also where a connection was closed for want of a place for
--- an own answer: its octets alone don't show how far they were taken.) The objects taken are a
--- merge of those taken from the stations; and from an honest outstation whose link stays up, what
--- was taken is what it reported, or all but its last report. Each command that is put on the line
--- for the first time is one of the control centre's, given once, in the line's octets and without a
--- time tag, and came while its tag, if it had one, was fresh by the wall moments of the log; and so
--- is each that an honest outstation accepted, also where its link was reset on the way.
+-- log's one course shows which that is, also if a connection was closed for want of a place for an
+-- own answer: its octets alone don't show how far they were taken.) The objects taken are a merge
+-- of those taken from the stations. From an honest outstation whose link stays up, what was taken
+-- is what it reported, or all but its last report. Each command that is put on the line for the
+-- first time is one of the control centre's, given once, in the line's octets and without a time
+-- tag. It came while its tag, if it had one, was fresh by the wall moments of the log. So it is
+-- with each command that an honest outstation accepted, also if its link was reset on the way.
 pub record Delivers (p : Setup) (log : Log) : Type 0 where
   pub course : Course
   pub course_runs : Runs p log course

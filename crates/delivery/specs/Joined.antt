@@ -65,9 +65,9 @@ pub record IsJoined (p : Setup) (log : Log) (c : Course) : Type 0 where
   -- its primary station is what the exchanges make it
   pub matches : Matches p.link p.addresses c.works.serial.line (exchanges_of p log)
   -- What it logs of commands on each station's line, which of them was confirmed and which found
-  -- the link busy, is what the exchanges show; and what stands on a line is given up exactly where
-  -- they show that its link goes down. What silence takes down is logged in the same step, once the
-  -- event's frames are taken; so this is said of the history with what is still to be logged.
+  -- the link busy, is what the exchanges show. What stands on a line is given up exactly when they
+  -- show that its link goes down. What silence takes down is logged in the same step, once the
+  -- event's frames are taken. So this is said of the history with what is still to be logged.
   pub steps : (k : ℕ) → steps_logged k (unless_silent_works c.works.serial.silent c.works).history
       ≡ steps_in p.link (address_at p.addresses k) unmissed None (exchanges_with p k log)
   -- once the step is done, nothing is

@@ -15,7 +15,7 @@ pub record IsMerge {A : Type 0} (count : ℕ) (part : ℕ → List A) (whole : L
   pub owners : AllByRecursion (λ x. x.0 < count) owned
   pub each : (i : ℕ) → values_of i owned ≡ part i
 
--- The first is left where elements of the second are struck out: in the same order, each at most
+-- The first is left when elements of the second are struck out: in the same order, each at most
 -- once.
 abbrev pub IsSublist : {A : Type 0} → List A → List A → Type 0
 IsSublist {A} [] ys = Unit {0}

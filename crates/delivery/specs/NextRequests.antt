@@ -16,7 +16,7 @@ Begins p =
     ⊎ ((settings : LinkSettings) × (seats : List ResumedStation) × (before : Primary)
     × (p ≡ reseated settings seats before))
 
--- Octets of the line come, and moments. The next request may be asked for, too, where one is
+-- Octets of the line come, and moments. The next request may be asked for, too, while one is
 -- outstanding. No link is given up, and there is no restart.
 abbrev pub ArePassing : Primary → List Call → Type 0
 ArePassing p [] = Unit {0}
@@ -26,7 +26,7 @@ ArePassing p (GivesUp station ∷ calls) = ⊥
 ArePassing p (Doubts ∷ calls) = ⊥
 ArePassing p (call ∷ calls) = ArePassing (called p call) calls
 
--- Whatever was called before, this request goes out from p. Then calls lead to q, where it is
+-- Whatever was called before, this request goes out from p. Then calls lead to q, in which it is
 -- outstanding no more: it was answered, or had no answer in time.
 pub record IsOutNoMore (p q : Primary) (s : Sending) : Type 0 where
   pub line : Primary

@@ -5,8 +5,8 @@ use Rattle.session.specs.declared.kinds.Close.TheVariants.{OwnAnswers, Replaced}
 use Rattle.gateway.specs.Log.{Log, LogEntry, Came, Went, Opened, CutOff, Restarted, TcpIn}
 use Rattle.gateway.specs.Log.{TcpOut, Closed}
 
--- A connection begins where one is opened. It ends where TCP is cut, where the gateway is started
--- again, where it closes the connection with a cause from 1 to 6, and where the next one is opened
+-- A connection begins when one is opened. It ends when TCP is cut, when the gateway is started
+-- again, when it closes the connection with a cause from 1 to 6, and when the next one is opened
 -- (which is told with cause 7).
 abbrev pub Ends : LogEntry → Type 0
 Ends (Came now Opened) = Unit {0}

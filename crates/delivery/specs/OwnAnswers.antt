@@ -6,7 +6,7 @@ use Rattle.asdu.specs.Asdu.{AsduValue, IsAsdu}
 use Rattle.asdu.specs.Translation.{parts}
 use Rattle.command.specs.History.{History, Judged, Refused, Mirrored, Offered}
 
--- these answers are that one, or none where there is none
+-- these answers are that one, or none if there is none
 abbrev pub AreOnly : Option (List ℕ) → List (List ℕ) → Type 0
 AreOnly None given = given ≡ []
 AreOnly (Some answer) given = given ≡ answer ∷ []
@@ -23,7 +23,7 @@ GivesAnswers given (Offered octets kept ∷ h) = GivesAnswers (octets ∷ given)
 GivesAnswers given (_ ∷ h) = (given ≡ []) × GivesAnswers [] h
 
 -- So many ASDUs are no more than carry the answer of a station (7.2.2): the answer that came has at
--- least as many parts, where there is one of them.
+-- least as many parts, if there is one of them.
 abbrev pub IsAtMost : Sizes → AsduValue → (given : ℕ) → Type 0
 IsAtMost sizes v zero = Unit {0}
 IsAtMost sizes v (suc n) =

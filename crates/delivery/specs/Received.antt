@@ -60,8 +60,8 @@ AcknowledgeWhatCame _ _ = ⊥
 abbrev pub put_at : ℕ → (new old : List InformationObject) → List InformationObject
 put_at place new old = take place old ++ (new ++ drop (place + length new) old)
 
--- What has come on all of these connections, where what came on each is put behind what the
--- connections before it acknowledged: an object that comes again is put where it stood.
+-- What has come on all of these connections. What came on each is put behind what the connections
+-- before it acknowledged: an object that comes again is put where it stood.
 abbrev pub received_on : List Connection → List (List Sent) → List InformationObject
 received_on (c ∷ before) (came ∷ earlier) =
     put_at (first_unacknowledged before) (objects_of_frames came) (received_on before earlier)

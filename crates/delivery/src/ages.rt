@@ -12,9 +12,8 @@ use elements::tags_of_moments_are_good;
 
 /// A command with a time tag is as old as the moment that its tag names, whatever moment of the
 /// years 2000 to 2099 that is (IEC 60870-5-101, 7.2.6.18; IEC 60870-5-104, 8). It isn't refused for
-/// its age where the wall clock shows at most `max_age_ms` more or less. As an activation it is
-/// refused where the clock shows more than that, or less, and where the clock isn't known
-/// (profile).
+/// its age if the wall clock shows at most `max_age_ms` more or less. As an activation it is
+/// refused if the clock shows more than that, or less, and if the clock isn't known (profile).
 pub fn tags_are_as_old_as_the_moment_that_they_name()
     ensures instant { (t : CalendarTime) → IsOfCalendar t →
         verdict_of (tag_octets t) ≡ Good (since_1970 t) }

@@ -26,12 +26,12 @@ use gateway::{courses_keep_commands, what_is_due_is_given};
 use link::{commands_are_accepted, sessions_are_known};
 
 /// The course of a log says of the line what its exchanges say: its primary station is what they
-/// make it; which command went out for the first time, which was confirmed and which found the link
-/// busy is, in the same order, what they show, and what stands on a line is given up exactly where
-/// they show that its link goes down; a station's answer to a command is a report that was taken;
-/// and what was judged are the ASDUs of the I frames of the log's connections, each with what the
-/// wall clock showed by the log at the event that brought the frame's last octet. What it counts as
-/// skipped is how many of the log's reports have nothing to be passed on and answer no command.
+/// make it. Which command went out for the first time, which was confirmed and which found the link
+/// busy is, in the same order, what they show. What stands on a line is given up exactly when they
+/// show that its link goes down. A station's answer to a command is a report that was taken. What
+/// was judged are the ASDUs of the I frames of the log's connections, each with what the wall clock
+/// showed by the log at the event that brought the frame's last octet. What it counts as skipped is
+/// how many of the log's reports have nothing to be passed on and answer no command.
 pub fn the_course_is_the_logs()
     ensures { (p : Setup) (log : Log) (c : Course) → IsFaithful p log → IsSetUp p → Runs p log c →
         IsJoined p log c }
@@ -66,9 +66,9 @@ pub fn each_command_is_given_once()
     commands_are_accepted();
 }
 
-/// A command that has no fault is forwarded where its station asks for no select. So is each
-/// execute that is selected. Both need their places among the 64 commands that may wait. So none of
-/// these is refused without a reason (IEC 60870-5-101, 7.2.6; the 64 places are profile).
+/// A command that has no fault is forwarded if its station asks for no select. So is each execute
+/// that is selected. Both need their places among the 64 commands that may wait. So none of these
+/// is refused without a reason (IEC 60870-5-101, 7.2.6; the 64 places are profile).
 pub fn faultless_commands_are_forwarded()
     ensures direct { (p : Setup) (log : Log) (c : Course) (newer older : History) (now : ℕ)
         (wall : Option ℕ) (xs : List ℕ) (answer : Option (List ℕ)) → Runs p log c →
@@ -92,7 +92,7 @@ pub fn faultless_commands_are_forwarded()
 /// confirmation. It is handed over right behind, once, before anything else becomes of commands.
 /// Behind what is forwarded nothing is handed over. Nothing else ever is but stations' answers
 /// (`each_answer_is_given_once`). Behind one of these no more is handed over than carries it, even
-/// where nothing else becomes of commands for a long time.
+/// if nothing else becomes of commands for a long time.
 pub fn what_is_refused_is_answered()
     ensures given { (p : Setup) (log : Log) (c : Course) → Runs p log c →
         GivesAnswers [] c.works.history }

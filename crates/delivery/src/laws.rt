@@ -34,12 +34,11 @@ use link::{
 };
 
 /// Whatever serial frames are lost or refused by their check, whatever answers time out, however
-/// TCP is cut and reopened: where serial answers are neither late nor altered unseen and no link
-/// reset is caused, the monitor objects sent on each connection are a contiguous run, equal in all
-/// parts, of a merge of the outstations' reports, beginning at the first unacknowledged. Each
-/// command that is put on the line for the first time, and each that an honest outstation accepted,
-/// is one of the control centre's, given once; an activation with a time tag came while that was
-/// fresh.
+/// TCP is cut and reopened: if serial answers are neither late nor altered unseen and no link reset
+/// is caused, the monitor objects sent on each connection are a contiguous run, equal in all parts,
+/// of a merge of the outstations' reports, beginning at the first unacknowledged. Each command that
+/// is put on the line for the first time, and each that an honest outstation accepted, is one of
+/// the control centre's, given once; an activation with a time tag came while that was fresh.
 pub fn nothing_is_lost()
     ensures { (p : Setup) (log : Log) → IsFaithful p log → Delivers p log }
 {
@@ -83,11 +82,11 @@ pub fn each_session_is_known()
     commands_are_accepted();
 }
 
-/// Where reports may be lost the log says so: between steps, each session of an honest outstation's
+/// If reports may be lost the log says so: between steps, each session of an honest outstation's
 /// link that ended lost no report, or is reported as a gap, by its number from 1, and lost its last
 /// report at most. Nothing else is reported as a gap. Of each station, honest or not, those
-/// sessions are reported that ended while a poll had no outcome. So no gap is told where nothing
-/// can be lost.
+/// sessions are reported that ended while a poll had no outcome. So no gap is told if nothing can
+/// be lost.
 pub fn losses_are_reported()
     ensures lost { (p : Setup) (log : Log) (i : ℕ) (turns : List Turn) → IsFaithful p log →
         HasRested p log → i < length p.addresses → IsHonest p log i turns →
@@ -142,7 +141,7 @@ pub fn losses_have_gaps()
     each_session_is_known();
 }
 
-/// Where unanswered services are held, a link stays up as long as its station never answers that it
+/// If unanswered services are held, a link stays up as long as its station never answers that it
 /// can't serve (14 or 15), no restart gives up a command to it, and it isn't asked for its status
 /// while it is up. In one life of a gateway there is no restart, and none that is up is asked.
 pub fn silence_is_no_reset()

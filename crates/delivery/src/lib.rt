@@ -2,8 +2,8 @@
 //! is what the control centre sent.
 //!
 //! Laws over every log of a gateway ([`gateway::drive`] promises that its log is faithful).
-//! Upwards: [`nothing_is_lost`], and [`each_session_is_known`] for links that are reset on the way,
-//! where [`losses_are_reported`] as gaps ([`gaps_are_reported_by_their_station`],
+//! Upwards: [`nothing_is_lost`], and [`each_session_is_known`] for links that are reset on the way.
+//! There [`losses_are_reported`] as gaps ([`gaps_are_reported_by_their_station`],
 //! [`gaps_are_told_before_the_next_request`]) and [`losses_have_gaps`] says how many gaps there are
 //! at most. What comes of it to the control centre is one run, over closes and new connections:
 //! [`what_has_come_is_one_run`]. A piece is acknowledged with its frame:
@@ -33,7 +33,7 @@
 //! ([`new_settings_are_taken_up`]).
 //!
 //! Commands wait for the line by their stations ([`commands_wait_for_each_station`]). The line
-//! rests only where there is no room ([`a_line_rests_only_for_want_of_room`]), is asked once a step
+//! rests only if there is no room ([`a_line_rests_only_for_want_of_room`]), is asked once a step
 //! ([`each_step_asks_and_closes_once`]), and goes by what was sent last
 //! ([`unanswered_services_go_out_again`], [`requests_are_looked_back_at`]).
 //!
@@ -45,9 +45,9 @@
 //!
 //! The premises of the laws on a log are of the line alone: serial answers are neither late nor
 //! altered unseen (`IsHonest`), and for the first law no link reset is caused (`IsSteady`; the
-//! start of a link is no such reset, and where unanswered services are held silence never is one,
+//! start of a link is no such reset, and if unanswered services are held silence never is one,
 //! while a restart that gives up a command is: [`silence_is_no_reset`]). Of the control centre and
-//! of TCP nothing is asked, but that what came on all connections is one run only where it
+//! of TCP nothing is asked, but that what came on all connections is one run only if it
 //! acknowledges no frame that hasn't come. The laws on commands speak of settings whose stations
 //! are found by their link addresses (`IsSetUp`), as those of each gateway are. All laws hold of
 //! the lives of a gateway together: a restart is an event of the log. What they don't say: that a

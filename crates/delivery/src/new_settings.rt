@@ -1,4 +1,4 @@
-//! What goes on where a gateway goes on with other settings.
+//! What goes on when a gateway goes on with other settings.
 ghost use Rattle.std.specs.Prelude.{◌≡◌, ◌<◌, ℕ, Bool, [], Some, None, false};
 ghost use Rattle.session.specs.Session.{is_open};
 ghost use Rattle.gateway.specs.Carried.{carried};
@@ -6,7 +6,7 @@ ghost use Rattle.gateway.specs.Config.{Settings};
 ghost use Rattle.gateway.specs.Setups.{setup_of};
 ghost use Rattle.gateway.specs.State.{State};
 
-/// Where a gateway goes on with other settings, each of its parts has them from then on: the line,
+/// When a gateway goes on with other settings, each of its parts has them from then on: the line,
 /// commands, the session, the queue and the reader of reports. So what is promised of a gateway
 /// with these settings is promised by their own numbers. No connection is left, nor octets of one,
 /// no exchange is outstanding, and no gap is left to be reported.

@@ -18,7 +18,7 @@ ghost use Rattle.delivery.specs.NextRequests.{IsOutNoMore};
 use link::{new_settings_keep_the_procedures, repeats_come_at_once};
 
 /// A service that had no answer in time goes out again, with its frame count bit, before any other
-/// request, where a repeat of it is left. That is so whatever was called before, also behind new
+/// request, if a repeat of it is left. That is so whatever was called before, also behind new
 /// settings, whatever octets came meanwhile, and whether there is leave to poll or not.
 pub fn unanswered_services_go_out_again()
     ensures { (p q : Primary) (s : Sending) (leave : Bool) (waiting : CommandsWaiting) →

@@ -41,7 +41,7 @@ use gateway::{answers_have_the_types_of_commands, what_is_due_is_given};
 /// A station's answer to a command is passed on as it came. With one object it is one ASDU, octet
 /// by octet: the type, SQ and number, the cause octet with P/N and the test bit, the originator,
 /// the common address and the object's address, both with the low octet first, the element, and the
-/// time tag where there is one. Only the sizes are those of IEC 60870-5-104. Of an answer with more
+/// time tag if there is one. Only the sizes are those of IEC 60870-5-104. Of an answer with more
 /// objects each ASDU has the type, the SQ and the cause octet, and 249 octets at most. Their
 /// objects, joined, are the answer's, in their order, each with all its parts.
 pub fn answers_are_passed_on_as_they_came()
@@ -69,10 +69,10 @@ pub fn answers_are_passed_on_as_they_came()
     octets_stand_where_the_standard_has_them();
 }
 
-/// A station's answer bears the tag of its command, where the command came with one: an answer of
+/// A station's answer bears the tag of its command, if the command came with one: an answer of
 /// types 45 to 49 with one object goes out as the type 13 above (58 to 62), with the seven octets
 /// of the tag last, and else as it was (IEC 60870-5-104, 8). Answers of other types or with more
-/// objects have no tag, and where the command came with none its answer has none.
+/// objects have no tag. If the command came with none, its answer has none.
 pub fn answers_bear_the_tag_of_their_command()
     ensures tagged { (tag : Cp56) (x : List ℕ) (pieces : List (List ℕ)) →
         AreTagged (Some tag) (x ∷ []) pieces → 45 ≤ slice_index x 0 → slice_index x 0 ≤ 49 →
@@ -96,10 +96,10 @@ pub fn answers_bear_the_tag_of_their_command()
 /// Of each answer of a station to a command the control centre is given what the station said, once
 /// (IEC 60870-5-101, 7.2.3). An answer with one object is one ASDU: the answer as it came, with the
 /// time tag of the newest command of its type and addresses that went to the line on the
-/// connection, where that command came with one (IEC 60870-5-104, 8). An answer with more objects
-/// is given by ASDUs that have its type, its SQ, its cause octet and, joined, its objects, without
-/// a tag. Each is handed over once and in its order, right behind what became of commands before:
-/// all of them, or up to one that has no place.
+/// connection, if that command came with one (IEC 60870-5-104, 8). An answer with more objects is
+/// given by ASDUs that have its type, its SQ, its cause octet and, joined, its objects, without a
+/// tag. Each is handed over once and in its order, right behind what became of commands before: all
+/// of them, or up to one that has no place.
 pub fn each_answer_is_given_once()
     ensures one { (p : Setup) (at : ℕ) (report : List ℕ) (before after : History) →
         IsGivenOn p at report before after → slice_index report 1 % 128 ≡ 1 →
@@ -114,7 +114,7 @@ pub fn each_answer_is_given_once()
     objects_have_all_their_parts();
 }
 
-/// On each log: where the line's octets bring a station's answer to a command, that is given to the
+/// On each log: if the line's octets bring a station's answer to a command, that is given to the
 /// control centre while data transfer runs, as `each_answer_is_given_once` says. While it is
 /// stopped nothing of it is given. Nothing else becomes of commands with this answer. Answers are
 /// of the types 45 to 49 and 100, so of each type that goes to a station (IEC 60870-5-101,

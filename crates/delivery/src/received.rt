@@ -42,9 +42,9 @@ use gateway::own_answers_go_out;
 /// What comes to the control centre is one run. Of what is handed to TCP on a connection a
 /// beginning comes, wherever TCP is cut: the I frames that stand whole in it are numbered from 0,
 /// none of them missing, and their monitor objects are a contiguous run of the objects taken, which
-/// begins at the same place, the first that no connection before acknowledged. And where the
-/// control centre acknowledges only what has come to it, what came on all connections of the log,
-/// put together at these places, is a beginning of the objects taken: over all closes and new
+/// begins at the same place, the first that no connection before acknowledged. And if the control
+/// centre acknowledges only what has come to it, what came on all connections of the log, put
+/// together at these places, is a beginning of the objects taken. Over all closes and new
 /// connections none is missing, none stands twice, and each that was acknowledged has come.
 pub fn what_has_come_is_one_run()
     ensures each { (p : Setup) (log : Log) (came : List (List Sent)) (d : Delivers p log) →
@@ -86,12 +86,12 @@ pub fn pieces_are_acknowledged_with_their_frames()
         ≡ length (flat_map (λ report. pieces_of_report sizes report.1) reports) }
 {}
 
-/// Which octets are a connection's. It begins with its opening, and ends where TCP is cut, where
-/// the gateway is started again, where it is closed with a cause from 1 to 6, or where the next one
-/// is opened. All octets that came by TCP in between are its own, and all that were handed to TCP,
-/// in their order, and no others. So none of one connection is taken for another's, however short
-/// it was, and none is taken twice. The octets before the latest event are those that the
-/// connection had when it came.
+/// Which octets are a connection's. It begins with its opening. It ends when TCP is cut, when the
+/// gateway is started again, when it is closed with a cause from 1 to 6, or when the next one is
+/// opened. All octets that came by TCP in between are its own, and all that were handed to TCP, in
+/// their order, and no others. So none of one connection is taken for another's, however short it
+/// was, and none is taken twice. The octets before the latest event are those that the connection
+/// had when it came.
 pub fn octets_are_those_of_their_connection()
     ensures begun { (now : ℕ) (since before : Log) → GoesOn since →
         present (since ++ Came now Opened ∷ before) ≡ record {
@@ -144,7 +144,7 @@ pub fn frames_go_out_whole_and_with_their_counts()
 ///
 /// Once a step rests, and so whenever the next event comes, nothing is left to be done. Each whole
 /// frame that came is taken, and nothing that closes the connection stands behind it. Neither a
-/// confirmation, an S frame nor a test is due, and no answer is late. Where data transfer runs and
+/// confirmation, an S frame nor a test is due, and no answer is late. If data transfer runs and
 /// fewer than k I frames are unacknowledged, each own answer that was kept has gone out. So has
 /// each object that was taken from the line.
 pub fn connections_keep_the_rules_of_the_session()
@@ -166,10 +166,9 @@ pub fn connections_keep_the_rules_of_the_session()
 /// behind the frames that were taken. With causes 2, 3 and 4 a frame stands there that has this
 /// fault, by what came and went before it on the connection: its N(S) isn't the next, its N(R)
 /// isn't valid, or it is an I frame while data transfer is stopped. With cause 5 an answer is late,
-/// and with cause 6 an own answer found no place. Cause 7 is a
-/// replaced connection.
-/// With causes 1 to 5 each own answer found a place: where that lacks, too, cause 6 is told. The
-/// numbers are those that are told.
+/// and with cause 6 an own answer found no place. Cause 7 is a replaced connection. With causes 1
+/// to 5 each own answer found a place: if one lacks it, too, cause 6 is told. The numbers are those
+/// that are told.
 pub fn connections_are_closed_for_the_cause_that_is_told()
     ensures cause { (p : Setup) (newer log : Log) (now : ℕ) (cause : Close) →
         IsFaithful p (newer ++ Went now (Closed cause) ∷ log) → (cause ≡ Replaced → ⊥) →
@@ -191,8 +190,8 @@ pub fn connections_are_closed_for_the_cause_that_is_told()
 /// When the next event comes nothing is left to be done on the connection, in the words of its
 /// octets and its history alone (IEC 60870-5-104, 5.1 to 5.5). No confirmation, no S frame and no
 /// test is due, and no answer is late. Behind the frames that were taken stands at most a part of
-/// one. Where data transfer runs and fewer than k I frames wait, all own answers and objects have
-/// gone out. Where a request goes to the line all whole frames are taken, and no answer is late.
+/// one. If data transfer runs and fewer than k I frames wait, all own answers and objects have gone
+/// out. When a request goes to the line, all whole frames are taken, and no answer is late.
 pub fn steps_leave_nothing_due()
     ensures between { (p : Setup) (newer older : Log) (at : ℕ) (event : Input)
         (entry : LogEntry) → IsFaithful p (newer ++ Came at event ∷ entry ∷ older) →

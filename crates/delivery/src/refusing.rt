@@ -12,9 +12,9 @@ use gateway::courses_keep_commands;
 
 /// An ASDU that is refused comes back with P/N 1 and a cause of its own (IEC 60870-5-101, 7.2.3).
 /// Its test bit and all its other octets are as they came. The cause is that of its fault, 44 to 47
-/// among them. Where nothing is wrong with it, the cause is 7 for an activation and
-/// 9 for a deactivation. So it is for a command that its station refused as busy, whatever becomes
-/// of other commands meanwhile.
+/// among them. If nothing is wrong with it, the cause is 7 for an activation and 9 for a
+/// deactivation. So it is for a command that its station refused as busy, whatever becomes of other
+/// commands meanwhile.
 pub fn refused_commands_come_back_with_their_cause()
     ensures fault { (p : Setup) (log : Log) (c : Course) (newer older : History) (now why : ℕ)
         (wall : Option ℕ) (xs answer : List ℕ) → Runs p log c →

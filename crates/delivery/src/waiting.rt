@@ -28,7 +28,7 @@ use gateway::polls_need_three_places;
 
 /// Whichever station a command was forwarded to, it waits for that station's turn until it goes
 /// out: each request is asked for with the oldest one that waits for each station. So is one in a
-/// step without a request. Where the line rests and no exchange is outstanding, no station holds a
+/// step without a request. If the line rests and no exchange is outstanding, no station holds a
 /// command. None waits for a station then, unless DFC stood in its latest answer, or a poll of it
 /// is held that had no answer (IEC 60870-5-2): a poll that the exchanges show without an outcome.
 /// What waits is told once all that came is taken, and leave to poll is given exactly while three
@@ -67,8 +67,8 @@ pub fn commands_wait_for_each_station()
     polls_need_three_places();
 }
 
-/// A line rests only for want of room. Where a step leaves no exchange outstanding, each link is
-/// up, and fewer than three places of the queue are free. Each piece of a report taken has a place
+/// A line rests only for want of room. If a step leaves no exchange outstanding, each link is up,
+/// and fewer than three places of the queue are free. Each piece of a report taken has a place
 /// until it is acknowledged. So the gateway starts each link, and polls while there is room
 /// (profile). So it is whenever the next event comes, and by all that had come until then.
 pub fn a_line_rests_only_for_want_of_room()

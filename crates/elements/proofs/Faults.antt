@@ -105,7 +105,7 @@ weekday octets m n is le some other =
     let no = wrong m mark some other in
     rw (out, yes, no) refl)
 
--- where nothing else applies, the verdict by IV alone
+-- if nothing else applies, the verdict by IV alone
 by_mark : (octets : List ℕ) (m : Moment) → Names m octets → IsWithinRange m → m.day ≤ month_days m
     → (m.weekday ≡ 0) ⊎ (m.weekday ≡ weekday_number (days m) + 1)
     → verdict_of octets

@@ -26,7 +26,7 @@ pub fn tags_of_moments_are_good()
 
 /// What a tag is worth, by the numbers that stand in its bits, for each of the tags that there are.
 /// First comes a number over its range, whatever the mark of invalidity and the day of the week.
-/// Then a day that the month of that year doesn't have, then another day's name in the week. Where
+/// Then a day that the month of that year doesn't have, then another day's name in the week. If
 /// none of these applies, the mark of invalidity (IV, bit 7 of the octet of the minute) decides.
 pub fn faults_are_told_apart()
     ensures range { (octets : List ℕ) (m : Moment) → Names m octets → IsOverRange m →

@@ -4,7 +4,7 @@ ghost use Rattle.std.specs.Option.{option_copied};
 ghost use Rattle.elements.specs.Names.{type_name as name_of_type, report_name as name_of_report};
 ghost use Rattle.elements.specs.Names.{other_name as name_of_other, cause_name as name_of_cause};
 
-/// The name of a type identification (IEC 60870-5-101, 7.2.1; IEC 60870-5-104, 8). `None` where the
+/// The name of a type identification (IEC 60870-5-101, 7.2.1; IEC 60870-5-104, 8). `None` if the
 /// standards define none.
 pub fn type_name(kind: u8) -> Option<&'static str>
     ensures { option_copied result ≡ name_of_type kind }
@@ -103,8 +103,8 @@ fn other_name(kind: u8) -> Option<&'static str>
     })
 }
 
-/// The name of a cause of transmission (IEC 60870-5-101, 7.2.3), a number of 6 bits. `None` where
-/// the standard defines none.
+/// The name of a cause of transmission (IEC 60870-5-101, 7.2.3), a number of 6 bits. `None` if the
+/// standard defines none.
 #[tactic(auto, unfolding(crate::specs::Names::cause_name))]
 pub fn cause_name(cause: u8) -> Option<&'static str>
     ensures { option_copied result ≡ name_of_cause cause }

@@ -27,7 +27,7 @@ pub enum Verdict {
     WrongWeekday,
 }
 
-/// The fields of a tag. `weekday` is 1 for Monday to 7 for Sunday, 0 where it isn't used; `year`
+/// The fields of a tag. `weekday` is 1 for Monday to 7 for Sunday, 0 if it isn't used; `year`
 /// counts from 2000.
 #[derive(Clone, Copy)]
 pub(crate) struct TagFields {

@@ -46,7 +46,7 @@ savable xs m places q is asdus octets =
 
 -- ---- What is read
 
--- where fewer were read than came, the next line is one of those
+-- if fewer were read than came, the next line is one of those
 pub next_is : (read : List (List ℕ)) (coming pieces rest : List (List ℕ)) → length read
     < length pieces
     → read ++ coming ≡ pieces ++ rest → AreSendable pieces → AllByRecursion IsOctetLine pieces
@@ -58,7 +58,7 @@ next_is (x ∷ read) coming (p ∷ ps) rest lt same fits octets =
     let tail : read ++ coming ≡ ps ++ rest = cc in
     next_is read coming ps rest (omega (arith, lt)) tail fits.1 octets.1
 
--- the beginnings of two lists are equal where they are as long
+-- the beginnings of two lists are equal if they are as long
 same_fronts : (xs ys us vs : List (List ℕ)) → length xs ≡ length ys → xs ++ us ≡ ys ++ vs
     → (xs ≡ ys) × (us ≡ vs)
 same_fronts [] [] us vs long same = (refl, same)
@@ -128,6 +128,6 @@ back_is places before after rest e q is lines given =
     let halves = same_fronts e.sent q.sent e.unsent q.unsent marks fronts.0 in
     (is ∙ same_queue _ _ _ _ _ halves.0 halves.1, fronts.1)
 
--- which has as many places as before where there are so many
+-- which has as many places as before if there are so many
 pub same_is : (places : ℕ) (q : Queue) → q.places ≡ places → in_places places q ≡ q
 same_is places q at = ap (queue_from q.sent q.unsent) (sym at)

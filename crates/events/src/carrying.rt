@@ -6,8 +6,8 @@ use crate::{Events, NoMemory};
 
 impl Events {
     /// Has so many places from now on. All pieces are kept, in their order, and are unsent again.
-    /// Where there are more of them than places, the queue is full until enough have left. Memory
-    /// is taken where the places become more; where there is none nothing changes.
+    /// If there are more of them than places, the queue is full until enough have left. Memory is
+    /// taken if the places become more; if there is none nothing changes.
     pub fn carry(&mut self, places: usize) -> Result<(), NoMemory>
         ensures ok { OnOk result (self.new ≡ carried places self.old) }
         ensures err { OnErr result (self.new ≡ self.old) }

@@ -14,7 +14,7 @@ pub fn pieces_are_kept_in_order()
 {}
 
 /// A queue that goes on with another number of places keeps each piece in its order, sent or not.
-/// All go out again, and a place is free for each that isn't taken, also where the pieces are more
+/// All go out again, and a place is free for each that isn't taken, also if the pieces are more
 /// than the places. So it is once some went out and were acknowledged.
 pub fn pieces_outlive_other_places()
     ensures pieces { (places : ℕ) (q : Queue) → kept (carried places q) ≡ kept q }

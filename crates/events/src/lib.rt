@@ -53,7 +53,7 @@ pub struct Events {
     ring: PieceRing,
     /// How many of the pieces were sent.
     sent: usize,
-    /// For how many pieces there are places. The ring has more where it kept more pieces when their
+    /// For how many pieces there are places. The ring has more if it kept more pieces when their
     /// number was set anew.
     places: usize,
 }

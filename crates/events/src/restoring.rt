@@ -41,7 +41,7 @@ impl Events {
         Ok(())
     }
 
-    /// Reads a queue from its lines. It has so many places. Where there are more pieces nothing is
+    /// Reads a queue from its lines. It has so many places. If there are more pieces nothing is
     /// lost, and it is full until enough have left. `line` and `octets` are room for one line.
     /// `Wrong` says that what comes are no queue's lines, `NoMemory` that there is none for the
     /// places.
@@ -61,7 +61,7 @@ impl Events {
             L.coming lines.old ≡ queue_lines q ++ rest →
             MatchResult result (λ e. (e ≡ in_places places q) × (L.coming lines.new ≡ rest))
             (λ fault. fault ≡ Wrong → ⊥) }
-        // They give that very queue where it had so many places.
+        // They give that very queue if it had so many places.
         ensures same { (q : Queue) (rest : List (List ℕ)) → IsSavable q → q.places ≡ places →
             L.coming lines.old ≡ queue_lines q ++ rest →
             MatchResult result (λ e. (e ≡ q) × (L.coming lines.new ≡ rest))

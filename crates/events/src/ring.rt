@@ -117,8 +117,8 @@ impl PieceRing {
         self.count -= count;
     }
 
-    /// Has so many places from now on, no fewer than before. Memory is taken for them; where there
-    /// is none nothing changes.
+    /// Has so many places from now on, no fewer than before. Memory is taken for them; if there is
+    /// none nothing changes.
     pub(crate) fn widen(&mut self, capacity: usize) -> Result<(), AllocError>
         requires { self.old.capacity ≤ capacity }
         ensures ok { OnOk result (self.new ≡ ring_of self.old.items capacity) }
@@ -156,7 +156,8 @@ fn reach(cells: &mut HeapCircularBuffer<Piece>, count: usize)
 #[inline(never)]
 fn add_cell(cells: &mut HeapCircularBuffer<Piece>)
     requires { length cells.old.items < cells.old.capacity }
-    ensures { cells.new ≡ buffer (cells.old.items ++ record { items = [] } ∷ []) cells.old.capacity }
+    ensures { cells.new
+        ≡ buffer (cells.old.items ++ record { items = [] } ∷ []) cells.old.capacity }
 {
     let _ = cells.try_push_back(Piece::new());
 }

@@ -1,5 +1,4 @@
--- Where a frame's octets come, the frame is received, and nothing of what stands behind it is
--- taken.
+-- When a frame's octets come, the frame is received, and nothing of what stands behind it is taken.
 use Rattle.std.proofs.Common.{◌≡◌, ℕ, ◌+◌, List, [], ◌++◌, length, subst, arith}
 use Rattle.std.specs.Prelude.{Option}
 use Rattle.ft12.specs.declared.frame.LinkSize.{LinkSize}

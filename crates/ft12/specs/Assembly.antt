@@ -10,8 +10,8 @@ use Rattle.ft12.specs.declared.frame.Why.{Why}
 use Rattle.ft12.specs.Reading.{IsFront}
 use Rattle.ft12.specs.Spelling.{spelling}
 
--- the size of the addresses, the octets since the last frame (none where the assembler is deaf),
--- and how many octets it has looked at
+-- the size of the addresses, the octets since the last frame (none if the assembler is deaf), and
+-- how many octets it has looked at
 pub record Assembly : Type 0 where
   pub size : LinkSize
   pub so_far : Option (List ℕ)
@@ -43,10 +43,10 @@ abbrev pub IsEndDue : LinkSize → List ℕ → Type 0
 IsEndDue size octets =
     (frame : Frame) × IsFront size (octets ++ 0x16 ∷ []) (front.Whole frame (length octets + 1))
 
--- What n octets of a piece are, after the octets so far, where no frame ends in them: with these
--- the proper beginning of a frame, whose end octet is due where octets of the piece are left. Or
--- the piece goes on to begin none, and then it is taken as a whole, and none is looked at after the
--- one that shows it. So many were looked at before and after.
+-- What n octets of a piece are, after the octets so far, if no frame ends in them. With the octets
+-- so far they are the proper beginning of a frame, whose end octet is due if octets of the piece
+-- are left. Or the piece goes on to begin none. Then it is taken as a whole, and none is looked at
+-- after the one that shows it. So many were looked at before and after.
 abbrev pub ReceivesInner : LinkSize → (so_far piece : List ℕ) → (n before looked : ℕ) →
     Option (List ℕ) → Type 0
 ReceivesInner size so_far piece n before looked (Some after) =
@@ -63,7 +63,7 @@ pub record IsReceivedWhole (size : LinkSize) (frame : Frame) (n : ℕ) (h : Rece
   pub taken : n ≡ length (spelling size frame)
   pub listening : after ≡ Some []
 
--- what an assembler has of the next frame, as numbers: 0 where it is deaf (profile)
+-- what an assembler has of the next frame, as numbers: 0 if it is deaf (profile)
 abbrev pub so_far_numbers : Option (List ℕ) → List ℕ
 so_far_numbers None = 0 ∷ []
 so_far_numbers (Some octets) = 1 ∷ octets

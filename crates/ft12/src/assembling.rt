@@ -88,8 +88,8 @@ impl Assembler {
         }
     }
 
-    /// Puts what it has of the next frame behind a line of numbers: 0 where it is deaf, or else 1
-    /// and the octets, which `resumed` takes.
+    /// Puts what it has of the next frame behind a line of numbers: 0 if it is deaf, or else 1 and
+    /// the octets, which `resumed` takes.
     pub fn put_so_far(&self, line: &mut Vec<u64>) -> Result<(), AllocError>
         ensures { OnOk result (line.new.items ≡ line.old.items ++ so_far_numbers self.now.so_far) }
     {
@@ -114,8 +114,8 @@ impl Assembler {
         let _ = &self.stage;
     }
 
-    /// An assembler to which these octets came since the last frame: where they are the beginning
-    /// of one.
+    /// An assembler to which these octets came since the last frame, if they are the beginning of
+    /// one.
     pub fn resumed(size: LinkSize, octets: &[u8]) -> Option<Assembler>
         ensures size { IfSome result (λ a. a.size ≡ size) }
         ensures so_far { IfSome result (λ a. a.so_far ≡ Some octets.now) }
@@ -146,7 +146,7 @@ impl Assembler {
 
     /// Takes octets of a piece, up to the end of a frame, and says how many and what arrived.
     ///
-    /// Where a frame ends in the piece, the octets after it are left to be fed again. Else all are
+    /// If a frame ends in the piece, the octets after it are left to be fed again. Else all are
     /// taken. After `Never` all octets are taken and none is looked at, until `clear`.
     pub fn feed(&mut self, piece: &[u8]) -> (usize, Received)
         ensures listening { IfSome self.old.so_far (λ so_far.
@@ -186,9 +186,9 @@ impl Assembler {
     }
 
     /// Takes octets of a piece up to the one at which the end of a frame is due, and says how many:
-    /// all where it isn't due within the piece. The others are left to be fed. No frame ends in
-    /// those that it takes, so that it makes no place for one; and where they begin none, all are
-    /// taken and none is looked at, until `clear`.
+    /// all if it isn't due within the piece. The others are left to be fed. No frame ends in those
+    /// that it takes, so that it makes no place for one. If they begin none, all are taken and none
+    /// is looked at, until `clear`.
     ///
     /// Asks that the single character isn't next: `feed` receives that.
     pub fn feed_inner(&mut self, piece: &[u8]) -> usize
@@ -207,7 +207,7 @@ impl Assembler {
         self.feed_stages(piece)
     }
 
-    /// Takes a piece of one octet where one of data is due that isn't the last one: the commonest
+    /// Takes a piece of one octet, if one of data is due that isn't the last one: the commonest
     /// piece of a line that is read octet by octet. Else nothing changes.
     fn take_data(&mut self, piece: &[u8]) -> bool
         ensures taken { result ≡ true →

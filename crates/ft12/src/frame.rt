@@ -26,8 +26,8 @@ pub enum Frame {
         c: u8,
         a: u16,
     },
-    /// A frame of variable length: `68 L L 68 C A data sum 16`, where L counts the octets from C to
-    /// the last one of data. It has at most 253 octets of data, or 252 with two address octets.
+    /// A frame of variable length: `68 L L 68 C A data sum 16`, in which L counts the octets from C
+    /// to the last one of data. It has at most 253 octets of data, or 252 with two address octets.
     Data {
         c: u8,
         a: u16,

@@ -22,7 +22,7 @@ pub fn no_spelling_begins_another()
         IsLineFrame size g (x ++ rest) → (f ≡ g) × (rest ≡ []) }
 {}
 
-/// Where the same octets begin with two spellings, it is one frame, with one rest after it.
+/// If the same octets begin with two spellings, it is one frame, with one rest after it.
 pub fn spellings_cancel()
     ensures { (size : LinkSize) (f g : Frame) (x y : List ℕ) →
         spelling size f ++ x ≡ spelling size g ++ y → (f ≡ g) × (x ≡ y) }

@@ -9,12 +9,11 @@
 //! and so are line speed, parity and idle times. Nothing here takes memory or waits.
 //!
 //! What holds of every call: a frame and its octets are one relation. Each frame that fits has one
-//! spelling, `encode` writes it, and no spelling begins another. `front` answers `Whole` exactly
-//! where a frame's spelling stands at the front, `More` exactly where the octets properly begin a
-//! frame, and else `Never` with the least place at which they begin none. `feed` receives, over
-//! pieces cut anywhere, what `front` finds in the joined octets, takes exactly the frame's, and
-//! looks at each octet at most once. A frame with one octet changed in all its bits is never taken
-//! for a frame.
+//! spelling, `encode` writes it, and no spelling begins another. `front` answers `Whole` exactly if
+//! a frame's spelling stands at the front, `More` exactly if the octets properly begin a frame, and
+//! else `Never` with the least place at which they begin none. `feed` receives, over pieces cut
+//! anywhere, what `front` finds in the joined octets, takes exactly the frame's, and looks at each
+//! octet at most once. A frame with one octet changed in all its bits is never taken for a frame.
 #![tactic(auto)]
 
 mod assembling;

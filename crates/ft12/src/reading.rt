@@ -139,7 +139,7 @@ pub fn front_ref(size: LinkSize, octets: &[u8]) -> FrontRef<'_>
 /// begin no frame. No octets are the beginning of a frame.
 pub fn front(size: LinkSize, octets: &[u8]) -> Front
     ensures right { IsFront size octets.now result }
-    // No other answer is right: so it is this one exactly where `IsFront` holds of it.
+    // No other answer is right: so it is this one exactly if `IsFront` holds of it.
     ensures only { (other : Front) → IsFront size octets.now other → other ≡ result }
 {
     match front_ref(size, octets) {

@@ -126,7 +126,7 @@ impl FrameKind {
 }
 
 impl FixedFields {
-    /// The fields with one more octet, which is one of data where all fields came.
+    /// The fields with one more octet, which is one of data if all fields came.
     #[inline(always)]
     fn with_octet(self, size: LinkSize, kept: &mut Data, octet: u8) -> FixedFields
         requires fields { IsFields size self kept.old.items }

@@ -71,7 +71,7 @@ pub ordered : (p : Setup) (s : State) (logged : Option Log)
 ordered p s None law h = tt
 ordered p s (Some log) law h = law log (faithful p s log [] (resting log) h.0)
 
--- at the end of a run, where no more has come
+-- at the end of a run, when no more has come
 pub ends_accounted : (e : End) (p : Setup) (s : State) (old new : Option Log) (news : Log)
     → Follows p s old
     → new ≡ with_news old news → news ≡ [] → UnlessDevice e (IfSome new (IsAccounted p s))

@@ -59,7 +59,7 @@ received_serial (I ns nr asdu) now wall w = ap (with_commands w.serial)
 received_serial (S nr) now wall w = refl
 received_serial (U u) now wall w = refl
 
--- where no own answer is kept, none can go out
+-- if no own answer is kept, none can go out
 answered_state : (r : Run) → (after_call SendOwn r).state ≡ tasks.answered r.state
 answered_state r = by_answers r.state.answers refl
   where
@@ -95,7 +95,7 @@ settled_due at w = by_silent w.serial.silent
     by_silent None = refl
     by_silent (Some station) = refl
 
--- where no command waits, none is put on the line
+-- if no command waits, none is put on the line
 sent_state : (station : ℕ) (r : Run) → (after_call (PutOnLine station) r).state
     ≡ tasks.sent station r.state
 sent_state station r = by_oldest (oldest_for station r.state) refl

@@ -176,7 +176,7 @@ module _ (laws : Laws) (p : Setup) where
     are = refl;
   }
 
-  -- a step still asks where its request is due
+  -- a step still asks if its request is due
   due_is : (log : Log) (c : Course) → Runs p log c → c.works.is_due ≡ is_asking log
   due_is [] c r = ap (λ (d : Course). d.works.is_due) r
   due_is (Came now (LineIn octets) ∷ log) c r = ap (λ (d : Course). d.works.is_due) r.5.2

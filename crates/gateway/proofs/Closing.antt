@@ -272,7 +272,7 @@ closed_left Crowded log so_far cause timely = refl
 closed_left Timed log so_far cause timely = refl
 closed_left Asked log so_far cause timely = refl
 
--- the cut takes place where the step is
+-- the cut takes place at the point that the step has reached
 closed_does : (s : Serial) (cause : Close) (phase : Phase) (at : ℕ) (room other : Bool) (w : Works)
     → IsCloseAt cause phase → s ≡ (works_in phase at room w).serial
     → serial.cut s

@@ -126,7 +126,7 @@ line_left : (kept : Bool) (log : Log) (so_far : List ℕ) → IsLeftIn (after_li
 line_left true log so_far = refl
 line_left false log so_far = tt
 
--- the connection is open where own answers count
+-- the connection is open when own answers count
 abbrev pub Counts : Bool → Bool → Log → Type 0
 Counts kept fits log = kept ≡ true → (present log).is_open ≡ true → fits ≡ true
 

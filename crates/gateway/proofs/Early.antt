@@ -69,7 +69,7 @@ still_early t1 now moment (U TestAct) h some is early =
     (sent_now t1 now moment some is)
 still_early t1 now moment (U TestCon) h some is early = early
 
--- where a frame goes out no answer is late still
+-- when a frame goes out, no answer is late still
 pub answered_out : (p : Setup) (phase : Phase) (log new : Log) (c d : Course) (f : Apdu)
     (moment : ℕ)
     → IsFlushing phase → 0 < p.session.t1 → latest new ≡ latest log → moment ≡ latest log

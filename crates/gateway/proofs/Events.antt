@@ -203,7 +203,7 @@ reported_gap true p logged after s t gap now some same is e h = rw (e, same, is)
 reported_gap false p logged after s t gap now some same is e h =
     subst (λ l. IfSome l (IsFaithful p)) (sym e) (logged_faithful p logged s [] Idle h)
 
--- where there is none nothing changes
+-- if there is none, nothing changes
 pub no_gap_reported : (s t : State) → s.serial.gap ≡ None
     → t ≡ with_serial (serial.without_gap s.serial) s → t ≡ s
 no_gap_reported s t none is = is
@@ -358,7 +358,7 @@ logged_replaced p logged after s t u now moment fits laws b on is e same h =
         (come_replaced p s t h.before now fits h.rested h.agrees
         (received_in laws p s t now Opened fits log tt b h) on)
 
--- where the close couldn't be put out
+-- if the close couldn't be put out
 pub logged_unreplaced : (p : Setup) (logged : Option Log) (s t : State) (now : ℕ) (fits : Bool)
     → LineLaws
     → Begins s now Opened fits t → IfSome logged (HasCome p s now Opened)

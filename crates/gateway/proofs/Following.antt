@@ -1,4 +1,4 @@
--- Each step follows its log, where a port may give none.
+-- Each step follows its log, if a port gives one.
 use Rattle.std.proofs.Common.{◌≡◌, ℕ, ◌+◌, Bool, true, false, List, [], ◌∷◌}
 use Rattle.std.proofs.Common.{length, refl, ap, sym, ◌∙◌, subst, arith, Option, Some, None}
 use Rattle.std.proofs.Common.{length-append}
@@ -21,7 +21,7 @@ use Rattle.gateway.proofs.Learning.{done_fresh}
 
 -- Runs
 
--- where nothing has come, or not since a restart, nothing is due
+-- if nothing has come, or not since a restart, nothing is due
 pub fresh_due : (p : Setup) (log : Log) (c : Course) → IsFresh log → Runs p log c
     → c.works.is_due ≡ false
 fresh_due p [] c fresh r = ap (λ (d : Course). d.works.is_due) r

@@ -1,4 +1,4 @@
--- What becomes of each station where a gateway goes on with other settings.
+-- What becomes of each station when a gateway goes on with other settings.
 use Rattle.std.proofs.Common.{◌≡◌, ◌≢◌, ◌<◌, ◌≤◌, ℕ, zero, suc, Bool, List, length, Option, Some}
 use Rattle.std.proofs.Common.{None, refl, sym, ap, subst, ◌∙◌, arith, inl, inr}
 use Rattle.std.specs.Prelude.{◌⊎◌, slice_get, option_map, is_some, slice_set, if◌then◌else◌}

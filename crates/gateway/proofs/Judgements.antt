@@ -213,7 +213,7 @@ fed p s log piece unjudged so_far so e a =
     (a.here.joined ∙ ap (λ x. spelled (came_frames a.course.talk) ++ x)
     (ap (λ x. x ++ piece) (unfolded s a.here.so_far so_far a.here.assembler so) ∙ e)) tt
 
--- where it is fed, what was due stays so
+-- when it is fed, what was due stays so
 fed_undue : (s : State) (log : Log) (piece unjudged so_far : List ℕ) → s.centre.so_far ≡ Some so_far
     → so_far ++ piece ≡ unjudged → IsUndue s log piece
     → IsUndue (with_octets (Some []) s) log unjudged
@@ -236,7 +236,7 @@ logged_fed p (Some log) s t piece unjudged so_far n so e some within is a =
       omega (arith, a.3, some, within, length-drop n piece),
     )
 
--- what was due stays so where the octets are kept
+-- what was due stays so when the octets are kept
 kept_undue : (s : State) (log : Log) (piece so_far : List ℕ) → s.centre.so_far ≡ Some so_far
     → IsUndue s log piece → IsUndue (with_octets (Some (so_far ++ piece)) s) log []
 kept_undue s log piece so_far so (inl h) = inl (omega (
@@ -334,7 +334,7 @@ found_whole piece n f h = (
     some zero e = absurd (omega (arith, e))
     some (suc n) e = omega arith
 
--- where nothing is left of a frame, there are no octets of one
+-- if nothing is left of a frame, there are no octets of one
 pub nothing_left : (s : State) → s.centre.so_far ≡ Some [] → s.centre.arrived ≡ None
     → s ≡ with_octets (Some []) s
 nothing_left s so none =

@@ -155,7 +155,7 @@ keeps_none s t report octets sizes same is none after =
           } in made) (sym (append-nil s.centre.queue.unsent));
     }
 
--- How a report is counted: by its type and cause, where it is read.
+-- How a report is counted: by its type and cause, if it is read.
 
 read_counts : (infos : List Info) (u : AsduValue) (c : Tally) → u.infos ≡ infos → 1 ≤ length infos
     → counted_by (value_objects u) c
@@ -242,7 +242,7 @@ passed_on sizes v report ps found joined each full number = record {
   number = length_map ps ∙ number;
 }
 
--- none of them has an object of the queue's, where the report has none
+-- none of them has an object of the queue's, if the report has none
 
 first_none : (xs ys : List InformationObject) → xs ++ ys ≡ [] → xs ≡ []
 first_none [] ys none = refl

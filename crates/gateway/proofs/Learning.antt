@@ -46,7 +46,7 @@ left_of p log c = record {
       done_works (latest log) (room_in p log c) c.works;
 }
 
--- where nothing is due nothing is left to be done
+-- if nothing is due, nothing is left to be done
 pub done_fresh : (at : ℕ) (room : Bool) (w : Works) → w.is_due ≡ false
     → (done_works at room w).serial ≡ w.serial
 done_fresh at room w none = ap (λ b. (if b then unasked_works at room (settled_works at w)
@@ -119,7 +119,7 @@ module _ (p : Setup) (at : ℕ) (s : State) (h : History) (is_due : Bool) (laws 
   abbrev IsLearnt : Bool → Outcome → State → Bool → Type 0
   IsLearnt is_transferring o t fits = Learnt p at is_transferring o s t fits h is_due
 
-  -- where all own answers, if any, found places
+  -- if all own answers, if any, found places
   learnt_all : (is_transferring : Bool) (o : Outcome) (t : State) (fits : Bool) (z : Works)
       → LearnsOf p at is_transferring o w z
       → t ≡ with_serial z.serial s → fits ≡ true → z.is_due ≡ is_due → has_lacked_place z.history

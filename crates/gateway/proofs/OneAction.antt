@@ -204,7 +204,7 @@ module _ (laws : Laws) (p : Setup) (log : Log) (b : Course) where
       → IsUntouched log b → ⊥
   touched_not some none = omega (arith, some, none)
 
-  -- where nothing is due no frame goes out
+  -- if nothing is due, no frame goes out
   pub none_due : (f : Apdu) → IsDue f → HasNothingDue p log b → ⊥
   none_due f (inl e) quiet = no_both Apdu _ f quiet.confirmed e
   none_due f (inr k) quiet = no_both Apdu _ f quiet.undue k.1

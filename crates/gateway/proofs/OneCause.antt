@@ -169,7 +169,7 @@ no_fault Nothing e = refl
 no_fault Asdu e = refl
 no_fault (Closes cause) e = cc
 
--- Where a cause stands no frame may be taken.
+-- While a cause stands no frame may be taken.
 
 faulty_none : AreUnique → (p : Setup) (log : Log) (f : Apdu) (c : Course) (cause : Close)
     (rest : List ℕ) → IsCounted c
@@ -238,7 +238,7 @@ placed_so : (p : Setup) (c : Course) → has_lacked_place c.works.history ≡ tr
     → has_lacked_place c.works.history ≡ false → ⊥
 placed_so p c full placed = let no : true ≡ false = sym full ∙ placed in cc
 
--- where all that came is taken, nothing next closes the connection
+-- if all that came is taken, nothing next closes the connection
 pub all_and_next : AreUnique → (p : Setup) (log : Log) (b : Close) (c : Course)
     → HasTakenAll (present log) c.talk → StandsNext p log b c → ⊥
 all_and_next u p log b c all next =

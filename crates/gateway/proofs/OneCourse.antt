@@ -92,7 +92,7 @@ as_many u p log now (f ∷ fs) (g ∷ gs) c e h k =
     (subst (λ xs. MayTake p log now f (with_frames p xs now (wall_on log now) c)) same h.0) k.0 in
     ap (λ x. x ∷ fs) one ∙ ap (λ xs. g ∷ xs) same
 
--- where more are taken, the first are the same
+-- when more are taken, the first are the same
 record IsMoreOf (p : Setup) (log : Log) (now : ℕ) (fs gs : List Apdu) (c : Course) : Type 0 where
   hs : List Apdu
   is : gs ≡ hs ++ fs
@@ -150,7 +150,7 @@ one_taking u p log now b c d h k = elim (cases_lt (length h.frames) (length k.fr
   | inr ge ↦ inr (takes_one u p log now b d c k.frames h.frames k.taken h.taken k.each h.each ge)
 ]
 
--- Where no frame may be taken
+-- When no frame may be taken
 
 -- the first of these frames may be taken there
 first_may : (p : Setup) (log : Log) (now : ℕ) (fs : List Apdu) (c : Course)
@@ -172,7 +172,7 @@ stays p log c d g none = elim (first_may p log (latest log) g.0 c g.2) [
   | inr may ↦ absurd (none may.0 may.1)
 ]
 
--- where both hold what leaves no frame to be taken, they are the same
+-- if both hold what leaves no frame to be taken, they are the same
 settled_one : (p : Setup) (log : Log) (c d : Course) (Holds : Course → Type 0)
     → ((x : Course) → Holds x → (f : Apdu) → MayTake p log (latest log) f x → ⊥) → Holds c → Holds d
     → AreOne p log c d
@@ -453,7 +453,7 @@ one_course laws p (Went now (Closed cause) ∷ log) c d h k =
     same_one p (Went now (Closed cause) ∷ log) c d (h.2
     ∙ ap (closed_course p cause (present log).is_open (latest log)) before ∙ sym k.2)
 
--- where all that came is taken there is just one
+-- if all that came is taken, there is just one
 pub one_whole : Laws → (p : Setup) (log : Log) (c d : Course) → Runs p log c → Runs p log d
     → HasTakenAll (present log) c.talk → HasTakenAll (present log) d.talk → c ≡ d
 one_whole laws p log c d h k all whole =

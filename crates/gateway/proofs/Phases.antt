@@ -105,7 +105,7 @@ placed_on Idle log new h g on same k = λ o. same ∙ k (on o)
 placed_on Timed log new h g on same k = λ o. same ∙ k (on o)
 placed_on Asked log new h g on same k = λ o. same ∙ k (on o)
 
--- where a frame may go out each own answer found a place
+-- when a frame may go out, each own answer found a place
 pub placed_in : (phase : Phase) (log : Log) (h : happened.History) → IsFlushing phase
     → IsPlaced phase log h
     → (present log).is_open ≡ true → has_lacked_place h ≡ false
@@ -117,7 +117,7 @@ placed_in Crowded log h flushing placed on = absurd flushing
 placed_in Timed log h flushing placed on = absurd flushing
 placed_in Asked log h flushing placed on = placed on
 
--- where a connection has just ended nothing is lacked_place
+-- when a connection has just ended, nothing has lacked a place
 pub placed_cut : (phase : Phase) (log : Log) (h : happened.History)
     → IsPlaced phase log (happened.Ended ∷ h)
 placed_cut Crowded log h = tt
@@ -133,7 +133,7 @@ pub acknowledged_within : (p : Setup) (s : State) (log : Log) (unjudged : List �
     ≤ length a.course.sent
 acknowledged_within p s log unjudged phase a = omega (arith, a.here.tied.unconfirmed.count)
 
--- where nothing can be sent any more, all has gone out
+-- if nothing can be sent any more, all has gone out
 pub sent_all : (p : Setup) (s : State) (log : Log) (unjudged : List ℕ) (phase : Phase)
     (a : Agrees p s log unjudged phase)
     → (s.centre.queue.unsent ≡ []) × (s.serial.commands.answers ≡ []) → HasSentAll p log a.course

@@ -1,4 +1,4 @@
--- The lemmas of Agreement where a port may give no log, in the form that answers cite.
+-- The lemmas of Agreement for a port that may give no log, in the form that answers cite.
 use Rattle.std.proofs.Common.{◌≡◌, ℕ, ◌<◌, ◌&&◌, ◌||◌, Bool, true, false, not, cond, List, [], ◌∷◌}
 use Rattle.std.proofs.Common.{length, refl, ap, sym, ◌∙◌, subst, Option, Some, None, inl, inr}
 use Rattle.std.specs.Prelude.{IfSome, IfNone, nat_lt, if◌then◌else◌, ◌==◌, ◌⊎◌}
@@ -286,7 +286,7 @@ sends_pulled s t f clear fits e rest p unjudged phase flushing log a =
     })
     (subst (LeavesWindow s.centre.session) (sym e) (pulled_leaves s.moment s.centre.session)) log a)
 
--- where nothing is due, nothing changes
+-- if nothing is due, nothing changes
 pub no_confirmation : (s t : State) → ◌≡◌ {A = Option Apdu × Session} (None, t.centre.session)
     (session.confirmed s.centre.session) → t ≡ with_session t.centre.session s → t ≡ s
 no_confirmation s t e rest =
@@ -446,7 +446,7 @@ logged_late p (Some log) s cause e none a =
     let late = late_some (session.timed_out s.moment s.centre.session) cause e in
     subst (λ x. MayClose p s x Timed log) (sym late.0) (late_closes p s log none late.1 a)
 
--- where the frame goes out, and where the device fails
+-- both when the frame goes out and when the device fails
 pub logged_put : (result : Bool) (p : Setup) (logged after : Option Log) (s t : State) (f : Apdu)
     (now : ℕ)
     (unjudged : List ℕ) (phase : Phase)

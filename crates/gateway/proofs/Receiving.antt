@@ -28,7 +28,7 @@ use Rattle.gateway.proofs.Tied.{tied_taken}
 use Rattle.gateway.proofs.Frames.{taken_stays, nothing_waits}
 use Rattle.gateway.proofs.Phases.{flushed_by, undue_by}
 
--- the works where a frame is taken, by whether its answer finds a place
+-- the works when a frame is taken, by whether its answer finds a place
 received_stands : (p : Setup) (s : State) (log : Log) (f : Apdu) (c : Course) (kept : Bool)
     (wall : Option ℕ)
     → wall_now s ≡ wall → has_place f s.moment (wall_now s) s.serial.commands ≡ kept

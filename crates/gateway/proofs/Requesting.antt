@@ -259,7 +259,7 @@ module _ (laws : LineLaws) (p : Setup) (s : State) (log : Log) (a : Agrees p s l
     before = a.before;
   }
 
--- the same where a port may give no log
+-- the same for a port that may give no log
 
 pub asked_none : (laws : LineLaws) (p : Setup) (logged : Option Log) (s t : State)
     → s.serial.gap ≡ None → IsInTime s.moment s.centre.session

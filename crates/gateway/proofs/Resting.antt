@@ -54,7 +54,7 @@ left_at_rest s command left = by_link s.link refl left
     by_link (Next fcb) e (inr h) = inr (inl h)
     by_link (Held fcb service missed) e h = inr (inr (ap holds_poll e ∙ h))
 
--- where nothing can be sent any more, the step has done all that it could
+-- if nothing can be sent any more, the step has done all that it could
 pub rested : (laws : LineLaws) (p : Setup) (s : State) (log : Log) (a : Agrees p s log [] Asked)
     → IsSpent s
     → IsQuiet s → IsAtRest p log

@@ -64,7 +64,7 @@ pub asked_sound : (l m : Primary) (q : Queue) (may : Bool) → may ≡ has_room 
 asked_sound l m q may is polls h = λ out. elim (polls out)
     [ inl was ↦ h was | inr leave ↦ room_means q (sym is ∙ leave) ]
 
--- a poll goes out only where there is room
+-- a poll goes out only if there is room
 pub poll_room : ((p : Primary) (waiting : CommandsWaiting) (s : Sending)
     → sending p false waiting ≡ Some s → is_poll_request s.request ≡ true
     → is_polling p ≡ true) → (l : Primary) (waiting : CommandsWaiting) (q : Queue) (x : Sending)

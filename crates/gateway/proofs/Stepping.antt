@@ -49,7 +49,7 @@ taken_one p log now c frame older [] taken = taken.0
 taken_one p log now c frame older (f ∷ newer) taken =
     taken_one p log now c frame older newer taken.1
 
--- where a frame of the event was taken, it isn't so that none was
+-- if a frame of the event was taken, it isn't so that none was
 touched : (log : Log) (c : Course) (P : Type 0) → HasTakenOne log c → IsUntouched log c ⊎ P → P
 touched log c P one (inl none) = absurd (omega (arith, one, none))
 touched log c P one (inr so) = so

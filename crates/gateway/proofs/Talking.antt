@@ -161,7 +161,7 @@ plain (I ns nr asdu) now h none = let no : data_frames (I ns nr asdu ∷ []) ≡
 plain (S nr) now h none = refl
 plain (U u) now h none = refl
 
--- and it is next where it is a confirmation, or all has gone out
+-- and it is next if it is a confirmation, or all has gone out
 pub next_plain : (p : Setup) (log : Log) (c : Course) (f : Apdu) → HasNoData f
     → (confirmation_of c.talk ≡ Some f) ⊎ ((confirmation_of c.talk ≡ None) × IsFlushed p log c
     × HasBegun log c)
@@ -291,7 +291,7 @@ talk_received p s log c moment f rest k taking clock on ready fits goes placed f
           }) k.course_runs);
     }
 
--- the same of another log, where nothing was said
+-- the same of another log, if nothing was said
 pub talk_on : (p : Setup) (s t : Session) (old new : Log) (c d : Course) (k : Talks p s old c)
     → t ≡ s
     → d.talk ≡ c.talk → Runs p new d → Talks p t new d

@@ -26,7 +26,7 @@ use Rattle.gateway.proofs.Alike.{answered_serial, settled_serial}
 
 -- Own answers are kept
 
--- where one finds no place, that shows
+-- if one finds no place, that shows
 pub kept_overfull : (xs : List (List ℕ)) (r : Run) → all_kept xs r.state ≡ false
     → has_lacked_place (kept_own xs r).history ≡ true
 kept_overfull [] r none = cc
@@ -44,7 +44,7 @@ kept_overfull (x ∷ xs) r none = by_room (has_answer_place r.state) refl (kept_
     by_room true e others = others (sym (ap (λ b. b && all_kept xs next.state) e) ∙ none)
     by_room false e others = ap (λ b. has_lacked_place (Offered x b ∷ r.history)) e
 
--- and where each finds one
+-- and if each finds one
 pub kept_placed : (xs : List (List ℕ)) (r : Run) → all_kept xs r.state ≡ true
     → has_lacked_place (kept_own xs r).history ≡ has_lacked_place r.history
 kept_placed [] r all = refl

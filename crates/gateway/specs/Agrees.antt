@@ -181,7 +181,7 @@ pub record Agrees (p : Setup) (s : State) (log : Log) (unjudged : List ℕ)
       (taken_pieces p log) course.earlier course.sent s.centre.queue.unsent
   pub before : Past p log course.earlier
 
--- the same where the port gives its log
+-- the same if the port gives its log
 abbrev pub Tracks : Setup → State → Option Log → List ℕ → Phase → Type 0
 Tracks p s logged unjudged phase = IfSome logged (λ log. Agrees p s log unjudged phase)
 
@@ -202,13 +202,13 @@ IsUndue s log unjudged =
     ≤ length (received_before log) + length (pending s.centre.so_far ++ unjudged))
     ⊎ ((pulled s.moment s.centre.session).0 ≡ None)
 
--- the same where all that may go out has gone out, and these octets of the event are to be judged
+-- the same when all that may go out has gone out, and these octets of the event are to be judged
 abbrev pub Awaits : Setup → State → Option Log → List ℕ → Type 0
 Awaits p s logged unjudged = IfSome logged (λ log. Agrees p s log unjudged Taking × IsClear s
     × IsUndue s log unjudged
     × (length (received_before log) + length unjudged ≤ length (present log).received))
 
--- the same where a frame stands before this rest of them
+-- the same when a frame stands before this rest of them
 abbrev pub Meets : Setup → State → Option Log → (unjudged rest : List ℕ) → Type 0
 Meets p s logged unjudged rest = IfSome logged (λ log. Agrees p s log unjudged Taking × IsClear s
     × IsUndue s log unjudged × IsPast log (length rest))
@@ -242,7 +242,7 @@ pub record IsQuiet (s : State) : Type 0 where
   pub pulled_all : (pulled s.moment s.centre.session).0 ≡ None
   pub in_time : IsInTime s.moment s.centre.session
 
--- where no answer was late, none is late
+-- if no answer was late, none is late
 abbrev pub StaysInTime : (before after : State) → Type 0
 StaysInTime s t = 0 < s.centre.session.t1 → IsInTime s.moment s.centre.session →
     IsInTime t.moment t.centre.session × (0 < t.centre.session.t1)

@@ -28,9 +28,8 @@ abbrev pub waiting_by : Setup → History → CommandsWaiting
 waiting_by p h =
     λ station. next_octets p.sizes p.stations p.select_ms p.max_age_ms station h
 
--- Once all that came is taken, a request is asked for at the step's moment, with what waits then,
--- and
--- with leave to poll exactly where the queue has room.
+-- Once all that came is taken, a request is asked for at the step's moment, with what waits then.
+-- It is asked for with leave to poll exactly if the queue has room.
 pub record Asks (p : Setup) (log : Log) (calls : List Call) : Type 0 where
   pub course : Course
   pub runs : Runs p log course

@@ -136,10 +136,10 @@ centre_carried now s =
       queue = queue.carried now.line.queue s.queue;
     }
 
--- The gateway of these settings that goes on with what the one of those has. `goes_on` is false
--- where frame count bits and held services hold no more. No piece is dropped, and none changes its
--- place in the order; the link of a station that goes on keeps its frame count bit; and no station
--- is up that wasn't.
+-- The gateway of these settings that goes on with what the one of those has. `goes_on` is false if
+-- frame count bits and held services hold no more. No piece is dropped, and none changes its place
+-- in the order. The link of a station that goes on keeps its frame count bit. No station is up that
+-- wasn't.
 abbrev pub carried : (goes_on : Bool) → (before now : Settings) → State → State
 carried goes_on before now s = record {
   serial = serial_carried goes_on before now s.serial;

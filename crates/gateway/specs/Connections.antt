@@ -19,7 +19,7 @@ pub record Channel : Type 0 where
   -- it was closed for want of a place for an own answer
   pub lacked_place : Bool
 
--- where there is no connection
+-- when there is no connection
 abbrev pub no_channel : Channel
 no_channel = record { is_open = false; sent = []; received = []; lacked_place = false }
 
@@ -107,8 +107,8 @@ pub record BeginsWithFault (sent : ℕ) (received : List Apdu) (cause : Close)
   pub fault : fault_of sent received frame ≡ Some cause
 
 -- What stands behind the frames received: the beginning of a frame, or what closes the connection.
--- Where that is an own answer without a place, what is left of the octets was dropped; which frames
--- came, the log's one course shows (the law `one_course`).
+-- If that is an own answer without a place, what is left of the octets was dropped. Then the log's
+-- one course shows which frames came (the law `one_course`).
 abbrev pub IsBehind : Bool → ℕ → List Apdu → Option Close → List ℕ → Type 0
 IsBehind lacked_place sent received None rest = IsMore rest
 IsBehind lacked_place sent received (Some Grammar) rest = IsRefused rest
@@ -118,8 +118,7 @@ IsBehind lacked_place sent received (Some cause) rest = BeginsWithFault sent rec
 -- The frames of a connection are those that the grammar finds, one after another, in its joined
 -- octets. In the octets handed to TCP there is nothing else. In those received they go up to what
 -- closes the connection, if anything does. (The law `one_reading`: there are no other frames, and
--- no other cause, but for want of a place for an own answer, where the octets alone don't show
--- them.)
+-- no other cause. Only for want of a place for an own answer the octets alone don't show them.)
 pub record IsConnection (octets : Channel) (c : Connection) (fault : Option Close) : Type 0 where
   pub put : List Apdu
   pub handed : AreFrames octets.sent put
@@ -137,8 +136,8 @@ AreConnections (octets ∷ past) (c ∷ before) = (fault : Option Close) × IsCo
     × AreConnections past before
 AreConnections _ _ = ⊥
 
--- The connection's frames so far: of what it received perhaps only the first ones, where a step is
--- not done.
+-- The connection's frames so far: of what it received perhaps only the first ones, if a step is not
+-- done.
 pub record IsBegun (octets : Channel) (c : Connection) : Type 0 where
   pub put : List Apdu
   pub handed : AreFrames octets.sent put

@@ -16,16 +16,16 @@ use Rattle.gateway.specs.Passing.{PassesCommands}
 use Rattle.gateway.specs.Works.{tasks_of}
 use Rattle.gateway.specs.Course.{Course, HasTakenAll, Runs}
 
--- What was done with commands so far: each first sending is the oldest command forwarded to its
--- station on the open connection that wasn't sent yet; before each execute to a guarded station
--- stands its select, confirmed in time; each answer is that of the first rule that applies; an
--- activation that came with a time tag had a good one, near the wall clock; the tag that a
--- station's answer gets is that of the newest first sending of its type and addresses; own answers
+-- What was done with commands so far. Each first sending is the oldest command forwarded to its
+-- station on the open connection that wasn't sent yet. Before each execute to a guarded station
+-- stands its select, confirmed in time. Each answer is that of the first rule that applies. An
+-- activation that came with a time tag had a good one, near the wall clock. The tag that a
+-- station's answer gets is that of the newest first sending of its type and addresses. Own answers
 -- go out first in, first out, and at most 16 wait. Places come back: as many commands wait, over
--- all stations, as were forwarded on the open connection and weren't sent. And each command passed
--- that has no fault, finds its places, and is selected where it has to be. All of it is what calls
--- of `command` made, at moments that never fall. So what its laws say of every such list of calls
--- holds here too: a select that has no fault is refused only for what they name.
+-- all stations, as were forwarded on the open connection and weren't sent. And each command is
+-- passed that has no fault, finds its places, and is selected if it has to be. All of it is what
+-- calls of `command` made, at moments that never fall. So what its laws say of every such list of
+-- calls holds here too: a select that has no fault is refused only for what they name.
 pub record KeepsCommands (p : Setup) (r : Run) : Type 0 where
   pub made : (calls : List Call)
       × (run p.stations p.sizes p.select_ms p.max_age_ms calls ≡ r) × NeverFall calls

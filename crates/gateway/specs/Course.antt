@@ -85,8 +85,7 @@ pub record HasSentAll (p : Setup) (log : Log) (c : Course) : Type 0 where
   pub objects : sent_objects c ≡ length (taken_objects p log)
   pub answers : c.works.serial.commands.answers ≡ []
 
--- where data transfer runs and fewer than k I frames are unacknowledged, all has gone out (5.3,
--- 5.5)
+-- if data transfer runs and fewer than k I frames are unacknowledged, all has gone out (5.3, 5.5)
 abbrev pub IsFlushed : Setup → Log → Course → Type 0
 IsFlushed p log c = is_started c.talk ≡ true → length (still_unacknowledged c.talk) < p.session.k →
     HasSentAll p log c
@@ -121,7 +120,7 @@ pub record HasNothingDue (p : Setup) (log : Log) (c : Course) : Type 0 where
   pub flushed : IsFlushed p log c
   pub undue : NoFrameDue p (latest log) c
 
--- Where a frame of the event is taken, what goes out behind it has gone out (profile).
+-- If a frame of the event is taken, what goes out behind it has gone out (profile).
 abbrev pub HasAnswered : Setup → Log → Course → Type 0
 HasAnswered p log c = IsUntouched log c ⊎ HasNothingDue p log c
 
@@ -152,9 +151,9 @@ with_frames p [] now wall c = c
 with_frames p (frame ∷ frames) now wall c =
     with_frame p frame now wall (with_frames p frames now wall c)
 
--- A frame is taken where it is the next of the octets received, and comes without fault once all
--- confirmations are out (5.1, 5.3); and only where each own answer found a place, and all that may
--- go out has gone out: what the moment of the event makes due goes out behind its first frame
+-- A frame is taken if it is the next of the octets received, and comes without fault once all
+-- confirmations are out (5.1, 5.3). It is taken only if each own answer found a place, and all that
+-- may go out has gone out. What the moment of the event makes due goes out behind its first frame
 -- (profile).
 pub record MayTake (p : Setup) (log : Log) (now : ℕ) (frame : Apdu) (c : Course) : Type 0 where
   pub fits : Fits frame
@@ -186,7 +185,7 @@ pub record TakesFrames (p : Setup) (log : Log) (now : ℕ) (before after : Cours
 abbrev pub kind_of : List ℕ → FrameOrigin
 kind_of asdu = if has_objects asdu then Queue else Own
 
--- what is said where a frame goes out
+-- what is said when a frame goes out
 abbrev pub logged_sent : Apdu → (now : ℕ) → History → History
 logged_sent (I ns nr asdu) now h = talk.Sent ns nr (kind_of asdu.items) now ∷ h
 logged_sent frame now h = talk.Went frame now ∷ h
@@ -240,9 +239,9 @@ pub record HandsOver (p : Setup) (log : Log) (octets : List ℕ) (now : ℕ)
 
 -- The ends of connections
 
--- What is next in the octets received closes the connection with this cause: all before it was
--- taken and confirmed (5.1, 5.3), what may go out has gone out, what the moment makes due too where
--- a frame of the event was taken, and each own answer found a place.
+-- What is next in the octets received closes the connection with this cause. All before it was
+-- taken and confirmed (5.1, 5.3), and what may go out has gone out. If a frame of the event was
+-- taken, what the moment makes due has gone out too. Each own answer found a place.
 pub record StandsNext (p : Setup) (log : Log) (cause : Close) (c : Course) : Type 0 where
   pub next : IsConnection (present log) (here_of c) (Some cause)
   pub confirmed : confirmation_of c.talk ≡ None
@@ -260,9 +259,9 @@ pub record IsLate (p : Setup) (log : Log) (c : Course) : Type 0 where
   pub logged : c.works.serial.gap ≡ None
   pub late : has_timed_out p.session.t1 (latest log) c.talk ≡ true
 
--- Why a connection is closed, where the course is so far: an answer is late; the own answer of the
--- frame taken last, or of the line's octets, found no place; or what is next in the octets. The
--- connection before an `Open` has ended with it.
+-- Why a connection is closed when the course has come so far. An answer is late. Or the own answer
+-- of the frame taken last, or of the line's octets, found no place. Or it is what is next in the
+-- octets. The connection before an `Open` has ended with it.
 abbrev pub IsCause : Setup → Log → Close → Course → Type 0
 IsCause p log Replaced c = is_replaced log ≡ true
 IsCause p log Timeout c = IsLate p log c
@@ -283,7 +282,7 @@ abbrev pub opened_course : (now : ℕ) → Course → Course
 opened_course now c =
     record { talk = talk.Opened now ∷ []; sent = c.sent; earlier = c.earlier; works = c.works }
 
--- where an answer was late, the step's timers come first
+-- if an answer was late, the step's timers come first
 abbrev pub works_at : Close → (at : ℕ) → Works → Works
 works_at Timeout at w = settled_works at w
 works_at cause at w = w
@@ -341,8 +340,8 @@ pub record ReportsGap (p : Setup) (log : Log) (station session : ℕ)
   pub gap : before.works.serial.gap ≡ Some (record { station = station; session = session })
   pub is : after ≡ with_works (gapless_works before.works) before
 
--- The octets are the request that is next, where the queue has the room that the log shows, once
--- the gap is reported, all that came is taken and answered, and no answer is late.
+-- The octets are the request that is next, if the queue has the room that the log shows. It comes
+-- once the gap is reported and all that came is taken and answered, and if no answer is late.
 pub record SendsNext (p : Setup) (log : Log) (octets : List ℕ)
     (before after : Course) : Type 0 where
   pub all : HasTakenAll (present log) before.talk
@@ -364,8 +363,8 @@ pub record SendsNext (p : Setup) (log : Log) (octets : List ℕ)
 
 -- The course that the log shows. When an event comes all whole frames received before are taken,
 -- and the step before has done what was due. Frames are taken of an event's octets, before and
--- between the frames that go out in its step. A connection is closed where the cause stands,
--- before the step's request.
+-- between the frames that go out in its step. A connection is closed when the cause stands, before
+-- the step's request.
 abbrev pub Runs : Setup → Log → Course → Type 0
 Runs p [] c = c ≡ first_course p
 Runs p (Came now event ∷ log) c =

@@ -1,5 +1,5 @@
--- Where connections end, by what became of commands and by the log (IEC 60870-5-104, 5; that
--- nothing of a connection outlives it is this gateway's own profile).
+-- How connections end, by what became of commands and by the log (IEC 60870-5-104, 5; that nothing
+-- of a connection outlives it is this gateway's own profile).
 use Rattle.std.specs.Prelude.{ℕ, ◌+◌, [], ◌∷◌, if◌then◌else◌}
 use Rattle.command.specs.History.{History, Ended}
 use Rattle.gateway.specs.Log.{Log, Opened, CutOff, Restarted, Closed, Came, Went}

@@ -66,6 +66,6 @@ abbrev pub stored_log : List StoredEntry → Log → Log
 stored_log [] log = log
 stored_log (x ∷ xs) log = stored_log xs (logged_of x ∷ log)
 
--- the log that is stored: the newest first, where the list has the oldest first
+-- the log that is stored: the newest first, while the list has the oldest first
 abbrev pub log_of : List StoredEntry → Log
 log_of xs = stored_log xs []

@@ -64,8 +64,8 @@ abbrev pub receive_fault : ℕ → List Apdu → ℕ → Option Close
 receive_fault sent older nr =
     if nat_lt sent (reached (acknowledged_count older) nr) then Some ReceiveNumber else None
 
--- The fault of a frame behind these, where so many I frames were sent: an I frame while data
--- transfer is stopped (5.3), an N(S) that isn't the next, or an N(R) that isn't valid (5.1).
+-- The fault of a frame behind these, if so many I frames were sent: an I frame while data transfer
+-- is stopped (5.3), an N(S) that isn't the next, or an N(R) that isn't valid (5.1).
 abbrev pub fault_of : ℕ → List Apdu → Apdu → Option Close
 fault_of sent older (I ns nr asdu) =
     if not (transfers older) then Some Stopped

@@ -26,7 +26,7 @@ abbrev pub with_piece : List ℕ → Option (AsduValue × List (List ℕ)) →
 with_piece octets None = None
 with_piece octets (Some passed) = Some (passed.0, passed.1 ++ octets ∷ [])
 
--- a station's answer, where nothing else came since, and the pieces of it that were kept
+-- a station's answer, if nothing else came since, and the pieces of it that were kept
 abbrev pub passed_on : History → Option (AsduValue × List (List ℕ))
 passed_on (Mirrored now v ∷ h) = Some (v, [])
 passed_on (Offered octets true ∷ h) = with_piece octets (passed_on h)
@@ -48,7 +48,7 @@ abbrev pub IsNextPiece : Sizes → Option (AsduValue × List (List ℕ)) → Lis
 IsNextPiece sizes None octets = ⊥
 IsNextPiece sizes (Some passed) octets = IsPieceOf sizes passed.0 passed.1 octets
 
--- what is handed over next is what is due; where nothing is, it is the next piece of a station's
+-- what is handed over next is what is due; if nothing is, it is the next piece of a station's
 -- answer
 abbrev pub IsOwed : Sizes → Option (List ℕ) → History → List ℕ → Type 0
 IsOwed sizes (Some answer) h octets = octets ≡ answer
@@ -82,13 +82,13 @@ pub record IsGivenOn (p : Setup) (at : ℕ) (report : List ℕ) (before after : 
   pub tagged : AreTagged tag plain pieces
   pub given : AreHandedOver pieces (Mirrored at value ∷ before) after
 
--- where an exchange brings a station's answer to a command
+-- if an exchange brings a station's answer to a command, that is given on
 abbrev pub GivesAnswer : Setup → (at : ℕ) → Outcome → (before after : History) → Type 0
 GivesAnswer p at (outcome.Report station asdu) before after =
     is_command_report p.sizes asdu.items ≡ true → IsGivenOn p at asdu.items before after
 GivesAnswer p at other before after = Unit {0}
 
--- where data transfer is stopped, a station's answer to a command isn't passed on
+-- while data transfer is stopped, a station's answer to a command isn't passed on
 abbrev pub KeepsAnswerBack : Setup → (at : ℕ) → Outcome → (before after : History) → Type 0
 KeepsAnswerBack p at (outcome.Report station asdu) before after =
     is_command_report p.sizes asdu.items ≡ true →

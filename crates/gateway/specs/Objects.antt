@@ -21,7 +21,7 @@ objects asdu = monitor_objects tcp asdu
 abbrev pub has_objects : List ℕ → Bool
 has_objects asdu = not (length (objects asdu) == 0)
 
--- how many pieces a report needs, where it adds to the objects taken
+-- how many pieces a report needs, if it adds to the objects taken
 abbrev pub parts_of : Sizes → List ℕ → ℕ
 parts_of sizes report = if length (monitor_objects sizes report) == 0 then 0 else parts sizes report
 
@@ -29,7 +29,7 @@ abbrev pub typed_pieces : Sizes → Option TypeId → List ℕ → List (List �
 typed_pieces sizes None report = []
 typed_pieces sizes (Some t) report = report_pieces (value_at sizes t report)
 
--- the pieces by which a report is passed on, octet by octet: none where no object of it is
+-- the pieces by which a report is passed on, octet by octet: none if no object of it is
 abbrev pub pieces_of_report : Sizes → List ℕ → List (List ℕ)
 pieces_of_report sizes report =
     if length (monitor_objects sizes report) == 0 then []

@@ -20,16 +20,16 @@ abbrev pub is_close : Output → Bool
 is_close (Closed cause) = true
 is_close action = false
 
--- the close of a connection where an answer is late, which the timers bring (profile)
+-- the close of a connection because an answer is late, which the timers bring (profile)
 abbrev pub is_late : Output → Bool
 is_late (Closed Timeout) = true
 is_late action = false
 
 -- What follows from the event comes first, then what the timers bring, then the request, then
--- octets to TCP: a gap only where the step's timers have closed no connection yet, and a gap, a
--- close and a request only where it has put out no request yet. Octets to TCP go out before a gap,
--- a close or a request only behind a frame that ends in the event's octets. And octets to TCP, and
--- a close, only where it has closed no connection yet (profile).
+-- octets to TCP. A gap comes only if the step's timers have closed no connection yet. A gap, a
+-- close and a request come only if the step has put out no request yet. Octets to TCP go out before
+-- a gap, a close or a request only behind a frame that ends in the event's octets. Octets to TCP,
+-- and a close, come only if the step has closed no connection yet (profile).
 abbrev pub MayFollow : Log → Output → Type 0
 MayFollow log (LineOut octets) =
     (list_any is_request (step_actions log) ≡ false) × GoesBehindFrames log

@@ -71,7 +71,7 @@ resting [] = Fresh
 resting (Came now Restarted ∷ log) = Fresh
 resting (entry ∷ log) = Asked
 
--- But where one has just found none, each own answer of the open connection found a place.
+-- But unless one has just found none, each own answer of the open connection found a place.
 abbrev pub IsPlaced : Phase → Log → History → Type 0
 IsPlaced Crowded log h = Unit {0}
 IsPlaced phase log h = (present log).is_open ≡ true → has_lacked_place h ≡ false
@@ -89,8 +89,8 @@ after_frame false = Crowded
 abbrev pub IsPast : Log → (left : ℕ) → Type 0
 IsPast log left = length (received_before log) + left < length (present log).received
 
--- What is left of the octets received: where a frame was taken fewer than came, and where the event
--- is taken none. What a close drops may be anything.
+-- What is left of the octets received: if a frame was taken fewer than came, and if the event is
+-- taken none. What a close drops may be anything.
 abbrev pub IsLeftIn : Phase → Log → (so_far unjudged : List ℕ) → Type 0
 IsLeftIn Taking log so_far unjudged = Unit {0}
 IsLeftIn Crowded log so_far unjudged = Unit {0}

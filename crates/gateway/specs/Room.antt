@@ -6,7 +6,7 @@ use Rattle.gateway.specs.Connections.{present, past, IsConnection, AreConnection
 use Rattle.gateway.specs.Reports.{Setup}
 use Rattle.gateway.specs.Course.{Course, here_of, room_in, Runs}
 
--- the connections of a log, the newest first: the one that is open, or an empty one where there is
+-- the connections of a log, the newest first: the one that is open, or an empty one if there is
 -- none, and those before it
 pub record AreConnectionsOf (log : Log) (c : Connection) (before : List Connection) : Type 0 where
   pub open_one : IsConnection (present log) c None

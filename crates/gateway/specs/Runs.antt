@@ -5,7 +5,7 @@ use Rattle.gateway.specs.Log.{Log, LogEntry, events_of}
 use Rattle.gateway.specs.declared.runs.End.{End}
 use Rattle.gateway.specs.declared.runs.End.TheVariants.{Finished, Turns, Device}
 
--- what holds where the device has not failed
+-- what holds if the device has not failed
 abbrev pub UnlessDevice : End → Type 0 → Type 0
 UnlessDevice Finished P = P
 UnlessDevice Turns P = P
@@ -21,7 +21,7 @@ faults_at Device = 1
 abbrev pub events_logged : Option Log → Option (List LogEntry)
 events_logged logged = option_map events_of logged
 
--- where the log is given, so many more events have come
+-- if the log is given, so many more events have come
 abbrev pub MoreEvents : ℕ → Option Log → Option Log → Type 0
 MoreEvents n old new = option_map length (events_logged new)
     ≡ option_map (λ events. length events + n) (events_logged old)

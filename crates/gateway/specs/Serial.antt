@@ -82,7 +82,7 @@ given_up station s = record s {
   counts = loss_counted station s;
 }
 
--- the answer to what stands on a station's line where the station is busy
+-- the answer to what stands on a station's line, if the station is busy
 abbrev pub refusals : (station : ℕ) → Serial → List (List ℕ)
 refusals station s = listed (refusal_of (line_of station s.commands))
 
@@ -94,7 +94,7 @@ refused station s =
 abbrev pub refusal_fits : (station : ℕ) → Serial → Bool
 refusal_fits station s = all_kept (refusals station s) (tasks.given_up station s.commands)
 
--- A station's answer to a command: what it does to selections; and where data transfer runs it is
+-- A station's answer to a command, and what it does to selections. If data transfer runs it is
 -- passed on as own answers, these pieces. Else it is counted.
 abbrev pub mirrored : (at : ℕ) → (is_transferring : Bool) → AsduValue → (pieces : List (List ℕ)) →
     Serial → Serial
@@ -118,14 +118,14 @@ with_gap station session s =
 abbrev pub without_gap : Serial → Serial
 without_gap s = record s { gap = None }
 
--- any other report is counted where it isn't passed on
+-- any other report is counted if it isn't passed on
 abbrev pub reported : Sizes → (report : List ℕ) → Serial → Serial
 reported sizes report s = record s { counts = counted sizes report s.counts }
 
 -- A frame that came, and one that goes out
 
--- The ASDU of a frame is judged, at a moment at which the wall clock shows this, where that is
--- known; and its answer, if it has one, is kept.
+-- The ASDU of a frame is judged, at a moment at which the wall clock shows this, if that is known.
+-- Its answer, if it has one, is kept.
 abbrev pub received_commands : Apdu → (at : ℕ) → (wall : Option ℕ) → tasks.State → tasks.State
 received_commands (I ns nr asdu) at wall s =
     let judgement = judging.judged asdu.items at wall s in
@@ -184,7 +184,7 @@ settled at s =
 abbrev pub waiting_in : tasks.State → CommandsWaiting
 waiting_in s = λ station. octets_waiting station s
 
--- the request that is next, where the queue has room or hasn't
+-- the request that is next, by whether the queue has room
 abbrev pub next_request : (room : Bool) → Serial → Option Sending
 next_request room s = sending s.line room (waiting_in s.commands)
 

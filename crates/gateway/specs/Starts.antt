@@ -1,4 +1,4 @@
--- What a start makes of the link to a station, where the settings or the state's age ask for it
+-- What a start makes of the link to a station, as the settings or the state's age ask for it
 -- (profile).
 use Rattle.std.specs.Prelude.{◌==◌, ◌&&◌, not, Bool, true, false, cond, Option, Some, None}
 use Rattle.ft12.specs.Spelling.{address_len}

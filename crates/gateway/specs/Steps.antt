@@ -40,7 +40,7 @@ pub record Keeps (s : State) (report : List ℕ) (t : State) : Type 0 where
   pub after : t
       ≡ record s { serial = reported s.sizes report s.serial; centre = pushed pieces s.centre }
 
--- a station's answer to a command, whose pieces are passed on where data transfer runs
+-- a station's answer to a command, whose pieces are passed on if data transfer runs
 pub record Mirrors (sizes : Sizes) (at : ℕ) (transferring : Bool) (s : Serial) (report : List ℕ)
     (fits : Bool) (t : Serial) : Type 0 where
   pub v : AsduValue
@@ -141,8 +141,8 @@ pub record SpellFrame (Holds : Apdu → Type 0) (octets : List ℕ) : Type 0 whe
   pub holds : Holds frame
   pub spelled : octets ≡ spelling frame
 
--- An answer is late where the timers are done, an own answer finds no place where it is kept, and
--- any other cause shows as octets are taken.
+-- An answer is late when the timers are done, an own answer finds no place when it is kept, and any
+-- other cause shows as octets are taken.
 abbrev pub IsCloseAt : Close → Phase → Type 0
 IsCloseAt Timeout Timed = Unit {0}
 IsCloseAt Timeout phase = ⊥
@@ -151,7 +151,7 @@ IsCloseAt OwnAnswers phase = ⊥
 IsCloseAt cause Taking = Unit {0}
 IsCloseAt cause phase = ⊥
 
--- how far a step is where it has closed the connection
+-- how far a step is when it has closed the connection
 abbrev pub after_closing : Phase → Phase
 after_closing Taking = Idle
 after_closing Crowded = Idle

@@ -1,4 +1,4 @@
--- The time tag of a station's answer to a command: that of the command, where it came with one (IEC
+-- The time tag of a station's answer to a command: that of the command, if it came with one (IEC
 -- 60870-5-104, 8: types 58 to 62).
 use Rattle.std.specs.Prelude.{◌≡◌, Bool, true, false, ◌&&◌, ◌==◌, ℕ, List, [], ◌∷◌, length, Option}
 use Rattle.std.specs.Prelude.{Some}
@@ -15,7 +15,7 @@ abbrev pub IsTaggedAs : Bool → Cp56 → AsduValue → (plain piece : List ℕ)
 IsTaggedAs true tag u plain piece = IsAsdu tcp (tagged tag.0 u) piece
 IsTaggedAs false tag u plain piece = piece ≡ plain
 
--- the same ASDU with the tag, where it can bear one
+-- the same ASDU with the tag, if it can bear one
 abbrev pub IsTagged : Cp56 → (plain piece : List ℕ) → Type 0
 IsTagged tag plain piece = (u : AsduValue) × IsAsdu tcp u plain
     × IsTaggedAs (bears_tag u) tag u plain piece

@@ -20,8 +20,8 @@ use Rattle.gateway.specs.Course.{Course, here_of, HasSentAll, HasAsked, IsCause,
 use Rattle.gateway.specs.Conversation.{KeepsRulesThroughout, IsTalkAtRest}
 use Rattle.gateway.specs.Line.{IsWaiting, IsLineAtRest}
 
--- The octets are a request to a station, while no exchange is outstanding and each gap is reported;
--- and a poll only where there is room.
+-- The octets are a request to a station, while no exchange is outstanding and each gap is reported.
+-- They are a poll only if there is room.
 pub record IsRequest (p : Setup) (log : Log) (octets : List ℕ) : Type 0 where
   pub station : ℕ
   pub within : station < length p.addresses
@@ -71,10 +71,10 @@ ActsRightly p [] = Unit {0}
 ActsRightly p (Went now action ∷ log) = GoesOut p log now action × ActsRightly p log
 ActsRightly p (entry ∷ log) = ActsRightly p log
 
--- After a step nothing stands on the connection that closes it, and all that may be sent is sent:
--- on the connection, where data transfer is started and the window isn't full, all objects and own
--- answers, and each confirmation, S frame and test that is due; on the line, all but data for which
--- there is no room; and each gap is reported.
+-- After a step nothing stands on the connection that closes it, and all that may be sent is sent.
+-- On the connection, if data transfer is started and the window isn't full, that is all objects and
+-- own answers, and each confirmation, S frame and test that is due. On the line it is all but data
+-- for which there is no room. And each gap is reported.
 pub record IsAtRest (p : Setup) (log : Log) : Type 0 where
   pub course : Course
   pub course_runs : Runs p log course
@@ -102,8 +102,8 @@ RestsBetweenSteps p (Came now event ∷ log) = HasRested p log × RestsBetweenSt
 RestsBetweenSteps p (Went now action ∷ log) = RestsBetweenSteps p log
 
 -- What holds of every log of a gateway. A log has one course (the law `one_course`), so the courses
--- that its parts speak of are this one and those before it. Of what the open connection received
--- perhaps only the first frames are named here, where the device failed in mid-step; `HasRested`
+-- that its parts speak of are this one and those before it. If the device failed in mid-step,
+-- perhaps only the first frames are named here of what the open connection received; `HasRested`
 -- names them all.
 pub record IsFaithful (p : Setup) (log : Log) : Type 0 where
   -- what the log shows of the connections, of the line and of commands

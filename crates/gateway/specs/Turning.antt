@@ -38,8 +38,7 @@ StarvesNone p first later = (station : ℕ) → station < length p.addresses →
 -- poll follows a new command, and polls of class 1 go on while ACD is set, up to `burst`; a service
 -- without an answer is sent again before any other request; and the turn goes on behind a held
 -- service. Each turn is one visit, and each request is awaited for `answer_ms`. A station that is
--- up
--- is asked for its status only behind a restart, so none is where there was no restart.
+-- up is asked for its status only behind a restart, so none is if there was no restart.
 pub record KeepsTurns (p : Setup) (log : Log) : Type 0 where
   pub visits : AreInVisits p.link p.addresses
       (views (front_of p.link.size) (all_of (exchanges_of p log)))

@@ -43,7 +43,7 @@ pub record Works : Type 0 where
 abbrev pub first_works : Setup → Works
 first_works p = record { serial = first_serial p; history = []; is_due = false }
 
--- where commands stand
+-- how commands stand
 abbrev pub tasks_of : Works → Run
 tasks_of w = record { state = w.serial.commands; history = w.history }
 
@@ -98,7 +98,7 @@ pub record IsPassedOn (sizes : Sizes) (v : AsduValue) (report : List ℕ)
   pub full : AllButLast (λ piece. IsLargest v piece) pieces
   pub number : length pieces ≡ parts sizes report
 
--- A station's answer to a command: where data transfer runs, these pieces are kept as own answers.
+-- A station's answer to a command. If data transfer runs, these pieces are kept as own answers.
 -- Else it is counted.
 abbrev pub mirrored_works : (at : ℕ) → (is_transferring : Bool) → AsduValue →
     (pieces : List (List ℕ)) → Works → Works

@@ -39,9 +39,9 @@ use command::{commands_keep_the_rules, faultless_commands_pass};
 use link::line_keeps_the_procedures;
 
 /// A log has one course: of two courses one goes on from the other by frames of the latest event's
-/// octets, and where all whole frames that came are taken, as after each step, they are the same.
-/// So each promise about a log speaks of the same connections, the same history, and the same works
-/// of the line and of commands.
+/// octets. If all whole frames that came are taken, as after each step, they are the same. So each
+/// promise about a log speaks of the same connections, the same history, and the same works of the
+/// line and of commands.
 pub fn one_course()
     ensures so_far { (p : Setup) (log : Log) (c d : Course) → Runs p log c → Runs p log d →
         AreOne p log c d }

@@ -4,33 +4,33 @@
 //! A [`Gateway`] takes one event after another from a [`Port`] and puts out what follows from each:
 //! [`Gateway::step`], [`drive`], [`drive_on`].
 //!
-//! Proved, of the log of a run, for any octets and moments: its events are those that came; each
-//! station is asked as its link allows, with the frame count bit that is due, and each request is
-//! the one that the stations' turns give; nothing is polled while the queue is full, and nothing
-//! else is kept back; commands go down in order, each once, an execute to a guarded station only
-//! where it was selected, and every other ASDU is answered. Of the connection a frame is taken only
-//! where it is the next of the octets and free of faults, and once all that may go out before it
+//! Proved, of the log of a run, for any octets and moments, is this. Its events are those that
+//! came. Each station is asked as its link allows, with the frame count bit that is due, and each
+//! request is the one that the stations' turns give. Nothing is polled while the queue is full, and
+//! nothing else is kept back. Commands go down in order, each once, an execute to a guarded station
+//! only if it was selected, and every other ASDU is answered. Of the connection a frame is taken
+//! only if it is the next of the octets and free of faults, and once all that may go out before it
 //! has gone out. To TCP goes one whole APDU at a time, only while a connection is open, numbered
-//! without a gap, each frame when it is due and with the number of the frames received, own answers
-//! before reports, and an S frame only where no I frame can bear its number. The monitor objects
-//! sent on each connection are a contiguous run of those taken from the line, from the first on
-//! that no connection before acknowledged; and a connection is closed where a cause stands, and for
-//! no other.
+//! without a gap. Each frame goes when it is due and with the number of the frames received, own
+//! answers before reports, and an S frame only if no I frame can bear its number. The monitor
+//! objects sent on each connection are a contiguous run of those taken from the line, from the
+//! first on that no connection before acknowledged. A connection is closed when a cause stands, and
+//! for no other cause.
 //!
 //! All of these speak of one course of the log: there is no other ([`one_course`]), and of two
 //! causes never both stand ([`one_cause`]). What is free is only how far the octets of an event
-//! were judged where the device failed in its step. A port whose device fails breaks none of this
-//! for the log so far. What is due to the control centre is given ([`what_is_due_is_given`]),
-//! stations' answers to commands being known by their types
-//! ([`answers_have_the_types_of_commands`]), and on the line turns end, no station starves and
-//! commands go before polls ([`logs_keep_turns`]). Within a step what came is taken first, one
-//! frame after another, each answered before the next ([`each_frame_is_answered_before_the_next`]).
-//! An own answer without a place closes the connection ([`own_answers_without_a_place_close`]), and
-//! a poll needs three ([`polls_need_three_places`]).
+//! were judged if the device failed in its step. A port whose device fails breaks none of this for
+//! the log so far. What is due to the control centre is given ([`what_is_due_is_given`]), stations'
+//! answers to commands being known by their types ([`answers_have_the_types_of_commands`]), and on
+//! the line turns end, no station starves and commands go before polls ([`logs_keep_turns`]).
+//! Within a step what came is taken first, one frame after another, each answered before the next
+//! ([`each_frame_is_answered_before_the_next`]). An own answer without a place closes the
+//! connection ([`own_answers_without_a_place_close`]), and a poll needs three
+//! ([`polls_need_three_places`]).
 //!
 //! At a restart a gateway is read from the lines of its state ([`Gateway::read_state`]). It ends
 //! the connection and gives up the commands without an answer ([`Gateway::restart`]), and goes on
-//! with other settings where these were changed ([`Gateway::carried`],
+//! with other settings if these were changed ([`Gateway::carried`],
 //! [`stations_go_on_by_their_addresses`]): no link is up then but of a station as it was
 //! ([`no_link_goes_on_but_of_a_station_as_it_was`]), a stale state leaves gaps, and counts and
 //! clock stay. With the same settings the restart is an event of the log

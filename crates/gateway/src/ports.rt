@@ -65,18 +65,18 @@ pub trait Port {
     // "Ports in crates of their own").
     ghost use Rattle.gateway.specs.Ports.{logged_by, output_of, FitsBuffer, faults_of};
 
-    /// The log so far, the newest first, where the port gives it.
+    /// The log so far, the newest first, if the port gives it.
     ghost log: { Self → Option (List LogEntry) };
 
     /// How often the device failed.
     ghost failed: { Self → ℕ };
 
     /// No event comes any more.
-    // Without it no clause could say that a run ends where nothing comes (docs/DECISIONS.md, "When
-    // a run is finished").
+    // Without it no clause could say that a run ends when nothing comes (docs/DECISIONS.md, "When a
+    // run is finished").
     ghost ended: { Self → Bool };
 
-    /// What is fixed from the start: where it is a list of events, those of a whole run, the oldest
+    /// What is fixed from the start: if it is a list of events, those of a whole run, the oldest
     /// first.
     ghost Fixed: { Type 0 } = { List LogEntry };
 

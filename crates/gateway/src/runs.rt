@@ -32,8 +32,8 @@ pub fn drive_on<P: Port>(gateway: &mut Gateway, port: &mut P, turns: u64) -> End
     requires { P.failed port.old < u64.MAX }
     ensures faithful { (p : Setup) → Follows p gateway.old (P.log port.old) →
         Rests p (P.log port.old) → IfSome (P.log port.new) (IsFaithful p) }
-    // Where the device failed in mid-step, only a beginning of the open connection's received
-    // frames is claimed (docs/DECISIONS.md, "A device that fails in mid-step").
+    // If the device failed in mid-step, only a beginning of the open connection's received frames
+    // is claimed (docs/DECISIONS.md, "A device that fails in mid-step").
     ensures rests { (p : Setup) → Follows p gateway.old (P.log port.old) →
         Rests p (P.log port.old) → UnlessDevice result (IfSome (P.log port.new) (HasRested p)) }
     ensures kept { (p : Setup) → Follows p gateway.old (P.log port.old) →

@@ -18,7 +18,7 @@ pub enum LinkStart {
     Dropped,
     /// Its link is reset, as if a poll were unanswered: so the gap is reported.
     ResetAfterGap,
-    /// Its link is reset. A gap is reported where a poll was unanswered.
+    /// Its link is reset. A gap is reported if a poll was unanswered.
     Reset,
     /// It goes on.
     GoesOn,

@@ -410,7 +410,7 @@ impl Gateway {
         }
     }
 
-    /// Closes the connection where the line brought an own answer that found no place.
+    /// Closes the connection if the line brought an own answer that found no place.
     fn end_line<P: Port>(&mut self, fits: bool, port: &mut P) -> bool
         requires { P.failed port.old < u64.MAX }
         ensures kept { (p : Setup) (s : State) (now : ℕ) (octets : List ℕ) →
@@ -433,7 +433,7 @@ impl Gateway {
         self.close(Close::OwnAnswers, port)
     }
 
-    /// Takes the octets of a piece, where a connection is open.
+    /// Takes the octets of a piece, if a connection is open.
     fn take_bytes<P: Port>(&mut self, octets: &[u8], port: &mut P) -> bool
         requires { P.failed port.old < u64.MAX }
         ensures kept { (p : Setup) →
@@ -468,7 +468,7 @@ impl Gateway {
         }
     }
 
-    /// Closes the connection where an answer is late, once each gap is reported.
+    /// Closes the connection if an answer is late, once each gap is reported.
     fn close_if_late<P: Port>(&mut self, port: &mut P) -> bool
         requires ready { P.failed port.old < u64.MAX }
         requires logged { self.old.serial.gap ≡ None }

@@ -4,7 +4,7 @@
 //! its ASDU says, and the APDUs that carry it to a control centre. Frames are `ft12`'s, ASDUs
 //! `asdu`'s, values and time tags `elements`', and APDUs `apci`'s.
 //!
-//! Proved: `data_of` finds the data of a frame exactly where the octets are one; `points_of` has a
+//! Proved: `data_of` finds the data of a frame exactly if the octets are one; `points_of` has a
 //! point for each information object, in order, with the value that the table of types gives it;
 //! and the APDUs of `carry` have the report's information objects, each once and in order, under
 //! numbers that count on. What is printed, and in which words, is shown by a run.

@@ -18,7 +18,7 @@ pub struct Point {
     pub address: u32,
     /// The value, by its type: a state, a position, or a number.
     pub value: i64,
-    /// The verdict on its time tag, where it has one.
+    /// The verdict on its time tag, if it has one.
     pub made: Option<Verdict>,
 }
 
@@ -47,7 +47,7 @@ fn point_of(kind: TypeId, object: &Object<'_>) -> Point
     }
 }
 
-/// The verdict on the seven octets of a time tag, where there are any.
+/// The verdict on the seven octets of a time tag, if there are any.
 fn made_by(tag: Option<&[u8]>) -> Option<Verdict>
     requires { ForSome tag (λ octets. length octets.now ≡ 7) }
     ensures { result ≡ made_by (option_copied tag.entry) }

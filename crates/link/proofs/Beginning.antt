@@ -31,7 +31,7 @@ IsAlong None phase link = link ≡ Available → phase ≡ Starting
 IsAlong (Some o) phase link = (o.request ≡ Status → is_held link ≡ false → phase ≡ Starting)
     × (link ≡ Available → o.request ≡ Reset)
 
--- Where the status of a link is known, its station's turn goes on with the reset.
+-- When the status of a link is known, its station's turn goes on with the reset.
 pub record IsBegun (p : Primary) : Type 0 where
   pub here : IsAlong p.outstanding p.phase (station_at p.stations p.turn).link
   pub away : (i : ℕ) → (station_at p.stations i).link ≡ Available → i ≡ p.turn
@@ -47,7 +47,7 @@ goes_on_with burst may_poll again s command link phase is starts =
     ap (λ (l : Link). wanted_by burst may_poll again s command l phase) is
     ∙ ap (λ (f : Phase). wanted_by burst may_poll again s command Available f) starts
 
--- where the present turn is over, no link is so
+-- if the present turn is over, no link is so
 pub none_known : (p : Primary) (may_poll : Bool) (waiting : CommandsWaiting) → p.outstanding ≡ None
     → present p may_poll waiting ≡ None
     → IsBegun p →
@@ -171,7 +171,7 @@ status_answers a (Data control address body) answer is =
     go true e = cc
     go false e = cc
 
--- A link is available after an answer only where that says that it is ready, or it was before.
+-- A link is available after an answer only if that says that it is ready, or it was before.
 not_held : (link : Link) → after_answer Status Ready link ≡ Available → is_held link ≡ false
 not_held Down known = refl
 not_held Available known = refl
@@ -236,7 +236,7 @@ begun_awaits p q octets arrived is b = record {
   away = b.away;
 }
 
--- the station whose turn it is has another link, and the turn goes on where its status is known
+-- the station whose turn it is has another link, and if its status is known the turn goes on
 moved : (p : Primary) (s : StationState) (phase : Phase) (again : Bool) (spoilt : ℕ)
     → p.turn < length p.stations
     → IsBegun p →

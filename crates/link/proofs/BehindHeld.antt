@@ -39,7 +39,7 @@ use Rattle.link.proofs.Links.{set_view}
 use Rattle.link.specs.Primary.{station_asked}
 use Rattle.std.proofs.Common.{◌⊎◌, inl, inr}
 
--- A service is sent again at once only where repeats are left, and nothing is outstanding.
+-- A service is sent again at once only if repeats are left, and nothing is outstanding.
 abbrev pub AgainHas : Primary → Type 0
 AgainHas p =
     p.again ≡ true → (p.outstanding ≡ None)
@@ -205,7 +205,7 @@ asked_matches p began now may_poll waiting matches = go p.outstanding refl
 same_out : (x o : Outstanding) → Some x ≡ Some o → x ≡ o
 same_out x o e = cc
 
--- the phase behind an answer, where the link is up
+-- the phase behind an answer, if the link is up
 phase_stays : (request : Asked) (answer : Answer) (phase : Phase) (link link' : Link)
     → is_service request ≡ true
     → (is_answered (after_answer request answer link) ≡ false → is_answered link' ≡ false)
@@ -365,7 +365,7 @@ due_matches p at began matches = go p.outstanding refl
 
 -- ---- the other calls
 
--- Where the link of the station is given up, its request is over.
+-- If the link of the station is given up, its request is over.
 give_up_matches : (p : Primary) (k : ℕ) (began : Option ℕ) → Matches p began
     → Matches (given_up k p) began
 give_up_matches p k began matches = (repeats (p.turn == k) refl, go began matches.1)
@@ -442,7 +442,7 @@ polls_wait : (acd : Bool) → may_go false (poll_by acd) ≡ true → ⊥
 polls_wait true may = cc
 polls_wait false may = cc
 
--- what a turn has first, where that may go
+-- what a turn has first, if that may go
 commands_wanted : (burst : ℕ) (may_poll fcb : Bool) (s : StationState) (command : Option (List ℕ))
     → may_go may_poll (first_service command s) ≡ true
     → (following : Phase) × (commands_from burst may_poll fcb s command
@@ -506,7 +506,7 @@ go_behind p began (call ∷ calls) matches = (
   go_behind (called p call) (began_after p call began) calls (call_matches p began call matches),
 )
 
--- Where nothing is to be sent again at once, no turn has begun with a held service.
+-- If nothing is to be sent again at once, no turn has begun with a held service.
 pub none_again : (p : Primary) → p.again ≡ false → Matches p None
 none_again p not_again = ((λ again. absurd (not_both p.again again not_again)), tt)
 

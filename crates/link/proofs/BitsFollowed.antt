@@ -49,7 +49,7 @@ status_stays (Some Busy) closed fcb service link settings before may = may
 status_stays (Some (Report asdu)) closed fcb service link settings before may = may
 status_stays (Some NoData) closed fcb service link settings before may = may
 
--- behind a reset, only where that was confirmed
+-- behind a reset, only if that was confirmed
 reset_by : (m : Option Answer) (closed fcb : Bool) (service : Service) (link : Link)
     (settings : LinkSettings) → MaySend link Reset
     → MaySend (after_outcome settings m Reset closed link) (Counted fcb service)

@@ -188,8 +188,8 @@ wanted_goes burst may_poll again s command Available Over = tt
 abbrev pub turn_link : Primary → Link
 turn_link p = (station_at p.stations p.turn).link
 
--- A service is out for the first time since its answer was missed; or else one that is held goes
--- out again at once where it has repeats.
+-- A service is out for the first time since its answer was missed. Or one that is held goes out
+-- again at once, if it has repeats.
 abbrev pub StaysOut : Primary → Option Outstanding → Type 0
 StaysOut p None = is_held (turn_link p) ≡ true → p.again ≡ has_repeats p.settings (turn_link p)
 StaysOut p (Some o) = (is_service o.request ≡ true) × (p.again ≡ false)
@@ -763,7 +763,7 @@ due_matches p at row matches = go p.outstanding refl
     go None e = matches
     go (Some o) e = late o e (is_late p o at)
 
--- Where the link of the station is given up, its service is lost.
+-- If the link of the station is given up, its service is lost.
 given_up_in_row : (p : Primary) (k : ℕ) (row : Row) (j : ℕ) → p.turn ≡ j → IsInRow p row j
     → IsInRow (given_up k p) row j
 given_up_in_row p k row j turn it = go (p.turn == k) refl it

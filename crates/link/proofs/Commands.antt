@@ -128,7 +128,7 @@ all_accept station [] sent known = tt
 all_accept station (s ∷ ss) sent known =
     (accepts station s sent.0 known.0, all_accept station ss sent.1 known.1)
 
--- All of it, where no command is pending.
+-- All of it, if no command is pending.
 pub accepts_every : (station : ℕ) (session : Session)
     → SendingsLearnt station None session.exchanges
     → IsSessionKnown station session → AcceptsAllSendings station session
@@ -227,7 +227,7 @@ sendings_steady settings station link pending (x ∷ xs) pends clear keeps stead
         (answer_to station x) xs pends keeps.0 is refl
         (ih (down false is (is_up link) refl))
 
--- a link that was never probed stays so where no status is asked of a station that is up
+-- a link that was never probed stays so if no status is asked of a station that is up
 never_probed : (settings : LinkSettings) (request : Asked) (m : Option Answer) (closed : Bool)
     (link : Link) → (is_up link ≡ true → is_service request ≡ true) → probed_so_far link ≡ Never
     → probed_so_far (after_outcome settings m request closed link) ≡ Never
@@ -271,8 +271,8 @@ never_probed settings (Counted fcb service) (Some Busy) closed link asks fresh =
 never_probed settings (Counted fcb service) (Some (Report asdu)) closed link asks fresh = refl
 never_probed settings (Counted fcb service) (Some NoData) closed link asks fresh = refl
 
--- Where services are held, only a refusal takes a link down, or that it is given up, or that its
--- station answered statuses meanwhile.
+-- If services are held, only three things take a link down: a refusal, that it is given up, or that
+-- its station answered statuses meanwhile.
 pub hold_steady :
     (settings : LinkSettings) (station : ℕ) (link : Link) (xs : List Exchange) → settings.hold
     ≡ true

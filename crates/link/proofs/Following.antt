@@ -160,7 +160,7 @@ wanted_goes burst may_poll again s command Available Over = tt
 
 -- ---- what the latest request says of the primary
 
--- It is outstanding; or it ended, and is sent again where repeats are left.
+-- It is outstanding; or it ended, and is sent again if repeats are left.
 pub data State (settings : LinkSettings) (outstanding : Option Outstanding) (again : Bool)
     (phase : Phase) (link : Link) (request : Asked) : Type 0 where
   waits : (o : Outstanding) → outstanding ≡ Some o → o.request ≡ request → again ≡ false

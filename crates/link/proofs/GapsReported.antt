@@ -195,7 +195,7 @@ start_matches : (station i : ℕ) (gap : Option ℕ) → gap_in_outcome i (start
 start_matches station i None = nothing (station == i)
 start_matches station i (Some session) = refl
 
--- the gap that is reported of an answer, where it is an answer to the request
+-- the gap that is reported of an answer, if it is an answer to the request
 reported_gap : (station i : ℕ) (gap : Option ℕ) (request : Asked) (m : Option Answer) →
     gap_in_outcome i (with_gap gap (outcome_of station request m))
     ≡ (if station == i then (if is_reset request m then as_numbers gap else []) else [])

@@ -26,7 +26,7 @@ others p k j other =
 pub number : (p : Primary) (k : ℕ) → length (given_up k p).stations ≡ length p.stations
 number p k = length-set p.stations k (station_given_up (station_at p.stations k))
 
--- where it was this station's turn nothing is outstanding any more
+-- if it was this station's turn, nothing is outstanding any more
 sends : (b : Bool) (o : Option Outstanding)
     → b && is_sending_command (if b then None else o) ≡ false
 sends true o = refl

@@ -18,7 +18,7 @@ use Rattle.link.specs.Carried.{reseated, bit_of, service_of}
 use Rattle.link.specs.Answers.{Service}
 use Rattle.link.proofs.Links.{set_view}
 
--- a request that may be sent leaves the bit as it is where it has no answer
+-- a request that may be sent leaves the bit as it is if it has no answer
 bit_left : (settings : LinkSettings) (request : Asked) (link : Link) → MaySend link request
     → bit_of (after_silence settings request false link) ≡ bit_of link
 bit_left settings Status Down may = refl

@@ -33,7 +33,7 @@ use Rattle.link.specs.Procedure.{probed_so_far, is_kept, spent_silence, short_si
 
 -- ---- what is wanted without leave
 
--- a request that is wanted is a poll where it is one
+-- a request that is wanted is a poll if it is one
 poll_is : (r : Asked) (following : Phase) (w : Wanted) → wants r following ≡ Some w
     → is_poll_request w.request ≡ is_poll_request r
 poll_is r following w is = (let same : record { request = r; following = following } ≡ w = cc in
@@ -231,7 +231,7 @@ octets front p came poll = go p.outstanding refl poll
     go None e h = h
     go (Some o) e h = arrived o e o.arrived h
 
--- after silence a poll is to be sent again only where it was sent
+-- after silence a poll is to be sent again only if it was sent
 silent : (settings : LinkSettings) (request : Asked) (link : Link) → is_poll_request request ≡ false
     → has_repeats settings (after_silence settings request true link) ≡ true
     → holds_poll (after_silence settings request true link) ≡ false

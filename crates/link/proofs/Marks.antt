@@ -278,7 +278,7 @@ and_false : (b : Bool) → (b && false) ≡ false
 and_false true = refl
 and_false false = refl
 
--- the last one, where it is with the station
+-- the last one, if it is with the station
 pub marked_last : (k : ℕ) (xs : List OpenExchange) (x : OpenExchange) → (x.station == k) ≡ true
     → latest_marked k (xs ++ x ∷ []) ≡ xs ++ marked x ∷ []
 marked_last k [] x here = ap (λ (b : Bool). if b && true then marked x ∷ [] else x ∷ []) here

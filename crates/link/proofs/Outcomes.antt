@@ -50,7 +50,7 @@ awaited_out front addresses turn o x w = (
   w.stands,
 )
 
--- the exchange that is awaited, where one is outstanding
+-- the exchange that is awaited, if one is outstanding
 awaited_at : (front : List ℕ → Front) (addresses : List ℕ) (turn : ℕ) (o : Option Outstanding)
     (x : OpenExchange) →
     IsCurrent front addresses turn o (Some x)

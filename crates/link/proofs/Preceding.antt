@@ -213,7 +213,7 @@ is_chosen p may_poll waiting c is = go (present p may_poll waiting) refl is
 abbrev pub sent : Chosen → Sending
 sent c = record { station = c.station; request = c.wanted.request }
 
--- what a station's request leaves of its visit, where a command waits
+-- what a station's request leaves of its visit, if a command waits
 pub record Steps (p : Primary) (c : Chosen) (left : ℕ) : Type 0 where
   pub passed : is_new_poll p (sent c) ≡ true → 0 < left
   pub next : rest p.settings.burst c.wanted.following ≤ left_behind p left (sent c)
@@ -424,7 +424,7 @@ call_steps p k left (Due now) small = other_steps p k left (Due now) tt small
 call_steps p k left (GivesUp station) small = other_steps p k left (GivesUp station) tt small
 call_steps p k left Doubts small = other_steps p k left Doubts tt small
 
--- ---- a poll passes only where one is left
+-- ---- a poll passes only if one is left
 
 passes_some : (p : Primary) (k left : ℕ) (call : Call) → rest_at p k ≤ left
     → passes_command p k call ≡ true → 0 < left

@@ -1,4 +1,4 @@
--- Where services are held, silence takes no link down but behind two statuses that were answered.
+-- If services are held, silence takes no link down but behind two statuses that were answered.
 use Rattle.std.specs.Prelude.{◌&&◌, not, nat_lt}
 use Rattle.std.proofs.Common.{◌≡◌, ℕ, suc, ◌≤◌, Bool, true, false, List, [], ◌∷◌, ◌++◌, Option}
 use Rattle.std.proofs.Common.{Some, None, refl, sym, ap, ◌∙◌, arith, if◌then◌else◌}
@@ -112,7 +112,7 @@ counts s a link n (x ∷ xs) h =
     counts s a (after s a x link) (probed_by x.request (answer_to a x) n) xs
     (one_counts s a x link n h)
 
--- ---- Where silence takes a link down
+-- ---- When silence takes a link down
 
 twice_is : (s : LinkSettings) (probed : Probed) (n : ℕ) → s.hold ≡ true → is_kept s probed ≡ false
     → number probed ≤ n → 2 ≤ n

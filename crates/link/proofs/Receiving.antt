@@ -65,7 +65,7 @@ noted_twice false n octets lt =
     let some : length octets ≡ 0 → ⊥ = λ e. omega arith in
     rw (ne_eqb (length octets) 0 some) refl
 
--- Where the first octets are gathered, the others give what all give.
+-- When the first octets are gathered, the others give what all give.
 pub rest_of : (front : List ℕ → Front) (p : Primary) (n : ℕ) (octets : List ℕ) → n < length octets →
     (received front (gathered n octets p) (drop n octets) ≡ received front p octets)
     × (received_outcome front (gathered n octets p) (drop n octets)

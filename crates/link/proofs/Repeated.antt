@@ -114,7 +114,7 @@ up settings station fcb service (x ∷ xs) all some few =
     ap (λ (l : Link). is_up l) (from_next settings station fcb service x xs all few)
     ∙ up_by settings fcb service (length (x ∷ xs))
 
--- ---- where the service is held
+-- ---- if the service is held
 
 last : (settings : LinkSettings) (fcb : Bool) (service : Service) (n : ℕ) (probed : Probed)
     → is_kept settings probed ≡ true → settings.retries < n

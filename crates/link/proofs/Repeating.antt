@@ -48,7 +48,7 @@ answered_not_held (Counted fcb service) NoData link asks = refl
 answered_not_held Status answer link asks = cc
 answered_not_held Reset answer link asks = cc
 
--- the phase behind an answer, where the link is up
+-- the phase behind an answer, if the link is up
 goes_on_behind : (request : Asked) (answer : Answer) (phase : Phase) (link link' : Link)
     → (is_answered (after_answer request answer link) ≡ false → is_answered link' ≡ false)
     → Follows request phase → is_answered link' ≡ true → Follows request (phase_after answer phase)
@@ -243,7 +243,7 @@ due_matches p at latest matches = go p.outstanding refl
 
 -- ---- the other calls
 
--- Where the link of the station is given up, its request is over.
+-- If the link of the station is given up, its request is over.
 give_up_matches : (p : Primary) (k : ℕ) (latest : Option Sending) → Matches p latest
     → Matches (given_up k p) latest
 give_up_matches p k None matches = (go (p.turn == k), off (p.turn == k))

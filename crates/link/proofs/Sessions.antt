@@ -19,7 +19,7 @@ use Rattle.link.proofs.KnownFrom.{learnt_in_sessions}
 use Rattle.link.specs.Delivery.{answered_by, is_latest_answered}
 use Rattle.std.proofs.Common.{◌≢◌}
 
--- Where the latest exchange was answered nothing is pending.
+-- If the latest exchange was answered, nothing is pending.
 answered_clears : (settings : LinkSettings) (link : Link) (request : Asked) (answer : Answer)
     (x : Exchange)
     (pending : Option Service) →

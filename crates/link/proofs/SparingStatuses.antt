@@ -34,7 +34,7 @@ module _ (settings : LinkSettings) (a : ℕ) where
   abbrev Asks : Link → List Exchange → Type 0
   Asks link xs = AskNoneThatIsUp settings a link xs
 
-  -- what may be asked, where the link is this one
+  -- what may be asked, if the link is this one
   abbrev Spares : Link → Asked → Type 0
   Spares link request = is_up link ≡ true → is_service request ≡ true
 

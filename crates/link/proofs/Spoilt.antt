@@ -1,6 +1,5 @@
--- The spoilt exchanges of a line, call by call: the count grows where the latest exchange is
--- closed, octets
--- came in it, and it isn't answered.
+-- The spoilt exchanges of a line, call by call. The count grows when the latest exchange is closed,
+-- if octets came in it and it isn't answered.
 use Rattle.std.specs.Prelude.{◌==◌, ◌↔◌}
 use Rattle.std.proofs.Common.{◌≡◌, ◌≢◌, ℕ, ◌+◌, ◌&&◌, ◌||◌, not, cond, Bool, true, false, List, []}
 use Rattle.std.proofs.Common.{◌∷◌, ◌++◌, length, Option, Some, None, is_none, refl, sym, ap, ◌∙◌}
@@ -56,7 +55,7 @@ missed_count : (has : Bool) (spoilt n : ℕ) → spoilt ≡ u64_saturate n
 missed_count true spoilt n is = ap (λ (m : ℕ). u64_saturate (m + 1)) is ∙ omega arith
 missed_count false spoilt n is = is ∙ omega arith
 
--- One that is closed without an answer counts where octets came.
+-- One that is closed without an answer counts if octets came.
 pub missed_push : (front : List ℕ → Front) (address : ℕ
     → ℕ) (xs : List OpenExchange) (x : OpenExchange) (has : Bool) (spoilt : ℕ) →
     x.closed ≡ true → has ≡ not (length x.octets == 0)

@@ -92,7 +92,7 @@ call_since p Doubts since is = is
 some_same : {a b : ℕ} → Some a ≡ Some b → a ≡ b
 some_same {a} {b} e = cc
 
--- A moment ends what is outstanding exactly where it is late enough.
+-- A moment ends what is outstanding exactly if it is late enough.
 ends : (p : Primary) (since at : ℕ) → (o : Option Outstanding) → p.outstanding ≡ o
     → IsSince o (Some since)
     → (at < since + p.settings.answer_ms → due_from p o at ≡ p)

@@ -153,7 +153,7 @@ neither : (holds command : Bool) → (not holds && not (true && command)) ≡ no
 neither true command = refl
 neither false command = refl
 
--- no command is on the line or held, exactly where the exchanges leave none held
+-- no command is on the line or held, exactly if the exchanges leave none held
 pub not_awaited : (front : List ℕ → Front) (settings : LinkSettings) (addresses : List ℕ)
     (p : Primary) (e : Exchanges) (i : ℕ) → MatchesBy front settings addresses p e →
     (not (holds_command (station_at p.stations i).link)
@@ -248,7 +248,7 @@ free_holds Available free = refl
 free_holds (Next fcb) free = refl
 free_holds (Held fcb service missed) free = cc
 
--- where no request is outstanding, and the station's service isn't held, no command is under way
+-- if no request is outstanding, and the station's service isn't held, no command is under way
 pub none_under_way : (front : List ℕ → Front) (settings : LinkSettings) (addresses : List ℕ)
     (p : Primary) (e : Exchanges) (i : ℕ) → MatchesBy front settings addresses p e →
     p.outstanding ≡ None → is_held (station_at p.stations i).link ≡ false →

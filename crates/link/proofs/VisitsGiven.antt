@@ -80,7 +80,7 @@ and_false : (b : Bool) → (b && false) ≡ false
 and_false true = refl
 and_false false = refl
 
--- in the later part, where an exchange of that is with the station
+-- in the later part, if an exchange of that part is with the station
 given_later : (k : ℕ) (es fs : List LineExchange) → has_at k fs ≡ true
     → line_given k (es ++ fs) ≡ es ++ line_given k fs
 given_later k [] fs some = refl
@@ -273,7 +273,7 @@ visits_still settings addresses k (v ∷ earlier) are =
 
 -- ---- the present visit
 
--- The earlier visits, with the mark where it isn't in the present one.
+-- The earlier visits, with the mark if it isn't in the present one.
 record AreMarked (front : List ℕ → Front) (settings : LinkSettings) (addresses : List ℕ)
     (turn : ℕ) (earlier : List Visit) (before : List Exchange) (new : Exchanges) : Type 0 where
   pub visits : List Visit

@@ -69,7 +69,7 @@ request_carried size Down command (Counted sent (Command asdu)) (inl is) may hel
 request_carried size Available command (Counted sent (Command asdu)) (inl is) may held carries = cc
 request_carried size (Next fcb) command (Counted sent (Command asdu)) (inl is) may held carries = cc
 
--- What goes out fits the line where what waits does.
+-- What goes out fits the line if what waits does.
 pub sending_carried : (front : List ℕ → Front) (settings : LinkSettings) (addresses : List ℕ)
     (p : Primary) (e : Exchanges) (may_poll : Bool) (waiting : CommandsWaiting)
     → AreUserData settings.size waiting → MatchesBy front settings addresses p e

@@ -61,7 +61,7 @@ data_answer (Counted fcb (Command _)) asdu = None
 abbrev pub comes_from : (station control address : ℕ) → Bool
 comes_from station control address = is_secondary control && (address == station)
 
--- what a frame says in answer to a request to this station, or nothing where it doesn't fit
+-- what a frame says in answer to a request to this station, or nothing if it doesn't fit
 abbrev pub answer_of : (station : ℕ) → Asked → Frame → Option Answer
 answer_of station request Single = single_answer request
 answer_of station request (Fixed control address) =

@@ -16,13 +16,13 @@ abbrev pub latest_by : Primary → Option Outstanding → (may_poll : Bool) → 
 latest_by p (Some o) may_poll waiting latest = latest
 latest_by p None may_poll waiting latest = sending p may_poll waiting
 
--- the latest request, or none where nothing went out when it might have
+-- the latest request, or none if nothing went out when it might have
 abbrev pub latest_after : Primary → Call → Option Sending → Option Sending
 latest_after p (Next now may_poll waiting) latest =
     latest_by p p.outstanding may_poll waiting latest
 latest_after p call latest = latest
 
--- Where the latest request is a service that had no answer in time, and repeats are left, the next
+-- The latest request is a service that had no answer in time, and repeats are left. Then the next
 -- request is that one again: the same service to the same station, with the same frame count bit.
 abbrev pub RepeatIsNext : Primary → Option Sending → Call → Type 0
 RepeatIsNext p (Some latest) (Next now may_poll waiting) =
@@ -44,13 +44,13 @@ abbrev pub first_service : Option (List ℕ) → StationState → Service
 first_service None s = poll_by s.acd
 first_service (Some asdu) s = if s.dfc then poll_by s.acd else Command asdu
 
--- The station holds a service that has no repeat left: where it goes out, a turn begins with it.
+-- The station holds a service that has no repeat left. When it goes out, a turn begins with it.
 abbrev pub is_spent : Primary → (station : ℕ) → Bool
 is_spent p station =
     is_held (station_at p.stations station).link
     && not (has_repeats p.settings (station_at p.stations station).link)
 
--- the station whose turn the latest request began, where that was a held service
+-- the station whose turn the latest request began, if that was a held service
 abbrev pub began_by : Primary → Option Sending → Option ℕ
 began_by p None = None
 began_by p (Some s) = if is_spent p s.station then Some s.station else None
@@ -70,12 +70,12 @@ began_after p call began = began
 abbrev pub first_of_turn : Primary → CommandsWaiting → (station : ℕ) → Service
 first_of_turn p waiting station = first_service (waiting station) (station_at p.stations station)
 
--- A poll goes out only where there is leave, and a command without it.
+-- A poll goes out only if there is leave. A command needs none.
 abbrev pub may_go : (may_poll : Bool) → Service → Bool
 may_go may_poll service = may_poll || not (is_poll service)
 
--- Where the latest request is a held service with which a turn began, and it was answered, and the
--- link is up, the next request is what the turn has first, if that may go.
+-- The latest request is a held service with which a turn began, it was answered, and the link is
+-- up. Then the next request is what the turn has first, if that may go.
 abbrev pub TurnIsNext : Primary → Option ℕ → Call → Type 0
 TurnIsNext p (Some station) (Next now may_poll waiting) =
     p.outstanding ≡ None → is_answered (station_at p.stations station).link ≡ true →

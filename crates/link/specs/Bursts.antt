@@ -61,7 +61,7 @@ abbrev pub is_answered : Link → Bool
 is_answered (procedure.Next fcb) = true
 is_answered link = false
 
--- the poll that ACD asks for: of class 1 where it is set, or else of class 2
+-- the poll that ACD asks for: of class 1 if it is set, or else of class 2
 abbrev pub poll_by : (acd : Bool) → Service
 poll_by acd = if acd then Class1 else Class2
 
@@ -73,9 +73,9 @@ IsSent p may_poll waiting station service =
       request = Counted fcb service;
     }))
 
--- Where the latest poll of a station was answered with ACD set, at whichever sending, and fewer
--- than `burst` of class 1 went out in a row, the next request is one more, if there is leave. Where
--- a new command was answered, it is the poll that ACD asks for.
+-- The latest poll of a station was answered with ACD set, at whichever sending, and fewer than
+-- `burst` of class 1 went out in a row. Then the next request is one more, if there is leave. If a
+-- new command was answered, it is the poll that ACD asks for.
 abbrev pub PollsGoOn : Primary → Row → Call → Type 0
 PollsGoOn p (Polls station many) (Next now true waiting) =
     p.outstanding ≡ None → is_answered (station_at p.stations station).link ≡ true →

@@ -40,7 +40,7 @@ given_up station p = record p {
   outstanding = if p.turn == station then None else p.outstanding;
 }
 
--- where its latest service is a command without an answer
+-- if its latest service is a command without an answer
 abbrev pub command_given_up : (station : ℕ) → Primary → Primary
 command_given_up station p = if awaits_command p station then given_up station p else p
 
@@ -176,7 +176,7 @@ reseated settings seats p = record {
 
 -- ---- What a station that goes on keeps
 
--- the frame count bit of the next service, or of the one without an answer, where the link is up
+-- the frame count bit of the next service, or of the one without an answer, if the link is up
 abbrev pub bit_of : Link → Option Bool
 bit_of Down = None
 bit_of Available = None

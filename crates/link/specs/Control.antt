@@ -85,7 +85,7 @@ HasFields (control.Secondary reserved acd dfc function) octet =
     (reserved_bit octet ≡ reserved) × (is_primary octet ≡ false) × (acd_bit octet ≡ acd)
     × (dfc_bit octet ≡ dfc) × (function_code octet ≡ secondary_code function)
 
--- what a bit counts where it is set
+-- what a bit counts if it is set
 abbrev pub weight : (place : ℕ) → Bool → ℕ
 weight place bit = if bit then place else 0
 

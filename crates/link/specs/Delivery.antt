@@ -41,8 +41,8 @@ pub record IsHonest (station : ℕ) (xs : List Exchange) (turns : List Turn) : T
   pub run : OutstationRun station unreset (requests_of xs) turns end
   pub fronts : AreTrueFronts xs turns
 
--- the service that the primary has no outcome of: its latest one in this session, where that was
--- not answered, or answered that it couldn't be served
+-- the service that the primary has no outcome of: its latest one in this session, if that was not
+-- answered, or was answered that it couldn't be served
 abbrev pub pending_by : Asked → Option Answer → Option Service → Option Service
 pending_by (Counted fcb service) None pending = Some service
 pending_by (Counted fcb service) (Some Unable) pending = Some service
@@ -116,7 +116,7 @@ IsSessionKnown station session =
 abbrev pub IsAllOrButLast : {A : Type 0} → List A → List A → Type 0
 IsAllOrButLast {A} all some = (some ≡ all) ⊎ ((last : A) × (some ++ last ∷ [] ≡ all))
 
--- whether the latest exchange was answered, statuses left out; where there was none nothing is
+-- whether the latest exchange was answered, statuses left out; if there was none, nothing is
 -- missing
 abbrev pub answered_by : Asked → Option Answer → (before : Bool) → Bool
 answered_by Status answer before = before
@@ -196,8 +196,8 @@ is_command_pending (Some Class1) = false
 is_command_pending (Some Class2) = false
 is_command_pending (Some (Command asdu)) = true
 
--- Where no command is pending in the end, the outstation accepted all of the session's commands
--- that weren't answered busy.
+-- If no command is pending in the end, the outstation accepted all of the session's commands that
+-- weren't answered busy.
 abbrev pub AcceptsAllSendings : (station : ℕ) → Session → Type 0
 AcceptsAllSendings station session =
     is_command_pending (pending_after station None session.exchanges) ≡ false →
@@ -214,7 +214,7 @@ is_gap (Some (Command asdu)) = false
 abbrev pub HasGap : (station : ℕ) → Session → Type 0
 HasGap station session = is_gap (pending_after station None session.exchanges) ≡ true
 
--- The primary has all the session's reports, or all but the last, and all of them where there is no
+-- The primary has all the session's reports, or all but the last. It has all of them if there is no
 -- gap.
 pub record HasReports (station : ℕ) (session : Session) : Type 0 where
   pub most : IsAllOrButLast (reports (all_done session.turns))

@@ -31,7 +31,7 @@ unsure_after p station (Octets octets) before =
     before && not (are_served p p.outstanding station octets)
 unsure_after p station call before = before
 
--- The status is asked of a station that is up only where it is so, and where its service has no
+-- The status is asked of a station that is up only if that is in doubt, and its service has no
 -- repeat left.
 abbrev pub ProbesIfUnsure : Primary → (station : ℕ) → (unsure : Bool) → Call → Type 0
 ProbesIfUnsure p station unsure (Next now may_poll waiting) =

@@ -53,7 +53,7 @@ unreset_with class1 class2 = record (fresh_station One 1) { class1 = class1; cla
 abbrev pub reset_with : (class1 class2 : List (List ℕ)) → Secondary
 reset_with class1 class2 = record (unreset_with class1 class2) { bit = Some false }
 
--- what it answers to a frame, where memory is granted or isn't
+-- what it answers to a frame, by whether memory is granted
 abbrev pub answer_by : (granted : Bool) → Secondary → Frame → Option Frame
 answer_by granted s frame = (received_reading granted s (reading_of s.address frame)).turn.answer
 

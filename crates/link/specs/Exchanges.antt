@@ -17,7 +17,7 @@ pub record Exchange : Type 0 where
   pub closed : Bool
   pub given_up : Bool
 
--- The answer: what the frame at the front says, where it fits the request.
+-- The answer: what the frame at the front says, if it fits the request.
 abbrev pub answer_to : (station : ℕ) → Exchange → Option Answer
 answer_to station x = option_and_then (answer_of station x.request) x.front
 
@@ -89,7 +89,7 @@ abbrev pub received_current : List ℕ → Option OpenExchange → Option OpenEx
 received_current octets None = None
 received_current octets (Some x) = Some (received_octets octets x)
 
--- A moment comes: it closes the exchange where it is answer_ms past the request.
+-- A moment comes. It closes the exchange if it is answer_ms past the request.
 abbrev pub timed : (answer_ms at : ℕ) → OpenExchange → OpenExchange
 timed answer_ms at x = record {
   station = x.station;

@@ -27,7 +27,7 @@ abbrev pub flags_by : Option Answer → Option Frame → Flags → Flags
 flags_by (Some answer) (Some frame) flags = flags_in frame
 flags_by answer front flags = flags
 
--- The flags that these exchanges with a station leave: those of its latest answer, or these where
+-- The flags that these exchanges with a station leave: those of its latest answer, or these if
 -- there is none.
 abbrev pub flags_after : (station : ℕ) → Flags → List Exchange → Flags
 flags_after station flags [] = flags
@@ -48,8 +48,8 @@ link_at settings front addresses station e =
     link_after settings (slice_index addresses station) Down
     (with_station station (views front (all_of e)))
 
--- A service with a new frame count bit heeds the flags: class 1 is polled where its data wait, and
--- class 2 where none wait; a command is sent where the station takes user data.
+-- A service with a new frame count bit heeds the flags. Class 1 is polled if its data wait, and
+-- class 2 if none wait. A command is sent if the station takes user data.
 abbrev pub Heeds : Flags → Asked → Type 0
 Heeds flags Status = Unit {0}
 Heeds flags Reset = Unit {0}

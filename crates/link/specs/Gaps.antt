@@ -15,11 +15,11 @@ resets_in station [] = 0
 resets_in station (x ∷ xs) =
     (if is_reset x.request (answer_to station x) then 1 else 0) + resets_in station xs
 
--- the number of a session with this pending, where it has a gap
+-- the number of a session with this pending, if it has a gap
 abbrev pub gap_numbered : (number : ℕ) → (pending : Option Service) → Option ℕ
 gap_numbered number pending = if is_gap pending then Some (u64_saturate number) else None
 
--- the number of the session that these exchanges leave, where it has a gap
+-- the number of the session that these exchanges leave, if it has a gap
 abbrev pub gap_in : (station : ℕ) → List Exchange → Option ℕ
 gap_in station xs = gap_numbered (resets_in station xs) (pending_after station None xs)
 
@@ -27,7 +27,7 @@ abbrev pub as_numbers : Option ℕ → List ℕ
 as_numbers None = []
 as_numbers (Some session) = session ∷ []
 
--- the session that an exchange ends, where that has a gap, by the exchanges before it
+-- the session that an exchange ends, if that has a gap, by the exchanges before it
 abbrev pub gap_by : (station : ℕ) → (before : List Exchange) → Exchange → List ℕ
 gap_by station before x =
     if is_reset x.request (answer_to station x) then as_numbers (gap_in station before) else []

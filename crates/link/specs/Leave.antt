@@ -1,4 +1,4 @@
--- Polls wait for leave (this gateway's own profile): a poll is begun only where the caller has room
+-- Polls wait for leave (this gateway's own profile): a poll is begun only when the caller has room
 -- for its report. One that is begun is sent again without leave.
 use Rattle.std.specs.Prelude.{◌≡◌, ◌⊎◌, ◌&&◌, ℕ, Bool, true, false, List, Option, Some, None}
 use Rattle.link.specs.Answers.{Asked, Status, Reset, Counted}
@@ -30,7 +30,7 @@ abbrev pub is_report : Outcome → Bool
 is_report (outcome.Report station asdu) = true
 is_report other = false
 
--- Nothing is left to be asked of the station but data, where this command waits for it.
+-- Nothing is left to be asked of the station but data, if this command waits for it.
 abbrev pub IsLeftToPolls : StationState → Option (List ℕ) → Link → Type 0
 IsLeftToPolls s command (Next fcb) = (command ≡ None) ⊎ (s.dfc ≡ true)
 IsLeftToPolls s command (Held fcb service silence) = is_poll service ≡ true

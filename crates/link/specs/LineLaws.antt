@@ -99,7 +99,7 @@ pub record LineLaws : Type 0 where
   pub back : (size : LinkSize) (address : ℕ) (request : Asked) →
       FitsAddress size address → FitsAsked size request →
       request_in size (spelling size (request_frame address request)) ≡ Some (address, request)
-  -- Where nothing is sent, nothing is left to be asked but data, and that for want of leave.
+  -- If nothing is sent, nothing is left to be asked but data, and that for want of leave.
   pub over : (q : Primary) (now : ℕ) (may_poll : Bool) (waiting : CommandsWaiting) →
       sending q may_poll waiting ≡ None →
       sending (asked q now may_poll waiting) may_poll waiting ≡ None

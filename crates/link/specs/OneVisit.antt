@@ -27,8 +27,8 @@ GoesOn p v s later =
     has_repeats p.settings (station_at p.stations s.station).link ≡ true)
     × MayFollow p.settings (station_at p.stations s.station).link v.left s.request later
 
--- It is the command that waits for the station, where the latest service is answered and DFC was
--- clear in that answer.
+-- It is the command that waits for the station, if the latest service is answered and DFC was clear
+-- in that answer.
 abbrev pub IsCommandFirst : Primary → CommandsWaiting → Sending → Type 0
 IsCommandFirst p waiting s =
     (asdu : List ℕ) → waiting s.station ≡ Some asdu →
@@ -46,7 +46,7 @@ Begins p may_poll waiting v s later =
     × MayFollow p.settings (station_at p.stations s.station).link
     (whole_visit p.settings (station_at p.stations s.station).link) s.request later
 
--- What a request makes of the visit. It is over where nothing went out.
+-- What a request makes of the visit. It is over if nothing went out.
 abbrev pub IsVisited : Primary → (may_poll : Bool) → CommandsWaiting → Option Sending →
     (before after : Present) → Type 0
 IsVisited p may_poll waiting None v v' = v' ≡ record { station = v.station; left = nothing_left }

@@ -13,7 +13,7 @@ pub data Effect : Type 0 where
   Given : (asdu : List ℕ) → Effect
   Accepted : (asdu : List ℕ) → Effect
 
--- what the outstation has done where it answers the service so
+-- what the outstation has done if it answers the service so
 abbrev pub effects_of : Service → Answer → List Effect
 effects_of Class1 (Report asdu) = Given asdu ∷ []
 effects_of Class2 (Report asdu) = Given asdu ∷ []

@@ -57,7 +57,7 @@ left_by_request p station left (Some o) may_poll waiting = left
 left_by_request p station left None may_poll waiting =
     left_after p station left (sending p may_poll waiting)
 
--- Where no command waits, it is all that a visit has: a poll of class 2, and `burst` of class 1.
+-- If no command waits, it is all that a visit has: a poll of class 2, and `burst` of class 1.
 abbrev pub polls_left : Primary → (station left : ℕ) → Call → ℕ
 polls_left p station left (Next now may_poll waiting) =
     if command_waits_at p waiting station

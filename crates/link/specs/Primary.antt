@@ -127,7 +127,7 @@ sending_from p None may_poll waiting = sending_by (choice p may_poll waiting)
 abbrev pub sending : Primary → (may_poll : Bool) → CommandsWaiting → Option Sending
 sending p may_poll waiting = sending_from p p.outstanding may_poll waiting
 
--- The request as it is put on the line. It is sent again where it is the station's held service.
+-- The request as it is put on the line. It is sent again if it is the station's held service.
 abbrev pub request_of : Primary → Sending → Request
 request_of p s = record {
   octets = record {
@@ -154,7 +154,7 @@ dfc_of Single = false
 dfc_of (Fixed control address) = shows_dfc control
 dfc_of (Data control address body) = shows_dfc control
 
--- The turn is over where the station couldn't serve the request.
+-- The turn is over if the station couldn't serve the request.
 abbrev pub phase_after : Answer → Phase → Phase
 phase_after Unable phase = Over
 phase_after answer phase = phase
@@ -268,7 +268,7 @@ abbrev pub outcome_of : (station : ℕ) → Asked → Option Answer → Outcome
 outcome_of station request None = outcome.None
 outcome_of station request (Some answer) = outcome_by station request answer
 
--- the number of the session that a start ends, where that has a gap
+-- the number of the session that a start ends, if that has a gap
 abbrev pub gap_of : SessionState → Option ℕ
 gap_of s = if s.has_gap then Some s.number else None
 
@@ -320,8 +320,8 @@ station_unanswered settings s request =
       unsure = s.unsure;
     }
 
--- The exchange of the station whose turn it is ends with no answer, and is spoilt where octets came
--- in it. The turn is over, save where the service is sent again at once.
+-- The exchange of the station whose turn it is ends with no answer, and is spoilt if octets came in
+-- it. The turn is over, unless the service is sent again at once.
 abbrev pub unanswered : Primary → Outstanding → Primary
 unanswered p o =
     let s = station_unanswered p.settings (station_at p.stations p.turn) o.request in
@@ -344,7 +344,7 @@ due_from p (Some o) now = if is_late p o now then unanswered p o else p
 abbrev pub timed_out : Primary → (now : ℕ) → Primary
 timed_out p now = due_from p p.outstanding now
 
--- The caller learns where the station's link is down now.
+-- If the station's link is down now, the caller learns it.
 abbrev pub miss_outcome : Primary → Asked → Outcome
 miss_outcome p request =
     if goes_down request (after_silence p.settings request true

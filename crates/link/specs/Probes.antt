@@ -4,8 +4,8 @@ use Rattle.std.specs.Prelude.{ℕ, suc, List, [], ◌∷◌, Option, Some, None}
 use Rattle.link.specs.Answers.{Asked, Status, Counted, Answer, Ready}
 use Rattle.link.specs.Exchanges.{Exchange, answer_to}
 
--- how many statuses the station answered since the latest service that was answered, and since the
--- latest status that wasn't, with this request, where it were so many before
+-- How many statuses the station answered since the latest service that was answered, and since the
+-- latest status that wasn't. This request counts, and there were so many before it.
 abbrev pub probed_by : Asked → Option Answer → (before : ℕ) → ℕ
 probed_by Status (Some Ready) before = suc before
 probed_by Status None before = 0

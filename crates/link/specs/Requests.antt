@@ -88,7 +88,7 @@ short_by fcb fcv code = if fcv then counted_reading fcb code else plain_reading 
 abbrev pub short_reading : (control : ℕ) → Reading
 short_reading control = short_by (fcb_bit control) (fcv_bit control) (function_code control)
 
--- user data ask for a service only where they have an octet
+-- user data ask for a service only if they have an octet
 abbrev pub data_by : (fcb fcv : Bool) → (code : ℕ) → List ℕ → Reading
 data_by fcb fcv code [] = Unknown
 data_by fcb fcv code (octet ∷ octets) =

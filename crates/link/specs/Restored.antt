@@ -216,7 +216,7 @@ answered_with [] = None
 answered_with (kind ∷ ns) = received_by kind ns
 
 -- The first of these lines say this state, and the rest stands behind them. What arrived is looked
--- at where a request is outstanding, and of a station's three lines the first two are.
+-- at if a request is outstanding. Of a station's three lines the first two are looked at.
 pub record IsStateOf (p : Primary) (lines rest : List (List ℕ)) : Type 0 where
   pub received : List ℕ
   pub stations : List (List ℕ)

@@ -113,7 +113,7 @@ HaveNone p may_poll waiting =
 
 -- Silence
 
--- A silence is reported where it takes a link down that was up.
+-- A silence is reported if it takes a link down that was up.
 abbrev pub silence_outcome : (station : ℕ) → (before later : Link) → Outcome
 silence_outcome station before later =
     if is_up before && not (is_up later) then outcome.Down station else outcome.None

@@ -136,7 +136,8 @@ FitsSavedLink link = Unit {0}
 abbrev pub LinkReadsBack : Link → Type 0
 LinkReadsBack link = link_from (link_numbers link) ≡ Some link
 
--- It may have been restarted: that stands at the end of a line, and nothing where it can't.
+-- It may have been restarted: that stands at the end of a line, and if it can't have been, nothing
+-- stands there.
 abbrev pub unsure_numbers : Bool → List ℕ
 unsure_numbers false = []
 unsure_numbers true = 1 ∷ []

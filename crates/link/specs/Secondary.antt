@@ -1,6 +1,6 @@
 -- The secondary station of this crate: what it answers to each request (IEC 60870-5-2, the
--- procedures of a secondary station). Where it answers with the single character, and that DFC is
--- never set, is its own choice.
+-- procedures of a secondary station). When it answers with the single character is its own choice,
+-- and so is that DFC is never set.
 use Rattle.std.specs.Prelude.{◌≡◌, ◌⊎◌, ℕ, ◌+◌, min, ◌-◌, ◌^◌, Bool, true, false, List, [], ◌∷◌}
 use Rattle.std.specs.Prelude.{◌++◌, Option, Some, None, if◌then◌else◌}
 use Rattle.link.specs.Control.{secondary_octet, secondary_code as number}
@@ -49,7 +49,7 @@ control_of code (report ∷ reports) = secondary_octet true false code
 abbrev pub data_frame : (control address : ℕ) → List ℕ → Frame
 data_frame control address report = Data control address (record { items = report })
 
--- a confirmation, or that no data wait: the single character where no class 1 reports wait
+-- a confirmation, or that no data wait: the single character if no class 1 reports wait
 abbrev pub short_of : (code address : ℕ) → (class1 : List (List ℕ)) → Frame
 short_of code address [] = Single
 short_of code address (report ∷ reports) = Fixed (secondary_octet true false code) address
@@ -108,7 +108,7 @@ served_class2 s fcb (report ∷ reports) = record {
       };
 }
 
--- A command is accepted where there was memory for it, and else answered that the station is busy.
+-- A command is accepted if there was memory for it, and else answered that the station is busy.
 abbrev pub served_command : (granted : Bool) → Secondary → (fcb : Bool) → List ℕ → Served
 served_command true s fcb asdu = record {
   turn = record {
@@ -162,7 +162,7 @@ IsCommandServed old fcb asdu answer new =
     (granted : Bool) × (answer ≡ (served_command granted old fcb asdu).turn.answer)
     × (new ≡ (served_command granted old fcb asdu).state)
 
--- The station answers so, and has this state after it, where memory was granted or not.
+-- The station answers so, and has this state after it, whether memory was granted or not.
 abbrev pub IsServed : Secondary → Asked → Option Frame → Secondary → Type 0
 IsServed old request answer new =
     (granted : Bool) × (answer ≡ (served granted old request).turn.answer)

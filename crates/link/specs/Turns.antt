@@ -43,7 +43,7 @@ is_poll Class1 = true
 is_poll Class2 = true
 is_poll (Command asdu) = false
 
--- Polls: class 1 while ACD is set, at most burst of them. Where ACD was clear, one of class 2 comes
+-- Polls: class 1 while ACD is set, at most burst of them. If ACD was clear, one of class 2 comes
 -- first.
 abbrev pub wanted_poll : (burst : ℕ) → (fcb : Bool) → (acd : Bool) → Phase → Option Wanted
 wanted_poll burst fcb acd Polling =
@@ -53,7 +53,7 @@ wanted_poll burst fcb acd (Class1Polling sent) =
     if acd && nat_lt sent burst then wants (Counted fcb Class1) (Class1Polling (suc sent)) else None
 wanted_poll burst fcb acd phase = None
 
--- polls from this phase on, where they may be sent
+-- polls from this phase on, if they may be sent
 abbrev pub polls_from : (burst : ℕ) → (may_poll : Bool) → (fcb : Bool) → StationState → Phase →
     Option Wanted
 polls_from burst may_poll fcb s phase = if may_poll then wanted_poll burst fcb s.acd phase else None
@@ -62,7 +62,7 @@ polls_from burst may_poll fcb s phase = if may_poll then wanted_poll burst fcb s
 abbrev pub wanted_command : (fcb : Bool) → (asdu : List ℕ) → Option Wanted
 wanted_command fcb asdu = wants (Counted fcb (Command asdu)) Polling
 
--- the command that waits, where the station takes one, or else polls
+-- the command that waits, if the station takes one, or else polls
 abbrev pub commands_from : (burst : ℕ) → (may_poll : Bool) → (fcb : Bool) → StationState →
     Option (List ℕ) → Option Wanted
 commands_from burst may_poll fcb s (Some asdu) =
@@ -70,7 +70,7 @@ commands_from burst may_poll fcb s (Some asdu) =
     else wanted_command fcb asdu
 commands_from burst may_poll fcb s None = polls_from burst may_poll fcb s Polling
 
--- what an up station's turn goes on with, where this command waits for it
+-- what an up station's turn goes on with, if this command waits for it
 abbrev pub next_of : (burst : ℕ) → (may_poll : Bool) → (fcb : Bool) → StationState →
     Option (List ℕ) → Phase → Option Wanted
 next_of burst may_poll fcb s command Starting = commands_from burst may_poll fcb s command
@@ -85,9 +85,9 @@ next_of burst may_poll fcb s command Over = None
 abbrev pub is_doubted : StationState → Silence → Bool
 is_doubted s silence = s.unsure && silence.spent
 
--- What the station's turn has next, by its link: it is started, a held service is sent once (again
--- at once where its repeats aren't used up), and then come a command and polls. A turn of a station
--- that is in doubt has its status alone.
+-- What the station's turn has next, by its link. First it is started. Then a held service is sent
+-- once, or again at once if its repeats aren't used up. Then come a command and polls. A turn of a
+-- station that is in doubt has its status alone.
 abbrev pub wanted_by : (burst : ℕ) → (may_poll again : Bool) → StationState → Option (List ℕ) →
     Link → Phase → Option Wanted
 wanted_by burst may_poll again s command Down Starting = wants Status Starting

@@ -22,9 +22,9 @@ class1_polls (suc many) = kind.Class1 ∷ class1_polls many
 abbrev pub services : (burst : ℕ) → List RequestKind
 services burst = kind.Command ∷ (kind.Class2 ∷ class1_polls burst)
 
--- What a visit has, by the link at its beginning: where it is down a status and a reset. No visit
--- begins with a link whose status is known: its reset goes out in the visit of its status. Where
--- the link is up, the held service with its repeats, and then new services.
+-- What a visit has, by the link at its beginning. If the link is down, that is a status and a
+-- reset. No visit begins with a link whose status is known: its reset goes out in the visit of its
+-- status. If the link is up, it is the held service with its repeats, and then new services.
 abbrev pub whole_visit : LinkSettings → Link → Left
 whole_visit settings Down = record { plan = kind.Status ∷ (kind.Reset ∷ []); repeats = 0 }
 whole_visit settings Available = record { plan = []; repeats = 0 }

@@ -7,8 +7,8 @@ use Rattle.link.specs.Primary.{Primary, sending}
 use Rattle.link.specs.Leave.{IsLeftToPolls}
 use Rattle.link.specs.Runs.{Call, Next, called}
 
--- Where a request goes out, something is left to be asked of the station, too: it may be polled, or
--- it has more than polls.
+-- If a request goes out, something is left to be asked of the station, too: it may be polled, or it
+-- has more than polls.
 abbrev pub WantsAt : Primary → (station : ℕ) → Call → Type 0
 WantsAt p station (Next now may_poll waiting) =
     (s : Sending) → sending p may_poll waiting ≡ Some s → (may_poll ≡ true)

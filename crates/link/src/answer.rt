@@ -86,7 +86,7 @@ impl Asked {
         }
     }
 
-    /// What a frame says in answer to this request to the station, or nothing where it doesn't fit.
+    /// What a frame says in answer to this request to the station, or nothing if it doesn't fit.
     /// Asks for at most 253 octets of data.
     pub fn answered_by<'a>(&self, station: u16, frame: FrameRef<'a>) -> Option<Answer<'a>>
         requires { FitsMemory frame }

@@ -106,7 +106,7 @@ impl CommandOctets {
     }
 }
 
-/// The octets of an application service data unit where a frame has them: at most 253.
+/// The octets of an application service data unit, if a frame has them: at most 253.
 #[derive(Drop)]
 pub struct AsduRef<'a> {
     octets: &'a [u8],

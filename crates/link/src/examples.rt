@@ -154,9 +154,10 @@ pub fn requests_by_example()
         × (reading_of 1 (data_frame 0x7A 1 octet) ≡ Unknown) }
 {}
 
-/// What a turn has next, of a station in each state (this gateway's own profile), with `burst` 2:
-/// with leave to poll or without, and where an unanswered service is to be sent again at once or
-/// isn't; and how often it is, with `retries` 2, until it is held or given up.
+/// What a turn has next, of a station in each state (this gateway's own profile), with `burst` 2.
+/// It is shown with leave to poll and without, and with an unanswered service that is to be sent
+/// again at once or isn't. How often that service is sent, with `retries` 2, until it is held or
+/// given up, is shown, too.
 pub fn turns_by_example()
     ensures starts { (wanted 2 false false (in_state Down false false) None Starting
         ≡ wants Status Starting)
@@ -238,9 +239,10 @@ pub fn turns_by_example()
 {}
 
 /// What an outstation answers to each frame (IEC 60870-5-2, 5.1: the functions of a secondary
-/// station, and the procedures of unbalanced transmission; where it answers with `E5`, and that DFC
-/// is clear, is its own choice): before its first reset and after, with reports of each class or
-/// none, to an unchanged frame count bit, to what it doesn't know and to what isn't for it.
+/// station, and the procedures of unbalanced transmission). When it answers with `E5`, and that DFC
+/// is clear, is its own choice. Shown is what it answers before its first reset and after, with
+/// reports of each class or none, and to an unchanged frame count bit, to what it doesn't know and
+/// to what isn't for it.
 pub fn outstations_by_example()
     ensures starts { (answer_by true (unreset_with [] []) (Fixed 0x49 1) ≡ Some (Fixed 0x0B 1))
         × (answer_by true (unreset_with (octet ∷ []) []) (Fixed 0x49 1) ≡ Some (Fixed 0x2B 1))

@@ -109,7 +109,7 @@ pub fn outcomes_bear_the_reports()
     front_is_computed();
 }
 
-/// A request of a primary station is a station's, fits the line where what waits does, and goes out
+/// A request of a primary station is a station's, and fits the line if what waits does. It goes out
 /// only while no exchange is outstanding.
 pub fn requests_wait_their_turn()
     ensures fit { (settings : LinkSettings) (addresses : List ℕ) (p : Primary) (e : Exchanges)

@@ -12,28 +12,26 @@
 //! [`Station`] on another (`specs/Secondary.antt`). Above them stand laws, as public functions with
 //! no body:
 //! - over every list of calls the exchanges of the line keep the frame count bit of each station
-//!   ([`frame_count_bits_are_kept`], [`master_matches_the_log`]), no request goes out while one is
-//!   outstanding ([`requests_wait_their_turn`]), turns go round the stations ([`turns_go_round`]),
-//!   a turn ends ([`turns_end`]), it is one visit ([`a_turn_is_one_visit`]) and no station starves
-//!   ([`no_station_starves`]), an answer is heard ([`answers_are_heard`]) and has its time
-//!   ([`answers_have_their_time`]), an unanswered
-//!   service is sent again at once ([`repeats_come_at_once`]) and as often as is set
-//!   ([`repeats_are_as_many_as_set`]), a command that waits goes out before any new poll
-//!   ([`commands_go_before_polls`]) and polls follow it in its turn ([`polls_go_on`]), as they
-//!   follow a held service ([`turns_go_on_behind_held_services`]), polls and commands go by
-//!   ACD and DFC ([`flags_are_heeded`]), a command that is sent for the
-//!   first time is the one that waits ([`commands_are_those_that_wait`]), and goes out where no
-//!   other is under way ([`one_command_at_a_time`]), what the caller learns is what the exchanges
-//!   show ([`outcomes_are_answers`], [`outcomes_bear_the_reports`]), and
-//!   those that closed with
-//!   octets but no answer are counted ([`spoilt_exchanges_are_counted`]);
+//!   ([`frame_count_bits_are_kept`], [`master_matches_the_log`]), and no request goes out while one
+//!   is outstanding ([`requests_wait_their_turn`]). Turns go round the stations
+//!   ([`turns_go_round`]), a turn ends ([`turns_end`]) and is one visit ([`a_turn_is_one_visit`]),
+//!   and no station starves ([`no_station_starves`]). An answer is heard ([`answers_are_heard`])
+//!   and has its time ([`answers_have_their_time`]). An unanswered service is sent again at once
+//!   ([`repeats_come_at_once`]) and as often as is set ([`repeats_are_as_many_as_set`]). A command
+//!   that waits goes out before any new poll ([`commands_go_before_polls`]). Polls follow it in its
+//!   turn ([`polls_go_on`]), as they follow a held service ([`turns_go_on_behind_held_services`]).
+//!   Polls and commands go by ACD and DFC ([`flags_are_heeded`]). A command that is sent for the
+//!   first time is the one that waits ([`commands_are_those_that_wait`]), and goes out if no other
+//!   is under way ([`one_command_at_a_time`]). What the caller learns is what the exchanges show
+//!   ([`outcomes_are_answers`], [`outcomes_bear_the_reports`]). Exchanges that closed with octets
+//!   but no answer are counted ([`spoilt_exchanges_are_counted`]);
 //! - a reset that ends a session whose last report may be lost is reported, and no other
 //!   ([`gaps_are_reported`], [`gaps_are_ended_sessions`]);
-//! - where a link is given up at a restart no other station changes
+//! - when a link is given up at a restart no other station changes
 //!   ([`giving_up_is_for_one_station`]), and the exchanges show it ([`giving_up_is_logged`],
-//!   [`the_latest_exchange_is_marked`]); where a line goes on with other settings each station that
+//!   [`the_latest_exchange_is_marked`]). When a line goes on with other settings, each station that
 //!   goes on keeps its frame count bit ([`frame_count_bits_go_on`]), and what is known of its
-//!   session ([`sessions_go_on`]), and the procedures go on as behind a start
+//!   session ([`sessions_go_on`]). The procedures go on as behind a start
 //!   ([`new_settings_keep_the_procedures`]);
 //! - what the crates above go by is one record ([`line_keeps_the_procedures`]);
 //! - a station runs as an outstation that receives each request to it
@@ -46,7 +44,7 @@
 //!   [`turns_by_example`], [`outstations_by_example`]);
 //! - from one exchange to the next the frame count bit is as the standard has it
 //!   ([`frame_count_bits_alternate`]);
-//! - and where the frame count bit is kept and an outstation's answers come in their exchange and
+//! - and if the frame count bit is kept and an outstation's answers come in their exchange and
 //!   unaltered, each service acts once and its answer is taken once ([`each_service_acts_once`],
 //!   [`sessions_are_known`], [`commands_are_accepted`], [`reports_are_learnt`],
 //!   [`silence_is_no_reset`]).

@@ -227,7 +227,7 @@ fn inner_in(assembler: &mut Assembler, piece: &[u8]) -> usize
 impl Master {
     /// A primary station of the stations with these link addresses, in the order of their turns.
     /// Their links are down. It asks for at least one, and for addresses that fit their size. Only
-    /// this call and [`Master::reseated`] take memory: `Err` where there is none.
+    /// this call and [`Master::reseated`] take memory: `Err` if there is none.
     pub fn new(alloc: Global, settings: LinkSettings, addresses: &[u16]) -> Result<Master, NoMemory>
         requires some { 0 < length addresses.now }
         requires fit { All (FitsAddress settings.size) addresses.now }
@@ -342,11 +342,11 @@ impl Master {
         }
     }
 
-    /// The next request, at this moment in milliseconds: none where one is outstanding, or no
-    /// station has any. With `may_poll` false no data are asked for, save by a poll that is
-    /// unanswered and sent again at once. The request is to be put on the line: its exchange begins
-    /// now. A command that goes out for the first time is the one that waits for its station, and
-    /// its user has it to do that it waits no more.
+    /// The next request, at this moment in milliseconds: none if one is outstanding, or no station
+    /// has any. With `may_poll` false no data are asked for, save by a poll that is unanswered and
+    /// sent again at once. The request is to be put on the line: its exchange begins now. A command
+    /// that goes out for the first time is the one that waits for its station. Its user has to see
+    /// to it that it waits no more.
     pub fn next<U: LinkUser>(&mut self, now: u64, may_poll: bool, user: &U) -> Option<Request>
         ensures state { self.new ≡ asked self.old now may_poll (U.waiting user.now) }
         ensures request { result ≡ option_map (request_of self.old)
@@ -459,11 +459,11 @@ impl Master {
     }
 
     /// Receives octets of the line, in any pieces, and says what came of the exchange: its answer
-    /// is the frame at the front of its octets. Those that come while no request is outstanding,
-    /// and those after an answer or after what can't be one, are dropped. A report is lent: from
-    /// the octets, where the whole answer stands there, and else from `room`, in which an answer is
-    /// put that came in pieces. Who has no room to give for each piece calls the parts of this one:
-    /// `receive_whole`, `gather_inner`, `gather` and `receive`, in this order.
+    /// is the frame at the front of its octets. Those that come while no request is outstanding are
+    /// dropped, and so are those after an answer or after what can't be one. A report is lent: from
+    /// the octets if the whole answer stands there, and else from `room`, into which an answer is
+    /// put that came in pieces. Whoever has no room to give for each piece calls the parts of this
+    /// one: `receive_whole`, `gather_inner`, `gather` and `receive`, in this order.
     pub fn octets<'a>(&mut self, octets: &'a [u8], room: &'a mut Option<Frame>) -> Outcome<'a>
         ensures state { self.new ≡ received (front_of self.old.settings.size) self.old octets.now }
         ensures outcome { result
@@ -485,7 +485,7 @@ impl Master {
         }
     }
 
-    /// A part of `octets`. Receives octets of the line with a whole frame at their front, where a
+    /// A part of `octets`. Receives octets of the line with a whole frame at their front, if a
     /// request is outstanding and these are the first octets that come: that is its answer. Else
     /// nothing is received, and nothing changes.
     pub fn receive_whole<'a>(&mut self, octets: &'a [u8]) -> Option<Outcome<'a>>
@@ -516,7 +516,7 @@ impl Master {
     }
 
     /// A part of `octets`. Gathers octets of the line up to one that may be the last of the answer,
-    /// and says how many: all where none may. The others are to be gathered as well
+    /// and says how many: all if none may. The others are to be gathered as well
     /// ([`Master::gather`]), and then what is received is what all of them say. It makes no place
     /// for a frame, so it is the first call for octets that aren't a whole answer.
     pub fn gather_inner(&mut self, octets: &[u8]) -> usize
@@ -616,9 +616,9 @@ impl Master {
         }
     }
 
-    /// Ends, as unanswered, an exchange that is outstanding where this moment, in milliseconds, is
-    /// at least `answer_ms` past its request. `Down` where the station's link is given up: with
-    /// `hold` false, after one sending and its repeats.
+    /// Ends, as unanswered, an exchange that is outstanding if this moment, in milliseconds, is at
+    /// least `answer_ms` past its request. `Down` if the station's link is given up: with `hold`
+    /// false, after one sending and its repeats.
     pub fn due(&mut self, now: u64) -> Outcome<'static>
         ensures state { self.new ≡ timed_out self.old now }
         ensures outcome { result ≡ due_outcome self.old now }

@@ -7,7 +7,7 @@ use crate::asdu::AsduRef;
 use crate::service::Asked;
 use std::marker::Model;
 
-/// The octets of a report where its frame has them: at most 253.
+/// The octets of a report, if its frame has them: at most 253.
 #[derive(Drop)]
 pub struct ReportRef<'a> {
     octets: &'a [u8],
@@ -71,7 +71,7 @@ pub enum Outcome<'a> {
     Down(usize),
 }
 
-/// The outcome of an answer to the request, where the station's session has this gap.
+/// The outcome of an answer to the request, if the station's session has this gap.
 pub(crate) fn outcome_for<'a>(
     station: usize,
     gap: Option<u64>,

@@ -74,7 +74,7 @@ impl Silence {
         ensures { result ≡ spent_silence settings probed }
     {
         Silence {
-            // In 16 bits, where one more than any `retries` fits (docs/DECISIONS.md, "Unanswered
+            // In 16 bits, in which one more than any `retries` fits (docs/DECISIONS.md, "Unanswered
             // transmissions in 16 bits"). Nothing more is counted, however long the silence.
             missed: u16::from(settings.retries) + 1,
             spent: true,

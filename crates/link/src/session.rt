@@ -1,4 +1,4 @@
-//! Sessions of a link: each lies between two answered resets, and a report may be lost where one
+//! Sessions of a link: each lies between two answered resets, and a report may be lost when one
 //! ends.
 ghost use Rattle.std.specs.Prelude.{◌≡◌};
 ghost use Rattle.link.specs.Primary.{session_asked, session_answered, gap_of};
@@ -47,7 +47,7 @@ impl SessionState {
         }
     }
 
-    /// Its number, where it has a gap.
+    /// Its number, if it has a gap.
     pub(crate) fn gap(&self) -> Option<u64>
         ensures { result ≡ gap_of self.now }
     {

@@ -239,7 +239,7 @@ impl Station {
         }
     }
 
-    /// Serves a service with these octets, which count where it is a command.
+    /// Serves a service with these octets, which count if it is a command.
     fn serve_counted(&mut self, fcb: bool, service: &Service, asdu: &UserData) -> Option<Frame>
         ensures served { IsServed self.old
             (Asked.Counted fcb (service_with asdu.now service.now)) result self.new }
@@ -295,7 +295,7 @@ impl Station {
     /// Receives octets: answers a whole frame with PRM 1 to its own address, and nothing else. An
     /// unchanged frame count bit gives the last answer again. With a new one a poll gives the
     /// oldest report of its class, and a command is accepted, or answered that the station is busy
-    /// where memory is refused. Requests that it doesn't know are answered that they aren't
+    /// if memory is refused. Requests that it doesn't know are answered that they aren't
     /// implemented.
     pub fn receive(&mut self, octets: &[u8]) -> Option<Frame>
         ensures arrived { ReceivesOctets self.old octets.now result self.new }
@@ -320,7 +320,7 @@ impl Station {
     }
 
     /// Has a report of class 1, after those that it has: at most 253 octets (252 with two-octet
-    /// addresses). Where there is no memory nothing changes.
+    /// addresses). If there is no memory, nothing changes.
     pub fn report1(&mut self, report: &[u8]) -> Result<(), NoMemory>
         requires { FitsFrame self.old.size report.now }
         ensures ok { OnOk result (self.new ≡ called self.old (Report1 true report.now)) }
@@ -333,7 +333,7 @@ impl Station {
     }
 
     /// Has a report of class 2, after those that it has: at most 253 octets (252 with two-octet
-    /// addresses). Where there is no memory nothing changes.
+    /// addresses). If there is no memory, nothing changes.
     pub fn report2(&mut self, report: &[u8]) -> Result<(), NoMemory>
         requires { FitsFrame self.old.size report.now }
         ensures ok { OnOk result (self.new ≡ called self.old (Report2 true report.now)) }

@@ -16,7 +16,7 @@ use Rattle.live.specs.Streams.{WritesFront, brings, brought, called, ends_frame,
 use Rattle.live.specs.Streams.{takes_all, took}
 use Rattle.live.proofs.Writes.{eq_by, took_once, unequal}
 
--- a write is taken where all its octets are
+-- a write is taken if all its octets are
 pub front_taken : (old new : List SystemCall) (octets : List ℕ) (is_taken : Bool)
     → WritesFront (Some old) octets is_taken (Some new)
     → (is_taken ≡ true) ↔ (took new ≡ took old ++ octets)

@@ -124,7 +124,7 @@ none_by true false before now so stays = refl
 none_by true true false now so stays = absurd (cc)
 none_by true true true now so stays = stays refl
 
--- an event that is no cut comes only where none is due
+-- an event that is no cut comes only if none is due
 other_more : (old new : LiveEnds) (event : Next) (buf : List ℕ) (entry : LogEntry)
     → LogsTurn old event buf new → begins_so true old.is_cut_due old.log ≡ true
     → is_wall event ≡ false → is_cut event ≡ false

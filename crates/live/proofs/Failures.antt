@@ -1,4 +1,4 @@
--- The line fails where its stream is gone.
+-- The line fails if its stream is gone.
 use Rattle.std.proofs.Common.{◌≡◌, ℕ, ◌+◌, ◌-◌, Bool, List, Option, Some, None, IfSome, refl, sym}
 use Rattle.std.proofs.Common.{ap}
 use Rattle.std.proofs.Common.{subst, arith, ◌∙◌}

@@ -16,7 +16,7 @@ use Rattle.live.specs.declared.ends.Got.{Got}
 use Rattle.live.specs.declared.ends.Got.TheVariants.{Octets, Quiet, Gone}
 use Rattle.live.proofs.Beside.{written_beside, closed_beside}
 
--- how many octets are late, and how many the line dropped, where it notes that
+-- how many octets are late, and how many the line dropped, if it notes that
 abbrev late_of : LiveEnds → ℕ × Option ℕ
 late_of e = (e.late, option_map dropped_of e.line)
 
@@ -57,7 +57,7 @@ asked_late : (late n : ℕ) (octets : List ℕ) (taken : Bool) (h : StreamHistor
 asked_late late n octets taken None logged = tt
 asked_late late n octets taken (Some before) logged = ap (more late) logged
 
--- where both are as they were
+-- if both are as they were
 noted_still : (old new : LiveEnds) → late_of new ≡ late_of old → CountsLate old → CountsLate new
 noted_still old new same logged =
     let P : ℕ × Option ℕ → Type 0 = λ p. IsLate p.0 p.1 in subst P (sym same) logged

@@ -108,7 +108,7 @@ centre_held : (d : Bool) (k octets i : List ℕ) (o : List (List ℕ)) (c : Opti
 centre_held d k octets i o None none t = tt
 centre_held d k octets i o (Some peer) none t = stream_held d k octets i o peer.stream none t
 
--- a new stream, where no cut is due
+-- a new stream, if no cut is due
 written_none : (d : Bool) → d ≡ false → LogsWritten d [] [] []
 written_none true due = absurd (cc)
 written_none false due = (refl, refl)
@@ -140,7 +140,7 @@ listener_new None fresh = tt
 listener_new (Some before) fresh =
     let P : List Bool → Type 0 = λ b. LogsListener 0 (Some b) in subst P (sym fresh) refl
 
--- octets of the connection are found only where none are held
+-- octets of the connection are found only if none are held
 IsUnheld : Option SourceEvent → (held : List ℕ) → Type 0
 IsUnheld None held = Unit {0}
 IsUnheld (Some found.Open) held = Unit {0}

@@ -4,7 +4,7 @@ use Rattle.gateway.specs.Log.{LineOut, TcpOut, Closed, GapOut}
 use Rattle.session.specs.declared.kinds.Close.{Close}
 use Rattle.live.specs.Ends.{LiveEnds, Peer, after_action, written_open, IsWritten, PutsOut}
 
--- nothing is written, where a cut is due
+-- nothing is written, if a cut is due
 pub dropped_due : (old new : LiveEnds) (octets : List ℕ) → old.is_cut_due ≡ true → new ≡ old
     → IsWritten old octets new
 dropped_due old new octets due same = record {
@@ -13,7 +13,7 @@ dropped_due old new octets due same = record {
       ∙ sym (ap (λ b. written_open b octets false old.connection old) due);
 }
 
--- nor where there is no connection
+-- nor if there is no connection
 pub dropped_none : (old new : LiveEnds) (octets : List ℕ) → old.is_cut_due ≡ false → old.connection
     ≡ None → new ≡ old
     → IsWritten old octets new

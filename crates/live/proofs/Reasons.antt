@@ -46,7 +46,7 @@ gone_so n stream is =
     let P : Option Bool → Type 0 = λ n. IsFoundGone n (Some (noted stream WasGone)) in
     subst P is (gone_at stream)
 
--- What was found where a cut was due or not, and the reason was this one, of a connection that
+-- What was found, whether a cut was due or not, if the reason was this one, of a connection that
 -- notes so; and the ends after it.
 IsReasoned : Bool → CutCause → Option Bool → Option SourceEvent → LiveEnds → Type 0
 IsReasoned true w n None e = ⊥
@@ -247,7 +247,7 @@ taken_reasoned d w n true buf (Some found.Cut) e h = h
 taken_reasoned d w n true buf (Some (found.Line len)) e h = h
 taken_reasoned d w n true buf (Some found.Fault) e h = h
 
--- an event where a cut was due or not and the reason was this, and the ends after it
+-- an event, whether a cut was due or not, if the reason was this; and the ends after it
 pub record HasReason (d : Bool) (w : CutCause) (n : Option Bool) (event : Next) (e : LiveEnds)
     : Type 0 where
   pub gone : is_cut event ≡ true → d ≡ false → (e.why_cut ≡ cause.Gone) × IsFoundGone n e.gone

@@ -40,7 +40,7 @@ put_on old new moment action l r =
 pub started : (ends : LiveEnds) → IsStart ends → IsInRun ends
 started ends s = record { start = ends; new = s; run = Begun }
 
--- an event that isn't the wall clock comes only where that was given before
+-- an event that isn't the wall clock comes only if that was given before
 given_by : (given : Option ℕ) (has_looked : Bool) (now : ℕ)
     → is_due_since given has_looked now ≡ false → not (is_some given) ≡ true → false ≡ true
 given_by None has_looked now undue none = sym undue

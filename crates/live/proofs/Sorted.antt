@@ -236,7 +236,7 @@ unfolding length_in
 longer b list e =
     let same : length (b ∷ list) ≡ length list = ap length_in e in omega (arith, same)
 
--- he is accepted where his stream can be used
+-- he is accepted if his stream can be used
 pub accepted_newest : (g : AllowList) (old mid new : Arrivals) (said says : RefusedPeers)
     (newest : Option Comer) (peer : IpAddr) (its : TcpStream) (opened seen opens : Attempts)
     (accepted : Option IpAddr) (b : Bool) → newest ≡ Some (peer, its)

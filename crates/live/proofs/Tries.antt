@@ -89,7 +89,7 @@ tried_due now old new trying due a = record {
       ∙ ap (λ b. begun_by b now a.answer old) due);
 }
 
--- and where none is due
+-- and if none is due
 pub tried_not : (now : ℕ) (old new : Redial) → old.is_trying ≡ false → is_due old now ≡ false
     → new ≡ old
     → IsTriedOn now old new

@@ -435,7 +435,7 @@ quiet_more start before found new first count begun now f buf was is_due quiet t
     nothing
     (due_of start found new first now was is_due awaited done is ∙ undue))
 
--- and where nothing was, nothing failed
+-- and if nothing was, nothing failed
 pub none_failed : (f : Option SourceEvent) (old new : ℕ) → is_some f ≡ false
     → new ≡ old + faults_in f
     → new ≡ old

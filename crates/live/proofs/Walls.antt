@@ -57,7 +57,7 @@ looked_walled old new event buf t =
     ∙ looks_kept walled_of walled_aside t.first (looking (clock_read_at t.first old)) t.now t.f buf
     t.found t.looks)
 
--- it isn't due either where the last round begins
+-- it isn't due either when the last round begins
 due_last : (a b c : Bool) → (a || (b || c)) ≡ false → c ≡ false
 due_last true b c undue = absurd (cc)
 due_last false true c undue = absurd (cc)

@@ -33,7 +33,7 @@ counted (peer ∷ before) s = one_more_refused peer (counted before s)
 abbrev pub nobody : RefusedPeers
 nobody = record { count = 0; last = None }
 
--- those whom a listener refused, the newest first, where it notes them; and what it says of them
+-- those whom a listener refused, the newest first, if it notes them; and what it says of them
 pub record Refusals : Type 0 where
   pub peers : Option (List IpAddr)
   pub said : RefusedPeers

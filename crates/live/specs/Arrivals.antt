@@ -33,7 +33,7 @@ IsRebound (Some old) is_waiting (Some new) = new ≡ record old { is_waiting = i
 abbrev pub Arrival : Type 0
 Arrival = Result (TcpStream × SocketAddr) Error
 
--- the answers so far, the newest first, where the listener notes its calls
+-- the answers so far, the newest first, if the listener notes its calls
 abbrev pub Arrivals : Type 0
 Arrivals = Option (List Arrival)
 

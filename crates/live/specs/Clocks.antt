@@ -10,8 +10,8 @@ use Rattle.std.specs.declared.io.Error.{Error}
 abbrev pub BeginsAt : (moment first now : ℕ) → Type 0
 BeginsAt moment first now = (first ≡ moment) × (now ≡ moment)
 
--- what the system answered so far where it was asked what its clock shows, the newest first, where
--- that is noted
+-- what the system answered so far when it was asked what its clock shows, the newest first, if that
+-- is noted
 abbrev pub Instants : Type 0
 Instants = Option (List (Result Instant Error))
 
@@ -23,7 +23,7 @@ abbrev pub StartsNow : (old : Instants) → (start : Instant) → (new : Instant
 StartsNow old start new = new ≡ instant_noted (Ok start) old
 
 -- The moment is as many ms past the first one as the clock has gone on since its start, as far as
--- 64 bits count. Where it can't be read that is the last one again.
+-- 64 bits count. If it can't be read, that is the last one again.
 abbrev pub moment_by : (first : ℕ) → (start : Instant) → (last : ℕ) → Result Instant Error → ℕ
 moment_by first start last (Ok now) =
     min (first + min ((instant_nanos now - instant_nanos start) / 1_000_000) (2 ^ 64 - 1))
@@ -37,14 +37,14 @@ pub record GoesOn (first : ℕ) (start : Instant) (old : Instants) (last : ℕ) 
   pub asked : new ≡ instant_noted answer old
   pub given : moment ≡ moment_by first start last answer
 
--- what the system answered so far where it was asked what its wall clock shows
+-- what the system answered so far when it was asked what its wall clock shows
 abbrev pub WallTimes : Type 0
 WallTimes = Option (List (Result SystemTime Error))
 
 abbrev pub wall_noted : Result SystemTime Error → WallTimes → WallTimes
 wall_noted answer before = option_map (λ all. answer ∷ all) before
 
--- How many ms the wall clock shows since 1970, as far as 64 bits count. Where it can't be read that
+-- How many ms the wall clock shows since 1970, as far as 64 bits count. If it can't be read, that
 -- is 0.
 abbrev pub wall_by : Result SystemTime Error → ℕ
 wall_by (Ok shown) = min (system_time_nanos shown / 1_000_000) (2 ^ 64 - 1)

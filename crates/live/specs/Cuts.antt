@@ -21,7 +21,7 @@ abbrev pub leaves_due : LogEntry → Bool
 leaves_due (Came now event) = is_wall_in event
 leaves_due (Went moment action) = shuts_nothing action
 
--- The first event but the wall clock's is a cut, where nothing before it shut the connection.
+-- The first event but the wall clock's is a cut, if nothing before it shut the connection.
 abbrev pub CutsFirst : Log → Type 0
 CutsFirst log = (later before : Log) (now : ℕ) (event : Input)
     → log ≡ later ++ (Came now event ∷ before) → All (λ entry. leaves_due entry ≡ true) before
@@ -32,7 +32,7 @@ abbrev pub all_leave_due : Log → Bool
 all_leave_due [] = true
 all_leave_due (entry ∷ log) = leaves_due entry && all_leave_due log
 
--- an entry that may stand where a cut is due
+-- an entry that may stand while a cut is due
 abbrev pub is_next_of_due : LogEntry → Bool
 is_next_of_due (Came now CutOff) = true
 is_next_of_due (Came now event) = is_wall_in event

@@ -41,15 +41,14 @@ pub record IsAllowedPeer (allow_list : AllowList) (peer : Peer) : Type 0 where
   pub is_new : IsNew peer.stream
   pub allows : Allows allow_list peer.address
 
--- Who may connect; what happened at the line, and whether it is there, where it says that; what
+-- Who may connect; what happened at the line, and whether it is there, if it says that; what
 -- happened at the connection, if there is one, and at the listener, and whom that refused; octets
 -- of that connection that came and haven't been given; what happened at the stream of a connection
 -- that was found gone, until the ends are looked at again; what the clock gave; the source that is
 -- looked at first; whether a write to the connection failed, so that a cut is due; whether the run
--- goes on
--- after a restart; why the latest connection that was cut was cut; how often the line was gone; how
--- many of its octets were dropped before requests; what decides the moment of an event; what the
--- wall clock showed, and when it was given last; and the log, the newest entry first.
+-- goes on after a restart; why the latest connection that was cut was cut; how often the line was
+-- gone; how many of its octets were dropped before requests; what decides the moment of an event;
+-- what the wall clock showed, and when it was given last; and the log, the newest entry first.
 pub record LiveEnds : Type 0 where
   pub allow_list : AllowList
   pub line : StreamHistory
@@ -71,7 +70,7 @@ pub record LiveEnds : Type 0 where
   pub walled : Walled
   pub log : Log
 
--- the ends where a run begins, before anything has come; an answer is awaited for so long, in ms
+-- the ends when a run begins, before anything has come; an answer is awaited for so long, in ms
 abbrev pub begun_with : AllowList → (line : StreamHistory) → Option Presence
     → (listener : Attempts) → Refusals → (clock walls : Moments) → (answer_ms : ℕ) → LiveEnds
 begun_with allow_list line presence listener refusals clock walls answer_ms = record {
@@ -118,7 +117,7 @@ after Connection = Line
 after Line = Listener
 
 -- what the ends answer in one round, each if it is looked at: who connects, with what happened at
--- the stream so far; who is refused, the newest first; and whether the line is there then, where it
+-- the stream so far; who is refused, the newest first; and whether the line is there then, if it
 -- says that
 pub record Answers : Type 0 where
   pub peer : Option Peer
@@ -216,12 +215,12 @@ looked_at Line begun answers buf ends = record ends {
   timing = line_looked_at begun ends.timing;
 }
 
--- where something is found the next round begins after its source
+-- if something is found, the next round begins after its source
 abbrev pub next_round : EventSource → Option SourceEvent → LiveEnds → LiveEnds
 next_round source None ends = ends
 next_round source (Some f) ends = record ends { first = after source }
 
--- A look at a source, and the others where it finds nothing.
+-- A look at a source, and the others if it finds nothing.
 abbrev pub unless_found : Option SourceEvent → LiveEnds → (LiveEnds → Option SourceEvent × LiveEnds)
     → Option SourceEvent × LiveEnds
 unless_found None ends others = others ends
@@ -255,7 +254,7 @@ held_by (octet ∷ octets) begun answers buf ends = (
   record ends { held = []; first = after Connection },
 )
 
--- Where the moment of an event would be too far behind the clock, the line alone is looked at.
+-- If the moment of an event would be too far behind the clock, only the line is looked at.
 abbrev pub sources_by : Bool → ℕ → Answers → (buf : List ℕ) → LiveEnds → Option SourceEvent
     × LiveEnds
 sources_by true begun answers buf ends = look Line begun answers buf ends nothing_more
@@ -279,7 +278,7 @@ turn_by false begun answers buf ends =
 abbrev pub turn : ℕ → Answers → (buf : List ℕ) → LiveEnds → Option SourceEvent × LiveEnds
 turn begun answers buf ends = turn_by ends.is_cut_due begun answers buf ends
 
--- the buffer begins with the octets that were held, where they are given
+-- the buffer begins with the octets that were held, if they are given
 abbrev pub IsFront : (is_cut_due is_behind : Bool) → (held buf : List ℕ) → Type 0
 IsFront true is_behind held buf = Unit {0}
 IsFront false true held buf = Unit {0}
@@ -319,7 +318,7 @@ FitsFound found.Cut = Unit {0}
 FitsFound (found.Line len) = (1 ≤ len) × (len ≤ 1024)
 FitsFound found.Fault = Unit {0}
 
--- what was found, as an event; where nothing was, only time passed
+-- what was found, as an event; if nothing was, only time passed
 abbrev pub event_at : ℕ → Option SourceEvent → Next
 event_at now None = next.Tick now
 event_at now (Some found.Open) = next.Open now
@@ -364,7 +363,7 @@ pub record GivesWall (now : ℕ) (old : LiveEnds) (event : Next) (new : LiveEnds
   pub given :
       event ≡ next.Wall (moment_at old.timing now) (shown - (now - moment_at old.timing now))
 
--- Where the wall clock is due it is given, and no end is looked at.
+-- If the wall clock is due, it is given, and no end is looked at.
 pub record TurnsToWall (old : LiveEnds) (event : Next) (new : LiveEnds) : Type 0 where
   pub begun : ℕ
   pub due : is_wall_due old.walled begun ≡ true
@@ -374,8 +373,8 @@ pub record TurnsToWall (old : LiveEnds) (event : Next) (new : LiveEnds) : Type 0
 abbrev pub looking : LiveEnds → LiveEnds
 looking ends = record ends { walled = record ends.walled { has_looked = true }; gone = None }
 
--- Behind a round that found nothing a tick is due where 100 ms have passed since the first round
--- began, where the time of the exchange has ended since then, and where the wall clock is due.
+-- Behind a round that found nothing a tick is due if 100 ms have passed since the first round
+-- began, if the time of the exchange has ended since then, or if the wall clock is due.
 abbrev pub is_tick_due : (first : ℕ) → (was_awaited : Bool) → (now : ℕ) → LiveEnds → Bool
 is_tick_due first was_awaited now ends =
     nat_le 100 (now - first)
@@ -408,7 +407,7 @@ pub record LooksOn (first : ℕ) (old : LiveEnds) (now : ℕ) (f : Option Source
   pub last : IsLast (is_tick_due first (is_awaited old.timing) now found) count f
   pub done : new ≡ clock_read_at now found
 
--- Where it isn't due the clock is read before the looks and after them, and what was found is an
+-- If it isn't due, the clock is read before the looks and after them, and what was found is an
 -- event of the moment that is due.
 pub record TurnsToEnds (old : LiveEnds) (event : Next) (buf : List ℕ) (new : LiveEnds) : Type
     0 where
@@ -438,8 +437,7 @@ abbrev pub why_by_write : (taken : Bool) → CutCause → CutCause
 why_by_write true why = why
 why_by_write false why = cause.NotTaken
 
--- the ends after octets for the connection: they are dropped where there is none, and where a cut
--- is due
+-- the ends after octets for the connection: they are dropped if there is none, and if a cut is due
 abbrev pub written_open : Bool → List ℕ → Bool → Option Peer → LiveEnds → LiveEnds
 written_open true octets taken peer ends = ends
 written_open false octets taken None ends = ends
@@ -465,10 +463,10 @@ closed_by _ ends = record ends { connection = None; held = []; is_cut_due = fals
 abbrev pub more : (count late : ℕ) → ℕ
 more count late = min (late + count) (2 ^ 64 - 1)
 
--- The ends after an action of this moment, where the stream that it goes to took the octets, or
--- not: a write to the connection that failed makes a cut due, one to the line loses a request.
--- Before a request is written so many octets that came from the line are dropped, and once it is
--- written the clock is read.
+-- The ends after an action of this moment, by whether the stream that it goes to took the octets. A
+-- write to the connection that failed makes a cut due, one to the line loses a request. Before a
+-- request is written so many octets that came from the line are dropped, and once it is written the
+-- clock is read.
 abbrev pub after_action : ℕ → Output → ℕ → Bool → (late : ℕ) → LiveEnds → LiveEnds
 after_action moment (LineOut octets) written taken late ends = record ends {
   line = noted (noted ends.line (Dropped late)) (Wrote octets taken);

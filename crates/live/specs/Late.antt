@@ -16,7 +16,7 @@ gone_of [] = 0
 gone_of (WasGone ∷ before) = gone_of before + 1
 gone_of (happening ∷ before) = gone_of before
 
--- so many are late, where the line notes how many it dropped
+-- so many are late, if the line notes how many it dropped
 abbrev pub IsLate : (late : ℕ) → (dropped : Option ℕ) → Type 0
 IsLate late None = Unit {0}
 IsLate late (Some count) = late ≡ count

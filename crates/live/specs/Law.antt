@@ -38,13 +38,13 @@ AtBytes (next.Wall now number) Holds = Unit {0}
 AtBytes next.Done Holds = Unit {0}
 AtBytes next.Fault Holds = Unit {0}
 
--- this holds of what the clock gave last, where it notes that
+-- this holds of what the clock gave last, if it notes that
 abbrev pub AtClock : Moments → (ℕ → Type 0) → Type 0
 AtClock None Holds = Unit {0}
 AtClock (Some []) Holds = Unit {0}
 AtClock (Some (now ∷ before)) Holds = Holds now
 
--- this holds of what the clock gave before it gave the newest moment, where it notes that
+-- this holds of what the clock gave before it gave the newest moment, if it notes that
 abbrev pub AtBegun : Moments → (ℕ → Type 0) → Type 0
 AtBegun None Holds = Unit {0}
 AtBegun (Some (now ∷ (begun ∷ before))) Holds = Holds begun
@@ -59,8 +59,8 @@ IsOfAllowedPeer allow_list (Some peer) = Allows allow_list peer.address
 abbrev pub peer_of : LiveEnds → Option IpAddr
 peer_of ends = option_map (λ (p : Peer). p.address) ends.connection
 
--- Where a connection is opened its address is allowed, and where one is cut none is open; any other
--- event leaves the one that was, or none.
+-- If a connection is opened its address is allowed, and if one is cut none is open. Any other event
+-- leaves the one that was, or none.
 abbrev pub KeepsOut : LiveEnds → Next → LiveEnds → Type 0
 KeepsOut old (next.Open now) new = IsOfAllowedPeer old.allow_list new.connection
 KeepsOut old (next.Cut now) new = new.connection ≡ None
@@ -80,7 +80,7 @@ pub record SomeRounds (before after : List ℕ) (Holds : ℕ → List ℕ → �
   pub moments : after ≡ now ∷ (begun ∷ (quiet ++ before))
   pub holds : Holds begun quiet now
 
--- this holds of the moments that the clock gave for an event, where it notes them
+-- this holds of the moments that the clock gave for an event, if it notes them
 abbrev pub AtRounds : (before after : Moments) → (ℕ → List ℕ → ℕ → Type 0) → Type 0
 AtRounds None after Holds = Unit {0}
 AtRounds (Some before) None Holds = ⊥
@@ -150,7 +150,7 @@ is_cut (next.Wall now number) = false
 is_cut next.Done = false
 is_cut next.Fault = false
 
--- whether the stream of the connection notes what happens at it, where one is open
+-- whether the stream of the connection notes what happens at it, if one is open
 abbrev pub notes_of : Option Peer → Option Bool
 notes_of connection = option_map (λ (p : Peer). is_some p.stream) connection
 

@@ -23,7 +23,7 @@ abbrev pub peer_for : Option SourceEvent → Option Peer → Option Peer
 peer_for (Some found.Open) connection = connection
 peer_for _ connection = None
 
--- the answers that this was found by, where these were refused
+-- the answers that this was found by, if these were refused
 abbrev pub answers_for : Option SourceEvent → (refused : List IpAddr) → LiveEnds → Answers
 answers_for f refused new = record {
   peer = peer_for f new.connection;
@@ -43,7 +43,7 @@ pub record LooksAt (source : EventSource) (begun : ℕ) (old : LiveEnds) (f : Op
   pub found : f ≡ found_at source (answers_for f refused new) old
   pub ends : new ≡ looked_at source begun (answers_for f refused new) buf old
 
--- and the next round begins after the source, where something was found
+-- and the next round begins after the source, if something was found
 pub record LooksInRound (source : EventSource) (begun : ℕ) (old : LiveEnds) (f : Option SourceEvent)
     (buf : List ℕ)
     (new : LiveEnds) : Type 0 where

@@ -13,7 +13,7 @@ use Rattle.std.specs.declared.io.Error.{Error}
 use Rattle.std.specs.declared.net.ip_addr.IpAddr.{IpAddr}
 
 -- At a stream: octets came, or a look found nothing, or found it gone; so many that had come were
--- dropped; or octets were put on it, with the number 1 where it took them.
+-- dropped; or octets were put on it, with the number 1 if it took them.
 abbrev pub happenings : Log → List Happening
 happenings [] = []
 happenings (Came now (LineIn octets) ∷ log) = Gave octets ∷ happenings log
@@ -39,8 +39,8 @@ refused_in address (entry ∷ log) = refused_in address log
 abbrev pub refusals_of : IpAddr → Log → RefusedPeers → Refusals
 refusals_of address log said = record { peers = Some (refused_in address log); said = said }
 
--- at a dialler: a try was begun, with the number 1 where that reached a stream, or it was asked
--- about one
+-- at a dialler: a try was begun, with the number 1 if that reached a stream, or it was asked about
+-- one
 abbrev pub dial_calls_in : Log → List DialCall
 dial_calls_in [] = []
 dial_calls_in (Went reached (LineOut octets) ∷ log) = Dialed (reached == 1) ∷ dial_calls_in log

@@ -24,7 +24,7 @@ looked (Octets len) buf = Gave (take len buf)
 looked Quiet buf = WasQuiet
 looked Gone buf = WasGone
 
--- what has happened at a stream, the newest first, where it notes that
+-- what has happened at a stream, the newest first, if it notes that
 abbrev pub StreamHistory : Type 0
 StreamHistory = Option (List Happening)
 
@@ -38,7 +38,7 @@ abbrev pub IsNew : StreamHistory → Type 0
 IsNew None = Unit {0}
 IsNew (Some before) = before ≡ []
 
--- whether each look at a listener accepted a connection, the newest first, where the listener notes
+-- whether each look at a listener accepted a connection, the newest first, if the listener notes
 -- that
 abbrev pub Attempts : Type 0
 Attempts = Option (List Bool)

@@ -32,7 +32,7 @@ pub data ReachStep : Type 0 where
   Opened : ReachedStream → (is_usable : Bool) → ReachStep
   Slept : (ms : ℕ) → ReachStep
 
--- the calls so far, the newest first, where they are noted
+-- the calls so far, the newest first, if they are noted
 abbrev pub ReachSteps : Type 0
 ReachSteps = Option (List ReachStep)
 
@@ -119,8 +119,8 @@ pub data GoesOnAsIs {A : Type 0} (connecting : Connecting) (before : ReachSteps)
       → TriesOn answer None (step_noted (Showed shown) before) new after
       → GoesOnAsIs connecting before answer new after
 
--- How the connect that goes on stands is asked. Where it came through its stream is a line, if that
--- can be used. Where it broke off one to the next address is begun.
+-- It is asked how the connect that goes on stands. If it came through, its stream is a line, if
+-- that can be used. If it broke off, one to the next address is begun.
 pub data AsksOn {A : Type 0} (old : Option Connecting) (before : ReachSteps) (answer : Dialled A)
     (new : Option Connecting) (after : ReachSteps) : Type 0 where
   NoConnect : old ≡ None → answer ≡ Failed → new ≡ None → after ≡ before

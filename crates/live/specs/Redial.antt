@@ -1,4 +1,4 @@
--- A stream that is reached again where it has gone (this gateway's own profile).
+-- A stream that is reached again when it has gone (this gateway's own profile).
 use Rattle.std.specs.Prelude.{◌≡◌, ℕ, ◌+◌, ◌-◌, ◌*◌, min, nat_le, List, ◌∷◌, Bool, true, false}
 use Rattle.std.specs.Prelude.{Option}
 use Rattle.std.specs.Prelude.{IfSome, None, Some, is_some}
@@ -22,7 +22,7 @@ pub data DialCall : Type 0 where
   Dialed : (reached : Bool) → DialCall
   Asked : (reached : Bool) → DialCall
 
--- the calls of a dialler, the newest first, where it notes them
+-- the calls of a dialler, the newest first, if it notes them
 abbrev pub DialCalls : Type 0
 DialCalls = Option (List DialCall)
 
@@ -30,7 +30,7 @@ abbrev pub dial_noted : DialCalls → DialCall → DialCalls
 dial_noted None call = None
 dial_noted (Some before) call = Some (call ∷ before)
 
--- how often a dialler has waited, where it notes that
+-- how often a dialler has waited, if it notes that
 abbrev pub Pauses : Type 0
 Pauses = Option ℕ
 
@@ -124,12 +124,12 @@ pub record IsTryAnswered (call : Bool → DialCall) (old new : Redial) : Type 0 
   pub is_new : IfReached answer IsNew
   pub done : new ≡ answered call answer old
 
--- where one is due it begins
+-- if one is due it begins
 abbrev pub begun_by : Bool → ℕ → Dialled StreamHistory → Redial → Redial
 begun_by false now answer r = r
 begun_by true now answer r = answered Dialed answer (record r { tried = Some now })
 
--- where one goes on it is asked what has become of it
+-- if one goes on, it is asked what has become of it
 abbrev pub tried_by : (is_trying : Bool) → ℕ → Dialled StreamHistory → Redial → Redial
 tried_by true now answer r = answered Asked answer r
 tried_by false now answer r = begun_by (is_due r now) now answer r
@@ -174,8 +174,8 @@ is_closed got s = false
 abbrev pub waited : Redial → Redial
 waited r = record r { pauses = paused r.pauses }
 
--- A look: at the stream, if there is one, which is none any more where it has gone; else it is
--- tried to reach one, and waited once.
+-- A look: at the stream, if there is one, which is none any more if it has gone. Else it is tried
+-- to reach one, and waited once.
 abbrev pub looked_by : Option StreamHistory → ℕ → Dialled StreamHistory → Got → (buf : List ℕ)
     → Redial
     → Got × Redial

@@ -11,8 +11,8 @@ use Rattle.live.specs.Sights.{ShowsEnds}
 use Rattle.live.specs.Walls.{never_given}
 use Rattle.live.specs.declared.watched.EndsSight.{EndsSight}
 
--- Nothing has passed yet, and nothing has happened at the line and at the listener. A cut is due
--- where the run goes on after a restart, and else none is.
+-- Nothing has passed yet, and nothing has happened at the line and at the listener. A cut is due if
+-- the run goes on after a restart, and else none is.
 pub record IsStart (ends : LiveEnds) : Type 0 where
   pub log : ends.log ≡ []
   pub line : IsNew ends.line
@@ -41,7 +41,7 @@ WallFirst log = (later before : Log) (now : ℕ) (event : Input)
     → log ≡ later ++ (Came now event ∷ before) → All (λ entry. is_action entry ≡ true) before
     → is_wall_in event ≡ true
 
--- The log begins with the wall clock, and where the run goes on then with the cut of the connection
+-- The log begins with the wall clock, and then, if the run goes on, with the cut of the connection
 -- of the run before.
 pub record BeginsSo (ends : LiveEnds) : Type 0 where
   pub wall : WallFirst ends.log
@@ -67,7 +67,7 @@ abbrev pub all_actions : Log → Bool
 all_actions [] = true
 all_actions (entry ∷ log) = is_action entry && all_actions log
 
--- an entry that may stand where no event has come
+-- an entry that may stand before any event has come
 abbrev pub may_be_first : LogEntry → Bool
 may_be_first (Came now event) = is_wall_in event
 may_be_first (Went moment action) = true

@@ -29,7 +29,7 @@ pub data SystemCall : Type 0 where
 abbrev pub Waits : (is_waiting : Bool) → (is_set : Bool) → SystemCall
 Waits is_waiting is_set = Sets (Waiting is_waiting) is_set
 
--- the calls of a stream, the newest first, where it notes them
+-- the calls of a stream, the newest first, if it notes them
 abbrev pub Calls : Type 0
 Calls = Option (List SystemCall)
 
@@ -47,7 +47,8 @@ set_so (setting ∷ settings) calls = set_so settings (called calls (Sets settin
 abbrev pub as_line : Calls → Calls
 as_line calls = set_so (SendsAtOnce ∷ ReadsWithin 1 ∷ WritesWithin 20 ∷ []) calls
 
--- And the connection of a control centre, whose calls don't wait but where a write is tried again.
+-- And the connection of a control centre, whose calls don't wait except when a write is tried
+-- again.
 abbrev pub as_centre : Calls → Calls
 as_centre calls =
     set_so (SendsAtOnce ∷ WritesWithin 20 ∷ ReadsWithin 1 ∷ Waiting false ∷ []) calls
@@ -93,9 +94,8 @@ abbrev pub ends_frame : List ℕ → Bool
 ends_frame octets =
     let last = slice_index octets (length octets - 1) in (last == 0x16) || (last == 0xE5)
 
--- So many calls behind these first octets, each of which brought some, where those before didn't
--- end
--- as a frame does; and all octets that came by then, in their order.
+-- So many calls behind these first octets. Each was made since the octets before didn't end as a
+-- frame does, and brought some. And all octets that came by then, in their order.
 pub data ReadsOn (old : Calls) (first : List ℕ) : (count : ℕ) → (came : List ℕ) → Calls
     → Type 0 where
   NoMore : ReadsOn old first 0 first old
@@ -126,7 +126,7 @@ LooksOnwards Quiet before mid Quiet buf new = new ≡ mid
 LooksOnwards Gone before mid Gone buf new = new ≡ mid
 LooksOnwards first before mid got buf new = ⊥
 
--- A look at the line: one call, and where octets came, further ones until no more is read.
+-- A look at the line: one call, and if octets came, further ones until no more is read.
 pub record ReadsLine (old : Calls) (got : Got) (buf : List ℕ) (new : Calls) : Type 0 where
   pub first : Got
   pub before : List ℕ
@@ -194,8 +194,8 @@ pub record WritesFront (old : Calls) (octets : List ℕ) (is_taken : Bool) (new 
   pub taken : Took old (take count octets) new
   pub all : is_taken ≡ (count == length octets)
 
--- How a write goes on behind what its first call took. It is over where that were all octets. Else
--- what is left is handed over once more, where the stream can be set to wait, and behind that it is
+-- How a write goes on behind what its first call took. It is over if that were all octets. Else
+-- what is left is handed over once more, if the stream can be set to wait, and behind that it is
 -- set not to wait again.
 pub data HandsOn (old : Calls) (octets : List ℕ) (new : Calls) : Type 0 where
   AtOnce : WritesOnce old octets (length octets) new → HandsOn old octets new

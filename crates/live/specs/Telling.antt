@@ -8,7 +8,7 @@ use Rattle.std.specs.declared.io.ErrorKind.TheVariants.{ConnectionAborted, Inter
 use Rattle.std.specs.declared.io.ErrorKind.TheVariants.{WouldBlock}
 use Rattle.live.specs.Arrivals.{Arrival, Arrivals, Ends, arrived}
 
--- the faults that were told, the newest first, where the listener notes them
+-- the faults that were told, the newest first, if the listener notes them
 abbrev pub ToldFaults : Type 0
 ToldFaults = Option (List Error)
 

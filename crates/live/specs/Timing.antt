@@ -1,13 +1,13 @@
 -- What moment an event bears (this gateway's own profile). By IEC 60870-5-101 an exchange is
--- unanswered where no answer has come for so long after its request: that is time that the line
--- had, not time for which the gateway itself stood still. So the end of an exchange waits until the
--- line has been looked at that long after the request was written.
+-- unanswered if no answer has come for so long after its request. That is time that the line had,
+-- not time for which the gateway itself stood still. So the end of an exchange waits until the line
+-- has been looked at that long after the request was written.
 use Rattle.std.specs.Prelude.{ℕ, ◌+◌, ◌-◌, nat_le, nat_lt, Bool, true, false, not, List, ◌∷◌}
 use Rattle.std.specs.Prelude.{Option, Some, None, if◌then◌else◌}
 use Rattle.live.specs.declared.timing.Timing.{Timing}
 use Rattle.live.specs.declared.timing.WrittenRequest.{WrittenRequest}
 
--- the moments that a clock has given, the newest first, where it notes them
+-- the moments that a clock has given, the newest first, if it notes them
 abbrev pub Moments : Type 0
 Moments = Option (List ℕ)
 

@@ -1,4 +1,4 @@
--- When the wall clock is given (this gateway's own profile): at first, and again where a second has
+-- When the wall clock is given (this gateway's own profile): at first, and again when a second has
 -- passed since. In between the ends are looked at, however long the gateway stalls.
 use Rattle.std.specs.Prelude.{ℕ, ◌-◌, nat_le, Bool, true, false, Option, Some, None}
 use Rattle.gateway.specs.declared.ports.Next.{Next}

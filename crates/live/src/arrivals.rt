@@ -16,17 +16,17 @@ pub trait SystemListener {
     ghost use Rattle.live.specs.Telling.{ToldFaults, one_more_told};
     ghost use Rattle.std.specs.Result.{is_ok};
 
-    /// What the system answered so far, the newest first, where it notes that.
+    /// What the system answered so far, the newest first, if it notes that.
     ghost arrivals: { Self → Arrivals };
 
-    /// The faults by which it was told that nobody can be accepted, the newest first, where it
-    /// notes them.
+    /// The faults by which it was told that nobody can be accepted, the newest first, if it notes
+    /// them.
     ghost told: { Self → ToldFaults };
 
-    /// Whether each stream that was opened can be used, the newest first, where it notes that.
+    /// Whether each stream that was opened can be used, the newest first, if it notes that.
     ghost opened: { Self → Attempts };
 
-    /// Where it was bound, and whether its calls wait, where it notes that.
+    /// Where it was bound, and whether its calls wait, if it notes that.
     ghost binding: { Self → Option Binding };
 
     /// One bound at `HOST:PORT`, whose calls wait.

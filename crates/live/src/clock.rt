@@ -16,7 +16,7 @@ pub trait SystemInstants {
     ghost use Rattle.std.specs.Prelude.{◌≡◌};
     ghost use Rattle.live.specs.Clocks.{Instants, WallTimes, instant_noted, wall_noted};
 
-    /// What the system answered so far, the newest first, where it notes that.
+    /// What the system answered so far, the newest first, if it notes that.
     ghost instants: { Self → Instants };
 
     /// The same of the wall clock.

@@ -25,10 +25,10 @@ pub trait OctetStream: Drop {
     ghost use Rattle.live.specs.declared.ends.Presence.{Presence};
     ghost use Rattle.std.specs.Prelude.{None};
 
-    /// What has happened at it, the newest first, where it notes that.
+    /// What has happened at it, the newest first, if it notes that.
     ghost history: { Self → StreamHistory };
 
-    /// Whether it is there, where it says that.
+    /// Whether it is there, if it says that.
     ghost presence: { Self → Option Presence } = { λ _. None };
 
     /// Looks once, without a long wait. Octets are put at the front of the buffer.
@@ -99,10 +99,10 @@ pub trait Listener {
 
     type Stream: OctetStream;
 
-    /// Whether a connection was accepted at each look, the newest first, where it notes that.
+    /// Whether a connection was accepted at each look, the newest first, if it notes that.
     ghost attempts: { Self → Attempts };
 
-    /// Those whom it refused, the newest first, where it notes them; and what it says of them.
+    /// Those whom it refused, the newest first, if it notes them; and what it says of them.
     ghost refusals: { Self → Refusals };
 
     /// Looks once for a new connection, without a wait, and accepts only addresses of this list:
@@ -154,10 +154,10 @@ impl RefusedPeers {
 pub trait RunClock: Timed {
     ghost use Rattle.live.specs.Timing.{Moments, read_at};
 
-    /// The moments that it gave, the newest first, where it notes them.
+    /// The moments that it gave, the newest first, if it notes them.
     ghost moments: { Self → Moments };
 
-    /// What the wall clock showed, the newest first, where it notes that.
+    /// What the wall clock showed, the newest first, if it notes that.
     ghost walls: { Self → Moments };
 
     /// The moment, in milliseconds.

@@ -21,7 +21,7 @@ pub(crate) enum SourceEvent {
     Fault,
 }
 
-/// What was found, as an event of this moment; where nothing was, only time passed.
+/// What was found, as an event of this moment; if nothing was, only time passed.
 pub(crate) fn event_at(now: u64, found: Option<SourceEvent>) -> Next
     ensures value { result ≡ event_at now found }
     ensures faults { faults_of result ≡ faults_in found }

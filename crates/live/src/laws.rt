@@ -43,10 +43,10 @@ ghost use Rattle.live.specs.declared.timing.Timing.{Timing};
 ghost use Rattle.live.specs.declared.timing.WrittenRequest.{WrittenRequest};
 ghost use Rattle.live.specs.declared.walled.Walled.{Walled};
 
-/// Where an event's moment lets an exchange end (`answer_ms` or more after its request's), a look
-/// at the line has begun `answer_ms` or more after that request was written, or the event brings
-/// octets of the line that end as a frame does, which a gateway takes before it ends the exchange.
-/// So a stall of the gateway ends no exchange whose answer waits.
+/// If an event's moment lets an exchange end (`answer_ms` or more after its request's), one of two
+/// is so. Either a look at the line has begun `answer_ms` or more after that request was written.
+/// Or the event brings octets of the line that end as a frame does, which a gateway takes before it
+/// ends the exchange. So a stall of the gateway ends no exchange whose answer waits.
 #[tactic(auto, using(crate::proofs::Law::waited_out))]
 pub fn no_exchange_ends_unread()
     ensures { (old new : LiveEnds) (event : Next) (buf : List ℕ) (r : WrittenRequest) →
@@ -116,18 +116,18 @@ pub fn no_source_hides_another()
         × (r.moment + timing.answer_ms + 50 ≤ now) }
 {}
 
-/// Behind a close no connection is open, no octets of it are held and no cut of it is due, but
-/// where another has replaced the one that was.
+/// Behind a close no connection is open, no octets of it are held and no cut of it is due, unless
+/// another has replaced the one that was.
 pub fn a_close_shuts_the_connection()
     ensures { (old new : LiveEnds) (moment : ℕ) (cause : Close) →
         LogsPut old moment (Closed cause) new → cause ≢ Replaced →
         (new.connection ≡ None) × (new.held ≡ []) × (new.is_cut_due ≡ false) }
 {}
 
-/// A cut that is due is the next event but for the wall clock, also where no connection is open.
-/// Until it is given it stays due, whatever is put out, unless the connection is shut. A request,
-/// an APDU and a gap shut none, nor does the close of one that another has replaced. So a write
-/// that failed is always followed by a cut.
+/// A cut that is due is the next event but for the wall clock, also if no connection is open. Until
+/// it is given it stays due, whatever is put out, unless the connection is shut. A request, an APDU
+/// and a gap shut none, nor does the close of one that another has replaced. So a write that failed
+/// is always followed by a cut.
 pub fn a_cut_that_is_due_comes_next()
     ensures next { (old new : LiveEnds) (event : Next) (buf : List ℕ) →
         LogsTurn old event buf new → old.is_cut_due ≡ true → is_wall event ≡ false →
@@ -144,7 +144,7 @@ pub fn a_cut_that_is_due_comes_next()
 {}
 
 /// A run that goes on after a restart begins with the cut of the connection of then. The first
-/// event of its log, but for the wall clock, is a cut, where no connection was shut before.
+/// event of its log, but for the wall clock, is a cut, if no connection was shut before.
 pub fn a_run_that_goes_on_begins_with_a_cut()
     ensures due { (start end : LiveEnds) → start.log ≡ [] → start.is_cut_due ≡ true →
         LiveRun start end → CutsFirst end.log }
@@ -243,14 +243,14 @@ pub fn looks_at_the_line_are_timed_by_the_clock()
         LogsTurn old event buf new → is_wall event ≡ true → new.timing ≡ old.timing }
 {}
 
-/// The log has what passed at the streams. After any run in which nothing had been logged before,
-/// where the line and the connection note what happens at them: the octets that came from the line,
-/// by the log, are those that its stream gave, and each request that went there was handed to it,
-/// whole and in that order; the octets that came on the open connection are those that its stream
-/// gave, and, while no cut is due, each APDU that went there was handed to it and taken. Since a
-/// write failed, so that a cut is due, each before it was taken, and none behind it was handed
-/// over: so the octets that the connection took are a beginning of those that the log has. And
-/// where the listener notes what it accepted, as many connections were opened.
+/// The log has what passed at the streams. That is so after any run in which nothing had been
+/// logged before, if the line and the connection note what happens at them. The octets that came
+/// from the line, by the log, are those that its stream gave, and each request that went there was
+/// handed to it, whole and in that order. The octets that came on the open connection are those
+/// that its stream gave, and, while no cut is due, each APDU that went there was handed to it and
+/// taken. Since a write failed, so that a cut is due, each before it was taken, and none behind it
+/// was handed over: so the octets that the connection took are a beginning of those that the log
+/// has. And if the listener notes what it accepted, as many connections were opened.
 pub fn the_log_has_what_passed()
     ensures { (start end : LiveEnds) → IsFreshRun start → LiveRun start end → LogsEnds end.log end }
 {}
@@ -277,10 +277,10 @@ pub fn a_look_gives_what_its_calls_brought()
         Came old (octets_of got buf) new }
 {}
 
-/// The system's clock has gone on by so many ms where the system's own has, since the start. Where
-/// that can't be read, the moment before is given again. The wall clock shows as many ms as the
-/// system's own does since 1970, and 0 where that can't be read. Each reading asks the system once,
-/// and what it gives follows from that very answer.
+/// The system's clock has gone on by so many ms if the system's own has, since the start. If that
+/// can't be read, the moment before is given again. The wall clock shows as many ms as the system's
+/// own does since 1970, and 0 if that can't be read. Each reading asks the system once, and what it
+/// gives follows from that very answer.
 pub fn a_clock_goes_on_with_the_systems()
     ensures goes_on { (first ms last : ℕ) (start now : Instant) →
         instant_nanos start + ms * 1000000 ≤ instant_nanos now →

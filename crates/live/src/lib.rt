@@ -22,21 +22,21 @@
 //!
 //! And of time, whatever the gateway stalls: an event bears the clock's moment after the looks, but
 //! none that ends an exchange whose line hasn't been looked at for `answer_ms` since the request
-//! was written ([`no_exchange_ends_unread`]), and once it has been, the clock's; where that moment
-//! is more than 50 ms behind the clock, the line alone is looked at, and octets of a control centre
+//! was written ([`no_exchange_ends_unread`]), and once it has been, the clock's. If that moment is
+//! more than 50 ms behind the clock, only the line is looked at. Then octets of a control centre
 //! that would bear such a moment are held ([`what_the_centre_sent_is_given_in_time`]), until a
 //! frame has come from the line, which bears none that is ([`a_frame_catches_the_clock_up`]).
 //!
-//! The wall clock is given at the first call, and again where a second has passed since and the
-//! ends have been looked at in between ([`the_wall_clock_is_given_each_second`]): as it stood at
-//! the moment that the event bears. A wall clock that is set is given as it then shows.
+//! The wall clock is given at the first call, and again when a second has passed since and the ends
+//! have been looked at in between ([`the_wall_clock_is_given_each_second`]): as it stood at the
+//! moment that the event bears. A wall clock that is set is given as it then shows.
 //!
-//! It has a log, and stores none of it: each event that it gave and each action that it put out.
-//! Where the ends note what happens at them, the log's octets are those that the line and the open
+//! It has a log, and stores none of it: each event that it gave and each action that it put out. If
+//! the ends note what happens at them, the log's octets are those that the line and the open
 //! connection gave and were handed ([`the_log_has_what_passed`]), to the end of a run
 //! ([`what_is_noted_is_noted_to_the_end`]).
 //!
-//! [`Redialled`] is a stream that is reached again where it has gone: proved, for any dialler that
+//! [`Redialled`] is a stream that is reached again when it has gone. Proved, for any dialler that
 //! notes its tries, is that it is quiet and takes nothing while it is away; that a try begins at
 //! once and then every second, after each stream that was reached and gave nothing at twice the
 //! distance, up to 30 s; that no try begins while one goes on, and a look waits for none; that it
@@ -50,10 +50,10 @@
 //! ([`that_nobody_can_be_accepted_is_told_once`]).
 //!
 //! One call to a stream of the system is read as one fact about its answer: octets, quiet or gone,
-//! and taken only where all was taken; a look at the line goes on until its octets end as a line
-//! frame does, none come, or 15 times; of a write in two calls a stream takes the octets once, in
-//! their order; and what waits is read until nothing comes, or 64 times. What sockets do beyond
-//! that is no matter of a proof.
+//! and taken only if all was taken. A look at the line goes on until its octets end as a line frame
+//! does, none come, or 15 times. Of a write in two calls a stream takes the octets once, in their
+//! order. What waits is read until nothing comes, or 64 times. What sockets do beyond that is no
+//! matter of a proof.
 #![tactic(auto)]
 
 mod allow_list;

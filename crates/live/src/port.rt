@@ -28,14 +28,14 @@ use session::Close;
 use std::marker::Model;
 use std::net::IpAddr;
 
-/// How long after an event a tick is given, in ms, where nothing happens.
+/// How long after an event a tick is given, in ms, if nothing happens.
 // All timers but that of an answer, which has ticks of its own, are whole seconds; and each tick is
 // a line of the log that is kept on disk.
 const TICK_MS: u64 = 100;
 
 /// After so many rounds of looks that found nothing the next one is an event, whatever the clock
 /// shows.
-// An end where it stands still: a round waits for 1 ms at the line.
+// An end that stands still: a round waits for 1 ms at the line.
 const QUIET_ROUNDS: u32 = 200;
 
 /// The port over a line, a listener and a clock. It has a log: each event that it gave and each
@@ -122,7 +122,7 @@ impl<S: OctetStream, L: Listener + Drop, C: RunClock + Drop> Live<S, L, C> {
         Live::awaiting(line, listener, clock, allow_list, config.line().answer_ms)
     }
 
-    /// The same, where an answer is awaited for so long, in ms.
+    /// The same, if an answer is awaited for so long, in ms.
     fn awaiting(
         line: S,
         listener: L,
@@ -217,9 +217,9 @@ impl<S: OctetStream, L: Listener + Drop, C: RunClock + Drop> Live<S, L, C> {
         self.clock.now_ms()
     }
 
-    /// What a turn finds, which the clock begins at this moment: the cut that is due, else the
-    /// first thing in one round over the sources, or, where the moment of an event would be too far
-    /// behind the clock, on the line alone.
+    /// What a turn finds, which the clock begins at this moment. It is the cut that is due, else
+    /// the first thing in one round over the sources. If the moment of an event would be too far
+    /// behind the clock, it is the first thing on the line alone.
     #[tactic(auto, using(crate::proofs::Turns::due_turn, crate::proofs::Turns::line_turn, crate::proofs::Turns::held_turn, crate::proofs::Turns::first_turn, crate::proofs::Turns::second_turn, crate::proofs::Turns::third_turn))]
     fn turn(&mut self, begun: u64, buf: &mut [u8; 1024]) -> Option<SourceEvent>
         requires { self.old.failed < u64.MAX }
@@ -275,8 +275,8 @@ impl<S: OctetStream, L: Listener + Drop, C: RunClock + Drop> Live<S, L, C> {
         SourceEvent::Bytes(len)
     }
 
-    /// Looks once at a source. Where something is found, the next round begins with the source
-    /// after it.
+    /// Looks once at a source. If something is found, the next round begins with the source after
+    /// it.
     fn look(&mut self, source: EventSource, begun: u64, buf: &mut [u8; 1024]) -> Option<SourceEvent>
         requires { self.old.failed < u64.MAX }
         ensures fits { IfSome result FitsFound }
@@ -386,7 +386,7 @@ impl<S: OctetStream, L: Listener + Drop, C: RunClock + Drop> Live<S, L, C> {
         Next::Wall(moment, shown.saturating_sub(now.saturating_sub(moment)))
     }
 
-    /// Octets for the connection are dropped where there is none, and where a cut is due.
+    /// Octets for the connection are dropped if there is none, and if a cut is due.
     #[tactic(auto, using(crate::proofs::Puts::dropped_due, crate::proofs::Puts::dropped_none, crate::proofs::Puts::written))]
     fn put_on_connection(&mut self, octets: &[u8])
         ensures { IsWritten self.old octets.now self.new }
@@ -402,7 +402,7 @@ impl<S: OctetStream, L: Listener + Drop, C: RunClock + Drop> Live<S, L, C> {
         }
     }
 
-    /// What is next: the wall clock, where it is due, else what rounds of looks find. The clock is
+    /// What is next: the wall clock, if it is due, else what rounds of looks find. The clock is
     /// read before the first round and after each.
     #[tactic(auto, using(crate::proofs::Turns::turned, crate::proofs::Turns::turned_to_wall))]
     fn find(&mut self, buf: &mut [u8; 1024]) -> Next
@@ -412,7 +412,8 @@ impl<S: OctetStream, L: Listener + Drop, C: RunClock + Drop> Live<S, L, C> {
         ensures cause { self.new.failed ≡ self.old.failed + faults_of result }
         ensures turns { Turns self.old result buf.new self.new }
     {
-        // Before the looks: the line has been waited out only up to where a look begins.
+        // Before the looks: the line has been waited out only up to the moment at which a look
+        // begins.
         let first = self.read_clock();
         if self.walled.is_due(first) {
             return self.give_wall(first);
@@ -532,8 +533,8 @@ impl<S: OctetStream, L: Listener + Drop, C: RunClock + Drop> Port for Live<S, L,
 
     ghost script = { λ ends. fixed_of ends };
 
-    /// Gives the wall clock where it is due. Else it looks at the ends round by round, until one
-    /// has something or a tick is due.
+    /// Gives the wall clock if it is due. Else it looks at the ends round by round, until one has
+    /// something or a tick is due.
     fn next(&mut self, buf: &mut [u8; 1024]) -> Next
         requires { self.old.failed < u64.MAX }
         ensures logged { Some self.new.log

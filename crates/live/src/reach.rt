@@ -46,7 +46,7 @@ pub trait SystemReach {
     ghost use Rattle.live.specs.Reaching.{AtPath, Began, Came, LookedUp, Opened, ReachSteps};
     ghost use Rattle.live.specs.Reaching.{Showed, Slept, Stood, Waited, WaitedAt, step_noted};
 
-    /// Its calls so far, the newest first, where it notes them.
+    /// Its calls so far, the newest first, if it notes them.
     ghost steps: { Self → ReachSteps };
 
     /// Looks up `HOST:PORT`, for which the system may wait.

@@ -15,7 +15,7 @@ use std::marker::Model;
 /// How long after a try began the next one follows, in ms.
 const RETRY_MS: u64 = 1000;
 
-/// The same at the most, where streams are reached again and again and give nothing.
+/// The same at the most, if streams are reached again and again and give nothing.
 const LONGEST_RETRY_MS: u64 = 30_000;
 
 /// What has become of a try to reach a stream.
@@ -38,13 +38,13 @@ pub trait Dialler {
 
     type Stream: OctetStream;
 
-    /// Whether each try that ended reached a stream, the newest first, where it notes that.
+    /// Whether each try that ended reached a stream, the newest first, if it notes that.
     ghost tries: { Self → Attempts };
 
-    /// Its calls, and whether each reached a stream, the newest first, where it notes them.
+    /// Its calls, and whether each reached a stream, the newest first, if it notes them.
     ghost calls: { Self → DialCalls } = { λ _. None };
 
-    /// How often it has waited, where it notes that.
+    /// How often it has waited, if it notes that.
     ghost pauses: { Self → Pauses } = { λ _. None };
 
     /// Begins a try to reach a stream, and doesn't wait for it.
@@ -71,10 +71,10 @@ pub trait Dialler {
         ensures paused { pauses self.new ≡ paused (pauses self.old) };
 }
 
-/// A stream that is reached again where it has gone: a try begins at once, then every second; after
+/// A stream that is reached again when it has gone: a try begins at once, then every second; after
 /// each stream that was reached and gave nothing at twice the distance, up to 30 s. While it is
 /// away it is quiet and takes nothing, and it begins with nothing in it each time. One to which
-/// requests have gone out for 30 s and that gave nothing is closed; if nothing comes from the next
+/// requests have gone out for 30 s and that gave nothing is closed. If nothing comes from the next
 /// one either that is closed after 60 s, and so on up to 240 s.
 #[derive(Drop)]
 pub struct Redialled<D: Dialler + Drop, C: RunClock + Drop> {
@@ -248,7 +248,7 @@ impl<D: Dialler + Drop, C: RunClock + Drop> Redialled<D, C> {
     }
 }
 
-/// How long after a try the next one begins, where its stream gives nothing.
+/// How long after a try the next one begins, if its stream gives nothing.
 fn grown(wait: u64) -> u64
     ensures { result ≡ grown wait }
 {

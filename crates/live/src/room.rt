@@ -15,7 +15,7 @@ pub const STANDARD_OUTPUT: i32 = 1;
 pub const STANDARD_ERROR: i32 = 2;
 
 /// Whether [`MOST_AT_ONCE`] octets that are written there now go out without a wait. There is room,
-/// too, where a write would fail.
+/// too, if a write would fail.
 // Asked anew before each write: to make the descriptor itself not wait would do so for each process
 // that has it (docs/DECISIONS.md, "Nobody who reads holds a run up").
 pub fn has_room(descriptor: i32) -> bool {

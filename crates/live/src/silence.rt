@@ -6,7 +6,7 @@ ghost use Rattle.live.specs.Silence.{no_silence};
 /// For so long requests go out to a stream that gives nothing before it is closed, in ms.
 const PATIENCE_MS: u64 = 30_000;
 
-/// The same at the most, where streams are closed again and again.
+/// The same at the most, if streams are closed again and again.
 const LONGEST_PATIENCE_MS: u64 = 240_000;
 
 /// Between two requests so much counts at the most, in ms.

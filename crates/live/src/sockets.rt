@@ -63,7 +63,7 @@ const REACH_MS: u64 = 5000;
 const MOST_ADDRESSES: u32 = 32;
 
 /// How many connections are accepted at the most at one look at the listener.
-// An end where somebody connects without a pause; who is left is accepted at the next look.
+// An end to which somebody connects without a pause; who is left is accepted at the next look.
 const MOST_ACCEPTED: u32 = 256;
 
 /// The line: a serial device server, over a stream of the system, by TCP or by a Unix socket. Its
@@ -87,7 +87,7 @@ impl LineSocket {
     ///
     /// # Errors
     ///
-    /// Those of the system, and `InvalidInput` where the text is neither.
+    /// Those of the system, and `InvalidInput` if the text is neither.
     pub fn reach<R: Net<Stream = TcpStream> + std::rt::Clock>(
         rt: &R,
         place: &str,
@@ -124,7 +124,7 @@ impl<S: SystemStream + Drop> OctetStream for LineSocket<S> {
 
     ghost history = { λ _. None };
 
-    // It was reached before the run, which ends where it is gone.
+    // It was reached before the run, which ends when it is gone.
     ghost presence = { λ _. Some There };
 
     fn read(&mut self, buf: &mut [u8; 1024]) -> Got
@@ -191,7 +191,7 @@ impl<'a, R: Net<Stream = TcpStream> + std::rt::Clock, W: SystemReach + Drop> Lin
     ///
     /// # Errors
     ///
-    /// Those of the system, and `InvalidInput` where the place is neither.
+    /// Those of the system, and `InvalidInput` if the place is neither.
     pub fn reach(&mut self) -> io::Result<LineSocket>
         ensures place { self.new.place.now ≡ self.old.place.now }
         ensures path { (path : List ℕ) → self.old.place.now ≡ codes "unix:" ++ path →
@@ -363,7 +363,7 @@ impl<R: Net<Stream = TcpStream> + std::rt::Clock, W: SystemReach + Drop> Dialler
 }
 
 /// The connection of a control centre, over a stream of the system. Its reads don't wait; a write
-/// waits for 20 ms at the most, where the system has no room.
+/// waits for 20 ms at the most, if the system has no room.
 #[derive(Drop)]
 pub struct CentreSocket<S: SystemStream + Drop = TcpStream> {
     stream: S,
@@ -385,7 +385,7 @@ impl<S: SystemStream + Drop> CentreSocket<S> {
     {
         stream.send_at_once()?;
         stream.limit_writes(WRITE_MS)?;
-        // Of use only where a write had waited and the stream then refused to wait no more.
+        // Of use only if a write had waited and the stream then refused to wait no more.
         stream.limit_reads(LOOK_MS)?;
         stream.set_waiting(false)?;
         Ok(CentreSocket { stream })
@@ -649,8 +649,8 @@ impl<R: Net<Listener = TcpListener, Stream = TcpStream> + Eprint, T: SystemListe
     }
 }
 
-/// The system's clock that never goes back, from a first moment at its start. Where it can't be
-/// read the last moment is given again. Beside it the system's wall clock.
+/// The system's clock that never goes back, from a first moment at its start. If it can't be read
+/// the last moment is given again. Beside it the system's wall clock.
 #[derive(Drop)]
 pub struct SystemClock<'a, R, I: SystemInstants + Drop = HostInstants> {
     rt: &'a R,
@@ -749,7 +749,7 @@ impl<R: std::rt::Clock, I: SystemInstants + Drop> RunClock for SystemClock<'_, R
         self.now
     }
 
-    /// Where it can't be read, or shows a time before 1970, this is 0, which is near no time tag.
+    /// If it can't be read, or shows a time before 1970, this is 0, which is near no time tag.
     fn wall_ms(&mut self) -> u64
         ensures shown { ShowsWall (I.wall_times self.old.instants) (I.wall_times self.new.instants)
             result }

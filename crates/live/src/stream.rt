@@ -13,7 +13,7 @@ use std::os::unix::net::UnixStream;
 use std::time::Duration;
 
 /// How often octets are read and dropped at the most before a request is written.
-// An end where octets never cease to come.
+// An end at which octets never cease to come.
 const STALE_READS: u32 = 64;
 
 /// How often a look at the line goes on at the most behind its first octets.
@@ -33,7 +33,7 @@ pub trait SystemStream {
     ghost use Rattle.live.specs.Streams.{WritesWithin, called, received};
     ghost use Rattle.std.specs.Result.{is_ok};
 
-    /// Its calls, with what the system answered, the newest first, where it notes them.
+    /// Its calls, with what the system answered, the newest first, if it notes them.
     ghost calls: { Self → Calls };
 
     /// Octets that came, at the front of the buffer; 0 at the stream's end.
@@ -198,10 +198,10 @@ pub(crate) fn read_once<S: SystemStream>(stream: &mut S, buf: &mut [u8; 1024]) -
     }
 }
 
-/// Reads once, and goes on where octets came that don't end as a line frame does, for as long as
-/// each call brings some, 15 times at the most. Behind a whole frame it waits for nothing.
-// Where a device server gives an answer octet by octet each octet would else be an event, and a
-// line of the state on disk (docs/DECISIONS.md, "A look until a frame ends").
+/// Reads once, and goes on if octets came that don't end as a line frame does, for as long as each
+/// call brings some, 15 times at the most. Behind a whole frame it waits for nothing.
+// If a device server gives an answer octet by octet, each octet would else be an event, and a line
+// of the state on disk (docs/DECISIONS.md, "A look until a frame ends").
 pub(crate) fn read_line<S: SystemStream>(stream: &mut S, buf: &mut [u8; 1024]) -> Got
     ensures fits { FitsBuffer result }
     ensures reads { ReadsLine (S.calls stream.old) result buf.new (S.calls stream.new) }

@@ -7,9 +7,9 @@ ghost use Rattle.live.specs.CallSums.{received_in};
 ghost use Rattle.live.specs.Streams.{Calls, DropsWaiting, ReadsFrame, SystemCall};
 ghost use Rattle.live.specs.Streams.{Waits, WritesAll, WritesInTwo, ends_frame, took};
 
-/// A write counts as taken exactly where the stream took all its octets, once and in their order:
-/// in one call, and in two. A part of a write isn't the whole. Each write in two is tried: the
-/// stream is handed all octets, and then, where it lets calls wait, what the first call left.
+/// A write counts as taken exactly if the stream took all its octets, once and in their order: in
+/// one call, and in two. A part of a write isn't the whole. Each write in two is tried: the stream
+/// is handed all octets, and then, if it lets calls wait, what the first call left.
 pub fn a_write_is_taken_where_all_its_octets_are()
     ensures once { (old new : List SystemCall) (octets : List ℕ) (is_taken : Bool) →
         WritesAll (Some old) octets is_taken (Some new) → 1 ≤ length octets →

@@ -27,8 +27,8 @@ pub(crate) struct Timing {
 }
 
 impl Timing {
-    /// The moment that an event bears, where the clock shows `now`. It is the clock's, but as long
-    /// as the line hasn't been looked at for `answer_ms` after the latest request was written, it
+    /// The moment that an event bears, if the clock shows `now`. It is the clock's, but as long as
+    /// the line hasn't been looked at for `answer_ms` after the latest request was written, it
     /// doesn't end that request's exchange.
     pub(crate) fn moment(&self, now: u64) -> u64
         ensures { result ≡ moment_at self.now now }
@@ -56,10 +56,10 @@ impl Timing {
         LAG_MS < now.saturating_sub(self.moment(now))
     }
 
-    /// The moment that an event bears which is given at this moment of the clock: that one, but
-    /// where it is too far behind the clock, and the event brings octets of the line that end as a
-    /// frame does, the clock's. A gateway takes them before it ends the exchange, so that no answer
-    /// is late by that, and its next request goes out at the clock's moment.
+    /// The moment that is borne by an event which is given at this moment of the clock. It is that
+    /// one, but if it is too far behind the clock, and the event brings octets of the line that end
+    /// as a frame does, it is the clock's. A gateway takes them before it ends the exchange, so
+    /// that no answer is late by that, and its next request goes out at the clock's moment.
     pub(crate) fn told(&self, ends_frame: bool, now: u64) -> u64
         ensures { result ≡ told_at self.now ends_frame now }
     {

@@ -25,7 +25,7 @@ pub struct EndsSight {
     /// How many octets of the line were dropped before requests so far, at most `u64::MAX`: they
     /// came behind the time of the exchange before.
     pub late_octets: u64,
-    /// What has failed, where the device has.
+    /// What has failed, if the device has.
     pub failure: Option<Failure>,
     /// Which syncs of the state on the disk were slow, if a state is kept.
     pub syncs: SlowSyncs,
@@ -70,7 +70,7 @@ pub trait Watched: Port {
     /// What is fixed at looks too.
     ghost lasting: { Self → Lasting };
 
-    /// What has failed, where its device has.
+    /// What has failed, if its device has.
     ghost failure: { Self → Option Failure };
 
     /// Looks at its ends, and asks nothing of them.

@@ -145,7 +145,7 @@ both_whole a b first second more =
     ∙ sym (append_assoc (whole_lines a) (whole_lines b) (whole_lines more))
     ∙ ap (λ ls. ls ++ whole_lines more) (sym (first b))
 
--- what is behind whole lines is whole where both are
+-- what is behind whole lines is whole if both are
 pub rest_whole : (a b : List ℕ) → AreWhole a → AreWhole (a ++ b) → AreWhole b
 rest_whole a b first both more = cancel (whole_lines a) (whole_lines (b ++ more))
     (whole_lines b ++ whole_lines more)

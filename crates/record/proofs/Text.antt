@@ -79,7 +79,7 @@ gives_over old new g ends =
     let P : Recording → Type 0 = λ r. r.is_over ≡ true → r ≡ record old { is_over = true } in
     subst P (sym g.done) (kept_over old.is_over g.taken old refl) ends
 
--- where the record goes on, it did before
+-- if the record goes on, it did before
 went_on : (over taken : Bool) (old : Recording) → old.is_over ≡ over
     → (if over then old else given taken old).is_over ≡ false → old.is_over ≡ false
 went_on true taken old over goes = goes
@@ -183,7 +183,7 @@ held_logged reads old new news ok kept goes is =
     ap log_of is ∙ logged_more reads old.taken old.held old.missed news ok kept.written
     (kept.whole goes)
 
--- what holds where a call succeeds
+-- what holds if a call succeeds
 pub on_success : {T E : Type 0} (r : Result T E) (P : Type 0) → is_err r ≡ false → OnOk r P → P
 on_success (Ok v) P good h = h
 on_success (Err e) P good h = cc

@@ -473,7 +473,7 @@ captured_as size has more old new r wider = by r
     by (Err Unwritten) h = partly h
     by (Err NoMemory) h = partly h
 
--- what a fault says where no more of a record is had
+-- what a fault says when no more of a record is had
 pub read_fault : (size : LinkSize) (known old new : Option (List ℕ)) (fault : CaptureFault)
     → IsReadFault fault → IsPartly size (Gives known) old new
     → IsCaptureFault size (Gives known) old new fault

@@ -91,8 +91,8 @@ IsAuditFault settings known (Unfit n) = OfGiven known (λ text. IsUnfit settings
 IsAuditFault settings known Unread = Unit {0}
 IsAuditFault settings known NoMemory = Unit {0}
 
--- What an audit answers of a record whose reader will give this, where that is known. This log
--- passed before the record.
+-- What an audit answers of a record whose reader will give this, if that is known. This log passed
+-- before the record.
 abbrev pub IsAudited : Settings → (past : Log) → (known : Option (List ℕ))
     → Result Comparison RecordFault → Type 0
 IsAudited settings past known result =

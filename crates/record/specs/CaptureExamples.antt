@@ -9,7 +9,7 @@ reset = 0x10 ∷ 0x40 ∷ 0x01 ∷ 0x41 ∷ 0x16 ∷ []
 abbrev pub poll : List ℕ
 poll = 0x10 ∷ 0x7B ∷ 0x01 ∷ 0x7C ∷ 0x16 ∷ []
 
--- the line behind this request, where these octets began a frame since
+-- the line behind this request, if these octets began a frame since
 abbrev pub behind : Line → (request pending : List ℕ) → Line
 behind line request pending = record line { pending = pending; request = request }
 

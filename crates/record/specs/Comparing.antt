@@ -19,7 +19,7 @@ GoesOn first lines run n left ahead = (more later : List (List ℕ))
     → first_difference first (lines ++ more) (run ++ later)
     ≡ first_difference n (left ++ more) (ahead ++ later)
 
--- this line has this number, where the first of these lines has another one
+-- this line has this number, counted from that of the first of these lines
 pub record Numbers (first : ℕ) (lines : List (List ℕ)) (n : ℕ) (line : List ℕ) : Type 0 where
   pub front : List (List ℕ)
   pub behind : List (List ℕ)

@@ -39,7 +39,7 @@ abbrev pub behind_first : List (List ℕ) → List (List ℕ)
 behind_first [] = []
 behind_first (line ∷ lines) = lines
 
--- The number of the first of these lines that isn't that of the run, where they are counted from n;
+-- The number of the first of these lines that isn't that of the run, if they are counted from n;
 -- one that was cut short is passed over.
 abbrev pub first_difference : ℕ → (lines run : List (List ℕ)) → Option ℕ
 first_difference n [] run = None
@@ -64,7 +64,7 @@ first_state [] = []
 first_state (line ∷ lines) =
     if says_state line then drop 9 line ++ 10 ∷ first_state lines else []
 
--- these lines, where the first ones that say state stand as those that were cut short
+-- these lines, but the first ones that say state stand as those that were cut short
 abbrev pub without_state : List (List ℕ) → List (List ℕ)
 without_state [] = []
 without_state (line ∷ lines) =

@@ -25,7 +25,7 @@ pub record IsStateBehind (settings : Settings) (said : List ℕ) (past : Log) : 
   pub follows : Follows (setup_of settings) state (Some past)
   pub rests : HasRested (setup_of settings) past
 
--- A run begins behind this log: with the state that was said, or anew where none was.
+-- A run begins behind this log: with the state that was said, or anew if none was.
 pub record BeginsBehind (settings : Settings) (said : List ℕ) (past : Log) : Type 0 where
   pub anew : said ≡ [] → past ≡ []
   pub goes_on : (said ≡ [] → ⊥) → IsStateBehind settings said past

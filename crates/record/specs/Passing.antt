@@ -53,7 +53,7 @@ pub record IsNext (lines : List (List ℕ)) (before : LineCounts) (next : Next) 
   pub fits : FitsBuffer next
   pub few : IsTally after
 
--- the first wrong line has this number, where the first of these lines has the first one
+-- the first wrong line has this number, counted from that of the first of these lines
 abbrev pub IsWrongAmong : (first : ℕ) → List (List ℕ) → TextFault → Type 0
 IsWrongAmong first lines (Line n) = first_wrong first (event_lines lines) ≡ Some n
 IsWrongAmong first lines NoMemory = Unit {0}

@@ -57,7 +57,7 @@ abbrev pub logged_first : Option Log → Option Log → Option Log
 logged_first None other = other
 logged_first (Some log) other = Some log
 
--- where both say what passed, they say the same
+-- if both say what passed, they say the same
 abbrev pub AreAgreed : Recording → (port : Option Log) → Type 0
 AreAgreed r port = IfSome port (λ log. logged_first (log_of r) (Some log) ≡ Some log)
 
@@ -100,7 +100,7 @@ pub record Receives (old : Recording) (next : Next) (buf : List ℕ) (new : Reco
   pub notes : Notes old (logged_by next buf) noted
   pub gives : Gives noted new
 
--- an action was written down, where it went out
+-- an action was written down, if it went out
 abbrev pub Puts : (has_gone : Bool) → Recording → Log → Recording → Type 0
 Puts true old news new = Notes old news new
 Puts false old news new = new ≡ old

@@ -38,7 +38,7 @@ pub record ArePut (old : Captured) (lines : List (List ℕ)) (before after : Lis
   pub put : after ≡ before ++ blocks_of_lines old lines
   pub new_is : new ≡ after_lines old lines
 
--- these stand before the first that is wrong, whose number is this, where the first of all has that
+-- these stand before the first that is wrong, whose number is this if the first of all has that
 pub record IsFirstWrong (first n : ℕ) (lines some : List (List ℕ)) : Type 0 where
   pub wrong : List ℕ
   pub later : List (List ℕ)

@@ -47,7 +47,7 @@ pub record Cut : Type 0 where
 abbrev pub before : List ℕ → Cut → Cut
 before frame cut = record cut { frames = frame ∷ cut.frames }
 
--- octets that begin with this front, where those behind a frame are cut so
+-- octets that begin with this front, if those behind a frame are cut so
 abbrev pub cut_at : Front → List ℕ → (cut_rest : List ℕ → Cut) → Cut
 cut_at (Whole frame n) octets cut_rest = before (take n octets) (cut_rest (drop n octets))
 cut_at More octets cut_rest = record { frames = []; rest = octets }
@@ -93,7 +93,7 @@ asked line octets = no_frame (codes "no whole frame") line.pending ++ request_of
 abbrev pub after_request : Line → List ℕ → Line
 after_request line octets = record line { pending = []; request = octets; is_awaited = true }
 
--- a frame from an outstation; it is late where one came since the latest request
+-- a frame from an outstation; it is late if one came since the latest request
 abbrev pub answer : (is_awaited : Bool) → List ℕ → Serial
 answer is_awaited octets = record {
   is_request = false;

@@ -2,14 +2,14 @@
 //! with those of the record.
 //!
 //! A record is a text of lines: each event as a trace has it, and each action as a run prints it,
-//! in the order in which they came and went out. A line with `!` was cut short and is left out.
-//! The record of a run that went on from a kept state begins with that state, line by line behind
-//! `# state: `. It is read block by block, so that an audit takes as much memory as a block, the
-//! lines of its run and the state do, however long the record is. Proved of [`audit_text`]: it
-//! answers 'the same' exactly where the record's lines are the first of those of the run over its
-//! events, and else the first line that differs; and the log of that run keeps every promise of a
-//! gateway with these settings, behind each log that leads to the state. What the lines of a record
-//! say has literal examples ([`record_lines_by_example`]).
+//! in the order in which they came and went out. A line with `!` was cut short and is left out. The
+//! record of a run that went on from a kept state begins with that state, line by line behind `#
+//! state: `. It is read block by block, so that an audit takes as much memory as a block, the lines
+//! of its run and the state do, however long the record is. Proved of [`audit_text`]: it answers
+//! 'the same' exactly if the record's lines are the first of those of the run over its events, and
+//! else the first line that differs; and the log of that run keeps every promise of a gateway with
+//! these settings, behind each log that leads to the state. What the lines of a record say has
+//! literal examples ([`record_lines_by_example`]).
 mod comparing;
 pub(crate) mod examples;
 mod opening;
@@ -52,7 +52,7 @@ pub enum Comparison {
     },
     /// The first line, counted from 1, that isn't the run's.
     Differs(u64),
-    /// The same, where that line says that lines are left out.
+    /// The same, if that line says that lines are left out.
     LeftOut(u64),
 }
 
@@ -90,7 +90,7 @@ struct Course {
     standing: Agreement,
 }
 
-/// Goes on to the next block of a text, where there is one.
+/// Goes on to the next block of a text, if there is one.
 fn advance<R: Read + Drop>(blocks: &mut Blocks<R>) -> Result<(), RecordFault>
     requires { blocks.old.is_over ≡ false }
     ensures block { OnOk result (IfSome blocks.old.coming (λ text. IsGiven text blocks.new)) }
@@ -208,7 +208,7 @@ fn opened<R: Read + Drop>(
 }
 
 /// Runs a gateway with these settings over the events of a record, and compares what went out with
-/// the record's actions. It begins with the state that the record's first lines say, or anew where
+/// the record's actions. It begins with the state that the record's first lines say, or anew if
 /// these say none. Of what passed before, code knows nothing. The record is read once, block by
 /// block: a block and the lines of its run are held in memory, and no more. A last line that was
 /// cut short is left out. A line that is neither an event nor an action is a fault, whether or not

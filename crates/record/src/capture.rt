@@ -5,8 +5,8 @@
 //! may be one of a trace too. The connection of the control centre is TCP between two addresses for
 //! documentation, the line the octets of a serial line, each frame in a packet of its own. A packet
 //! of the line may have a comment: `repeat` (a request with the octets of the latest one), `late`
-//! (a frame where one came since the latest request), `spoilt` (octets that begin no frame), or `no
-//! whole frame` (the beginning of one, where a request goes out or the record ends). A gap has a
+//! (a frame, if one came since the latest request), `spoilt` (octets that begin no frame), or `no
+//! whole frame` (the beginning of one, when a request goes out or the record ends). A gap has a
 //! packet of the line without octets, whose comment says the station and the session.
 //!
 //! Proved: what each call appends are the octets of one definition (`specs/Captures.antt`), and a
@@ -17,8 +17,8 @@
 //!
 //! [`capture_text`] writes the capture of a whole record, which is read block by block, and which
 //! lines of it were cut short it knows as `audit` does. Proved: what it writes is the file of the
-//! events and actions that the record's lines log; at the first line that logs neither, that of
-//! those before it; and where a read, the output or memory fails, a beginning of it.
+//! events and actions that the record's lines log. At the first line that logs neither, it is that
+//! of those before it. If a read, the output or memory fails, it is a beginning of it.
 //!
 //! An action stands at the moment of the event before it, which in a record is its own. Before the
 //! first event of the wall clock, moments count from 1970-01-01 UTC. That Wireshark reads what the

@@ -6,7 +6,7 @@ ghost use Rattle.record.specs.Examples.{line};
 ghost use Rattle.record.specs.Written.{log_in};
 
 /// What a text logs (docs/TEXTS.md has its lines in words), the newest first: the lines of events
-/// and of actions, in their order; and nothing where a line is none, or lacks its line feed.
+/// and of actions, in their order; and nothing if a line is none, or lacks its line feed.
 pub fn texts_are_read_by_example()
     ensures events { (log_in (line (codes "0 W 1709") ++ line (codes "30 O") ++ line (codes "50 C")
         ++ line (codes "60 T"))

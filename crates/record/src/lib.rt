@@ -6,11 +6,11 @@
 //! [`RecordSheet`] before the gateway receives the event, with the lines of the step before it.
 //!
 //! Proved, for any port and any sheet that says what it took: what was taken and what is held are
-//! the lines of all that passed, in their order, until the record is over; it is over where the
-//! sheet takes no more or memory ran out, and the text stays as it is from then on, at the end of a
-//! line, while events and actions pass as before. The recorder's log is what this text logs, line
-//! by line, and behind it what the sheet learned that it missed. So what is proved of a run's log
-//! is proved of its record. If the sheet doesn't say these, the log is that of the port inside.
+//! the lines of all that passed, in their order, until the record is over. It is over if the sheet
+//! takes no more or memory ran out. The text stays as it is from then on, at the end of a line,
+//! while events and actions pass as before. The recorder's log is what this text logs, line by
+//! line, and behind it what the sheet learned that it missed. So what is proved of a run's log is
+//! proved of its record. If the sheet doesn't say these, the log is that of the port inside.
 //!
 //! [`audit_text`] compares a recorded run with the run over its events. [`capture_text`] writes a
 //! record as a capture.

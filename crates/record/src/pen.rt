@@ -165,7 +165,7 @@ impl<W: RecordSheet + Drop> Pen<W> {
         self.is_over
     }
 
-    /// Gives the sheet what is held. Where it doesn't take that the record is over.
+    /// Gives the sheet what is held. If it doesn't take that, the record is over.
     pub fn give(&mut self)
         ensures gives { Gives self.old self.new }
         ensures log { log_of self.new ≡ log_of self.old }
@@ -190,7 +190,7 @@ impl<W: RecordSheet + Drop> Pen<W> {
         self.is_over = true;
     }
 
-    /// Holds the line of an event. Where there is no memory for it the record is over.
+    /// Holds the line of an event. If there is no memory for it, the record is over.
     fn hold_event(&mut self, next: Next, buf: &[u8; 1024]) -> bool
         requires { FitsBuffer next }
         ensures held { self.new
@@ -205,7 +205,7 @@ impl<W: RecordSheet + Drop> Pen<W> {
         true
     }
 
-    /// Holds the line of an action. Where there is no memory for it the record is over.
+    /// Holds the line of an action. If there is no memory for it, the record is over.
     fn hold_action(&mut self, now: u64, action: &Action<'_>) -> bool
         ensures held { self.new
             ≡ held_or_over result (line_of now (output_of action.now)) self.old }

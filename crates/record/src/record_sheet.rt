@@ -6,7 +6,7 @@ use live::{MOST_AT_ONCE, STANDARD_ERROR, STANDARD_OUTPUT, has_room};
 use std::alloc::{AllocError, Global};
 use std::io::{Eprint, Print};
 
-/// So many octets wait at the most where there is no room for them.
+/// So many octets wait at the most if there is no room for them.
 const MOST_WAITING: usize = 262_144;
 
 /// What waits goes out in so many pieces at the most.

@@ -1,4 +1,4 @@
--- Where it is logged that the line goes, and that it is back.
+-- When it is logged that the line goes, and that it is back.
 use Rattle.std.proofs.Common.{◌≡◌, ℕ, ◌+◌, ◌-◌, ◌<◌, ◌≤◌, Bool, true, false, Option, Some, None}
 use Rattle.std.proofs.Common.{refl, ◌⊎◌, inl, inr}
 use Rattle.std.proofs.Common.{ap, ◌∙◌, nat_le, arith}
@@ -42,7 +42,7 @@ told_away so what now w = (
   Some (record { moment = now; note = what; left_out = w.away.left_out }),
 )
 
--- it is answered where a second has passed
+-- it is answered if a second has passed
 line_of_away : (so : LineLogged) (what : Note) (now : ℕ) (w : LineWatch)
     → IsSecondAfter w.away.logged now
     → line_changed (Some (so, what)) true now w ≡ told_away so what now w

@@ -4,7 +4,7 @@ use Rattle.std.proofs.Common.{not, ap, ◌∙◌}
 use Rattle.runlog.specs.Logging.{Book, kept, logged}
 use Rattle.runlog.specs.declared.note.LogLine.{LogLine}
 
--- the book behind a line, where the log isn't over
+-- the book behind a line, if the log isn't over
 abbrev on : LogLine → Bool → Book → Book
 on line taken b = record b {
   lines = kept taken line b.lines;

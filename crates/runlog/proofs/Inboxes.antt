@@ -40,7 +40,7 @@ whole_fits xs whole =
     (second_of (begins_apdu xs) (nat_le (apdu_len xs) (length xs))
     (second_of (nat_le 2 (length xs)) (begins_apdu xs && nat_le (apdu_len xs) (length xs)) whole))
 
--- ---- the turns, where what is left is a slice of what came
+-- ---- the turns, if what is left is a slice of what came
 
 rest_of : ℕ → List ℕ → List ℕ
 rest_of done octets = take (length octets - done) (drop done octets)

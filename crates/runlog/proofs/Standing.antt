@@ -271,7 +271,7 @@ since_now w asking now other =
 
 -- ---- How it stands
 
--- the bit of the latest service, where none asked for the status since
+-- the bit of the latest service, if none asked for the status since
 abbrev bit_of : List Asking → Option Bool
 bit_of (Counted bit ∷ earlier) = Some bit
 bit_of earlier = None

@@ -7,7 +7,7 @@ use Rattle.runlog.specs.Waiting.{IsNothingFree}
 use Rattle.runlog.specs.declared.note.LogLine.{LogLine}
 use Rattle.runlog.specs.declared.traffic.Traffic.{Traffic}
 
--- neither of two has a line where both together have none
+-- neither of two has a line if both together have none
 pub neither : (p : Traffic × Option LogLine) (f : Traffic → Traffic × Option LogLine)
     → (or_else p f).1 ≡ None → (p.1 ≡ None) × ((f p.0).1 ≡ None)
 neither (t, None) f h = (refl, h)
@@ -32,7 +32,7 @@ nothing_free now t h =
       late = spoilt.1;
     }
 
--- nor has the first of several a line where none of them has
+-- nor has the first of several a line if none of them has
 pub first_none : (p : Traffic × Option LogLine) (ts : List Traffic)
     (rest : List Traffic × Option LogLine) → (first_by p ts rest).1 ≡ None
     → (p.1 ≡ None) × (rest.1 ≡ None)

@@ -27,8 +27,8 @@ IsInPlace before behind t w = w.traffic ≡ before ++ t ∷ behind
 abbrev pub IsWatched : Book → Type 0
 IsWatched b = (b.is_over && not b.is_watching) ≡ false
 
--- What passed is known to those who look, and its line, if it has one, is handed over where the
--- log goes on.
+-- What passed is known to those who look, and its line, if it has one, is handed over if the log
+-- goes on.
 pub record IsFollowed (p : Passed) (old new : Book) : Type 0 where
   pub known : new.watching ≡ (passed p old.watching).0
   pub line : (l : LogLine) (before : List LogLine) → (passed p old.watching).1 ≡ Some l

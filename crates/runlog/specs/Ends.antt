@@ -191,7 +191,7 @@ started_so is_started None = None
 started_so is_started (Some opening) =
     Some (record { since = opening.since; is_started = is_started })
 
--- data transfer is started, or stopped, where one is open
+-- data transfer is started, or stopped, if one is open
 abbrev pub transfer_noted : (is_started : Bool) → ConnectionWatch → ConnectionWatch
 transfer_noted is_started w = record w { opening = started_so is_started w.opening }
 

@@ -33,7 +33,7 @@ use Rattle.runlog.specs.declared.traffic.Traffic.{Traffic}
 
 -- the place of the station that was asked last, if it is one of the settings; the same before the
 -- latest event; when it was asked; how long an answer is awaited, in ms; the place of the station
--- that was asked before it, where that exchange had lasted so long; what is awaited of it; and the
+-- that was asked before it, if that exchange had lasted so long; what is awaited of it; and the
 -- octets that came since
 pub record RequestWatch : Type 0 where
   pub place : Option ℕ

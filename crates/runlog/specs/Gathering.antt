@@ -35,7 +35,7 @@ line_by (Some what) now g = logged_by (changed what g.limit now) g
 abbrev pub line_of : ℕ → Gathered → Gathered × Option LogLine
 line_of now g = line_by g.last now g
 
--- and where a minute has passed
+-- and if a minute has passed
 abbrev pub minute_line_of : ℕ → Gathered → Gathered × Option LogLine
 minute_line_of now g = if is_minute_after g.limit.logged now then line_of now g else (g, None)
 

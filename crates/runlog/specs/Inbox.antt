@@ -99,7 +99,7 @@ rule_noted (None, seen) now peer o c =
 rule_noted (Some rule, seen) now peer o c =
     record c { seen = seen; refused = added (note.Refused o peer (reason.Rule rule)) now c.refused }
 
--- Where the connection was closed in the step in which it came, it goes nowhere.
+-- If the connection was closed in the step in which it came, it goes nowhere.
 abbrev pub order_noted : State → (is_closed : Bool) → Option IpAddr → List ℕ → Order → Orders
     → Orders
 order_noted s true peer asdu o c =

@@ -15,11 +15,11 @@ use Rattle.runlog.specs.declared.note.LogLine.{LogLine}
 use Rattle.runlog.specs.declared.note.Note.{Note}
 use Rattle.runlog.specs.declared.note.Note.TheVariants as note
 
--- the lines so far, the newest first, where they are noted
+-- the lines so far, the newest first, if they are noted
 abbrev pub Lines : Type 0
 Lines = Option (List LogLine)
 
--- One more, where it is taken. A sink that notes nothing goes on noting nothing.
+-- One more, if it is taken. A sink that notes nothing goes on noting nothing.
 abbrev pub kept : (taken : Bool) → LogLine → Lines → Lines
 kept false line lines = lines
 kept true line None = None
@@ -56,7 +56,7 @@ pub record LoggedFixture (F : Type 0) : Type 0 where
 abbrev pub logged_fixture : {F : Type 0} → F → Book → LoggedFixture F
 logged_fixture port b = record { port = port; book = book_fixture b }
 
--- a line is handed over, and is taken or not, where the log isn't over
+-- a line is handed over, and is taken or not, if the log isn't over
 abbrev pub logged : Option LogLine → (taken : Bool) → Book → Book
 logged None taken b = b
 logged (Some line) taken b =
@@ -70,7 +70,7 @@ logged (Some line) taken b =
 abbrev pub after : Watching × Option LogLine → (taken : Bool) → Book → Book
 after w taken b = logged w.1 taken (record b { watching = w.0 })
 
--- nothing is done any more once the log is over, where the run isn't watched
+-- nothing is done any more once the log is over, if the run isn't watched
 abbrev pub unless_over : Book → Book → Book
 unless_over old new = if old.is_over && not old.is_watching then old else new
 

@@ -10,7 +10,7 @@ use Rattle.runlog.specs.declared.order.Value.{Value}
 use Rattle.runlog.specs.declared.order.Value.TheVariants as value
 use Rattle.runlog.specs.declared.order.Order.{Order}
 
--- the octet at this place, or 0 where there is none
+-- the octet at this place, or 0 if there is none
 abbrev pub octet : List ℕ → ℕ → ℕ
 octet octets place = if nat_lt place (length octets) then slice_index octets place else 0
 
@@ -63,7 +63,7 @@ order_in sizes octets =
       value = value_of (plain (slice_index octets 0)) element;
     }
 
--- of an ASDU in these sizes, where it is long enough for its addresses
+-- of an ASDU in these sizes, if it is long enough for its addresses
 abbrev pub order_of : Sizes → List ℕ → Option Order
 order_of sizes octets =
     if nat_le (header_len sizes + ioa_len sizes.ioa) (length octets)

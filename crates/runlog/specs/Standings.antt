@@ -77,10 +77,10 @@ latest_bit ((now, Counted bit) ∷ earlier) = Some bit
 latest_bit ((now, Reset) ∷ earlier) = None
 latest_bit (x ∷ earlier) = latest_bit earlier
 
--- A service was answered where one with the other frame count bit follows it, before any reset:
--- then the link is up. It went down where its status is asked while it is up, or where it is reset
--- behind a service. A question for the status alone says nothing of a link that isn't known to be
--- up: behind a start that may go out between two repeats of a service.
+-- A service was answered if one with the other frame count bit follows it, before any reset: then
+-- the link is up. It went down if its status is asked while it is up, or if it is reset behind a
+-- service. A question for the status alone says nothing of a link that isn't known to be up: behind
+-- a start that may go out between two repeats of a service.
 abbrev pub link_so : List (ℕ × Asking) → LinkKnown
 link_so [] = known.Nothing
 link_so ((now, Counted bit) ∷ earlier) =
@@ -90,8 +90,8 @@ link_so ((now, Reset) ∷ earlier) =
     if is_some (latest_bit earlier) then known.Down else link_so earlier
 link_so (x ∷ earlier) = link_so earlier
 
--- A station doesn't answer where the latest request went out more often than that. Else it stands
--- as its link does.
+-- A station doesn't answer if the latest request went out more often than that. Else it stands as
+-- its link does.
 abbrev pub stands_by : (tries : ℕ) → List Asking → LinkKnown → StationStanding
 stands_by tries [] link = standing.NotAsked
 stands_by tries (asking ∷ earlier) link =

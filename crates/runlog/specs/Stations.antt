@@ -113,7 +113,7 @@ abbrev pub is_repeat : Asking → StationWatch → Bool
 is_repeat (Counted bit) w = is_again w.bit bit
 is_repeat asking w = false
 
--- A link that was up is down where its status is asked.
+-- A link that was up is down once its status is asked.
 abbrev pub link_asked : LinkKnown → LinkKnown
 link_asked known.Nothing = known.Nothing
 link_asked known.Up = known.Down
@@ -217,8 +217,8 @@ abbrev pub first_by : LinkKnown → (is_unanswered : Bool) → ℕ → StationWa
 first_by known.Up is_unanswered now w = logged_up now w
 first_by link is_unanswered now w = unserved_if is_unanswered now w
 
--- A station that is asked for its status is logged once, and as down where it was up before. One
--- that doesn't answer is logged, again each minute.
+-- A station that is asked for its status is logged once, and as down if it was up before. One that
+-- doesn't answer is logged, again each minute.
 abbrev pub status_by : StationLogged → ℕ → StationWatch → StationWatch × Option LogLine
 status_by Nothing now w = logged_asked now w
 status_by Asked now w = silent_by (is_unanswered w) Unanswered now w
@@ -227,8 +227,8 @@ status_by Unanswered now w = unanswered_by (is_unanswered w) now w
 status_by Up now w = logged_down now w
 status_by Silent now w = logged_down now w
 
--- One to which a service goes out is logged as up once it has answered one, where it doesn't answer
--- any more, again each minute, and where it answers again.
+-- One to which a service goes out is logged as up once it has answered one. It is logged if it
+-- doesn't answer any more, again each minute, and when it answers again.
 abbrev pub service_by : StationLogged → ℕ → StationWatch → StationWatch × Option LogLine
 service_by Up now w = silent_by (is_unanswered w) Silent now w
 service_by Silent now w = again_by (is_unanswered w) w.link now w

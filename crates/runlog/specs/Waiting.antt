@@ -11,7 +11,7 @@ use Rattle.runlog.specs.declared.note.LogLine.{LogLine}
 use Rattle.runlog.specs.declared.note.Note.TheVariants as note
 use Rattle.runlog.specs.declared.traffic.Traffic.{Traffic}
 
--- the line that is logged where this is the only station
+-- the line that is logged if this is the only station
 abbrev pub first_alone : (now : ℕ) → Traffic → Option LogLine
 first_alone now t = (first_line now (t ∷ [])).1
 

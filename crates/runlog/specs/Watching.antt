@@ -58,7 +58,7 @@ use Rattle.runlog.specs.declared.note.Trouble.TheVariants.{StateUnusable}
 use Rattle.runlog.specs.declared.queue.QueueWatch.{QueueWatch}
 use Rattle.runlog.specs.declared.stations.StationWatch.{StationWatch}
 
--- The queue: it is full where fewer than three places are free, so that a report might find none
+-- The queue: it is full if fewer than three places are free, so that a report might find none
 
 abbrev pub new_queue : QueueWatch
 new_queue = record { is_full = false; full = new_limit; free = new_limit }
@@ -371,8 +371,7 @@ tally counts taken w = record {
 abbrev pub line_of : Note → Watching → LogLine
 line_of what w = record { moment = w.moment; note = what; left_out = none_left }
 
--- The device failed: that the line is away, or that the state can't be kept; nothing where it
--- didn't.
+-- The device failed: that the line is away, or that the state can't be kept; nothing if it didn't.
 abbrev pub failed : Option Failure → Watching → Watching × Option LogLine
 failed None w = (w, None)
 failed (Some failure.Line) w = with_line (line_seen Away w.moment w.line) w

@@ -103,7 +103,7 @@ pub fn each_apdu_of_a_step_is_read()
 {}
 
 /// Each event, each action and each look at the gateway is known to those who look, and has its
-/// line where the log goes on: of that very event, with what was seen then, at that moment, and of
+/// line if the log goes on: of that very event, with what was seen then, at that moment, and of
 /// that very gateway.
 pub fn what_passes_is_known_and_logged()
     ensures event { (sight : EndsSight) (old new : Book) (event : Next) (octets : List ℕ) →

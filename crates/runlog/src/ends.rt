@@ -14,7 +14,7 @@ const START_CONFIRMED: [u8; 6] = [0x68, 0x04, 0x0B, 0x00, 0x00, 0x00];
 /// The APDU STOPDT con (IEC 60870-5-104, 5.1).
 const STOP_CONFIRMED: [u8; 6] = [0x68, 0x04, 0x23, 0x00, 0x00, 0x00];
 
-/// The line of something that happened, or none where it is left out.
+/// The line of something that happened, or none if it is left out.
 pub(crate) fn happened(note: Note, limit: &mut Limit, now: u64) -> Option<LogLine>
     ensures { (limit.new, result) ≡ spec.happened note limit.old now }
 {
@@ -26,7 +26,7 @@ pub(crate) fn happened(note: Note, limit: &mut Limit, now: u64) -> Option<LogLin
     })
 }
 
-/// The line of a change, or none yet, where the one before is less than a second old.
+/// The line of a change, or none yet, if the one before is less than a second old.
 pub(crate) fn changed(note: Note, limit: &mut Limit, now: u64) -> Option<LogLine>
     ensures { (limit.new, result) ≡ spec.changed note limit.old now }
 {
@@ -311,7 +311,7 @@ impl ConnectionWatch {
         }
     }
 
-    /// Data transfer is started, or stopped, where one is open.
+    /// Data transfer is started, or stopped, if one is open.
     fn start(&mut self, is_started: bool)
         ensures { self.new ≡ spec.transfer_noted is_started self.old }
     {

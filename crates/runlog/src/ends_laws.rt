@@ -52,10 +52,9 @@ pub fn a_line_stands_so_since_the_look_that_found_it_so()
         × ((line_seen presence.There now w).0.is_receiving ≡ false) }
 {}
 
-/// Half an APDU of one connection is no beginning of one on the next: nothing has come yet where
-/// one is opened, and nothing is left where it is cut. What came in the step in which the gateway
-/// closes it went nowhere, but the close of the one whose place another took changes nothing of
-/// what came.
+/// Half an APDU of one connection is no beginning of one on the next: nothing has come yet when one
+/// is opened, and nothing is left when it is cut. What came in the step in which the gateway closes
+/// it went nowhere, but the close of the one whose place another took changes nothing of what came.
 pub fn nothing_of_a_connection_is_read_on_the_next()
     ensures opened { (w : Watching) (now : ℕ) (octets : List ℕ) (s : EndsSight) →
         (passed (Came (next.Open now) octets s) w).0.inbox.octets ≡ [] }

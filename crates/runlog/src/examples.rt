@@ -275,10 +275,10 @@ pub fn standings_by_example()
 {}
 
 /// What is logged of octets that were dropped before a request: they came late from the station
-/// that was asked before it, where that exchange had lasted for as long as an answer is awaited,
-/// here 150 ms. What is logged of the gateway's counts: it befell the station that was asked last
-/// before the event. And the lines of what befell a station: at once, and then once a minute for
-/// each kind, with how many came before.
+/// that was asked before it, if that exchange had lasted for as long as an answer is awaited, here
+/// 150 ms. What is logged of the gateway's counts: it befell the station that was asked last before
+/// the event. And the lines of what befell a station: at once, and then once a minute for each
+/// kind, with how many came before.
 pub fn late_answers_by_example()
     ensures late { (polled_at 150 (new_exchange 150)).overdue ≡ Some 0 }
     ensures answered { (polled_at 149 (new_exchange 150)).overdue ≡ None }

@@ -52,8 +52,8 @@ pub(crate) struct RequestWatch {
     before: Option<usize>,
     /// How long an answer is awaited, in ms.
     answer_ms: u64,
-    /// The place of the station that was asked before that request, where that exchange had lasted
-    /// so long.
+    /// The place of the station that was asked before that request, if that exchange had lasted so
+    /// long.
     overdue: Option<usize>,
     awaited: AwaitedAnswer,
     /// The request itself.
@@ -236,7 +236,7 @@ impl RequestWatch {
         self.before
     }
 
-    /// The place of the station that was asked before the latest request, where that exchange had
+    /// The place of the station that was asked before the latest request, if that exchange had
     /// lasted for as long as an answer is awaited: whose octets were late that were dropped then.
     pub(crate) fn overdue(&self) -> Option<usize>
         ensures { result ≡ self.now.overdue }

@@ -1,4 +1,4 @@
-//! Laws of failures: where they are logged, and where it is logged that they are over.
+//! Laws of failures: when they are logged, and when it is logged that they are over.
 ghost use Rattle.std.specs.Prelude.{◌≡◌, ◌⊎◌, ℕ, ◌+◌, ◌<◌, ◌≤◌, Some, None};
 ghost use Rattle.live.specs.declared.ends.Presence.TheVariants as presence;
 ghost use Rattle.live.specs.declared.watched.Failure.TheVariants as failure;
@@ -11,10 +11,10 @@ ghost use Rattle.runlog.specs.declared.ends.LineLogged.TheVariants as logged;
 ghost use Rattle.runlog.specs.declared.note.Note.TheVariants as note;
 ghost use Rattle.runlog.specs.declared.note.Trouble.TheVariants.{StateUnusable};
 
-/// What is logged where a failure has ended a run, at the moment of its latest event: that the line
+/// What is logged when a failure has ended a run, at the moment of its latest event: that the line
 /// is lost, if it was there, unless that was logged within the minute; or that the state can't be
-/// kept. Where nothing has failed, that is nothing. What there is to say of the state on the disk
-/// is logged each time, as it is given.
+/// kept. If nothing has failed, that is nothing. What there is to say of the state on the disk is
+/// logged each time, as it is given.
 pub fn failures_are_logged_at_the_end()
     ensures line { (w : Watching) → w.line.logged ≡ logged.There →
         IsSecondAfter w.line.away.logged w.moment → (failed (Some failure.Line) w).1

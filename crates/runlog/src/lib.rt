@@ -6,8 +6,8 @@
 //! [`StandardError`] is the sink of a process.
 //!
 //! [`Watch`] is what is known of the run, for those who show it: each station's standing, what has
-//! passed between it and the gateway, the line, and the connection. It goes on if nothing is
-//! logged, where that is wanted ([`Logger::watching`]).
+//! passed between it and the gateway, the line, and the connection. If that is wanted, it goes on
+//! also if nothing is logged ([`Logger::watching`]).
 //!
 //! Proved: the run log's log, script and failures are those of the port inside; which line follows
 //! from which event or action is one small function of what has passed, of what was seen of the

@@ -40,7 +40,7 @@ impl<S: LogSink + Drop> Model for Logger<S> {
       is_watching = t.is_watching;
     } };
 
-    // So nothing is logged where no log was wished.
+    // So nothing is logged if no log was wished.
     ghost invariant = { λ t. IsWishedFirst t.is_wished t.is_over };
 }
 
@@ -57,8 +57,7 @@ pub fn taken_places(gateway: &Gateway) -> u64
 }
 
 impl<S: LogSink + Drop> Logger<S> {
-    /// One that logs to this sink from the first event on, or, where nothing is to be logged,
-    /// never.
+    /// One that logs to this sink from the first event on, or never, if nothing is to be logged.
     pub fn new(watch: Watch, sink: S, is_logging: bool) -> Logger<S>
         ensures { result ≡ record {
           watching = watch;
@@ -78,7 +77,7 @@ impl<S: LogSink + Drop> Logger<S> {
         }
     }
 
-    /// The same, where the run is watched even if nothing is logged.
+    /// The same, but the run is watched even if nothing is logged.
     pub fn watching(self) -> Logger<S>
         ensures { result ≡ record self { is_watching = true } }
     {

@@ -11,7 +11,7 @@ ghost use Rattle.runlog.specs.declared.note.Note.{Note};
 
 /// Behind a line about a station stands the name that the site gives to its link address, which
 /// stands in the line's words. Behind a line about the line stands the line's name. Behind any
-/// other line, and where the site gives no name, nothing stands.
+/// other line, and if the site gives no name, nothing stands.
 pub fn lines_end_with_the_name_of_what_they_are_about()
     ensures says { (link : ℕ) (what : Note) → IsAbout link what → SaysStation link what }
     ensures station { (names : LogNames) (l : LogLine) (link : ℕ)

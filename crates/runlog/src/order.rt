@@ -65,7 +65,7 @@ pub struct Order {
     pub value: Value,
 }
 
-/// The octet at this place, or 0 where there is none.
+/// The octet at this place, or 0 if there is none.
 pub(crate) fn octet(octets: &[u8], place: usize) -> u8
     ensures { result ≡ spec.octet octets.now place }
 {
@@ -195,7 +195,7 @@ fn value_of(kind: u8, element: &[u8]) -> Value
 }
 
 impl Order {
-    /// That of an ASDU in these sizes, or none where it is too short for its addresses.
+    /// That of an ASDU in these sizes, or none if it is too short for its addresses.
     pub fn read(sizes: Sizes, octets: &[u8]) -> Option<Order>
         ensures { result ≡ spec.order_of sizes octets.now }
     {

@@ -120,7 +120,7 @@ impl<P: Watched + Drop, S: LogSink + Drop> Port for RunLog<P, S> {
             self.new.logger }
     {
         let has_gone = self.port.put(now, action);
-        // Behind the port: where that fails, nothing went out (docs/DECISIONS.md, "`run --log` is a
+        // Behind the port: if that fails, nothing went out (docs/DECISIONS.md, "`run --log` is a
         // port around the port").
         if has_gone {
             self.logger.put(now, action);

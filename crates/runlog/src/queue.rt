@@ -6,7 +6,7 @@ use crate::ends::changed;
 use crate::limit::Limit;
 use crate::note::{LogLine, Note};
 
-/// The most places that a report takes: where fewer are free nothing is polled.
+/// The most places that a report takes: if fewer are free nothing is polled.
 const REPORT_PLACES: u64 = 3;
 
 /// What is logged of the queue.

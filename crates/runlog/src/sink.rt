@@ -14,10 +14,10 @@ pub trait LogSink {
     ghost use Rattle.runlog.specs.Logging.{Lines, kept};
     ghost use Rattle.std.specs.Prelude.{◌≡◌, None, true};
 
-    /// The lines so far, the newest first, where it notes them.
+    /// The lines so far, the newest first, if it notes them.
     ghost lines: { Self → Lines };
 
-    /// Those that it was handed so far, taken or not, the newest first, where it notes them.
+    /// Those that it was handed so far, taken or not, the newest first, if it notes them.
     ghost handed: { Self → Lines } = { λ _. None };
 
     /// Takes a line. `false` says that it takes none any more.
@@ -51,7 +51,7 @@ impl<'a, 'n, R> StandardError<'a, 'n, R> {
         }
     }
 
-    /// The same, where each line begins with how severe it is, as `<4>`: so systemd's journal takes
+    /// The same, but each line begins with how severe it is, as `<4>`: so systemd's journal takes
     /// it, which leaves that out of the text.
     pub fn with_severity(self) -> StandardError<'a, 'n, R>
         ensures names { result.names ≡ self.entry.names }

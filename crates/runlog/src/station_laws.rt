@@ -22,8 +22,8 @@ ghost use Rattle.runlog.specs.declared.stations.StationLogged.TheVariants as log
 ghost use Rattle.runlog.specs.declared.stations.StationWatch.{StationWatch};
 
 /// A request is noted of the station whose link address its octets bear, whatever it asks for, and
-/// of no other one. So is a gap of the station at its place. Where no station has that address or
-/// that place, nothing is noted and nothing is logged.
+/// of no other one. So is a gap of the station at its place. If no station has that address or that
+/// place, nothing is noted and nothing is logged.
 pub fn requests_are_noted_of_their_own_station()
     ensures own { (size : LinkSize) (request : Request) (now : ℕ)
         (before behind : List StationWatch) (w : StationWatch) →
@@ -69,11 +69,11 @@ pub fn each_station_has_its_own_watch()
         (watched (new_watching c) ps).link ≡ c.line.link }
 {}
 
-/// A station doesn't answer where the latest request has gone out to it more often than a station
-/// that is there lets it: a service with one frame count bit, or the question for the status. Else
-/// it is up once it has answered a service, down where its link went down since, and asked before
-/// either. Since when it stands so is the moment of the request that made it stand so. Gaps are
-/// counted one by one.
+/// A station doesn't answer if the latest request has gone out to it more often than a station that
+/// is there lets it: a service with one frame count bit, or the question for the status. Else it is
+/// up once it has answered a service, down if its link went down since, and asked before either.
+/// Since when it stands so is the moment of the request that made it stand so. Gaps are counted one
+/// by one.
 pub fn a_station_stands_as_its_requests_say()
     ensures standing { (tries address : ℕ) (requests : List (ℕ × Asking)) →
         length requests < 2 ^ 64 →

@@ -70,7 +70,7 @@ pub struct StationWatch {
     address: u16,
     /// How often a request goes out before one that isn't answered counts as unanswered.
     tries: u64,
-    /// The frame count bit of the latest counted request; none where its status was asked since.
+    /// The frame count bit of the latest counted request; none if its status was asked since.
     bit: Option<bool>,
     /// How often that request went out, or its status was asked since.
     sent: u64,
@@ -307,7 +307,7 @@ impl StationWatch {
         self.sent > self.tries
     }
 
-    /// That it doesn't answer, where it doesn't.
+    /// That it doesn't answer, if it doesn't.
     fn silence(&mut self, is_silent: bool, logged: StationLogged, now: u64) -> Option<LogLine>
         ensures { (self.new, result) ≡ spec.silent_by is_silent logged now self.old }
     {

@@ -452,7 +452,7 @@ summed_front number end sum remainder seen body text few value summed =
     subst (λ (n : ℕ). n < 2 ^ 32) (value ∙ ap (λ (r : ℕ). bit_xor r 0xffffffff) summed
     ∙ ap sum_of (sym (body_is number end seen body text))) few
 
--- What is left where the last octet couldn't be written, or may not have been
+-- What is left when the last octet couldn't be written, or may not have been
 
 whole_or_shut : (outcomes : List ℕ → Type 0) (number : ℕ) (body : List ℕ) (size : ℕ)
     → Fits (head_for number body) → are_blocks (size - (87 + length body)) ≡ true

@@ -177,7 +177,7 @@ shut_front file fronts.Shut begins shut = refl
 shut_front file (fronts.Head head) begins shut = absurd (not_shut file head begins.begins shut)
 shut_front file fronts.Other begins shut = absurd (begins.begins shut)
 
--- where it has no segment it is shut
+-- if it has no segment it is shut
 pub sound_shut : (file : List ℕ) (front : FileFront) → IsHeadIn file front → HasNone file
     → IsSound file
     → is_shut front ≡ true

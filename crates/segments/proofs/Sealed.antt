@@ -197,7 +197,7 @@ pub no_lines : (lines : List ℕ) → length lines ≡ 0 → lines ≡ []
 no_lines [] none = refl
 no_lines (c ∷ lines) none = absurd (omega (arith, none))
 
--- What is promised where a premise holds
+-- What is promised if a premise holds
 
 pub if_ok_later : {T E C : Type 0} (r : Result T E) (P : T → Type 0) → (C → IfOk r P)
     → IfOk r (λ x. C → P x)

@@ -1,4 +1,4 @@
--- What a start finds where there was a crash (profile).
+-- What a start finds when there was a crash (profile).
 use Rattle.std.specs.Prelude.{◌≡◌, ◌⊎◌, true, ℕ, ◌+◌, ◌-◌, ◌<◌, ◌≤◌, List, ◌++◌, length, Option}
 use Rattle.segments.specs.Crash.{BeginsWith, HasLength, HasText}
 use Rattle.segments.specs.Head.{Fits, head_for, head_of, whole_text}

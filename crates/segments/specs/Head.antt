@@ -6,7 +6,7 @@ use Rattle.statetext.specs.Sum.{sum_of}
 use Rattle.hex.specs.Hex.{encode_lower}
 use Rattle.segments.specs.declared.head.SegmentHead.{SegmentHead}
 
--- the rules: 2 (50) where writes bear seals, or else 1 (49)
+-- the rules: 2 (50) if writes bear seals, or else 1 (49)
 abbrev pub rules_of : (is_sealed : Bool) → ℕ
 rules_of true = 50
 rules_of false = 49

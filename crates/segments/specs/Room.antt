@@ -18,7 +18,7 @@ abbrev pub is_sealed : (file : List ℕ) → Bool
 is_sealed file = slice_index file 23 == 50
 
 -- The lines that a start reads in a file whose checkpoint ends there: those of the whole beginning
--- of the text behind it. Where writes bear no seals, these are the octets before the first octet 0.
+-- of the text behind it. If writes bear no seals, these are the octets before the first octet 0.
 unfoldable pub log_in : (begins : ℕ) → (file : List ℕ) → List ℕ
 log_in begins file =
     if is_sealed file then concat (writes_in (take 87 file) (drop begins file))

@@ -106,7 +106,7 @@ pub record HasAsNew (number : ℕ) (file : List ℕ) : Type 0 where
   pub found : IsFoundIn file head text
   pub order : number ≤ head.number
 
--- The other file may be written over: where it has a segment, this one has one that isn't older.
+-- The other file may be written over: if it has a segment, this one has one that isn't older.
 abbrev pub IsBacked : (newest other : List ℕ) → Type 0
 IsBacked newest other = (head : SegmentHead) (text : List ℕ) → Fits head → IsFoundIn other head text
     →

@@ -16,12 +16,12 @@ ghost use Rattle.statetext.specs.Sum.{sum_of};
 
 use sqlite_disk::Disk;
 
-/// Over any crash a start finds the segment that took lines, and no other: what a crash may leave
-/// of its file ([`crate::Segment::survives`]) has the segment whole, and where each segment that it
-/// may leave in the other file is older, what [`crate::Start::open`] promises of the newest one
-/// speaks of this one. The lines that the start reads behind the checkpoint begin with all that was
-/// synced; and where a crash leaves each octet old or new, these are all, or the lines of the write
-/// that wasn't synced follow, whole.
+/// Over any crash a start finds the segment that took lines, and no other. What a crash may leave
+/// of its file ([`crate::Segment::survives`]) has the segment whole. If each segment that it may
+/// leave in the other file is older, what [`crate::Start::open`] promises of the newest one speaks
+/// of this one. The lines that the start reads behind the checkpoint begin with all that was
+/// synced. If a crash leaves each octet old or new, these are all, or the lines of the write that
+/// wasn't synced follow, whole.
 pub fn a_start_finds_what_was_synced<D: Disk>()
     ensures whole { (mine : D) (number : ℕ) (body : List ℕ) (writes : List (List ℕ))
         (c : List ℕ) → Survives (D.Disk.may_leave mine) number body writes →
@@ -44,7 +44,7 @@ pub fn a_start_finds_what_was_synced<D: Disk>()
         ⊎ (lines_behind body c ≡ concat writes ++ late) }
 {}
 
-/// What a crash leaves of a write that wasn't synced is no damage: where it leaves each octet old,
+/// What a crash leaves of a write that wasn't synced is no damage, if it leaves each octet old,
 /// which is 0, or new, also of the seal.
 pub fn a_torn_write_is_no_damage<D: Disk>()
     ensures { (mine : D) (number : ℕ) (body : List ℕ) (writes : List (List ℕ)) (late c : List ℕ) →
@@ -55,7 +55,7 @@ pub fn a_torn_write_is_no_damage<D: Disk>()
 
 /// What is read of a log bears its seals: the text behind the checkpoint begins with writes whose
 /// lines are those that are read, each with the seal of its own place and lines. No write that
-/// follows is passed over unseen: where no damage is told, no seal of another place stands behind
+/// follows is passed over unseen: if no damage is told, no seal of another place stands behind
 /// them, so none of a later write.
 pub fn what_is_read_of_a_log_bears_its_seals()
     ensures writes { (begins : ℕ) (file : List ℕ) → is_sealed file ≡ true →
@@ -72,7 +72,7 @@ pub fn what_is_read_of_a_log_bears_its_seals()
 /// What the other file may have while the next segment is begun there: nothing but older segments,
 /// from the one that stood there to the moment at which the new one stands whole. A segment that
 /// took lines is older than the next. A file that is shut has none, and one that couldn't be shut
-/// has those that it had. Where the last octet was written, or that failed, it has the new segment,
+/// has those that it had. When the last octet was written, or that failed, it has the new segment,
 /// or none.
 pub fn the_other_file_has_older_segments<D: Disk>()
     ensures survived { (spare : D) (number next : ℕ) (body : List ℕ) (writes : List (List ℕ)) →
@@ -90,7 +90,7 @@ pub fn the_other_file_has_older_segments<D: Disk>()
         IsThatOf c number body c head text }
 {}
 
-/// A file is written over only where the other one has a segment that is as new: its checkpoint has
+/// A file is written over only if the other one has a segment that is as new: its checkpoint has
 /// the length and the sum that its first line says, and its number isn't lower.
 pub fn no_file_is_written_over_but_beside_one_as_new()
     ensures { (newest other : List ℕ) (head : SegmentHead) (text : List ℕ) → Fits head →
@@ -100,7 +100,7 @@ pub fn no_file_is_written_over_but_beside_one_as_new()
         (sum_of body ≡ own.sum) × (head.number ≤ own.number) }
 {}
 
-/// No crash takes the newest segment while the other file is written over. That is begun only where
+/// No crash takes the newest segment while the other file is written over. That is begun only if
 /// whatever a crash leaves of the newest file has a segment as new as the other file's: its
 /// checkpoint has the length and the sum that its first line says, and its number isn't lower.
 pub fn no_crash_takes_both_files<D: Disk>()
@@ -125,9 +125,9 @@ pub fn the_next_number_is_new()
         × (number ≤ head.number + 1) }
 {}
 
-/// Only a newer segment is in the way of the next log. Where it is told that the other file may not
-/// be written over, or that a file isn't below a number, the first line of such a segment stands
-/// there: so no log is held up by a file that is shut, by an older segment, or by none.
+/// Only a newer segment is in the way of the next log. If it is told that the other file may not be
+/// written over, or that a file isn't below a number, the first line of such a segment stands
+/// there. So no log is held up by a file that is shut, by an older segment, or by none.
 pub fn only_a_newer_segment_is_in_the_way()
     ensures { (number : ℕ) (file : List ℕ) → BeginsNewer number file →
         (head : SegmentHead) × Fits head × Holds file 0 (head_of head) × (number < head.number) }

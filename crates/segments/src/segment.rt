@@ -226,8 +226,8 @@ impl<D: Disk> Segment<D> {
     }
 
     /// Whatever a crash leaves now begins with the checkpoint and the writes that are synced, each
-    /// with its seal. Where the disk says that a crash leaves each octet old or new, there is
-    /// nothing behind them but octets of the write that isn't synced, and zeros.
+    /// with its seal. If the disk says that a crash leaves each octet old or new, there is nothing
+    /// behind them but octets of the write that isn't synced, and zeros.
     pub fn survives(&self)
         ensures stands { StandsIn (outcomes_of self.now) (own_number self.now) }
         // So a start finds its checkpoint and its writes, if no octet of a line is 0 or begins a
@@ -369,7 +369,7 @@ impl<D: Disk> Segment<D> {
         }
     }
 
-    /// Syncs where no lines came since the last seal.
+    /// Syncs when no lines came since the last seal.
     fn sync_only(&mut self) -> Result<(), SegmentFault>
         requires open { IsTrue (is_open self.old) }
         requires held { self.old.page.items ≡ [] }

@@ -455,8 +455,8 @@ pub fn is_sound<D: Disk>(alloc: Global, file: &mut D) -> Result<bool, SegmentFau
     is_whole(alloc, file, front)
 }
 
-/// In which of two files the newest segment stands. The other one may be written over: where it has
-/// a segment, this one has one that isn't older. An `Err` says that a file couldn't be read.
+/// In which of two files the newest segment stands. The other one may be written over: if it has a
+/// segment, this one has one that isn't older. An `Err` says that a file couldn't be read.
 pub fn newest_side<D: Disk>(alloc: Global, log: &mut D, db: &mut D) -> Result<Side, SegmentFault>
     requires log { IsTrue (D.Disk.is_usable log.old) }
     requires db { IsTrue (D.Disk.is_usable db.old) }
@@ -481,8 +481,8 @@ pub fn newest_side<D: Disk>(alloc: Global, log: &mut D, db: &mut D) -> Result<Si
     }
 }
 
-/// Whether each segment that a file has is older than the one with this number. Where it isn't so,
-/// the file begins with the first line of one that is as new. One line is read.
+/// Whether each segment that a file has is older than the one with this number. If it isn't so, the
+/// file begins with the first line of one that is as new. One line is read.
 pub fn is_below<D: Disk>(alloc: Global, file: &mut D, number: u64) -> Result<bool, SegmentFault>
     requires { IsTrue (D.Disk.is_usable file.old) }
     ensures below { IfOk result (λ is. is ≡ true → IsTrue (D.Disk.is_clean file.new) →
@@ -500,12 +500,12 @@ pub fn is_below<D: Disk>(alloc: Global, file: &mut D, number: u64) -> Result<boo
 impl<D: Disk + Drop> Start<D> {
     ghost use Rattle.segments.specs.Found.{AreClean, newest_in, newest_of, other_in, other_of};
 
-    /// Looks at both files. Where the segment of the higher number isn't whole, the other counts,
-    /// and that is doubtful: no crash leaves such a file.
+    /// Looks at both files. If the segment of the higher number isn't whole, the other counts, and
+    /// that is doubtful: no crash leaves such a file.
     pub fn open(alloc: Global, files: Files<D>) -> Result<Start<D>, SegmentFault>
         requires log { IsTrue (D.Disk.is_usable files.log) }
         requires db { IsTrue (D.Disk.is_usable files.db) }
-        // Of two segments the newer one counts; and where none was found there is none.
+        // Of two segments the newer one counts; and if none was found there is none.
         ensures newest { IfOk result (λ s. AreClean s → IsNewest (newest_in s) (other_in s)) }
         ensures none { IfOk result (λ s. AreClean s → is_some s.checkpoint ≡ false →
             HasNone (newest_in s) × HasNone (other_in s)) }
@@ -522,10 +522,10 @@ impl<D: Disk + Drop> Start<D> {
         // It is the next one behind such a line, or the first: no number is left out.
         ensures next { IfOk result (λ s. AreClean s →
             IsNext s.number (newest_in s) (other_in s)) }
-        // Where nothing is doubtful, no segment as new as that one ever stood in the other file.
+        // If nothing is doubtful, no segment as new as that one ever stood in the other file.
         ensures sure { IfOk result (λ s. AreClean s → is_some s.checkpoint ≡ true →
             s.is_doubtful ≡ false → HasNoNewer (newest_in s) (other_in s)) }
-        // And nothing else is doubtful. So where none was found both files are shut, or that is.
+        // And nothing else is doubtful. So if none was found both files are shut, or that is.
         ensures only { IfOk result (λ s. AreClean s → is_some s.checkpoint ≡ true →
             HasNoNewer (newest_in s) (other_in s) → s.is_doubtful ≡ false) }
         ensures blank { IfOk result (λ s. AreClean s → is_some s.checkpoint ≡ false →
@@ -656,9 +656,8 @@ impl<D: Disk> Start<D> {
         self.checkpoint.is_some()
     }
 
-    /// Whether a file that isn't shut has no whole segment. No crash leaves such a file. Where a
-    /// segment was found, a newer one may be lost; where none was found, what is there can't be
-    /// read.
+    /// Whether a file that isn't shut has no whole segment. No crash leaves such a file. If a
+    /// segment was found, a newer one may be lost. If none was found, what is there can't be read.
     pub fn is_doubtful(&self) -> bool
         ensures { result ≡ self.now.is_doubtful }
     {

@@ -57,7 +57,7 @@ impl<D: Disk> Writer<D> {
     ghost use Rattle.segments.specs.Writer.{appended_to};
 
     /// Begins a segment in a file: first of all the file is shut, on the disk too. What stood there
-    /// may go: where it had a segment, the newest file has one that isn't older, whatever a crash
+    /// may go: if it had a segment, the newest file has one that isn't older, whatever a crash
     /// leaves of that file. An `Err` gives the file back; then it is shut, or what it was.
     pub fn begin(alloc: Global, file: D, _newest: &D) -> Result<Writer<D>, Failed<D>>
         requires usable { IsTrue (D.Disk.is_usable file) }

@@ -27,7 +27,7 @@ pub data Happened : Type 0 where
   -- this S or U frame went out
   Went : Apdu → ℕ → Happened
 
--- what happened on the open connection, its opening last; empty where none is open
+-- what happened on the open connection, its opening last; empty if none is open
 abbrev pub History : Type 0
 History = List Happened
 

@@ -238,8 +238,8 @@ impl Session {
         self.acked_own = count - queue;
     }
 
-    /// An APDU came. Where the answer is a close, nothing is acknowledged, and the connection is to
-    /// be cut.
+    /// An APDU came. If the answer is a close, nothing is acknowledged, and the connection is to be
+    /// cut.
     ///
     /// It is meant for an open connection, once `confirm` has answered None since the `take`
     /// before.
@@ -364,7 +364,7 @@ impl Session {
         from_queue(&self.unacknowledged, self.unacknowledged.len())
     }
 
-    /// Close 5 where an I frame or a TESTFR act has waited for t1. Without a connection it is None.
+    /// Close 5 if an I frame or a TESTFR act has waited for t1. Without a connection it is None.
     pub fn due(&self, now: u64) -> Option<Close>
         ensures { result ≡ (if timed_out now self.now then Some Close.Timeout else None) }
     {
@@ -412,8 +412,8 @@ impl Session {
         self.reply.is_none()
     }
 
-    /// The next confirmation that is due, if any. A STOPDT act has an S frame first, where received
-    /// I frames aren't acknowledged, and its STOPDT con once no sent I frame is unacknowledged.
+    /// The next confirmation that is due, if any. A STOPDT act has an S frame first, if received I
+    /// frames aren't acknowledged, and its STOPDT con once no sent I frame is unacknowledged.
     pub fn confirm(&mut self) -> Option<Apdu>
         ensures due { (result, self.new) ≡ confirmed self.old }
         ensures fits { IfSome result Fits }

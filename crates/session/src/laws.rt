@@ -37,7 +37,7 @@ pub fn frames_are_numbered()
     ensures supervisory { (h : History) → acknowledgement_of h ≡ S (received_count h % 32768) }
 {}
 
-/// At most k I frames are unacknowledged, and one may go out exactly where data transfer runs and
+/// At most k I frames are unacknowledged, and one may go out exactly if data transfer runs and
 /// fewer are (5.5).
 pub fn window_is_kept()
     ensures at_most_k { AfterEachRun (λ p s h. length (still_unacknowledged h) ≤ p.k) }
@@ -62,8 +62,9 @@ pub fn frames_are_judged()
         AllByRecursion (MatchesAcknowledged []) (opened now s ∷ closed s ∷ []) }
 {}
 
-/// Data transfer runs where the latest STARTDT act or STOPDT act is a STARTDT act. Each STARTDT act
-/// and TESTFR act is confirmed once, and a STOPDT act once no sent frame is unacknowledged (5.3).
+/// Data transfer runs if the latest of STARTDT act and STOPDT act is a STARTDT act. Each STARTDT
+/// act and TESTFR act is confirmed once, and a STOPDT act once no sent frame is unacknowledged
+/// (5.3).
 pub fn transfer_is_controlled()
     ensures transferring { AfterEachRun (λ p s h. is_transferring s ≡ is_started h) }
     ensures confirm { AfterEachRun (λ p s h. (confirmed s).0 ≡ confirmation_of h) }
@@ -79,8 +80,8 @@ pub fn timers_are_kept()
 {}
 
 /// Each entry of a history keeps the rules with what came before it: a frame is received once all
-/// confirmations are out, an I frame goes out where it may, and another frame where it was due (5.1
-/// to 5.5).
+/// confirmations are out, an I frame goes out if it may, and another frame if it was due (5.1 to
+/// 5.5).
 pub fn histories_keep_the_rules()
     ensures rules { AfterEachRun (λ p s h. KeepsRules p h) }
 {}

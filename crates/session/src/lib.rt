@@ -7,15 +7,15 @@
 //! closes nothing: it says why ([`Close`]).
 //!
 //! Proved: each call is one small function on a record of plain fields. Above it, for every list of
-//! calls, what a session answers is what the standard makes of the frames that came and went out:
-//! N(S) and N(R) are the counts of I frames sent and received, modulo 32768; at most k are
-//! unacknowledged; an N(R) is valid where the least number that isn't below the acknowledged count
-//! and equals it modulo 32768 is at most the sent count; S frames, TESTFR act and the close by t1
-//! come exactly when due; data transfer runs where the latest of STARTDT act and STOPDT act is a
-//! STARTDT act. Each entry of a history keeps these rules with what came before it, and calls that
-//! are made until they answer nothing come to an end. `put_state` puts a session as lines of
-//! numbers, and `read_state` makes the same session of them, and none of any others. Only `new` and
-//! `read_state` take memory for the session, and `put_state` and `read_state` for a line.
+//! calls, what a session answers is what the standard makes of the frames that came and went out.
+//! N(S) and N(R) are the counts of I frames sent and received, modulo 32768. At most k are
+//! unacknowledged. An N(R) is valid if the least number that isn't below the acknowledged count and
+//! equals it modulo 32768 is at most the sent count. S frames, TESTFR act and the close by t1 come
+//! exactly when due. Data transfer runs if the latest of STARTDT act and STOPDT act is a STARTDT
+//! act. Each entry of a history keeps these rules with what came before it, and calls that are made
+//! until they answer nothing come to an end. `put_state` puts a session as lines of numbers, and
+//! `read_state` makes the same session of them, and none of any others. Only `new` and `read_state`
+//! take memory for the session, and `put_state` and `read_state` for a line.
 #![tactic(auto)]
 
 mod connection;

@@ -11,7 +11,7 @@ use Rattle.settings.specs.declared.live.LiveSettings.{LiveSettings}
 use Rattle.settings.specs.declared.fault.ConfigFault.{ConfigFault}
 use Rattle.settings.specs.declared.fault.ConfigFault.TheVariants.{NotToml, Key, Unknown, NoMemory}
 
--- a fault of what is read first is one of the settings, where these go on with it
+-- a fault of what is read first is one of the settings, if these go on with it
 pub wrong_before : {A B : Type 0} (r : Result A Path) (more : A → Result B Path) (e : ConfigFault)
     → IsWrongKeyOf r e
     → IsWrongKeyOf (r >>= more) e

@@ -16,7 +16,7 @@ use Rattle.settings.specs.declared.site.fault.SiteFault.TheVariants.{NotToml, Ke
 use Rattle.settings.specs.declared.site.fault.SiteFault.TheVariants.{NoMemory}
 use Rattle.settings.specs.declared.site.Site.{Site}
 
--- a fault of what is read first is one of the file, where this goes on with it
+-- a fault of what is read first is one of the file, if this goes on with it
 pub wrong_before : {A B : Type 0} (r : Result A Path) (more : A → Result B Path) (e : SiteFault)
     → IsWrongKeyOf r e
     → IsWrongKeyOf (r >>= more) e

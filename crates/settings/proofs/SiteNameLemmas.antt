@@ -20,7 +20,7 @@ pub stations_from_end : (before : List Named) (vs : List Value) (i : ℕ) → le
     → stations_from before (items_view (drop i vs)) ≡ Ok before
 stations_from_end before vs i le = rw (drop_all i vs le)
 
--- a link address is among the names where it is among those that the code keeps
+-- a link address is among the names if it is among those that the code keeps
 pub any_named : (link : ℕ) (stations : List StationName)
     → list_any (λ s. s.link == link) (map named stations) ≡ list_any (λ s. s.link == link) stations
 any_named link [] = refl

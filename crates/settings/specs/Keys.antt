@@ -12,7 +12,7 @@ use Rattle.settings.specs.Faults.{Path}
 use Rattle.settings.specs.declared.fault.WrongKey.{WrongKey}
 use Rattle.settings.specs.declared.keys.Whole.{Whole}
 
--- the value at a key, where the table and the key are there
+-- the value at a key, if the table and the key are there
 abbrev pub given_at : List ℕ → Option Members → Option Data
 given_at key None = None
 given_at key (Some t) = get_member key t
@@ -39,12 +39,12 @@ number_of (Some (pos n)) = if nat_lt n (2 ^ 32) then Some n else None
 number_of (Some (negsuc n)) = None
 number_of None = None
 
--- the number given, or the default where none is
+-- the number given, or the default if none is
 abbrev pub number_or : Option ℕ → Option Data → Option ℕ
 number_or default None = default
 number_or default (Some d) = number_of (as_integer d)
 
--- the number where it is in the row's range, else the row's path
+-- the number if it is in the row's range, else the row's path
 abbrev pub judged : Row → Option ℕ → Result ℕ Path
 judged r None = Err r.path
 judged r (Some n) = if nat_le r.low n && nat_le n r.high then Ok n else Err r.path
@@ -69,7 +69,7 @@ flag_of key path t = flag_or path (given_at key t)
 abbrev pub members_in : Option (Bor (BTreeMap (String Global) Value)) → Option Members
 members_in t = option_map (λ t. table_view t.now) t
 
--- the table, or the path of its first key where it is none
+-- the table, or the path of its first key if it is none
 abbrev pub table_or : Path → Option Members → Result (Option Members) Path
 table_or first None = Err first
 table_or first (Some t) = Ok (Some t)

@@ -74,7 +74,7 @@ sizes_of t = do
   i ← whole_of (row (codes "ioa") (codes "line.ioa") 1 3 None) t
   Ok (record { cause = cause_size c; ca = ca_size a; ioa = ioa_size i })
 
--- how long an answer is waited for, and what follows where none comes
+-- how long an answer is waited for, and what follows if none comes
 abbrev pub waits_of : Option Members → Result Waits Path
 waits_of t = do
   m ← whole_of (row (codes "answer_ms") (codes "line.answer_ms") 1 60000 (Some 200)) t

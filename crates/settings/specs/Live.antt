@@ -76,7 +76,7 @@ is_loopback line = begins_with (codes "tcp:127.") line && list_all is_numeric (d
 abbrev pub is_here : List ℕ → Bool
 is_here line = begins_with (codes "unix:") line || is_localhost line || is_loopback line
 
--- the text of a key, where it is there and is one
+-- the text of a key, if it is there and is one
 abbrev pub text_of : Option Data → Option (List ℕ)
 text_of None = None
 text_of (Some d) = as_str d

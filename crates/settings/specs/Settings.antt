@@ -38,7 +38,7 @@ gateway_values root = do
   s ← stations_of l.link l.sizes.ca (get_member (codes "station") root)
   Ok (record { line = l; tcp = t; stations = s })
 
--- the same, where the table `live` has texts if anything, apart from keys that a file may not have
+-- the same, if the table `live` has texts if anything, apart from keys that a file may not have
 abbrev pub known_settings : Members → Result Values Path
 known_settings root = do
   v ← gateway_values root
@@ -58,11 +58,11 @@ known_live root = do
 abbrev pub live_values_of : Settings × LiveSettings → Values × Places
 live_values_of c = (values_of c.0, places_of c.1)
 
--- what was read, where no key is wrong; else the first wrong key
+-- what was read, if no key is wrong; else the first wrong key
 abbrev pub IsKnownOf : {A V : Type 0} → Result V Path → (A → V) → Result A ConfigFault → Type 0
 IsKnownOf known seen result = MatchResult result (λ c. known ≡ Ok (seen c)) (IsWrongKeyOf known)
 
--- a wrong key is the first; an unknown one is the least, where no key is wrong
+-- a wrong key is the first; an unknown one is the least, if no key is wrong
 abbrev pub IsFirstFault : {V : Type 0} → Result V Path → Members → ConfigFault → Type 0
 IsFirstFault known root NotToml = ⊥
 IsFirstFault known root (Key path) = known ≡ Err path.now
@@ -70,7 +70,7 @@ IsFirstFault known root (Unknown path) =
     IsOk known × IsLeastUnknown (unknown_paths root) (Unknown path)
 IsFirstFault known root NoMemory = Unit {0}
 
--- what was read, where no key is wrong and none unknown; else the first fault
+-- what was read, if no key is wrong and none unknown; else the first fault
 abbrev pub IsReadOf : {A V : Type 0} → Result V Path → (A → V) → Members →
     Result A ConfigFault → Type 0
 IsReadOf known seen root result =
@@ -128,7 +128,7 @@ known_with_ends root = do
   both ← known_live root
   Ok both.0
 
--- what is read, where a live run's ends are to be there, or needn't
+-- what is read, by whether a live run's ends have to be there
 abbrev pub IsReadFor : (live : Bool) → List ℕ → Result Settings ConfigFault → Type 0
 IsReadFor false text result = IsReadOfText text result
 IsReadFor true text result = IsReadBy known_with_ends values_of text result

@@ -1,5 +1,5 @@
 -- A whole file of a site, up to the first wrong key; an unknown key is looked for after these (this
--- gateway's own profile). Where `line` is no table, its first key is wrong.
+-- gateway's own profile). If `line` is no table, its first key is wrong.
 use Rattle.std.specs.Prelude.{◌≡◌, ℕ, false, codes, List, [], ◌∷◌, ◌++◌, Option, Some, None}
 use Rattle.std.specs.Prelude.{option_map, Result, Ok, Err, IsOk, MatchResult, Vec, String, map}
 use Rattle.std.specs.Prelude.{string_bytes}
@@ -120,7 +120,7 @@ known_site root = do
   n ← known_names root
   Ok (record { places = p; flags = f; names = n })
 
--- what was read, where no key is wrong; else the first wrong key
+-- what was read, if no key is wrong; else the first wrong key
 abbrev pub IsKnownOf : {A V : Type 0} → Result V Path → (A → V) → Result A SiteFault → Type 0
 IsKnownOf known see result = MatchResult result (λ c. known ≡ Ok (see c)) (IsWrongKeyOf known)
 
@@ -136,7 +136,7 @@ IsFirstFault root (Unknown path) =
     IsOk (known_site root) × (unknown_key root ≡ Some (string_bytes path))
 IsFirstFault root NoMemory = Unit {0}
 
--- what was read, where no key is wrong and none unknown; else the first fault
+-- what was read, if no key is wrong and none unknown; else the first fault
 abbrev pub IsReadOf : Members → Result Site SiteFault → Type 0
 IsReadOf root result =
     MatchResult result

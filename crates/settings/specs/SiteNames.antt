@@ -22,7 +22,7 @@ pub record Named : Type 0 where
 abbrev pub named : StationName → Named
 named s = record { link = s.link; name = string_bytes s.name }
 
--- the link address, where no station before has it
+-- the link address, if no station before has it
 abbrev pub link_of : List Named → Members → Result ℕ Path
 link_of before t = do
   l ← whole_of (row (codes "link") (codes "station.link") 1 65534 None) (Some t)

@@ -27,7 +27,7 @@ prefix Root = []
 prefix Line = codes "line."
 prefix Station = codes "station."
 
--- the first, or the second where there is none
+-- the first, or the second if there is none
 abbrev pub or_else : Option (List ℕ) → Option (List ℕ) → Option (List ℕ)
 or_else (Some path) other = Some path
 or_else None other = other

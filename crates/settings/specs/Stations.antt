@@ -27,7 +27,7 @@ abbrev pub greatest_ca : CaSize → ℕ
 greatest_ca ca.One = 254
 greatest_ca ca.Two = 65534
 
--- the number, where no station before has it
+-- the number, if no station before has it
 abbrev pub distinct_number : ℕ → Bool → Path → Result ℕ Path
 distinct_number n taken path = if taken then Err path else Ok n
 

@@ -27,7 +27,7 @@ tcp_of t = record {
   max_age_ms = t.max_age_ms;
 }
 
--- t2 is below t1, also where one of them has its default
+-- t2 is below t1, also if one of them has its default
 abbrev pub tcp_settings : Option Members → Result Tcp Path
 tcp_settings t = do
   k ← whole_of (row (codes "k") (codes "tcp.k") 1 32767 (Some 12)) t

@@ -56,8 +56,8 @@ fn read_settings(alloc: Global, text: &[u8]) -> Result<Config, ConfigFault>
 }
 
 /// Reads the settings of a file for a live run, which has to say where its line and its control
-/// centre are. The faults are those of [`read_config`], where the keys of `live` come after all
-/// others and before unknown ones.
+/// centre are. The faults are those of [`read_config`]: the keys of `live` come after all others
+/// and before unknown ones.
 #[tactic(auto, using(crate::proofs::SettingsLemmas::read_text, crate::proofs::SettingsLemmas::no_root))]
 pub fn read_live_config(alloc: Global, text: &[u8]) -> Result<(Config, LiveSettings), ConfigFault>
     ensures { IsLiveReadOfText text.now result }
@@ -122,8 +122,8 @@ fn read_known_live(alloc: Global, root: &Table) -> Result<(Config, LiveSettings)
     Ok((config, live))
 }
 
-/// Which station of a file is the first that is wrong, counted from 0, if one is; none, where the
-/// line is wrong.
+/// Which station of a file is the first that is wrong, counted from 0, if one is; none, if the line
+/// is wrong.
 pub fn wrong_station(alloc: Global, root: &Table) -> Result<Option<usize>, AllocError>
 {
     match line_in(root) {

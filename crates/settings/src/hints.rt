@@ -1,6 +1,6 @@
 //! What is wrong with a file of settings or of a site, and where: a line with the place and the
-//! value as it is written, one with what is wanted, and one with the place of the other station
-//! where two have one number.
+//! value as it is written, one with what is wanted, and one with the place of the other station if
+//! two have one number.
 //!
 //! [`explain`] gives these lines for the fault of a file of settings, and [`explain_site`] for that
 //! of a site's file. Of the stations of either file the first that is wrong is meant, or the first

@@ -21,8 +21,8 @@ pub struct Whole {
     pub default: Option<u32>,
 }
 
-/// The table at `key`, if it is there. `first` is its first key, which is the wrong one where it is
-/// no table.
+/// The table at `key`, if it is there. `first` is its first key, which is the wrong one if it is no
+/// table.
 pub fn section<'a>(
     root: &'a Table,
     key: &str,
@@ -39,7 +39,7 @@ pub fn section<'a>(
     }
 }
 
-/// The value at `key`, where both the table and the key are there.
+/// The value at `key`, if both the table and the key are there.
 #[tactic(auto, using(toml::proofs::Views::table_get))]
 pub fn given<'a>(table: Option<&'a Table>, key: &str) -> Option<&'a Value>
     ensures { option_map (λ v. view v.now) result ≡ given_at key.now (members_in table.entry) }

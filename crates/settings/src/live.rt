@@ -86,7 +86,7 @@ fn listen_place<'a>(table: Option<&'a Table>) -> Result<&'a str, WrongKey>
     }
 }
 
-/// The text at a key, where it is there and is one.
+/// The text at a key, if it is there and is one.
 fn text_at<'a>(table: Option<&'a Table>, key: &str) -> Option<&'a str>
     ensures { option_map (λ text. text.now) result
         ≡ text_of (given_at key.now (members_in table.entry)) }
@@ -105,7 +105,7 @@ fn is_line(text: &[u8]) -> bool
         || text.starts_with(b"unix:") && text.len() > 5
 }
 
-/// `HOST:PORT`, where the host is all that stands before the last colon, and isn't empty.
+/// `HOST:PORT`, if the host is all that stands before the last colon, and isn't empty.
 pub fn is_address(text: &[u8]) -> bool
     ensures { result ≡ is_address text.now }
 {

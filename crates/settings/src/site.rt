@@ -53,13 +53,13 @@ pub struct Places {
 /// What a live run is to do.
 #[derive(Clone, Copy, PartialEq, Eq)]
 pub struct Flags {
-    /// It ends where its state can't be kept any more.
+    /// It ends when its state can't be kept any more.
     pub state_or_stop: bool,
     /// It logs what happens.
     pub log: bool,
     /// Each line of that begins with how severe it is.
     pub log_severity: bool,
-    /// It reaches the line again where that ends.
+    /// It reaches the line again when that ends.
     pub redial: bool,
     /// It prints each event and each action.
     pub record: bool,

@@ -144,7 +144,7 @@ fn has_common_address(stations: &[StationSettings], ca: u16) -> bool
     stations.iter().any(|station| station.ca == ca)
 }
 
-/// The number, where no other station has it.
+/// The number, if no other station has it.
 fn distinct(n: u16, taken: bool, path: &'static str) -> Result<u16, WrongKey>
     ensures value { seen result ≡ distinct_number n taken path.entry.now }
     ensures same { IfOk result (λ m. m ≡ n) }

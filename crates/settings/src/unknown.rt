@@ -165,7 +165,7 @@ fn push_unknown(
     Ok(())
 }
 
-/// Appends the unknown keys of a section, where it is there.
+/// Appends the unknown keys of a section, if it is there.
 fn push_section(
     alloc: Global,
     paths: &mut Vec<String>,

@@ -23,7 +23,7 @@ use Rattle.sim.specs.declared.stations.cue.Cue.{Cue}
 use Rattle.sim.specs.declared.stations.scenario.Scenario.{Scenario}
 use Rattle.sim.proofs.Commenting.{lines_commented}
 
--- what follows the last line feed is no matter where it is nothing
+-- what follows the last line feed is no matter if it is nothing
 said_ended : (size : LinkSize) (n : ℕ) (lines : List (List ℕ)) →
     filter_map (said_alone size n) (ended_lines lines) ≡ filter_map (said_alone size n) lines
 said_ended size n [] = refl

@@ -12,7 +12,7 @@ use Rattle.sim.specs.Scripts.{ended_lines, lines_of}
 use Rattle.sim.specs.CueLines.{is_cue_line}
 use Rattle.sim.specs.Scenarios.{commented}
 
--- the first lines of a list of references, as comments where they are for the outstations alone
+-- the first lines of a list of references, as comments if they are for the outstations alone
 abbrev pub commented_first : ℕ → List (Bor (List ℕ)) → List (List ℕ)
 commented_first i ls = map (λ line. commented line.now) (take i ls)
 

@@ -247,12 +247,12 @@ learns_one (Counted fcb service) (Some answer) = effects_one service answer
 
 -- All of them
 
--- the new count, where a session ended, else the old one
+-- the new count, if a session ended, else the old one
 abbrev where_ended : List Session → (old new : ℕ) → ℕ
 where_ended [] old new = old
 where_ended (s ∷ ss) old new = new
 
--- one, where a session was open, ended, and has a gap
+-- one, if a session was open, ended, and has a gap
 abbrev gap_where : List Session → (is_open has_gap : Bool) → ℕ
 gap_where [] is_open has_gap = 0
 gap_where (s ∷ ss) is_open has_gap = if has_gap && is_open then 1 else 0

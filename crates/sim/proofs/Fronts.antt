@@ -42,7 +42,7 @@ MayCome size None x turn = Unit {0}
 MayCome size (Some piece) x turn = IsSettled size x ⊎ ((x.octets ≡ [])
     × IsTrueFront (whole_of (front_of size piece)) turn)
 
--- the latest exchange, where it is one with the station (or isn't)
+-- the latest exchange, if it is one with the station (or isn't)
 abbrev pub IsLatestOf : LinkSize → (is_its : Bool) → OpenExchange → List Turn → Option (List ℕ)
     → Type 0
 IsLatestOf size true x here waiting = (turn : Turn) × (here ≡ turn ∷ [])

@@ -233,13 +233,13 @@ clash_other ds (SpoilAnswer n place) turns ack wall spoil send = absurd (spoil n
 clash_other ds (Cut n) turns ack wall spoil send = clash_cut ds n
 clash_other ds (Send n octets) turns ack wall spoil send = absurd (send n octets refl)
 
--- a place is kept where something is sent
+-- a place is kept if something is sent
 pub some_sent : (ds : List Directive) (call : ℕ) (place : Option ℕ) → IsSentFrom ds call place
     → is_some place ≡ is_some (sent_at ds call)
 some_sent ds call None is = rw is refl
 some_sent ds call (Some i) is = sym is.2
 
--- What a line adds, where it clashes with none before it.
+-- What a line adds, if it clashes with none before it.
 or_else_swap : {A : Type 0} (a b : Option A)
     → (is_some a ≡ true → b ≡ None) → or_else a b ≡ or_else b a
 or_else_swap None b none = sym (or_none b)

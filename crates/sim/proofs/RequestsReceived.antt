@@ -35,7 +35,7 @@ pub record IsReceiving (old : OutstationsState) (octets left : List ℕ) (before
   pub stops : StopsAtUntaken exchanges
   pub new_is : new ≡ record mid { so_far = new.so_far }
 
--- where it took all before the last
+-- if it took all before the last
 stops_with : (xs : List RequestExchange) (x : RequestExchange) → list_all took xs ≡ true
     → StopsAtUntaken (xs ++ x ∷ [])
 stops_with [] x e = (λ untaken. refl, tt)

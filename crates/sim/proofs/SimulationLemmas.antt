@@ -82,7 +82,7 @@ begun_blank known sim plan is =
     subst (λ (s : Simulated). Appends known known (lines_of_actions s.poured)) (sym is)
     (appends_none known)
 
--- what is promised where there is no error
+-- what is promised if there is no error
 pub at_ok : {T E : Type 0} (r : Result T E) (x : T) (P : T → Type 0) → r ≡ Ok x → IfOk r P → P x
 at_ok (Ok y) x P is h = let same : y ≡ x = cc in subst P same h
 at_ok (Err e) x P is h = cc

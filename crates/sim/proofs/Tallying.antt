@@ -71,7 +71,7 @@ same_step p i given x octets others t e =
     ap (λ (f : Option Frame). tally_after x.request (option_and_then
     (answer_of (address_at p.addresses i) x.request) f) (tally_asked x.request given t)) e
 
--- the awaited exchange, where it is this station's
+-- the awaited exchange, if it is this station's
 received_this : (laws : Laws) (p : Setup) (i given : ℕ) (each : List StationTally)
     (x : OpenExchange)
     (octets : List ℕ)
@@ -155,7 +155,7 @@ received_this laws p i given each x octets turn t lt here may is =
         (option_and_then (answer_of (address_at p.addresses i) x.request)
         (whole_of (front_of p.link.size (xs ++ octets)))) (tally_asked x.request given t)) (sym e))
 
--- and where it isn't
+-- and if it isn't
 received_other : (p : Setup) (i : ℕ) (each : List StationTally) (x : OpenExchange) (octets : List ℕ)
     → (x.station ≡ i → ⊥)
     → tally_at (each_received p (awaited_in (Some x)) octets each) i ≡ tally_at each i

@@ -22,12 +22,12 @@ moment_of [] = 0
 moment_of (Came now event ∷ log) = now
 moment_of (Went now action ∷ log) = moment_of log
 
--- the last two of seven: an answer of a station that waits, and where there is none a tick
+-- the last two of seven: an answer of a station that waits, and if there is none a tick
 abbrev pub line_event : Option (List ℕ) → Input
 line_event (Some piece) = LineIn piece
 line_event None = Ticked
 
--- the fifth: an acknowledgement, where so many I frames are received and not acknowledged
+-- the fifth: an acknowledgement, if so many I frames are received and not acknowledged
 abbrev pub quiet_event : (ack : ℕ) → Centre → Option (List ℕ) → Input
 quiet_event ack c waiting =
     if nat_le ack (c.received - c.acknowledged) then TcpIn (acknowledging_apdu c)
@@ -38,9 +38,9 @@ abbrev pub sending_event : Option (List ℕ) → (ack : ℕ) → Centre → Opti
 sending_event (Some asdu) ack c waiting = TcpIn (data_apdu c asdu)
 sending_event None ack c waiting = quiet_event ack c waiting
 
--- What a call gives where no wall clock is given, the first of seven that applies: a cut that is
--- due at it, the connection being open; an opening, where it isn't; STARTDT act, where it wasn't
--- sent on it yet; an I frame; an acknowledgement; an answer; a tick.
+-- What a call gives if no wall clock is given, the first of seven that applies: a cut that is due
+-- at it, the connection being open; an opening, if it isn't; STARTDT act, if it wasn't sent on it
+-- yet; an I frame; an acknowledgement; an answer; a tick.
 abbrev pub usual_event : List Directive → (call : ℕ) → Centre → Option (List ℕ) → Input
 usual_event ds call c waiting =
     if c.is_open && is_cut_at ds call then CutOff

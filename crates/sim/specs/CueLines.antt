@@ -98,6 +98,6 @@ abbrev pub cue_from : LinkSize → (stations : ℕ) → (fields : List (List ℕ
 cue_from size stations (word ∷ second ∷ fields) = cue_of size stations word second fields
 cue_from size stations _ = None
 
--- what a line says, where there are so many stations, and link addresses have this size
+-- what a line says, if there are so many stations, and link addresses have this size
 abbrev pub cue_in : LinkSize → (stations : ℕ) → List ℕ → Option Cue
 cue_in size stations line = cue_from size stations (slice_split (λ b. b == 32) line)

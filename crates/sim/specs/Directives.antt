@@ -114,7 +114,7 @@ directive_from size stations (word ∷ second ∷ third ∷ fourth ∷ []) =
     of_four size stations word second third fourth
 directive_from size stations _ = None
 
--- what a line says, where there are so many stations, and link addresses have this size
+-- what a line says, if there are so many stations, and link addresses have this size
 abbrev pub directive_in : LinkSize → (stations : ℕ) → List ℕ → Option Directive
 directive_in size stations text = directive_from size stations (slice_split (λ b. b == 32) text)
 

@@ -5,7 +5,7 @@ use Rattle.sim.specs.declared.due.Due.{Due}
 use Rattle.sim.specs.declared.due.Due.TheVariants as due
 use Rattle.sim.specs.Calls.{line_event}
 
--- the event that it stands for, where this waits
+-- the event that it stands for, if this waits
 abbrev pub due_input : Due → Option (List ℕ) → Input
 due_input (due.Wall number) waiting = WallIs number
 due_input due.Cut waiting = CutOff

@@ -111,7 +111,7 @@ Exchanged old [] new = new ≡ old
 Exchanged old (x ∷ xs) new =
     (mid : OutstationsState) × IsRequestAnswered old x.request x.answer mid × Exchanged mid xs new
 
--- an answer is written in one piece, and nothing where there is none
+-- an answer is written in one piece, and nothing if there is none
 abbrev pub answer_written : StreamHistory → Option (List ℕ) → (is_taken : Bool) → StreamHistory
 answer_written before None is_taken = before
 answer_written before (Some octets) is_taken = noted before (Wrote octets is_taken)
@@ -131,8 +131,8 @@ Brings size so_far octets (x ∷ xs) last left =
     (n : ℕ) × IsFront size (so_far ++ octets) (Whole x.request (length so_far + n))
     × Brings size [] (drop n octets) xs last left
 
--- What is kept of octets that are left behind those so far, and aren't a whole frame: where none
--- are left those so far, else the beginning of a frame, or nothing where they begin none.
+-- What is kept of octets that are left behind those so far, and aren't a whole frame. If none are
+-- left, those so far are kept, else the beginning of a frame, or nothing if they begin none.
 pub data IsKeptRest (size : LinkSize) (last left : List ℕ) : (kept : List ℕ) → Type 0 where
   NoneLeft : left ≡ [] → IsKeptRest size last left last
   Begun : IsFront size (last ++ left) More → IsKeptRest size last left (last ++ left)
@@ -175,8 +175,8 @@ StopsAtUntaken [] = Unit {0}
 StopsAtUntaken (x ∷ xs) = (took x ≡ false → xs ≡ []) × StopsAtUntaken xs
 
 -- Octets came: the stations answered each whole frame among them, and each answer was written,
--- once, in their order, up to the first that the stream didn't take. Where it took all, what is
--- kept begins the next frame; where it didn't, nothing is kept.
+-- once, in their order, up to the first that the stream didn't take. If it took all, what is kept
+-- begins the next frame. If it didn't, nothing is kept.
 pub record HasReceived (old : OutstationsState) (octets : List ℕ) (before after : StreamHistory)
     (is_taken : Bool) (new : OutstationsState) : Type 0 where
   pub exchanges : List RequestExchange

@@ -86,8 +86,7 @@ AreLived plan (Went now (LineOut octets) ∷ log) (answer ∷ answers) stations 
     × AreLived plan log answers before
 AreLived plan (entry ∷ log) answers stations = AreLived plan log answers stations
 
--- what of an answer comes to wait: nothing where it is lost, and one octet is changed where it is
--- spoilt
+-- what of an answer comes to wait: nothing if it is lost, and one octet is changed if it is spoilt
 abbrev pub arriving : LinkSize → RequestFate → Option Frame → Option (List ℕ)
 arriving size fate None = None
 arriving size RequestLost (Some frame) = None

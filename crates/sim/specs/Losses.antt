@@ -50,8 +50,8 @@ or_number (Some n) other = n
 abbrev pub turns_of : List Directive → ℕ
 turns_of ds = or_number (first_said turns_said ds) 0
 
--- from how many unacknowledged I frames on the control centre acknowledges: 1 where the script
--- doesn't say
+-- from how many unacknowledged I frames on the control centre acknowledges: 1 if the script doesn't
+-- say
 abbrev pub ack_of : List Directive → ℕ
 ack_of ds = or_number (first_said ack_said ds) 1
 

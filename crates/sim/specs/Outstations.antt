@@ -34,7 +34,7 @@ is_received AnswerLost = true
 is_received (AnswerSpoilt place) = true
 is_received Answered = true
 
--- a request, where it is one to the station with this index, and whether it is received
+-- a request, if it is one to the station with this index, and whether it is received
 abbrev pub request_to : (index : ℕ) → (arrived : Bool) → Option Sending → List (Bool × Asked)
 request_to index arrived None = []
 request_to index arrived (Some s) = if s.station == index then (arrived, s.request) ∷ [] else []
@@ -49,7 +49,7 @@ requests_to p ds index (Went now (LineOut octets) ∷ log) =
 requests_to p ds index (entry ∷ log) = requests_to p ds index log
 
 -- At a request that it doesn't receive a station does nothing. At any other it does what `link`'s
--- station does, where it had memory or not.
+-- station does, whether it had memory or not.
 abbrev pub TakesTurn : (arrived : Bool) → (old : Secondary) → Asked → Turn → (new : Secondary)
     → Type 0
 TakesTurn false old request turn new = (turn ≡ silent) × (new ≡ old)
@@ -120,9 +120,9 @@ pub record HasServed (c : Settings) (ds : List Directive) (log : Log) (index : �
   -- at most as many are in no answered poll as there are gaps.
   pub counted : IsCounted (session_counts (setup_of c) log index turns) tally
   pub lost : tally.lost ≤ tally.gaps
-  -- Where unanswered services are held its link is never reset. What was taken from it is what it
-  -- gave, or all but the last; and the commands that it accepted are those sent to it, or all but
-  -- the last.
+  -- If unanswered services are held, its link is never reset. What was taken from it is what it
+  -- gave, or all but the last. The commands that it accepted are those sent to it, or all but the
+  -- last.
   pub steady : c.line.silence ≡ Hold → IsSteady (setup_of c) log index
   pub relayed : c.line.silence ≡ Hold → IsRelayed (setup_of c) log index turns
 

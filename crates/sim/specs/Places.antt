@@ -70,7 +70,7 @@ IsAnsweredAt before old Gone buf new = new ≡ record old {
   let_go = Some (noted before (looked Gone buf));
 }
 
--- where no gateway is connected nothing is received
+-- if no gateway is connected, nothing is received
 abbrev pub IsReceivedAt : Option StreamHistory → (old new : OutstationServer) → Type 0
 IsReceivedAt None old new = new ≡ old
 IsReceivedAt (Some before) old new =

@@ -23,7 +23,7 @@ pub record IsPlayed (plan : Plan) (log : Log) (answers : List (Option Frame))
   pub fit : AllByRecursion (λ answer. IfSome answer (Fits plan.size)) answers
   pub follows : FollowsPlan plan log answers
 
--- where a run stands: what waits, what the control centre knows, how many calls and requests there
+-- how a run stands: what waits, what the control centre knows, how many calls and requests there
 -- were, and what is counted of the connections and of the stations' links
 pub record Standing : Type 0 where
   pub waiting : Option (List ℕ)
@@ -87,7 +87,7 @@ abbrev pub is_given : LogEntry → Bool
 is_given (Came now (LineIn octets)) = true
 is_given entry = false
 
--- where a run of this plan stands after an event
+-- how a run of this plan stands after an event
 abbrev pub standing_after : Plan → LogEntry → Standing → Standing
 standing_after plan entry at = record {
   waiting = if is_given entry then None else at.waiting;

@@ -38,7 +38,7 @@ reported i class report s = record s {
   had = changed_at i one_more s.had;
 }
 
--- The station takes the report where it has room and memory is granted, and else nothing changes.
+-- The station takes the report if it has room and memory is granted, and else nothing changes.
 pub record IsReported (station : ℕ) (class : Class) (report : List ℕ) (old : OutstationsState)
     (is_taken : Bool) (new : OutstationsState) : Type 0 where
   pub granted : Bool

@@ -24,11 +24,11 @@ use Rattle.sim.specs.Texts.{closing_lines, connection_lines}
 -- A run of the script, and its closing lines. Its events are what the script gives at each of so
 -- many calls, and its stations have answered and stand as their requests make them. What the
 -- gateway did keeps every promise of a gateway, to the end of its last step, and the order of
--- actions in each step; so what it sent on each connection is a contiguous run of a merge of what
--- it took. And each station was an honest outstation, whose link stayed up where unanswered
--- services are held; so what was taken from it is what it gave, or all but the last. The closing
--- lines of stations, connections and sessions have the numbers of that run: those of the
--- connections count the monitor objects sent on them.
+-- actions in each step. So what it sent on each connection is a contiguous run of a merge of what
+-- it took. And each station was an honest outstation, whose link stayed up if unanswered services
+-- are held. So what was taken from it is what it gave, or all but the last. The closing lines of
+-- stations, connections and sessions have the numbers of that run: those of the connections count
+-- the monitor objects sent on them.
 pub record IsRun (c : Settings) (ds : List Directive) (log : Log) (closing : List ℕ) : Type 0 where
   pub stations : List Secondary
   pub tallies : List StationTally

@@ -50,7 +50,7 @@ abbrev pub is_wrong_cue : LinkSize → (stations : ℕ) → (before : List Cue) 
 is_wrong_cue size stations before line =
     is_cue_line line && is_refused before (cue_in size stations line)
 
--- the number of the first wrong one of these lines, where all lines are counted from n and those
+-- the number of the first wrong one of these lines, if all lines are counted from n and those
 -- before said this
 abbrev pub first_wrong_cue : LinkSize → (stations : ℕ) → (before : List Cue) → ℕ → List (List ℕ)
     → Option ℕ
@@ -81,7 +81,7 @@ AreSaid size stations lines s =
     AreSaidBy size stations (map commented lines) s.script
     × AreCuesOf size stations lines s.cues.items
 
--- the first of two numbers, where there are such
+-- the first of two numbers, if there are such
 abbrev pub first_of_two : Option ℕ → Option ℕ → Option ℕ
 first_of_two None other = other
 first_of_two (Some n) None = Some n

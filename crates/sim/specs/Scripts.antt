@@ -48,8 +48,7 @@ pub record IsScript (directives : List Directive) : Type 0 where
 abbrev pub FitsSettings : Settings → List Directive → Type 0
 FitsSettings c directives = AllByRecursion (FitsStations c.line.link (length c.stations)) directives
 
--- The lines that line feeds end. What follows the last line feed is a line where there is
--- something.
+-- The lines that line feeds end. What follows the last line feed is a line if there is something.
 abbrev pub ended_lines : List (List ℕ) → List (List ℕ)
 ended_lines [] = []
 ended_lines ([] ∷ []) = []
@@ -62,8 +61,8 @@ lines_of text = ended_lines (slice_split (λ b. b == 10) text)
 abbrev pub said : LinkSize → (stations : ℕ) → List ℕ → Option Directive
 said size stations line = if is_skipped line then None else directive_in size stations line
 
--- a line that is neither empty nor a comment is refused after these where it says nothing, or
--- clashes with one of them
+-- a line that is neither empty nor a comment is refused after these if it says nothing, or clashes
+-- with one of them
 abbrev pub refuses : List Directive → Option Directive → Bool
 refuses before None = true
 refuses before (Some directive) = clashes_with before directive
@@ -72,8 +71,8 @@ abbrev pub is_wrong : LinkSize → (stations : ℕ) → List Directive → List 
 is_wrong size stations before line =
     not (is_skipped line) && refuses before (directive_in size stations line)
 
--- The number of the first wrong line, where the lines are counted from n and those before said
--- this. A script without `turns` is wrong at the line after the last.
+-- The number of the first wrong line, if the lines are counted from n and those before said this. A
+-- script without `turns` is wrong at the line after the last.
 abbrev pub first_wrong : LinkSize → (stations : ℕ) → List Directive → ℕ → List (List ℕ) → Option ℕ
 first_wrong size stations before n [] = if list_any is_turns before then None else Some n
 first_wrong size stations before n (l ∷ ls) =

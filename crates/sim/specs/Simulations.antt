@@ -8,8 +8,8 @@ use Rattle.sim.specs.declared.fault.SimFault.{SimFault}
 use Rattle.sim.specs.declared.fault.SimFault.TheVariants.{NoMemory, Write}
 use Rattle.sim.specs.Runs.{IsSimulated, IsCutShort, IsStopped}
 
--- Where the output failed, of the whole run's text a beginning was printed. Where memory was
--- refused nothing was printed, or the run stopped, and a beginning of the lines of its actions was.
+-- If the output failed, a beginning of the whole run's text was printed. If memory was refused,
+-- nothing was printed, or the run stopped, and a beginning of the lines of its actions was.
 abbrev pub IsSimulationFault : Settings → List Directive → (old new : Option (List ℕ)) → SimFault
     → Type 0
 IsSimulationFault c ds old new Write = IsCutShort c ds old new

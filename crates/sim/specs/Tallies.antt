@@ -92,7 +92,7 @@ awaited_asked now None awaited = awaited
 awaited_asked now (Some s) awaited =
     Some (record { station = s.station; request = s.request; since = now })
 
--- Octets come: where a request is awaited, what the frame at their front says in answer to it.
+-- Octets come: if a request is awaited, what the frame at their front says in answer to it.
 abbrev pub answer_in : Setup → LatestRequest → List ℕ → Option Answer
 answer_in p a octets =
     option_and_then (answer_of (address_at p.addresses a.station) a.request)
@@ -141,7 +141,7 @@ tallied_asked p now octets stations t = record {
 
 -- A run
 
--- an exchange that isn't over may still be answered where no octets came
+-- an exchange that isn't over may still be answered if no octets came
 abbrev pub awaited_with : (octets : List ℕ) → OpenExchange → Option LatestRequest
 awaited_with [] x = Some (record { station = x.station; request = x.request; since = x.since })
 awaited_with (octet ∷ octets) x = None

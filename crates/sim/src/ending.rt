@@ -20,13 +20,13 @@ impl Sim<'_> {
     /// The closing lines of a run: one for each station, one for each connection, and one for each
     /// station whose link had more than one session.
     ///
-    /// Where a gateway has kept its promises in a run over this port, for as many calls as the
-    /// script says, then, whatever the script loses or spoils, each station is an honest outstation
-    /// of that run, and what went to the control centre is a contiguous run, on each connection, of
-    /// a merge of what was taken from the stations. Where unanswered services are held (`silence`
-    /// is `Hold`), what was taken from a station is what it gave, or all but its last report; with
-    /// `Reset` this holds of each session between two resets. The lines have the numbers of that
-    /// run.
+    /// If a gateway has kept its promises in a run over this port, for as many calls as the script
+    /// says, this follows, whatever the script loses or spoils. Each station is an honest
+    /// outstation of that run, and what went to the control centre is a contiguous run, on each
+    /// connection, of a merge of what was taken from the stations. If unanswered services are held
+    /// (`silence` is `Hold`), what was taken from a station is what it gave, or all but its last
+    /// report. With `Reset` this holds of each session between two resets. The lines have the
+    /// numbers of that run.
     pub fn closing(&self, alloc: Global) -> Result<String, AllocError>
         ensures { (c : Settings) (ds : List Directive) → self.now.plan ≡ plan_of c ds →
             AreStations c.line.link c.line.sizes.ca c.stations →

@@ -20,8 +20,8 @@ ghost use Rattle.sim.specs.Lives.{Plan, arriving, later, requests_in, waiting_in
 ghost use Rattle.sim.specs.Losses.{turns_of, ack_of, wall_at, is_cut_at, sent_at, fate_of};
 ghost use Rattle.sim.specs.Losses.{report_said};
 
-/// What a script has become of a request, of an answer and of a call, and what it says where it has
-/// no such line.
+/// What a script has become of a request, of an answer and of a call, and what it says if it has no
+/// such line.
 pub fn losses_by_example()
     ensures fates { (fate_of (SpoilAnswer 1 4 ∷ LoseAnswer 1 ∷ LoseRequest 1 ∷ []) 1 ≡ RequestLost)
         × (fate_of (SpoilAnswer 1 4 ∷ LoseAnswer 1 ∷ []) 1 ≡ AnswerLost)

@@ -25,8 +25,8 @@ use link::station_is_an_outstation;
 /// of its link what was taken from it is what it gave, or all but the last; and so for the commands
 /// that it accepted. What is counted of its sessions ([`crate::Tally`]) is what they say: how many
 /// there are, how many of those that ended have a gap, and how many reports were lost in these,
-/// which are at most as many as the gaps. Where unanswered services are held its link is never
-/// reset, and this holds of the whole run.
+/// which are at most as many as the gaps. If unanswered services are held, its link is never reset,
+/// and this holds of the whole run.
 pub fn stations_are_honest()
     ensures { (c : Settings) (ds : List Directive) (log : Log) (answers : List (Option Frame))
         (stations : List Secondary) (tallies : List StationTally) →

@@ -30,7 +30,7 @@
 //! ([`losses_by_example`]), and of calls ([`calls_by_example`]).
 //!
 //! Not proved: that a report is ever asked for, or that a port whose device fails wanted memory (it
-//! fails too where more than 2^64 requests or frames would be counted).
+//! fails too if more than 2^64 requests or frames would be counted).
 //!
 //! `stations` plays the outstations of a script behind a socket, to try a control centre with.
 #![tactic(auto)]

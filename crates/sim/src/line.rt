@@ -30,8 +30,8 @@ fn number(digits: &[u8]) -> Option<u64>
     }
 }
 
-/// What a line says, where there are so many stations and link addresses have this size. `None`
-/// where it says nothing.
+/// What a line says, if there are so many stations and link addresses have this size. `None` if it
+/// says nothing.
 pub fn read_line(
     alloc: Global,
     size: LinkSize,

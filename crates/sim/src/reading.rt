@@ -14,8 +14,7 @@ use traces::{TextFault, is_skipped, parts};
 
 const LINE_FEED: u8 = b'\n';
 
-/// The lines that line feeds end. What follows the last line feed is a line where there is
-/// something.
+/// The lines that line feeds end. What follows the last line feed is a line if there is something.
 #[tactic(auto, using(crate::proofs::ScriptLemmas::ended_without, crate::proofs::ScriptLemmas::ended_with))]
 fn lines(alloc: Global, text: &[u8]) -> Result<Vec<&[u8]>, AllocError>
     ensures { IfOk result (λ v. map (λ line. line.now) v.items ≡ lines_of text.entry.now) }
@@ -32,7 +31,7 @@ fn lines(alloc: Global, text: &[u8]) -> Result<Vec<&[u8]>, AllocError>
     Ok(lines)
 }
 
-/// Reads lines, counted from 1, where there are so many stations and link addresses have this size.
+/// Reads lines, counted from 1, if there are so many stations and link addresses have this size.
 #[tactic(auto, using(crate::proofs::ScriptLemmas::read_skip, crate::proofs::ScriptLemmas::wrong_here, crate::proofs::ScriptLemmas::clash_here, crate::proofs::ScriptLemmas::said_end, crate::proofs::ScriptLemmas::wrong_end, crate::proofs::ScriptLemmas::no_turns_end))]
 fn read_lines(
     alloc: Global,

@@ -37,7 +37,7 @@ fn receive_all(stations: &mut [Station], octets: &[u8]) -> Option<Frame>
     answer
 }
 
-/// Puts a request out to the stations, of which each receives it where it isn't lost.
+/// Puts a request out to the stations, of which each receives it if it isn't lost.
 pub fn put_out(stations: &mut [Station], fate: RequestFate, octets: &[u8]) -> Option<Frame>
     ensures out { IsPutOut fate octets.now stations.old result stations.new }
     ensures fits { (size : LinkSize) → AllByRecursion (λ s. s.size ≡ size) stations.old

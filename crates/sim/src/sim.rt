@@ -123,7 +123,7 @@ fn is_given(entry: &Entry) -> bool
     matches!(entry, Entry::Line(_, _))
 }
 
-/// One more than so many, where that is a number.
+/// One more than so many, if that is a number.
 fn one_more(count: u64) -> Option<u64>
     ensures next { IfSome result (λ next. next ≡ count + 1) }
     ensures small { IfSome result (λ next. next < 2 ^ 64) }
@@ -131,7 +131,7 @@ fn one_more(count: u64) -> Option<u64>
     count.checked_add(1)
 }
 
-/// Takes away what waits, where it is given.
+/// Takes away what waits, if it is given.
 fn forget(waiting: &mut Option<ArrayVec<u8, 261>>, is_given: bool)
     ensures { option_map (λ v. v.items) waiting.new
         ≡ (if is_given then None else option_map (λ v. v.items) waiting.old) }
@@ -286,7 +286,7 @@ impl<'a> Sim<'a> {
             // No run is as long.
             return Err(AllocError);
         };
-        // Printed first: where memory is refused no station has received the request.
+        // Printed first: if memory is refused, no station has received the request.
         self.page.went(now, &Action::Line(octets))?;
         self.requests = requests;
         self.tallies

@@ -30,8 +30,8 @@ use traces::{drive_printed, print};
 /// merge of what was taken from the stations, and with `silence` held what was taken from each is
 /// what it gave, or all but its last report. The closing lines have the numbers of that run.
 ///
-/// `Write` is answered where the output takes no octet or fails; the run goes on to its end and
-/// prints nothing more, so that what was printed is a beginning of the whole text. After `NoMemory`
+/// `Write` is answered if the output takes no octet or fails. The run goes on to its end and prints
+/// nothing more, so that what was printed is a beginning of the whole text. After `NoMemory`
 /// nothing was printed, or a beginning of the lines of a run's actions.
 pub fn simulate<W: Write>(
     alloc: Global,
@@ -87,7 +87,7 @@ fn run<W: Write, E: Write>(
     }
 }
 
-/// Prints the closing lines of a run, where all others were printed.
+/// Prints the closing lines of a run, when all others were printed.
 fn close<W: Write>(
     alloc: Global,
     sim: &Sim<'_>,
@@ -109,7 +109,7 @@ fn close<W: Write>(
     }
 }
 
-/// Prints the lines with which a run ends, where all others were printed.
+/// Prints the lines with which a run ends, when all others were printed.
 fn print_closing<W: Write>(lines: &[u8], is_whole: bool, out: &mut W) -> Result<(), SimFault>
     ensures { (before : Option (List ℕ)) (text : List ℕ) →
         IsPoured is_whole before (W.contents out.old) text →

@@ -196,7 +196,7 @@ impl Tallies {
         }
     }
 
-    /// A moment comes: what is awaited is over where the time to answer is.
+    /// A moment comes: what is awaited is over when the time to answer is.
     fn wait(&mut self, answer_ms: u64, now: u64)
         ensures { self.new ≡ record self.old {
           awaited = awaited_timed answer_ms now self.old.awaited;

@@ -56,7 +56,7 @@ impl StationTally {
         self.asked_bare(request.asked(), given)
     }
 
-    /// The same, where of a command no octets are known.
+    /// The same, if of a command no octets are known.
     fn asked_bare(self, request: &Asked, given: u64) -> StationTally
         ensures { result ≡ tally_asked request.now given self }
     {
@@ -119,7 +119,7 @@ impl StationTally {
         self.answered_bare(request.asked(), answer)
     }
 
-    /// The same, where of a command no octets are known.
+    /// The same, if of a command no octets are known.
     fn answered_bare(self, request: &Asked, answer: &Answer<'_>) -> StationTally
         ensures { result ≡ tally_answered request.now answer.now self }
     {

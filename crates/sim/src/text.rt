@@ -78,8 +78,8 @@ fn push_connections(lines: &mut String, counts: &[u64]) -> Result<(), AllocError
     Ok(())
 }
 
-/// Appends the closing line of the sessions of the station with this index, where there was more
-/// than one.
+/// Appends the closing line of the sessions of the station with this index, if there was more than
+/// one.
 fn push_tally(lines: &mut String, index: usize, tally: StationTally) -> Result<(), AllocError>
     requires { index + 1 < 2 ^ 64 }
     ensures { OnOk result (string_bytes lines.new ≡ string_bytes lines.old

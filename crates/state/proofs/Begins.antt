@@ -363,7 +363,7 @@ state_shown log is_stale first second s shown l head body written lines is fits 
       said.said,
     )
 
--- a log was found where one is shown
+-- a log was found if one is shown
 past_shown : (log : Log) (is_stale : Bool) (first second : List ℕ) (s : Sight)
     (shown : IsSight log is_stale first second s) (o : Option Seen) → s.seen ≡ o
     → has_past s.beginning ≡ true → IsShut shown.newest → ⊥
@@ -377,7 +377,7 @@ past_shown log is_stale first second s shown (Some l) is past shut =
     not_shut shown.newest all.2.head.head all.2.head.found.first shut
 
 module _ {D : Type 0} {g : Ghosts D} where
-  -- a log was found where a run goes on
+  -- a log was found if a run goes on
   not_shut_of : (c : Settings) (log : Log) (mark : Option Bool) (newest other : D)
       (o : Origin) → BeginsOver g c log mark newest other o → has_past o.beginning ≡ true
       → IsShut (g.seen newest) → ⊥

@@ -93,7 +93,7 @@ module _ {D : Type 0} {g : Ghosts D} where
     goes_on = λ past. never (has_past o.beginning) past (ap has_past is);
   }
 
-  -- with a past, where the files are those that were looked at
+  -- with a past, if the files are those that were looked at
   pub begun_from : (c : Settings) (log : Log) (mark : Option Bool)
       (opened : Opened D g)
       (newest spare new old other : D) (o : Origin) (goes_on : Bool)
@@ -133,7 +133,7 @@ module _ {D : Type 0} {g : Ghosts D} where
       ])
       goes)))
 
-  -- the number of the next log, where the files are those that were looked at
+  -- the number of the next log, if the files are those that were looked at
   pub numbered_from : (opened : Opened D g) (newest spare new old other : D) (number first : ℕ)
       → opened ≡ opens.Both newest spare → newest ≡ new → spare ≡ other → number ≡ first
       → g.seen new ≡ g.seen old → (IsTrue (g.is_clean new) → IsTrue (g.is_clean old))

@@ -24,7 +24,7 @@ module _ {D : Type 0} {g : Ghosts D} where
     is = inr (others refl);
   }
 
-  -- the same, where it was open
+  -- the same, if it was open
   pub left_open : (opened : D → D → Type 0) (before after : Opened D g) (file : D)
       (is_sound : Bool) → WasOpen before file
       → (is_sound ≡ true → SpareIs {D = D} {g = g} file after)
@@ -41,7 +41,7 @@ module _ {D : Type 0} {g : Ghosts D} where
     is = inr (others refl);
   }
 
-  -- where neither file is open, none was
+  -- if neither file is open, none was
   pub none_open : {P : Type 0} (before : Opened D g) (file : D) → before ≡ opens.Neither
       → WasOpen before file → P
   none_open before file is was =

@@ -35,7 +35,7 @@ fresh_left outcomes number body settings lines file says s none is = record {
   says = says;
 }
 
--- what is left where its last octet couldn't be written
+-- what is left if its last octet couldn't be written
 
 module _ (number : ℕ) (body file : List ℕ) (has : HasWhole number body file) where
   begins : (i : ℕ) → i < length (whole_text number body)

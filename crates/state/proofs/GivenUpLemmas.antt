@@ -30,7 +30,7 @@ module _ {A B C : Type 0} (see : A → B) (each : B → List C) where
   place_within (x ∷ xs) zero b e = omega arith
   place_within (x ∷ xs) (suc place) b e = omega (arith, place_within xs place b e)
 
--- where a thing is seen as it is
+-- a thing that is seen as it is
 pub as_it_is : {A : Type 0} (o : Option A) → o ≡ option_map (λ (x : A). x) o
 as_it_is {A} None = refl
 as_it_is {A} (Some x) = refl

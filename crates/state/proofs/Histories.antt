@@ -102,7 +102,7 @@ all_arrived (Begun state ∷ later) earlier event = all_arrived later earlier ev
 all_arrived (GivenUp fault loss ∷ later) earlier event = all_arrived later earlier event
 all_arrived (PutOut action ∷ later) earlier event = all_arrived later earlier event
 
--- where they are on the disk
+-- if they are on the disk
 on_it : (deeds : Deeds) → IsAllOnDisk deeds
     → (is_kept deeds ≡ true) × (arrived deeds ≡ safe deeds ++ led_to_head deeds)
 on_it deeds disk = (disk.0, sym disk.1 ∙ all_on_disk deeds)

@@ -26,7 +26,7 @@ use Rattle.state.specs.declared.loss.Loss.TheVariants.{Marked, Unmarked}
 use Rattle.state.specs.declared.loss.StoreFault.{StoreFault}
 use Rattle.state.specs.declared.loss.StoreFault.TheVariants as faults
 
--- where an event waits, it is there
+-- if an event waits, it is there
 pub some_waits : (deeds : Deeds) (moment : ℕ) → since_of (waiting deeds) ≡ Some moment
     → waiting deeds ≡ [] → ⊥
 some_waits deeds moment since none =
@@ -226,7 +226,7 @@ has_failed settings stored fault events loss old new are kept failed refused = r
       (stored_grown settings old stored are kept) refused;
 }
 
--- Where none waits
+-- If none waits
 
 pub settled_all : (s : Standing) (deeds : Deeds) → IsSettled s → IsStanding s deeds
     → IsAllOnDisk deeds ⊎ (is_some (loss_of deeds) ≡ true)

@@ -150,7 +150,7 @@ refused_with faults.Unwritable events octets refused = absurd (refused tt)
 refused_with faults.Full events octets refused = refused
 refused_with faults.Failed events octets refused = tt
 
--- A line that finds no room comes where a new log is due
+-- A line that finds no room comes only if a new log is due
 pub full_due : (head counted octets total size : ℕ)
     → head + most_octets + longest_line + seal_octets ≤ size → octets ≤ longest_line
     → size < total + octets + 27 → total ≤ head + counted → is_renewal_due counted ≡ true

@@ -62,7 +62,7 @@ module _ {D : Type 0} {g : Ghosts D} where
         less_amid (g.may_leave spare) (g.may_leave c.spare) number settings lines other stays there,
       )
 
-  -- where the files were opened anew
+  -- if the files were opened anew
   pub none_behind : (old new : Opened D g) (number : ℕ) (settings : List ℕ)
       (lines : List (List ℕ)) (file other : List ℕ) → new ≡ opens.Neither
       → leaves_behind new file other → leaves_amid old number settings lines file other

@@ -71,7 +71,7 @@ went false c written log lines events gap given_up whole s moved same goes = goe
 module _ {D : Type 0} (g : Ghosts D) (settings : List ℕ) (deeds : Deeds) (file other : List ℕ)
     (c : Settings) (log : Log) (o : Origin) (kept : IsKeptIn settings deeds file)
     (beside : IsOlderBeside file other) (b : IsBegunOver g file other c log o) where
-  -- the newest file is that of the log, where the start has found a segment there
+  -- the newest file is that of the log, if the start has found a segment there
   newest_is : (trusted : Bool) → GoesOnFrom trusted c log (g.seen b.newest) o.is_moved o.damage
       o.gap
       o.given_up.items o.before.entries o.gateway

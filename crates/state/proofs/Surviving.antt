@@ -107,7 +107,7 @@ some_head settings lines logged is none = let no : [] ≡ settings ∷ lines = s
 
 -- The file of a log
 
--- where a segment stands whole, each segment is older than a later one
+-- if a segment stands whole, each segment is older than a later one
 pub stands_older : (outcomes : List ℕ → Type 0) (own number : ℕ) → StandsIn outcomes own
     → own < number → AreOlder outcomes number
 stands_older outcomes own number stands less c left head text fits found =

@@ -37,7 +37,7 @@ is_trusted beginnings.PutAside = false
 is_trusted beginnings.LinksReset = false
 is_trusted beginnings.GoesOn = true
 
--- where the clock goes on, if there was one
+-- the moment at which the clock goes on, if there was one
 abbrev pub moment_at : Beginning → ℕ → Option ℕ
 moment_at beginning moment = if has_past beginning then Some moment else None
 
@@ -83,7 +83,7 @@ abbrev pub IsReadWhole : List ℕ → Type 0
 IsReadWhole file = (head : SegmentHead) (body : List ℕ) → Fits head → IsFoundIn file head body →
     IsWhole (lines_behind body file) (damage_behind body file)
 
--- The gateway follows this whole log, where the log before the state that these lines say was that
+-- The gateway follows this whole log, if the log before the state that these lines say was that
 -- one.
 abbrev pub GoesOnWith : Settings → (log : Log) → (lines : List (List ℕ)) → (whole : Log) → State
     → Type 0
@@ -150,8 +150,8 @@ abbrev pub IsMoved : Settings → (written : List ℕ) → Bool → Type 0
 IsMoved c written true = IsReadOfText written (Ok c) → ⊥
 IsMoved c written false = IsReadOfText written (Ok c)
 
--- A gateway with these settings goes on with what stands in a file. Where the log there was written
--- under others it is moved, and also where its links aren't trusted: then each of them is reset.
+-- A gateway with these settings goes on with what stands in a file. If the log there was written
+-- under others it is moved, and also if its links aren't trusted: then each of them is reset.
 pub record GoesOnFrom (trusted : Bool) (c : Settings) (log : Log) (file : List ℕ)
     (is_moved : Bool) (damage : Option ℕ) (gap : Option ReportedGap) (given_up : List GivenUp)
     (whole : Log) (s : State) : Type 0 where

@@ -1,5 +1,5 @@
--- What is done where the events of a run are kept on a disk, in one history: the gateway receives
--- an event, its line goes to the log on the disk, the log is synced, an action is handed out
+-- What is done when the events of a run are kept on a disk, in one history: the gateway receives an
+-- event, its line goes to the log on the disk, the log is synced, an action is handed out
 -- (profile).
 use Rattle.std.specs.Prelude.{◌≡◌, ℕ, ◌+◌, ◌-◌, ◌<◌, ◌⊎◌, Bool, true, false, List, [], ◌∷◌, map}
 use Rattle.std.specs.Prelude.{Option}
@@ -144,7 +144,7 @@ abbrev pub moment_of : LogEntry → ℕ
 moment_of (Came now event) = now
 moment_of (Went now action) = now
 
--- the moment of the oldest of these, where the newest is this one
+-- the moment of the oldest of these, if the newest is this one
 abbrev pub oldest : (newest : LogEntry) → Log → ℕ
 oldest newest [] = moment_of newest
 oldest newest (event ∷ log) = oldest event log
@@ -171,12 +171,12 @@ abbrev pub latest : Log → Log
 latest [] = []
 latest (event ∷ log) = event ∷ []
 
--- When a deed may be done, behind these. An action is handed out where all received events are on
--- the disk, or where the store has failed, the state on the disk is marked as stale and that is
--- borne. No event is received while one has waited for the disk for a second. A log whose store has
--- failed is neither appended to nor synced again, and none is synced for nothing. A log begins with
--- the state of a gateway that can be read again, if it is between two steps. A store fails for
--- want of room only where a new log is due, and for an event only if no line can hold the latest.
+-- When a deed may be done, behind these. An action is handed out if all received events are on the
+-- disk, or if the store has failed, the state on the disk is marked as stale and that is borne. No
+-- event is received while one has waited for the disk for a second. A log whose store has failed is
+-- neither appended to nor synced again, and none is synced for nothing. A log begins with the state
+-- of a gateway that can be read again, if it is between two steps. A store fails for want of room
+-- only if a new log is due, and for an event only if no line can hold the latest.
 abbrev pub MayBe : (bears : Bool) → Deed → Deeds → Type 0
 MayBe bears (PutOut action) deeds =
     IsAllOnDisk deeds ⊎ ((loss_of deeds ≡ Some Marked) × (bears ≡ true))

@@ -96,7 +96,7 @@ selections_in ss = flat_map (λ s. of_selected (selected_of s)) ss
 abbrev pub answers_in : List (List ℕ) → List GivenUp
 answers_in answers = flat_map (λ a. of_answer a) answers
 
--- What a start of a gateway in this state gives up, where the line has these sizes: the commands on
+-- What a start of a gateway in this state gives up, if the line has these sizes: the commands on
 -- the line without an answer, in the order of the stations, those that were never put on it, the
 -- selections, and the own answers that weren't sent.
 abbrev pub given_up_by : Sizes → State → List GivenUp

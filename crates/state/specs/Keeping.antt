@@ -14,7 +14,7 @@ use Rattle.state.specs.declared.renewal.Patience.{Patience}
 use Rattle.state.specs.declared.standing.Standing.{Standing}
 
 -- the ends that it stands between; how far the received events are on the disk; whether the run
--- goes on where the store has failed; how often it was stopped for that; and what was tried and
+-- goes on if the store has failed; how often it was stopped for that; and what was tried and
 -- reported while the state wasn't kept
 pub record Keeping (E : Type 0) : Type 0 where
   pub ends : E
@@ -54,9 +54,9 @@ pub record IsKeeping (port : Option Log) (deeds : Deeds) (standing : Standing) (
   pub orderly : IsOrderly bears_loss standing deeds
   pub few : failed < 2 ^ 64
 
--- what a keeper does between two steps, when the gateway is in this state: where the store has
--- failed a new log is tried if that is due, and none otherwise. Where it hasn't, a new one is begun
--- if the present one has grown, and none otherwise. So behind a look there is room for a line.
+-- What a keeper does between two steps, when the gateway is in this state. If the store has failed,
+-- a new log is tried if that is due, and none otherwise. If it hasn't, a new one is begun if the
+-- present one has grown, and none otherwise. So behind a look there is room for a line.
 pub record HasLooked {E : Type 0} (deeds : E → Deeds) (old : Keeping E) (state : State)
     (new : Keeping E) : Type 0 where
   pub tries : is_lost old.standing ≡ true → is_try_due old.patience ≡ true →
@@ -70,8 +70,8 @@ pub record HasLooked {E : Type 0} (deeds : E → Deeds) (old : Keeping E) (state
   pub looks : (new ≡ old) ⊎ Renews (deeds old.ends) state (deeds new.ends)
   pub tried : (new ≡ old) ⊎ (new.patience ≡ after_try (is_lost new.standing) old.patience)
 
--- It looks, and then gives what is to be reported. What has passed at its port, where that gives
--- its log, is what the deeds say.
+-- It looks, and then gives what is to be reported. What has passed at its port, if that gives its
+-- log, is what the deeds say.
 pub record HasTended {E : Type 0} (log : E → Option Log) (deeds : E → Deeds) (old : Keeping E)
     (state : State) (new : Keeping E) (notice : Option Notice) : Type 0 where
   pub passed : HasPassed (log old.ends) (deeds old.ends)
@@ -80,7 +80,7 @@ pub record HasTended {E : Type 0} (log : E → Option Log) (deeds : E → Deeds)
   pub logs : notice ≡ notice_of (is_lost looked.standing) looked.patience
   pub after : new ≡ record looked { patience = after_notice notice looked.patience }
 
--- What has failed, where the run was stopped so often since its store had failed: the state, and
--- else what the port says.
+-- What has failed, if the run was stopped so often since its store had failed: the state, and else
+-- what the port says.
 abbrev pub failure_of : (stops : ℕ) → (of_port : Option Failure) → Option Failure
 failure_of stops of_port = if nat_lt 0 stops then Some failures.State else of_port

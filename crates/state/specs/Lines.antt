@@ -42,8 +42,8 @@ most_octets = 3900000
 abbrev pub is_renewal_due : (events : ℕ) → Bool
 is_renewal_due events = nat_lt most_octets events
 
--- A store fails so as it is to append the lines of these events, where the log has so many octets
--- of events: for want of room only where a new log is due, and for an event only where no line can
+-- A store fails so when it is to append the lines of these events, if the log has so many octets of
+-- events. It fails for want of room only if a new log is due, and for an event only if no line can
 -- hold it. Else the disk fails, or memory is refused.
 abbrev pub IsRefusedBy : StoreFault → (events : Log) → (octets : ℕ) → Type 0
 IsRefusedBy faults.Unwritable events octets = AllByRecursion IsWritable events → ⊥

@@ -36,8 +36,8 @@ pub record HasFreshLog (number : ℕ) (settings : List ℕ) (lines : List (List 
   pub sound : damage_behind body file ≡ None
   pub says : lines_in body ≡ settings ∷ lines
 
--- What a file has where the next log, with this number and this head, is begun in it: it is shut,
--- or has what it may have had before, or has the next log.
+-- What a file has when the next log, with this number and this head, is begun in it: it is shut, or
+-- has what it may have had before, or has the next log.
 abbrev pub IsAmid : (before : List ℕ → Type 0) → (number : ℕ) → (settings : List ℕ)
     → (lines : List (List ℕ)) → (file : List ℕ) → Type 0
 IsAmid before number settings lines file =
@@ -60,7 +60,7 @@ pub record WasOpened {D : Type 0} (g : Ghosts D) (opened : D → D → Type 0) (
   pub were : opened one two
   pub is : IsOneOf (g.seen one) (g.seen two) (g.seen file)
 
--- where no log takes lines
+-- if no log takes lines
 abbrev pub nothing_stored : Stored
 nothing_stored = record { head = []; safe = []; held = []; octets = 0 }
 
@@ -93,15 +93,14 @@ module _ {D : Type 0} {g : Ghosts D} where
   Bears number (opens.Both newest spare) = ⊥
   Bears number (opens.Current c) = own_number c.segment ≡ number
 
-  -- What a crash may leave of the file of the log that takes lines. Where none does, that is
-  -- anything.
+  -- What a crash may leave of the file of the log that takes lines. If none does, that is anything.
   abbrev pub leaves_in : Opened D g → List ℕ → Type 0
   leaves_in opens.Neither = λ file. Unit {0}
   leaves_in (opens.Both newest spare) = λ file. Unit {0}
   leaves_in (opens.Current c) = outcomes_of c.segment
 
-  -- What a crash may leave of that file and of the other one, where each read of the other has gone
-  -- well. Where no log takes lines, that is anything.
+  -- What a crash may leave of that file and of the other one, if each read of the other has gone
+  -- well. If no log takes lines, that is anything.
   abbrev pub leaves_both : Opened D g → (file other : List ℕ) → Type 0
   leaves_both opens.Neither = λ file other. Unit {0}
   leaves_both (opens.Both newest spare) = λ file other. Unit {0}
@@ -144,7 +143,7 @@ module _ {D : Type 0} {g : Ghosts D} where
   AreOpen (opens.Current c) = Unit {0}
 
   -- What a crash may leave of the file of a log, and of the one in which the next log was to be
-  -- begun, behind the call that was to do that. Where neither file is left open, that is nothing.
+  -- begun, behind the call that was to do that. If neither file is left open, that is nothing.
   abbrev pub leaves_behind : Opened D g → (file other : List ℕ) → Type 0
   leaves_behind opens.Neither = λ file other. ⊥
   leaves_behind (opens.Both newest spare) = λ file other.
@@ -163,8 +162,8 @@ module _ {D : Type 0} {g : Ghosts D} where
       × ((file : List ℕ) → g.may_leave spare file → g.may_leave c.spare file)
 
   -- Whatever a crash leaves of that file: the segment with the head that the log says, and behind
-  -- it the writes that are synced. Where a crash leaves each octet old or new, each octet there is
-  -- one of the log with the write that waits, or 0.
+  -- it the writes that are synced. If a crash leaves each octet old or new, each octet there is one
+  -- of the log with the write that waits, or 0.
   pub record SurvivesAsLogged (opened : Opened D g) : Type 0 where
     pub number : ℕ
     pub body : List ℕ

@@ -34,7 +34,7 @@ IsMarkedBy beginnings.LinksReset mark = Unit {0}
 IsMarkedBy beginnings.GoesOn mark = mark ≡ Some false
 
 module _ {D : Type 0} {g : Ghosts D} where
-  -- of what two files have that are open this holds, where each read of them has gone well
+  -- of what two files have that are open this holds, if each read of them has gone well
   abbrev pub OnBoth : (List ℕ → List ℕ → Type 0) → Opened D g → Type 0
   OnBoth P opens.Neither = ⊥
   OnBoth P (opens.Both newest spare) =
@@ -53,11 +53,11 @@ module _ {D : Type 0} {g : Ghosts D} where
       × IsNext number (g.seen newest) (g.seen spare)
   IsNumbered number (opens.Current c) = Unit {0}
 
-  -- With these settings a run begins so, where the directory has this mark and these files, whose
-  -- log so far was this one: anew where both files are shut; with the newer
-  -- of two segments; and each link is reset only where the state is marked as stale, or the other
-  -- file may have had a segment as new, or a line of the log can't be read. Where links are trusted
-  -- no segment as new ever stood in that file, and each line of the log can be read.
+  -- With these settings a run begins so, if the directory has this mark and these files, whose log
+  -- so far was this one. It begins anew if both files are shut, and else with the newer of two
+  -- segments. Each link is reset only if the state is marked as stale, or the other file may have
+  -- had a segment as new, or a line of the log can't be read. If links are trusted, no segment as
+  -- new ever stood in that file, and each line of the log can be read.
   pub record IsBegun (c : Settings) (log : Log) (mark : Option Bool)
       (opened : Opened D g) (o : Origin) : Type 0 where
     pub moment : o.moment ≡ moment_at o.beginning o.gateway.moment

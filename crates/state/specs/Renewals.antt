@@ -8,7 +8,7 @@ use Rattle.live.specs.declared.watched.Notice.{Notice}
 use Rattle.live.specs.declared.watched.Notice.TheVariants.{NotKept, KeptAgain}
 use Rattle.state.specs.declared.renewal.Patience.{Patience}
 
--- the moment of the latest event, where this was it before these
+-- the moment of the latest event, if this was it before these
 abbrev pub moment_after : Log → ℕ → ℕ
 moment_after [] moment = moment
 moment_after (event ∷ log) moment = moment_of event
@@ -18,7 +18,7 @@ abbrev pub has_passed : (ms : ℕ) → (since : Option ℕ) → (now : ℕ) → 
 has_passed ms None now = true
 has_passed ms (Some since) now = nat_le ms (now - since)
 
--- where the state isn't kept, a new log is tried at once and then each 10 s
+-- if the state isn't kept, a new log is tried at once and then each 10 s
 abbrev pub is_try_due : Patience → Bool
 is_try_due p = has_passed 10000 p.tried p.moment
 

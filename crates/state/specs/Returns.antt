@@ -17,8 +17,8 @@ use Rattle.state.specs.declared.beginning.Origin.{Origin}
 use Rattle.state.specs.declared.opened.Opened.TheVariants as opens
 use Rattle.state.specs.declared.start.Beginning.TheVariants as beginnings
 
--- With these settings a run begins so where it finds these two files as they are, in either place,
--- and the directory isn't marked as stale.
+-- With these settings a run begins so if it finds these two files as they are, in either place, and
+-- the directory isn't marked as stale.
 pub record IsBegunOver {D : Type 0} (g : Ghosts D) (file other : List ℕ) (c : Settings)
     (log : Log) (o : Origin) : Type 0 where
   pub newest : D
@@ -50,8 +50,8 @@ Returns c log deeds o = (state : State) → head deeds ≡ Some state → IsSava
     → Follows (setup_of c) state (Some log) → Rests (setup_of c) (Some log)
     → HasReturned c log deeds o
 
--- A run that finds these two files, in either place, trusts what they say of the links. Where the
--- text under which they were written says its settings, it goes on with the log of these deeds.
+-- A run that finds these two files, in either place, trusts what they say of the links. If the text
+-- under which they were written says its settings, it goes on with the log of these deeds.
 abbrev pub GoesOnOver : {D : Type 0} → Ghosts D → (settings : List ℕ) → Deeds
     → (file other : List ℕ) → Type 0
 GoesOnOver g settings deeds file other = (c : Settings) (log : Log) (o : Origin)

@@ -49,13 +49,14 @@ AreChanged written text true =
 AreChanged written text false =
     (c : Settings) × IsReadOfText text (Ok c) × IsMoved c written false
 
--- where links aren't trusted, each of them would be reset
+-- if links aren't trusted, each of them would be reset
 abbrev pub IsDistrusted : (is_stale : Bool) → (newest other : List ℕ) → Type 0
 IsDistrusted is_stale newest other = (is_stale ≡ true)
     ⊎ (HasNoNewer newest other → IsReadWhole newest → ⊥)
 
--- A run would begin so with two files, as `IsBegun` says it of one that does: anew where both are
--- shut; what can't be read would be put aside; and else it would go on with the newer segment.
+-- A run would begin so with two files, as `IsBegun` says it of one that does. It would begin anew
+-- if both are shut; what can't be read would be put aside; and else it would go on with the newer
+-- segment.
 abbrev pub BeginsSo : Beginning → (is_stale : Bool) → (newest other : List ℕ) → Type 0
 BeginsSo beginnings.Anew is_stale newest other = IsShut newest × IsShut other
 BeginsSo beginnings.PutAside is_stale newest other =

@@ -36,7 +36,7 @@ IsStanding standings.Synced deeds = IsSynced deeds
 IsStanding (standings.Waiting since) deeds = IsWaiting since deeds
 IsStanding (standings.Lost loss) deeds = loss_of deeds ≡ Some loss
 
--- a loss is borne where it may be and the state on the disk is marked as stale
+-- a loss is borne if it may be and the state on the disk is marked as stale
 abbrev pub is_borne : Loss → (bears : Bool) → Bool
 is_borne Marked bears = bears
 is_borne Unmarked bears = false

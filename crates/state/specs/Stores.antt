@@ -61,7 +61,7 @@ IsStored settings deeds stored = is_kept deeds ≡ true → stored ≡ record {
   octets = grown deeds;
 }
 
--- Where the state is kept it isn't marked as stale on the disk. Where the store has failed, and the
+-- If the state is kept, it isn't marked as stale on the disk. If the store has failed, and the
 -- history says that the mark was made, the mark stands.
 pub record IsMarked (deeds : Deeds) (mark : Option Bool) : Type 0 where
   pub kept : is_kept deeds ≡ true → mark ≡ Some false

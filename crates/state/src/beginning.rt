@@ -52,8 +52,8 @@ const UNMARKED: FolderFault = FolderFault::Unusable("stale", ErrorKind::Other);
 #[derive(Drop)]
 pub struct Origin {
     pub gateway: Gateway,
-    /// Where the clock goes on, in ms. `None`: the run begins anew, and there is no connection to
-    /// cut.
+    /// The moment at which the clock goes on, in ms. `None`: the run begins anew, and there is no
+    /// connection to cut.
     pub moment: Option<u64>,
     /// What was made of what was found.
     pub beginning: Beginning,
@@ -125,7 +125,7 @@ impl From<SegmentFault> for FolderFault {
     }
 }
 
-/// Why a state isn't read, where its settings aren't.
+/// Why a state isn't read, if its settings aren't.
 pub(crate) fn unread(fault: ConfigFault) -> StateFault
     ensures memory { fault ≡ ConfigFault.NoMemory → result ≡ StateFault.NoMemory }
 {
@@ -349,8 +349,8 @@ fn restarted(arrived: Arrived, given_up: Vec<GivenUp>, goes_on: bool) -> Resumed
 }
 
 /// The gateway goes on with the state that was found, under the settings that wrote it, which are
-/// these. Its links go on where the state is trusted, and each whole line of its log can be read.
-/// Where one can't, events behind it are lost, and what went out on them isn't known.
+/// these. Its links go on if the state is trusted, and each whole line of its log can be read. If
+/// one can't, events behind it are lost, and what went out on them isn't known.
 fn go_on<K: Lineage, D: Disk + Drop>(
     alloc: Global,
     config: &Config,
@@ -610,7 +610,7 @@ fn origin_of(resumed: Resumed, beginning: Beginning) -> Origin
     }
 }
 
-/// Begins with what was found, or anew where that can't be read.
+/// Begins with what was found, or anew if that can't be read.
 fn carry_on<F: Folder + Drop>(
     alloc: Global,
     config: &Config,

@@ -37,7 +37,7 @@ const SEAL: usize = 27;
 /// A log in two files of a directory, which are written in turn: a segment begins with the settings
 /// and the state of a gateway, and then has lines, of which those of a sync are sealed together.
 /// The next one goes into the other file, and stands there whole before the one before is touched.
-/// A file whose write or sync failed is used no more: both are opened anew where the next segment
+/// A file whose write or sync failed is used no more: both are opened anew when the next segment
 /// begins, and what they have says into which one it goes.
 #[derive(Drop)]
 pub struct DiskStore<F: Folder + Drop> {
@@ -134,8 +134,8 @@ impl<F: Folder + Drop> DiskStore<F> {
         }
     }
 
-    /// Begins a segment where both files are opened anew first. If that fails they are closed: of
-    /// what a crash leaves of them the store then says nothing.
+    /// Begins a segment: both files are opened anew first. If that fails they are closed: of what a
+    /// crash leaves of them the store then says nothing.
     fn begin_anew(&mut self, gateway: &Gateway) -> bool
         requires { self.old.opened ≡ Opened.Neither }
         ensures begun { result ≡ true → stored_in self.new.opened ≡ record {
@@ -282,7 +282,7 @@ impl<F: Folder + Drop> DiskStore<F> {
     }
 }
 
-/// Both files that are open, where no write or sync has failed at either. The next segment has this
+/// Both files that are open, if no write or sync has failed at either. The next segment has this
 /// number.
 fn files_of<D: Disk + Drop>(alloc: Global, opened: Opened<D>, number: u64) -> Option<(D, D, bool)>
     ensures own { IfSome result (λ files. AreFilesOf opened files.0 files.1 files.2 number) }
@@ -312,8 +312,8 @@ fn files_of<D: Disk + Drop>(alloc: Global, opened: Opened<D>, number: u64) -> Op
     }
 }
 
-/// The file of this segment, which this run has written, and the other one, where that may be
-/// written over. So no checkpoint is read in mid-run, when the stations wait.
+/// The file of this segment, which this run has written, and the other one, if that may be written
+/// over. So no checkpoint is read in mid-run, when the stations wait.
 fn files_behind<D: Disk + Drop>(
     alloc: Global,
     current: Current<D>,
@@ -384,7 +384,7 @@ fn in_order<D: Disk + Drop>(alloc: Global, log: D, db: D, number: u64) -> Option
     }
 }
 
-/// Both files, where the newest segment is older than the next one, and stands on the disk as it
+/// Both files, if the newest segment is older than the next one, and stands on the disk as it
 /// reads. Else a crash could take it while the other file is written over: a process that was
 /// killed, or a sync that failed, may have left it in the system's memory alone.
 fn settled<D: Disk + Drop>(alloc: Global, newest: D, spare: D, number: u64) -> Option<(D, D, bool)>
@@ -620,8 +620,8 @@ impl<F: Folder + Drop> Store for DiskStore<F> {
             (file other : List ℕ) → leaves_behind self.new.opened file other →
             leaves_amid self.old.opened self.old.number self.old.settings.items
             (state_lines gateway.now) file other }
-        // The newest file of before stands beside the new log as it was, also where both had to be
-        // opened anew. Where neither is open they are asked for.
+        // The newest file of before stands beside the new log as it was, also if both had to be
+        // opened anew. If neither is open they are asked for.
         ensures beside { result ≡ true → IsLeftBeside
             (λ one two. (folder : F) × F.answered folder (Some (one, two)))
             self.old.opened self.new.opened }

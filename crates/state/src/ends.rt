@@ -100,7 +100,7 @@ pub trait Ends {
             result ≡ is_renewal_due (grown (deeds self.now)) };
 
     /// Begins a new log, with the state of the gateway at its head, which is the state that all
-    /// events so far have led to. Where `Ok` is answered it stands on the disk. An `Err` as of
+    /// events so far have led to. If `Ok` is answered it stands on the disk. An `Err` as of
     /// `append`.
     fn begin(&mut self, gateway: &Gateway) -> Result<(), Loss>
         ensures begun { MatchResult result

@@ -36,7 +36,7 @@ pub trait Folder {
 
     type File: Disk + Drop;
 
-    /// Whether the mark stands on the disk, where that is known.
+    /// Whether the mark stands on the disk, if that is known.
     ghost mark: { Self → Option Bool };
 
     /// This process has the directory locked. Nothing in it is read or changed before.
@@ -54,8 +54,8 @@ pub trait Folder {
     /// The mark was asked for, and couldn't be made.
     ghost refused: { Self → Type 0 } = { λ _. Unit {0} };
 
-    /// How many blocks of 4,096 zeros stand behind a checkpoint, for the lines to come: where no
-    /// new log is due yet, there is room for the longest line and its seal. Two logs have 8,000,000
+    /// How many blocks of 4,096 zeros stand behind a checkpoint, for the lines to come: if no new
+    /// log is due yet, there is room for the longest line and its seal. Two logs have 8,000,000
     /// octets of them at most.
     fn blocks(&self) -> usize
         ensures room { most_octets + longest_line + seal_octets ≤ result * 4096 }
@@ -91,7 +91,7 @@ pub trait Folder {
         ensures refused { result ≡ false → refused self.new }
         ensures stays { is_locked self.new ≡ true };
 
-    /// Takes the mark away, on the disk, where a log stands whole that isn't stale. `false`: it
+    /// Takes the mark away, on the disk, when a log stands whole that isn't stale. `false`: it
     /// couldn't be done.
     fn unmark(&mut self, _log: &Segment<Self::File>) -> bool
         requires { is_locked self.old ≡ true }
@@ -99,9 +99,9 @@ pub trait Folder {
         ensures stays { is_locked self.new ≡ true };
 
     /// Puts both files aside under other names, so that a run begins anew; they are closed before.
-    /// A state that can be gone on with isn't put aside. The mark stands before that. Where one
-    /// file is put aside and the other isn't yet, a start must not trust that one. `false`: it
-    /// couldn't be done.
+    /// A state that can be gone on with isn't put aside. The mark stands before that. If one file
+    /// is put aside and the other isn't yet, a start must not trust that one. `false`: it couldn't
+    /// be done.
     fn put_aside(&mut self, newest: Self::File, other: Self::File) -> bool
         requires locked { is_locked self.old ≡ true }
         requires marked { mark self.old ≡ Some true }

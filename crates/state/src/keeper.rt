@@ -26,13 +26,13 @@ use std::marker::Model;
 
 /// A port that passes each event and each action of another one on unchanged. The line of each
 /// event goes to the log of a store before the gateway receives it. No action is handed out before
-/// all received events are on the disk. Where the store has failed, the run goes on without it, if
+/// all received events are on the disk. If the store has failed, the run goes on without it, if
 /// that is borne and the state on the disk is marked as stale, or else the port has failed.
 #[derive(Drop)]
 pub struct Keeper<E: Ends + Drop> {
     ends: E,
     standing: Standing,
-    /// Where the store has failed the run goes on without it.
+    /// If the store has failed, the run goes on without it.
     bears_loss: bool,
     /// How often nothing was asked of the port, since the store has failed.
     stops: u64,
@@ -84,19 +84,19 @@ impl<E: Ends + Drop> Keeper<E> {
         }
     }
 
-    /// Looks at the gateway between two steps: begins a new log with its state, where that is due.
-    /// The state is that to which all received events have led.
+    /// Looks at the gateway between two steps: begins a new log with its state, if that is due. The
+    /// state is that to which all received events have led.
     pub fn look(&mut self, gateway: &Gateway)
         ensures passed { HasPassed (E.log self.old.ends) (E.deeds self.old.ends) }
         ensures port { IsPortLeft E.log E.failed E.ended E.script self.old.ends self.new.ends }
         ensures left { (self.new.stops ≡ self.old.stops)
             × (self.new.bears_loss ≡ self.old.bears_loss) }
-        // Where the store has failed a new log is tried, if that is due, and none otherwise.
+        // If the store has failed, a new log is tried, if that is due, and none otherwise.
         ensures tries { is_lost self.old.standing ≡ true → is_try_due self.old.patience ≡ true →
             Renews (E.deeds self.old.ends) gateway.now (E.deeds self.new.ends) }
         ensures waits { is_lost self.old.standing ≡ true → is_try_due self.old.patience ≡ false →
             self.new ≡ self.old }
-        // Where it hasn't, a new log is begun where the present one has grown, and none otherwise.
+        // If it hasn't, a new log is begun if the present one has grown, and none otherwise.
         ensures renews { is_lost self.old.standing ≡ false →
             is_renewal_due (grown (E.deeds self.old.ends)) ≡ true →
             Renews (E.deeds self.old.ends) gateway.now (E.deeds self.new.ends) }
@@ -206,11 +206,11 @@ impl<P: Watched + Timed + Drop, F: Folder + Drop> Keeper<Pair<P, DiskStore<F>>> 
         self.ends.survives();
     }
 
-    /// The store begins a new log, as it does at a look where one is due, and the run ends there.
-    /// So it says what a crash leaves in the middle: a crash at any moment is one at which some
-    /// call of the disk is the first to fail. If the log isn't begun, a start over what is left of
-    /// both files goes on with each link, and with this log or with the next one. Where the files
-    /// had to be opened anew, since one couldn't be read, nothing is said.
+    /// The store begins a new log, as it does at a look when one is due, and the run ends there. So
+    /// it says what a crash leaves in the middle: a crash at any moment is one at which some call
+    /// of the disk is the first to fail. If the log isn't begun, a start over what is left of both
+    /// files goes on with each link, and with this log or with the next one. If the files had to be
+    /// opened anew, since one couldn't be read, nothing is said.
     pub fn stopped_amid_a_renewal(self, gateway: &Gateway) -> (bool, DiskStore<F>)
         ensures amid { is_kept self.ends.deeds ≡ true → result.0 ≡ false → AreMixing F.File.Disk →
             IsReadWell self.ends.store.opened → (file other : List ℕ) →
@@ -242,7 +242,7 @@ impl<E: Ends + Drop> Port for Keeper<E> {
     /// begun but at a look.
     ghost script = { λ k. unlooked_fixture (E.script k.ends) k.bears_loss (E.deeds k.ends) };
 
-    /// The event has been appended when it is passed on. Where no event comes any more, all that
+    /// The event has been appended when it is passed on. When no event comes any more, all that
     /// came are on the disk.
     fn next(&mut self, buf: &mut [u8; 1024]) -> Next
         requires { E.failed self.old.ends + self.old.stops < u64.MAX }
@@ -267,7 +267,7 @@ impl<E: Ends + Drop> Port for Keeper<E> {
         ensures stops { is_stopped self.old.standing self.old.bears_loss ≡ true →
             (result ≡ Fault) × (self.new ≡ record self.old { stops = self.old.stops + 1 }) }
         ensures left { self.new.bears_loss ≡ self.old.bears_loss }
-        // Where no event comes any more, as where the device has failed, no received one waits for
+        // When no event comes any more, as when the device has failed, no received one waits for
         // the disk: all are there, or the store has failed.
         ensures settled { logged_by result buf.new ≡ [] → IsAllOnDisk (E.deeds self.new.ends)
             ⊎ (is_some (loss_of (E.deeds self.new.ends)) ≡ true) }

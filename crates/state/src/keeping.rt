@@ -46,9 +46,8 @@ pub(crate) fn settle<E: Ends>(ends: &mut E, standing: Standing) -> Standing
     }
 }
 
-/// Keeps the event that was just received, whose octets are the front of the buffer: its line is
-/// appended, and the log is synced where an event waits for that too long, or where none comes any
-/// more.
+/// Keeps the event that was just received, whose octets are the front of the buffer. Its line is
+/// appended, and the log is synced if an event waits for that too long, or if none comes any more.
 pub(crate) fn keep<E: Ends>(
     ends: &mut E,
     standing: Standing,
@@ -84,8 +83,8 @@ pub(crate) fn keep<E: Ends>(
     }
 }
 
-/// The store has failed, and that isn't borne: the run is to end. It is never borne where the state
-/// on the disk couldn't be marked as stale.
+/// The store has failed, and that isn't borne: the run is to end. It is never borne if the state on
+/// the disk couldn't be marked as stale.
 pub(crate) fn is_stopped(standing: Standing, bears_loss: bool) -> bool
     ensures { result ≡ is_stopped standing bears_loss }
 {

@@ -64,9 +64,9 @@ use live::Failure;
 use sqlite_disk::Disk;
 
 /// Whatever action was handed out: when it was, all received events were on the disk, or the state
-/// there was marked as stale; and where a loss isn't borne, they were on the disk. There they led
-/// to the state at the head of the log, or their lines behind it are synced. So it is in the
-/// history of each keeper ([`crate::Keeper::standing`]).
+/// there was marked as stale. If a loss isn't borne, they were on the disk. There they led to the
+/// state at the head of the log, or their lines behind it are synced. So it is in the history of
+/// each keeper ([`crate::Keeper::standing`]).
 pub fn nothing_goes_out_before_it_is_on_disk()
     ensures safe { (bears : Bool) (later earlier : Deeds) (action : LogEntry) →
         AreRight bears (later ++ PutOut action ∷ earlier) → IsSafe earlier }
@@ -85,9 +85,9 @@ pub fn nothing_goes_out_before_it_is_on_disk()
         ⊎ ((loss_of earlier ≡ Some Marked) × (bears ≡ true)) }
 {}
 
-/// No event waits for the disk for a second while others come: where the gateway is about to
-/// receive one, less than a second lies between the first and the last of those that wait, unless
-/// the store has failed.
+/// No event waits for the disk for a second while others come: when the gateway is about to receive
+/// one, less than a second lies between the first and the last of those that wait, unless the store
+/// has failed.
 pub fn no_event_waits_for_a_second()
     ensures { (bears : Bool) (later earlier : Deeds) (event first last : LogEntry) (between : Log) →
         AreRight bears (later ++ Received event ∷ earlier) → loss_of earlier ≡ None →
@@ -110,7 +110,7 @@ pub fn a_clock_goes_on_where_the_gateway_stood<D: Disk + Drop>()
 
 /// A gap that the last step before an end reported is reported again by the next life, since nobody
 /// may have seen it. It is the latest one of those behind the latest event, whatever else went out
-/// behind it. Where an event stands behind it, or there is none, nothing is reported again.
+/// behind it. If an event stands behind it, or there is none, nothing is reported again.
 pub fn a_gap_of_the_last_step_is_reported_again()
     ensures gap { (quiet earlier : Log) (now station session : ℕ) → AllByRecursion IsQuiet quiet →
         last_gap (quiet ++ Went now (GapOut station session) ∷ earlier) ≡ Some (station, session) }
@@ -124,7 +124,7 @@ pub fn a_gap_of_the_last_step_is_reported_again()
 
 /// A log is begun anew behind more than 3,900,000 octets of events. One that couldn't be begun is
 /// tried again as soon as 10 s have passed since, and not before, in moments of the events. None
-/// has to wait where none was tried yet, or the latest was begun.
+/// has to wait if none was tried yet, or the latest was begun.
 pub fn a_log_that_could_not_be_begun_is_tried_each_ten_seconds()
     ensures grown { (octets : ℕ) → 3900000 < octets → is_renewal_due octets ≡ true }
     ensures small { (octets : ℕ) → octets ≤ 3900000 → is_renewal_due octets ≡ false }
@@ -181,10 +181,10 @@ pub fn a_keeper_remembers_what_it_tried_and_reported<E: Ends + Drop>()
         ∷ (Tried (is_lost new.standing) ∷ calls)))) }
 {}
 
-/// What becomes of a run whose store has failed, case by case. It goes on where the loss is borne
-/// and the state on the disk is marked as stale, and else it is stopped. Once it was stopped, what
-/// has failed is the state, whatever the port says. A store that has failed counts as lost, whether
-/// the mark stands or not, and no other does.
+/// What becomes of a run whose store has failed, case by case. It goes on if the loss is borne and
+/// the state on the disk is marked as stale, and else it is stopped. Once it was stopped, what has
+/// failed is the state, whatever the port says. A store that has failed counts as lost, whether the
+/// mark stands or not, and no other does.
 pub fn losses_by_example()
     ensures kept { (moment : ℕ) (bears : Bool) → (is_stopped Standing.Synced bears ≡ false)
         × (is_stopped (Standing.Waiting moment) bears ≡ false) }
@@ -225,8 +225,8 @@ pub fn a_line_can_hold_each_event()
         IsWritable (Came now (WallIs number)) }
 {}
 
-/// Between two steps a log is begun where one is due, with the state of the gateway there: behind
-/// more than 3,900,000 octets of events, and where the store has failed as soon as that is to be
+/// Between two steps a log is begun when one is due, with the state of the gateway there: behind
+/// more than 3,900,000 octets of events, and, if the store has failed, as soon as that is to be
 /// tried again. Else nothing is done at the store.
 pub fn a_log_is_begun_where_one_is_due<E: Ends + Drop>()
     ensures grown { (old new : Keeping E) (state : State) (notice : Option Notice) →
@@ -294,7 +294,7 @@ pub fn a_start_goes_on_behind_a_crash<D: Disk + Drop>()
 {}
 
 /// A state that is damaged is never gone on with as if it was whole. What is gone on with has a
-/// checkpoint of the length and the sum that its first line says. Where the links go on, each whole
+/// checkpoint of the length and the sum that its first line says. If the links go on, each whole
 /// line behind that logs an event, no damage ends the log, no first line of a segment as new stands
 /// in the other file, and no mark says that the state is stale.
 pub fn a_damaged_state_never_goes_on_as_whole<D: Disk + Drop>()
@@ -322,9 +322,9 @@ pub fn a_damaged_state_never_goes_on_as_whole<D: Disk + Drop>()
 {}
 
 /// What stands in a directory isn't passed over. A run begins anew beside two files only if both
-/// are shut. No link is reset without a reason. Where no mark stands, the other file is shut or
-/// begins with an older segment's first line, and each line of the log is read, a run goes on with
-/// its links. It goes on with the newer of two segments.
+/// are shut. No link is reset without a reason. If no mark stands, the other file is shut or begins
+/// with an older segment's first line, and each line of the log is read, a run goes on with its
+/// links. It goes on with the newer of two segments.
 pub fn what_stands_is_not_passed_over<D: Disk + Drop>()
     ensures anew { (c : Settings) (log : Log) (mark : Option Bool)
         (newest other : D) (o : Origin) → BeginsOver D.Disk c log mark newest other o →
@@ -343,7 +343,7 @@ pub fn what_stands_is_not_passed_over<D: Disk + Drop>()
         IsFoundIn (D.Disk.seen other) head others → head.number ≤ own.number }
 {}
 
-/// Where each link is to be reset, none is up: the gateway is what a state leads to that isn't
+/// If each link is to be reset, none is up: the gateway is what a state leads to that isn't
 /// trusted, under the settings that wrote it and then under these. (Suppose that the state has a
 /// link for each station of the settings that wrote it.) So no frame count bit and no held service
 /// goes on, though the settings are the same.
@@ -361,9 +361,9 @@ pub fn no_link_is_up_behind_a_reset<D: Disk + Drop>()
 
 /// A state that a run has written is never put aside by one with the same settings: a checkpoint
 /// that is whole and says the settings, a file of settings that can be read, and the state of a
-/// gateway with these. And both files are never put aside where they are shut. So it is of what a
-/// start has put aside, where each read of the two files has gone well, and of what is shown to who
-/// looks at a directory: a good state isn't shown as one that can't be read.
+/// gateway with these. And both files are never put aside if they are shut. So it is of what a
+/// start has put aside, if each read of the two files has gone well. So it is, too, of what is
+/// shown to who looks at a directory: a good state isn't shown as one that can't be read.
 pub fn a_state_that_can_be_read_is_not_put_aside<F: Folder + Drop>()
     ensures kept { (c : Settings) (text newest other : List ℕ) (head : SegmentHead)
         (body : List ℕ) (state : State) → Fits head → IsFoundIn newest head body →

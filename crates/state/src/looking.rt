@@ -103,7 +103,7 @@ fn look_from<K: Lineage, D: Disk + Drop>(
     }
 }
 
-/// Why nothing is found where a segment can't be read.
+/// Why nothing is found if a segment can't be read.
 fn failed(fault: SegmentFault) -> StateFault
     ensures { result ≡ StateFault.Wrong → ⊥ }
 {

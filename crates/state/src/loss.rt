@@ -1,4 +1,4 @@
-//! What is known where a store has failed.
+//! What is known when a store has failed.
 
 /// Why a store has failed.
 #[derive(Clone, Copy, PartialEq, Eq)]
@@ -11,7 +11,7 @@ pub enum StoreFault {
     Failed,
 }
 
-/// What is known of the state on the disk, where a store has failed.
+/// What is known of the state on the disk, if a store has failed.
 #[derive(Clone, Copy, PartialEq, Eq)]
 pub enum Loss {
     /// It is marked as stale.

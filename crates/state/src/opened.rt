@@ -32,7 +32,7 @@ pub(crate) struct Current<D: Disk + Drop> {
 /// What of the two files is open.
 #[derive(Drop)]
 pub(crate) enum Opened<D: Disk + Drop> {
-    /// Neither: they are opened where the next segment begins.
+    /// Neither: they are opened when the next segment begins.
     Neither,
     /// Both: that of the newest segment, and the one for the next.
     Both(D, D),

@@ -67,7 +67,7 @@ impl Patience {
         }
     }
 
-    /// Whether a new log is tried now, where the state isn't kept.
+    /// Whether a new log is tried now, if the state isn't kept.
     pub fn is_try_due(&self) -> bool
         ensures { result ≡ is_try_due self.now }
     {

@@ -315,7 +315,7 @@ pub(crate) fn broken_off(fault: StateFault) -> StateFault
     }
 }
 
-/// Brings a gateway to where these lines lead, whose events are known to proofs.
+/// Brings a gateway to the state to which these lines lead, whose events are known to proofs.
 fn repeat<K: ReplayScript, L: EventLines + Drop>(
     alloc: Global,
     gateway: &mut Gateway,
@@ -345,9 +345,9 @@ fn repeat<K: ReplayScript, L: EventLines + Drop>(
     }
 }
 
-/// Brings a gateway to where these lines lead. It receives their events again, up to the first line
-/// that logs none, and what it does goes nowhere. After an `Err` the gateway is given up; it is
-/// never `Wrong`, whatever the lines are.
+/// Brings a gateway to the state to which these lines lead. It receives their events again, up to
+/// the first line that logs none, and what it does goes nowhere. After an `Err` the gateway is
+/// given up; it is never `Wrong`, whatever the lines are.
 pub fn replay<K: Lineage, L: EventLines + Drop>(
     alloc: Global,
     gateway: &mut Gateway,

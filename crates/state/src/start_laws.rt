@@ -43,9 +43,9 @@ use sqlite_disk::Disk;
 /// changed or not, and whether the links go on or not. The gateway has followed the whole log:
 /// behind the state at its head each event that a line logs, up to the first line that logs none.
 /// Then it has given up its commands, which is the restart in its log. The gap that its last step
-/// reported is reported again, of the same station ([`a_gap_is_told_of_its_own_station`]). Only
-/// where that text says these settings does it go on so; else it is what they make of it. Whether
-/// they have changed is said: another text may say the same.
+/// reported is reported again, of the same station ([`a_gap_is_told_of_its_own_station`]). It goes
+/// on so only if that text says these settings; else it is what they make of it. Whether they have
+/// changed is said: another text may say the same.
 pub fn each_log_is_received_again_under_its_settings<D: Disk + Drop>()
     ensures received { (c : Settings) (log : Log) (mark : Option Bool)
         (newest other : D) (o : Origin) (head : SegmentHead) (body written : List ℕ)
@@ -177,9 +177,9 @@ pub fn a_log_ends_before_its_first_unread_line()
         events_in_front (lines ++ line ∷ behind) ≡ events_in_front lines }
 {}
 
-/// How a run begins by what was found. It begins anew where no log was ever begun, and where what
-/// is there can't be read, which is put aside. Each link is reset where the state is stale, and
-/// where the log is one of other rules with events behind its head. Else it goes on.
+/// How a run begins by what was found. It begins anew if no log was ever begun, and if what is
+/// there can't be read, which is put aside. Each link is reset if the state is stale, and if the
+/// log is one of other rules with events behind its head. Else it goes on.
 pub fn what_was_found_says_how_a_run_begins()
     ensures { (beginning_of Found.Nothing ≡ Beginning.Anew)
         × (beginning_of Found.Unread ≡ Beginning.PutAside)
@@ -189,9 +189,9 @@ pub fn what_was_found_says_how_a_run_begins()
         × (beginning_of Found.Whole ≡ Beginning.GoesOn) }
 {}
 
-/// A gap that the last step reported is told of its own station, where the settings have changed
-/// too: it is known by its link address, at whatever place it stands now. A station that is gone
-/// has none.
+/// A gap that the last step reported is told of its own station, also if the settings have changed:
+/// it is known by its link address, at whatever place it stands now. A station that is gone has
+/// none.
 pub fn a_gap_is_told_of_its_own_station()
     ensures told { (before now : List StationSettings) (place session k number : ℕ)
         (s t : StationSettings) → slice_get before place ≡ Some s →

@@ -19,7 +19,7 @@ pub trait Store {
     /// The file of settings that stands at the head of each log.
     ghost settings: { Self → List ℕ };
 
-    /// Whether the state on the disk is marked as stale, where that is known.
+    /// Whether the state on the disk is marked as stale, if that is known.
     ghost mark: { Self → Option Bool };
 
     /// The mark that says so was asked for, and couldn't be made.
@@ -57,7 +57,7 @@ pub trait Store {
         ensures next { next self.new ≡ next self.old }
         ensures settings { settings self.new ≡ settings self.old };
 
-    /// Begins a new log behind the settings and this gateway's state. Where `true` is answered it
+    /// Begins a new log behind the settings and this gateway's state. If `true` is answered it
     /// stands on the disk, takes the place of the one before, and isn't marked as stale. It has the
     /// next number, and no number is left out.
     fn begin(&mut self, gateway: &Gateway) -> bool

@@ -7,7 +7,7 @@ use crate::loss::{Loss, StoreFault};
 use gateway::{Action, Gateway, Next};
 use std::marker::Model;
 
-/// What is done where events are kept on a disk.
+/// What is done when events are kept on a disk.
 #[derive(Clone, Copy)]
 pub enum Done<'a> {
     /// A port gave this answer, whose octets are the front of the buffer.

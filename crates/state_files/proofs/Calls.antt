@@ -15,7 +15,7 @@ pub marked : (from to : List ℕ) (before after : List NameStep)
     ≡ Synced true ∷ Sought to (Some true) ∷ Renamed from to (Some was_there) ∷ before)
 marked from to before after is = (is.0, same_calls after _ is.1)
 
--- where calls are kept behind another one, they are kept before it
+-- if calls are kept behind another one, they are kept before it
 pub kept_before : (steps : Steps) (step : NameStep) (after : List NameStep)
     → Some after ≡ noted steps step
     → (calls : List NameStep) × (steps ≡ Some calls) × (after ≡ step ∷ calls)

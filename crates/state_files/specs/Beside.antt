@@ -5,7 +5,7 @@ use Rattle.state_files.specs.Names.{noted}
 use Rattle.state_files.specs.declared.beside.Beside.{Beside}
 
 module _ {N : Type 0} (steps : N → Steps) where
-  -- what a second place says of the mark, if there is one; where it doesn't answer, that it stands
+  -- what a second place says of the mark, if there is one; if it doesn't answer, that it stands
   abbrev pub SaysBeside : (before after : Option (Beside N)) → Bool → Type 0
   SaysBeside None after is_marked = is_marked ≡ false
   SaysBeside (Some before) None is_marked = ⊥

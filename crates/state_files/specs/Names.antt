@@ -15,7 +15,7 @@ pub data NameStep : Type 0 where
   Compared : (is_copy : Option Bool) → NameStep
   Recorded : (is_done : Bool) → NameStep
 
--- the calls so far, the newest first, where they are kept
+-- the calls so far, the newest first, if they are kept
 abbrev pub Steps : Type 0
 Steps = Option (List NameStep)
 
@@ -63,7 +63,7 @@ pub data HasNoneBeside (before after : Steps) : Type 0 where
       (Renamed (codes "stale") (codes "kept") (Some was_there))) (Synced true)
       → HasNoneBeside before after
 
--- A file that says that the state is good stands there, or one that says that it isn't. Where none
+-- A file that says that the state is good stands there, or one that says that it isn't. If none
 -- stood there, the first is made, and the names are synced.
 pub data HasMark (before after : Steps) : Type 0 where
   Kept : after ≡ noted before (Sought (codes "kept") (Some true)) → HasMark before after

@@ -1,4 +1,4 @@
-//! The mark in a second place, for where the disk of a state takes none.
+//! The mark in a second place, for if the disk of a state takes none.
 ghost use Rattle.std.specs.Prelude.{◌≡◌, IfOk, Some, codes, true};
 ghost use Rattle.state_files.specs.Names.{HasNoneBeside, IsMarkedBeside, Sought, noted};
 

@@ -15,8 +15,8 @@ ghost use Rattle.state_files.specs.Faults.{IsRefusal, IsUnusable};
 ghost use Rattle.state_files.specs.Names.{HasMark, IsLockTaken, IsMarkedAs, IsPutAside, NameStep};
 ghost use Rattle.state_files.specs.Names.{Locked, Made, Renamed, Sought, Synced};
 
-/// A mark counts only where it is on the disk. The file of the other name was renamed, then a file
-/// of the mark's name was found, and the latest call is a sync of the names that went well.
+/// A mark counts only if it is on the disk. The file of the other name was renamed, then a file of
+/// the mark's name was found, and the latest call is a sync of the names that went well.
 pub fn a_mark_is_on_the_disk_where_it_is_told()
     ensures { (from to : List ℕ) (before after : List NameStep) →
         IsMarkedAs from to (Some before) (Some after) → (was_there : Bool) × (after
@@ -38,15 +38,15 @@ pub fn files_are_put_aside_in_pairs()
         ∷ Sought (codes "unread-" ++ decimal n) (Some false) ∷ front)) }
 {}
 
-/// A directory counts as locked only where it was before, or where the latest call took the lock:
-/// not where another process has it, nor where nothing was answered.
+/// A directory counts as locked only if it was before, or if the latest call took the lock: not if
+/// another process has it, nor if nothing was answered.
 pub fn a_lock_is_told_where_it_is_taken()
     ensures { (after : List NameStep) → IsLockTaken false (Some after) →
         (earlier : List NameStep) × (after ≡ Locked (Some true) ∷ earlier) }
 {}
 
 /// A directory that is opened has a mark, which was found there or made. It is made as good, only
-/// where there is none of either kind, and the names are synced behind that.
+/// if there is none of either kind, and the names are synced behind that.
 pub fn a_mark_is_made_where_there_is_none()
     ensures { (before after : List NameStep) → HasMark (Some before) (Some after) →
         (after ≡ Sought (codes "kept") (Some true) ∷ before)

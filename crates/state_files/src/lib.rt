@@ -4,11 +4,11 @@
 //!   [`FolderFault::InUse`]. It stays locked while the other files are opened anew.
 //! - `segments` and `segments-wal` are the two files of the log.
 //! - `kept` says that the state is good, `stale` that it isn't. The mark is a rename from one name
-//!   to the other, which takes no space; the directory is synced behind it. Where both stand, the
+//!   to the other, which takes no space; the directory is synced behind it. If both stand, the
 //!   state is stale. `kept` is made before the first segment is begun.
-//! - Where a disk takes no mark, `stale` is made in a second place: the directory that the
-//!   environment calls RUNTIME_DIRECTORY, as systemd gives it to a unit. A state is stale if either
-//!   place says so. That place may be lost when the machine is started again.
+//! - If a disk takes no mark, `stale` is made in a second place: the directory that the environment
+//!   calls RUNTIME_DIRECTORY, as systemd gives it to a unit. A state is stale if either place says
+//!   so. That place may be lost when the machine is started again.
 //! - `origin` notes which files these two are. If it is a note of others, the directory is a copy,
 //!   and the state is stale as if the mark stood. If there is none, as in a directory of an older
 //!   version, the files count as the original.
@@ -18,9 +18,9 @@
 //! changes nothing.
 //!
 //! Not proved is what the system does. What is proved is what this crate makes of its answers. The
-//! mark counts as made or taken away only where the calls for it and the sync behind them have
-//! succeeded.
-//! No name is looked for or changed, and no file of the log is opened, before the lock is taken.
+//! mark counts as made or taken away only if the calls for it and the sync behind them have
+//! succeeded. No name is looked for or changed, and no file of the log is opened, before the lock
+//! is taken.
 #![tactic(auto)]
 
 ghost use Rattle.std.specs.Prelude.{◌≡◌, IfOk, IsTrue, None, false, true};
@@ -53,7 +53,7 @@ pub use starts::Starts;
 use state::{Folder, FolderFault};
 use std::env;
 
-/// The directory of a state. It is made, and locked, where its files are opened first.
+/// The directory of a state. It is made, and locked, when its files are first opened.
 #[derive(Drop)]
 pub struct Directory<S: Starts> {
     marks: Marks<SystemNames>,

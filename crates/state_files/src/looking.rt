@@ -100,7 +100,7 @@ fn is_held(rt: &HostRuntime, path: &str) -> io::Result<bool> {
     }
 }
 
-/// The octets of a file in a directory; none where it isn't there.
+/// The octets of a file in a directory; none if it isn't there.
 fn held_in_memory(rt: &HostRuntime, path: &str, name: &str) -> io::Result<Memory>
     ensures { IfOk result (λ m. IsTrue (memory_is_usable m)) }
 {

@@ -29,7 +29,7 @@ pub(crate) struct Marks<N: Names> {
     // directory, and of the system's no clause can say more.
     /// This process has the directory locked. Without that no name is looked for or changed.
     is_locked: bool,
-    /// Whether the mark stands on the disk, where that is known.
+    /// Whether the mark stands on the disk, if that is known.
     mark: Option<bool>,
     /// Files that couldn't be read were put aside.
     has_put_aside: bool,
@@ -77,7 +77,7 @@ impl<N: Names> Marks<N> {
         Ok(false)
     }
 
-    /// Renames a file, and makes sure that the name is on the disk. Where it isn't there, a file of
+    /// Renames a file, and makes sure that the name is on the disk. If it isn't there, a file of
     /// the new name is.
     fn mark_as(&mut self, from: &str, to: &str) -> io::Result<()>
         requires { IsTrue self.old.is_locked }
@@ -94,7 +94,7 @@ impl<N: Names> Marks<N> {
         self.names.sync()
     }
 
-    /// Makes the file that says that the state is good, where none says anything.
+    /// Makes the file that says that the state is good, if none says anything.
     pub(crate) fn make_kept(&mut self) -> io::Result<()>
         requires { IsTrue self.old.is_locked }
         ensures made { IfOk result (λ _. HasMark (N.steps self.old.names)
@@ -112,7 +112,7 @@ impl<N: Names> Marks<N> {
         self.names.sync()
     }
 
-    /// Whether the mark stands in the second place, if there is one. Where that can't be told it
+    /// Whether the mark stands in the second place, if there is one. If that can't be told it
     /// counts as marked.
     fn is_marked_beside(&mut self) -> bool
         ensures found { SaysBeside N.steps self.old.beside self.new.beside result }
@@ -189,8 +189,8 @@ impl<N: Names> Marks<N> {
         is_made
     }
 
-    /// Takes the mark away, on the disk and in the second place, where a new log stands. Before
-    /// that it notes which files have it. `false`: it couldn't be done.
+    /// Takes the mark away, on the disk and in the second place, when a new log stands. Before that
+    /// it notes which files have it. `false`: it couldn't be done.
     pub(crate) fn unmark(&mut self) -> bool
         requires { IsTrue self.old.is_locked }
         ensures marked { result ≡ true →
@@ -222,7 +222,7 @@ impl<N: Names> Marks<N> {
         if self.names.has(name.as_str())? {
             return Ok(false);
         }
-        // Where the first file was missing, the second one alone may have been put aside.
+        // If the first file was missing, the second one alone may have been put aside.
         let name = named(format!(in alloc; "unread-{number}-wal"))?;
         Ok(!self.names.has(name.as_str())?)
     }

@@ -8,7 +8,7 @@ use std::io::ErrorKind;
 use std::os::unix::fs::MetadataExt;
 use std::{fs, io};
 
-/// What became of a call, where memory may be refused.
+/// What became of a call, if memory may be refused.
 pub(crate) fn named(name: Result<String, AllocError>) -> io::Result<String>
     ensures { IfOk result (λ text. name ≡ Ok text) }
 {
@@ -33,7 +33,7 @@ pub(crate) trait Names: Drop {
     ghost use Rattle.state_files.specs.Names.{Compared, Locked, Made, Recorded, Renamed, Sought};
     ghost use Rattle.state_files.specs.Names.{Steps, Synced, answer_of, is_done, noted};
 
-    /// The calls that were made, where they are kept.
+    /// The calls that were made, if they are kept.
     ghost steps: { Self → Steps };
 
     /// Renames a file. `false`: it isn't there.
@@ -53,7 +53,7 @@ pub(crate) trait Names: Drop {
     fn sync(&mut self) -> io::Result<()>
         ensures { steps self.new ≡ noted (steps self.old) (Synced (is_done result)) };
 
-    /// Locks the directory, which is made where it isn't there. `false`: another process has it.
+    /// Locks the directory, which is made if it isn't there. `false`: another process has it.
     fn try_lock(&mut self) -> io::Result<bool>
         ensures { steps self.new ≡ noted (steps self.old) (Locked (answer_of result)) };
 

@@ -5,7 +5,7 @@
 //! file there. It has no number of a device: the next boot may give another one, as some file
 //! systems give files other numbers then (docs/DECISIONS.md, "A copy of a state").
 //!
-//! The note is written where a new log stands whole, before the mark is taken away. So a power cut
+//! The note is written when a new log stands whole, before the mark is taken away. So a power cut
 //! or a kill leaves, at each moment:
 //!
 //! - before the first note is whole: none, or a part of one. That counts as none, and these files
@@ -14,7 +14,7 @@
 //!   opened, before a log is begun in them;
 //! - at a later start: the same note. It isn't written again while it is right;
 //! - in a copy: the old note, by which it is stale, until the new log stands;
-//! - where files were put aside: the mark, which stood before and is taken away behind the note;
+//! - if files were put aside: the mark, which stood before and is taken away behind the note;
 //! - amid a new note: the old one, or the new one, or a part. They are equally long, and shorter
 //!   than a sector. The log that stands then is the new one.
 

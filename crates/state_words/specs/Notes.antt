@@ -1,4 +1,4 @@
--- What is said of a state that was kept, where a run begins with it or would (profile).
+-- What is said of a state that was kept, when a run begins with it or would (profile).
 use Rattle.std.specs.Prelude.{ℕ, Bool, true, false, Option, Some, None}
 use Rattle.gateway.specs.State.{State}
 use Rattle.runlog.specs.Logging.{taken_in}

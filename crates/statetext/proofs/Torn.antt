@@ -595,7 +595,7 @@ no_longer (suc fuel) head place text (fronts.Whole m) is enough n whole =
     ∙ ap (λ (k : ℕ). front_in head k (drop (m + 27 + length others) text)) (sym end)
     ∙ ap (λ (k : ℕ). front_in head (place + k) (drop k text)) (sym all) ∙ whole)
 
--- where no damage is told behind it, no seal of another place stands there
+-- if no damage is told behind it, no seal of another place stands there
 pub none_passed_over : (head text before after : List ℕ) (place : ℕ) → length text < 2 ^ 64
     → place < 2 ^ 64
     → drop (end_in head text) text ≡ before ++ (mark_of place ++ after)

@@ -65,9 +65,9 @@ front_by head place text (Some n) =
     else if starts_with ◌==◌ (drop n text) (seal_of head place (take n text)) then fronts.Whole n
     else torn_if (may_be (seal_of head place (take n text)) (drop n text))
 
--- How a text begins at a place where a write may begin: with a whole write, whose lines have so many
--- octets; with what a crash leaves of one, or with none; or with something else. It is whole if it
--- has no octet 0, and its own seal behind it.
+-- How a text begins at a place where a write may begin: with a whole write, whose lines have so
+-- many octets; with what a crash leaves of one, or with none; or with something else. It is whole
+-- if it has no octet 0, and its own seal behind it.
 unfoldable pub front_in : (head : List ℕ) → (place : ℕ) → (text : List ℕ) → Front
 front_in head place text = front_by head place text (position (λ c. c == 33) text)
 

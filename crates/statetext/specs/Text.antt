@@ -39,7 +39,7 @@ abbrev pub before : Option ℕ → Option (List ℕ) → Option (List ℕ)
 before None others = None
 before (Some n) others = option_map (λ ns. n ∷ ns) others
 
--- the numbers of a text with one space between two, where the digits before it spell this number
+-- the numbers of a text with one space between two, if the digits before it spell this number
 abbrev pub numbers_behind : Option ℕ → List ℕ → Option (List ℕ)
 numbers_behind number [] = before number (Some [])
 numbers_behind number (c ∷ cs) =

@@ -28,7 +28,7 @@ pushed_some room t c lt = let e : nat_lt (length t) room ≡ true = grind arith 
 pushed_none : (room : ℕ) (t : List ℕ) (c : ℕ) → room ≤ length t → pushed room (Some t) c ≡ None
 pushed_none room t c le = let e : nat_lt (length t) room ≡ false = grind arith in rw e refl
 
--- they stand there whole where there is room for them
+-- they stand there whole if there is room for them
 pub text_with_room : (room : ℕ) (a t : List ℕ) → length t + length a ≤ room
     → text_with room a (Some t) ≡ Some (t ++ a)
 text_with_room room [] t le = ap Some (sym (append-nil t))
@@ -45,7 +45,7 @@ less_or room n = by_test (nat_lt n room) refl
     by_test true e = inr (grind arith)
     by_test false e = inl (grind arith)
 
--- and nothing stands there where there isn't
+-- and nothing stands there if there isn't
 pub text_without_room : (room : ℕ) (a t : List ℕ) → length t ≤ room → room < length t + length a
     → text_with room a (Some t) ≡ None
 text_without_room room [] t le lt = absurd (omega arith)

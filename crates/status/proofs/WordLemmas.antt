@@ -11,7 +11,7 @@ pub put_nothing : (s : Sheet) → put [] s ≡ s
 unfolding put
 put_nothing s = refl
 
--- Where what a list means is put from its element at a place on, and the element is put first.
+-- What a list means from a place on is put so: the element there first, and then the rest.
 pub put_more : {A : Type 0} (f : A → List ℕ) (g : List A → List ℕ) (xs : List A) (i : ℕ) (d : A)
     (s p t : Sheet)
     → ((y : A) (ys : List A) → g (y ∷ ys) ≡ f y ++ g ys) → i < length xs

@@ -39,7 +39,7 @@ kind_of TooLong = codes "text/plain; charset=utf-8"
 kind_of Nothing = codes "text/plain; charset=utf-8"
 kind_of NoRequest = codes "text/plain; charset=utf-8"
 
--- the field that names the methods which may be used (RFC 9110, 10.2.1), where others were
+-- the field that names the methods which may be used (RFC 9110, 10.2.1), if others were
 abbrev pub allow_of : Inquiry → List ℕ
 allow_of (Page view has_body) = []
 allow_of (Unknown has_body) = []

@@ -66,7 +66,7 @@ noted w notice s = let is_open = is_some w.connection.opening in record s {
   opened = w.connection.count;
 }
 
--- the text of an address: that it isn't known, or none where memory is refused
+-- the text of an address: that it isn't known, or none if memory is refused
 pub data IsPeerText (peer : Option IpAddr) : (text : List ℕ) → Type 0 where
   Known : (address : IpAddr) → peer ≡ Some address → IsPeerText peer (ip_text address)
   Unknown : peer ≡ None → IsPeerText peer (codes "unknown")

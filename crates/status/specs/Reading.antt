@@ -21,7 +21,7 @@ pub data InJson : List ℕ → ℕ → Type 0 where
   Control : (high low m n : ℕ) → IsDigit high m → IsDigit low n
       → InJson (codes "\\u00" ++ high ∷ low ∷ []) (16 * m + n)
 
--- the same of a label's value, where a line feed (10) is no octet of its own either
+-- the same of a label's value, in which a line feed (10) is no octet of its own either
 pub data InLabel : List ℕ → ℕ → Type 0 where
   LabelPlain : (c : ℕ) → c ≢ 34 → c ≢ 92 → c ≢ 10 → InLabel (c ∷ []) c
   LabelQuote : InLabel (codes "\\\"") 34

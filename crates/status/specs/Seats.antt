@@ -47,7 +47,7 @@ abbrev pub Receives : Passed → Sheet → Passed → Sheet → Type 0
 Receives given page given_then page_then =
     (octets : List ℕ) × (given_then ≡ more_passed given octets) × (page_then ≡ put octets page)
 
--- octets that go out next, where so many have gone out: some, unless all have
+-- octets that go out next, if so many have gone out: some, unless all have
 abbrev pub IsNext : (all : List ℕ) → (sent : ℕ) → List ℕ → Type 0
 IsNext all sent piece =
     (rest : List ℕ) × (drop sent all ≡ piece ++ rest) × (sent < length all → 0 < length piece)

@@ -45,7 +45,7 @@ abbrev pub newest : List QueueLook → Option ℕ
 newest [] = None
 newest (count ∷ counts) = Some count.moment
 
--- The queue is counted where the visitors have a turn, a second or more after the count before.
+-- The queue is counted when the visitors have a turn, a second or more after the count before.
 abbrev pub count_at : Look → Counts → Counts
 count_at l c = record {
   turned = turned_after c.turned l.watch.moment;

@@ -22,7 +22,7 @@ abbrev pub took_count : Took → ℕ
 took_count (took.Octets count) = count
 took_count took.Nothing = 0
 
--- octets in the order in which they passed, where they are kept
+-- octets in the order in which they passed, if they are kept
 abbrev pub Passed : Type 0
 Passed = Option (List ℕ)
 
@@ -42,7 +42,7 @@ pub data StreamCall : Type 0 where
   Handed : Took → StreamCall
   Finished : StreamCall
 
--- the calls of a stream, the newest first, where it keeps them
+-- the calls of a stream, the newest first, if it keeps them
 abbrev pub Calls : Type 0
 Calls = Option (List StreamCall)
 
@@ -50,7 +50,7 @@ abbrev pub called : Calls → StreamCall → Calls
 called None call = None
 called (Some before) call = Some (call ∷ before)
 
--- whether somebody had come at each look, the newest first, where that is kept
+-- whether somebody had come at each look, the newest first, if that is kept
 abbrev pub Arrivals : Type 0
 Arrivals = Option (List Bool)
 

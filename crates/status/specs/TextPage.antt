@@ -2,7 +2,7 @@
 use Rattle.std.specs.Prelude.{ℕ, List, [], ◌∷◌, ◌++◌, length, nat_lt, Option, Some, None, unwrap_or}
 use Rattle.std.specs.Prelude.{if◌then◌else◌}
 
--- room for so many octets, and the text in it; none, where something found no room
+-- room for so many octets, and the text in it; none, if something found no room
 pub record Sheet : Type 0 where
   pub room : ℕ
   pub text : Option (List ℕ)
@@ -14,7 +14,7 @@ empty room = record { room = room; text = Some [] }
 abbrev pub shown : Sheet → List ℕ
 shown s = unwrap_or s.text []
 
--- a text with one more octet, where there is room for it
+-- a text with one more octet, if there is room for it
 abbrev pub pushed : (room : ℕ) → Option (List ℕ) → ℕ → Option (List ℕ)
 pushed room None c = None
 pushed room (Some text) c = if nat_lt (length text) room then Some (text ++ c ∷ []) else None

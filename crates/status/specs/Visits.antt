@@ -28,8 +28,7 @@ abbrev pub IsTaken : {G : Type 0} → Place G → Type 0
 IsTaken p = p.guest ≢ None
 
 -- What becomes of who has come: the first free seat is his, with a cleared desk, and all else
--- stays.
--- He is sent away only where each seat is taken.
+-- stays. He is sent away only if each seat is taken.
 pub data IsSeated {G : Type 0} (came : Option G) (old new : List (Place G)) : Type 0 where
   NobodyCame : came ≡ None → new ≡ old → IsSeated came old new
   HasSeat : (g : G) (before after : List (Place G)) (desk : Desk) → came ≡ Some g

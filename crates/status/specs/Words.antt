@@ -49,12 +49,12 @@ escaped marks text = flat_map (mark_of marks) text
 abbrev pub right : (width n : ℕ) → List ℕ
 right width n = replicate (width - length (decimal n)) 32 ++ decimal n
 
--- a number, or another text where there is none
+-- a number, or another text if there is none
 abbrev pub number_or : Option ℕ → List ℕ → List ℕ
 number_or (Some n) other = decimal n
 number_or None other = other
 
--- a text with such words, or another one where there is none
+-- a text with such words, or another one if there is none
 abbrev pub escaped_or : Marks → Option (Bor (List ℕ)) → List ℕ → List ℕ
 escaped_or marks (Some text) other = escaped marks text.now
 escaped_or marks None other = other

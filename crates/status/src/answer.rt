@@ -37,7 +37,7 @@ fn kind_of(asked: Inquiry) -> &'static str
     }
 }
 
-/// The field that names the methods which may be used (RFC 9110, 10.2.1), where others were.
+/// The field that names the methods which may be used (RFC 9110, 10.2.1), if others were.
 fn allow_of(asked: Inquiry) -> &'static str
     ensures { result.now ≡ spec.allow_of asked }
 {
@@ -113,7 +113,7 @@ fn put_head<'a>(head: &mut TextPage, status: &'a str, kind: &'a str, allow: &'a 
     );
 }
 
-/// Puts the head of an answer with this body, or with none where the body found no room.
+/// Puts the head of an answer with this body, or with none if the body found no room.
 fn put_head_for(head: &mut TextPage, asked: Inquiry, body: &TextPage)
     ensures { head.new ≡ put (spec.head_before asked body.now.text) head.old }
 {

@@ -8,7 +8,7 @@ use crate::snapshot::{Keeping, LineView, LinkState, Queue, Snapshot, StationView
 /// How long a line may be away before that is critical, in ms.
 const LINE_MS: u64 = 60_000;
 
-/// The most places of the queue that a report takes: where fewer are free nothing is polled.
+/// The most places of the queue that a report takes: if fewer are free nothing is polled.
 const REPORT_PLACES: u64 = 3;
 
 /// What the state calls for.

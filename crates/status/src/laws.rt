@@ -12,8 +12,8 @@ ghost use Rattle.status.specs.declared.snapshot.Snapshot.{Snapshot};
 
 use crate::streams::Stream;
 
-/// What is put on an empty page stands there whole where it finds room, and else nothing does: no
-/// page goes out that breaks off.
+/// What is put on an empty page stands there whole if it finds room, and else nothing does: no page
+/// goes out that breaks off.
 pub fn a_text_stands_whole_or_not_at_all()
     ensures whole { (room : ℕ) (text : List ℕ) → length text ≤ room →
         (put text (empty room)).text ≡ Some text }

@@ -13,7 +13,7 @@
 //! written in place of octets that would mean something else. The status, the fields and the body
 //! of an answer are functions of what is asked. What is asked is read by the grammar of `httparse`:
 //! it distinguishes a request that isn't whole, one that is too long, and what is none. Who comes
-//! has a seat where one is free. A visitor is sent the page that he asked for, whole and once,
+//! has a seat if one is free. A visitor is sent the page that he asked for, whole and once,
 //! whatever others do ([`visitors_are_sent_what_they_asked_for`]). After a turn nobody has been
 //! there for two seconds. A page goes out whole or not at all
 //! ([`a_text_stands_whole_or_not_at_all`]). What stands in place of an octet that would mean

@@ -51,7 +51,7 @@ const COUNT_MS: u64 = 1000;
 #[derive(Drop)]
 struct ShownRun {
     version: &'static str,
-    /// What the line is called; empty where it has no name.
+    /// What the line is called; empty if it has no name.
     name: String,
     known: Vec<Known>,
     chosen: Vec<ChosenSetting>,

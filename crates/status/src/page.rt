@@ -53,7 +53,7 @@ impl TextPage {
         self.is_cut = false;
     }
 
-    /// What stands on the page, or nothing, where something found no room.
+    /// What stands on the page, or nothing, if something found no room.
     pub(crate) fn text(&self) -> Option<&[u8]>
         ensures { MatchOption result (self.now.text ≡ None)
             (λ text. self.now.text ≡ Some text.now) }
@@ -64,7 +64,7 @@ impl TextPage {
         Some(&self.octets[..self.end])
     }
 
-    /// The octets that stand on the page: none where something found no room.
+    /// The octets that stand on the page: none if something found no room.
     pub(crate) fn octets(&self) -> &[u8]
         ensures { result.now ≡ shown self.now }
     {

@@ -31,8 +31,8 @@ pub fn exit_status(table: &[u8]) -> u8
     }
 }
 
-/// The body of an answer that shows a page (status 200): what stands behind its head. None where
-/// the answer is another one, or its head hasn't come whole.
+/// The body of an answer that shows a page (status 200): what stands behind its head. None if the
+/// answer is another one, or its head hasn't come whole.
 pub fn body_of(answer: &[u8]) -> Option<&[u8]>
     ensures page { IfSome result (λ body. (head : ResponseHead) ×
         ReadsResponse answer.entry.now head body.now × (status_code head ≡ 200)) }

@@ -92,7 +92,7 @@ impl Desk {
         }
     }
 
-    /// What goes out next, where so many octets of the answer have gone out.
+    /// What goes out next, if so many octets of the answer have gone out.
     fn next(&self, sent: usize) -> &[u8]
         requires { sent ≤ length (answer_on self.now) }
         ensures { IsNext (answer_on self.entry.now) sent result.now }
@@ -133,7 +133,7 @@ fn drain<S: Stream>(stream: &mut S) -> bool
     !matches!(stream.read(&mut octets), StreamLook::Gone)
 }
 
-/// Hands a stream octets, and answers how many it took; none where it is broken.
+/// Hands a stream octets, and answers how many it took; none if it is broken.
 fn send<S: Stream>(stream: &mut S, octets: &[u8]) -> Option<usize>
     ensures fits { IfSome result (λ count. count ≤ length octets.now) }
     ensures taken { IfSome result (λ count.
@@ -158,7 +158,7 @@ struct Client<S: Stream> {
     sent: usize,
 }
 
-/// Receives more of the request, and makes its answer where it has come whole.
+/// Receives more of the request, and makes its answer when it has come whole.
 fn receive_more<S: Stream>(client: &mut Client<S>, desk: &mut Desk, snapshot: &Snapshot<'_>) -> bool
     requires stage { client.old.stage ≡ VisitStage.Receiving }
     requires kept { IsKept (S.given client.old.stream) (S.taken client.old.stream)

@@ -20,7 +20,7 @@ pub enum LinkState {
 /// A station. Moments are those of the run, in ms.
 #[derive(Clone, Copy, Default)]
 pub struct StationView<'a> {
-    /// Up to 40 characters; empty where it has none.
+    /// Up to 40 characters; empty if it has none.
     pub name: &'a str,
     /// Its link address.
     pub address: u16,
@@ -28,7 +28,7 @@ pub struct StationView<'a> {
     pub standing: LinkState,
     /// Since when it stands so.
     pub since_ms: u64,
-    /// When its last report came; none where none has come.
+    /// When its last report came; none if none has come.
     pub last_report_ms: Option<u64>,
     /// How many reports it has given.
     pub reports: u64,
@@ -51,7 +51,7 @@ pub struct LineView {
 /// The control centre.
 #[derive(Clone, Copy)]
 pub struct CentreView<'a> {
-    /// The address that it connects from; none where it isn't connected.
+    /// The address that it connects from; none if it isn't connected.
     pub peer: Option<&'a str>,
     /// Data transfer is started (IEC 60870-5-104, 5.3).
     pub is_started: bool,
@@ -99,7 +99,7 @@ pub struct Snapshot<'a> {
     pub started_ms: u64,
     /// What the wall clock shows, in ms since 1970-01-01 UTC, if that is known.
     pub wall_ms: Option<u64>,
-    /// What the line is called: up to 40 characters; empty where it has no name.
+    /// What the line is called: up to 40 characters; empty if it has no name.
     pub name: &'a str,
     pub line: LineView,
     pub centre: CentreView<'a>,

@@ -76,7 +76,7 @@ impl Stream for VisitorSocket {
     }
 
     fn finish(&mut self) {
-        // Where the other end has gone already, the next look finds it.
+        // If the other end has gone already, the next look finds it.
         let _ = self.stream.shutdown(Shutdown::Write);
     }
 }

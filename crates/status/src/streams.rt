@@ -14,7 +14,7 @@ pub enum StreamLook {
 /// What a stream did with octets.
 #[derive(Clone, Copy, PartialEq, Eq)]
 pub enum Took {
-    /// It took so many, from the front; 0 where it has no room now.
+    /// It took so many, from the front; 0 if it has no room now.
     Octets(usize),
     /// It is broken.
     Nothing,
@@ -26,13 +26,13 @@ pub trait Stream: Drop {
     ghost use Rattle.status.specs.Streams.{Calls, Finished, FitsBuffer, Handed, Looked, Passed};
     ghost use Rattle.status.specs.Streams.{called, got_of, more_passed, took_count};
 
-    /// The octets that it gave, where it keeps them.
+    /// The octets that it gave, if it keeps them.
     ghost given: { Self → Passed };
 
-    /// The octets that it took, where it keeps them.
+    /// The octets that it took, if it keeps them.
     ghost taken: { Self → Passed };
 
-    /// What it was called for, the newest call first, where it keeps that.
+    /// What it was called for, the newest call first, if it keeps that.
     ghost calls: { Self → Calls };
 
     /// Looks once. Octets are put at the front of the buffer.
@@ -65,7 +65,7 @@ pub trait StreamSource {
 
     type Stream: Stream;
 
-    /// Whether somebody had come at each look, the newest first, where it keeps that.
+    /// Whether somebody had come at each look, the newest first, if it keeps that.
     ghost arrivals: { Self → Arrivals };
 
     /// Looks once for somebody who has come, without a wait. Nothing has been read or written yet.

@@ -28,7 +28,7 @@ pub(crate) enum Marks {
 /// What of a station is counted.
 #[derive(Clone, Copy, PartialEq, Eq)]
 pub(crate) enum Count {
-    /// 1 where it is up.
+    /// 1 if it is up.
     Up,
     Reports,
     Skipped,
@@ -50,7 +50,7 @@ pub(crate) enum Word<'a> {
     Thousandths(u64),
     /// An address in decimal.
     Address(u16),
-    /// A number in decimal, or a text where there is none.
+    /// A number in decimal, or a text if there is none.
     NumberOr(Option<u64>, &'a str),
     /// A number in decimal, with spaces before it up to a width.
     Right(usize, u64),
@@ -165,7 +165,7 @@ fn put_right(page: &mut TextPage, width: usize, number: u64)
     page.put(digits);
 }
 
-/// 1 where a station is up.
+/// 1 if a station is up.
 fn up_of(station: &StationView<'_>) -> u64
     ensures { result ≡ value_of Count.Up station.now }
 {

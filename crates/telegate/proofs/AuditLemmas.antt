@@ -18,7 +18,7 @@ module _ (config : List ℕ) (past : Log) (has : List ℕ → Type 0) (settings 
     (known : Option (List ℕ))
     (read : IsReadOfText config (Ok settings)) (holds : (octets : List ℕ) → Gives known octets
     → has octets) where
-  -- the answer to the command, where its files were read
+  -- the answer to the command, if its files were read
   pub audited : (comparison : Comparison) (r : Result CommandAnswer Fault)
       → OfGiven known (λ text. IsAudit settings past text comparison)
       → MatchResult r (IsComparisonAnswer comparison) IsMemory → IsAuditedBy config past has r

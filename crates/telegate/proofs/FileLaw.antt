@@ -1,4 +1,4 @@
--- Which file can't be read where a command ends with 3.
+-- Which file can't be read if a command ends with 3.
 use Rattle.std.proofs.Common.{◌≡◌, ◌⊎◌, ℕ, List, [], ◌∷◌, ◌++◌, Option, Some, inl, inr}
 use Rattle.std.proofs.Common.{arith, subst}
 use Rattle.clap.specs.Words.{Text}

@@ -50,7 +50,7 @@ module _ (has : Text → List ℕ → Type 0) (lacks : Text → Type 0) where
   wider file files name Unreadable (inr later) = absurd later.1
   wider file files name NoMemory unread = tt
 
-  -- where there is no file, only memory is missing
+  -- if there is no file, only memory is missing
   among_none : (file name : Text) (why : Unread) → IsUnread has lacks [] name why
       → IsUnread has lacks (file ∷ []) name why
   among_none file name Unreadable unread = absurd unread

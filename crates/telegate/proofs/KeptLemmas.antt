@@ -75,7 +75,7 @@ pub logs_unused : (marked : Type 0) (o : Origin) (old new : Book) → LogsWithou
     → LogsStart marked o old new
 logs_unused marked o old new logs is = LogsUnused logs is
 
--- the clock goes on where the gateway does
+-- the clock goes on if the gateway does
 pub moment_in : {D : Type 0} (g : Ghosts D) (wishes : Wishes) (c : Settings) (log : Log)
     (o : Origin) → StartsIn g wishes c log o → o.moment ≡ moment_at o.beginning o.gateway.moment
 moment_in g wishes c log o (Found begins) = begins.begun.moment

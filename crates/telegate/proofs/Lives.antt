@@ -4,7 +4,7 @@ use Rattle.std.proofs.Common.{append_assoc}
 use Rattle.gateway.specs.Log.{Log, with_news}
 use Rattle.telegate.specs.Lives.{behind}
 
--- where the port inside logged it, so did the whole
+-- if the port inside logged it, so did the whole
 pub logged_behind : (before : Log) (old new : Option Log) (news : Log) → new ≡ with_news old news
     → behind before new ≡ with_news (behind before old) news
 logged_behind before None new news is = rw is

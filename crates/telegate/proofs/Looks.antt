@@ -90,7 +90,7 @@ shown_there l before after b a was is turned shown =
     (subst (λ o. AreShown l (shown_to (Some b)) (shown_to o)) (sym is)
     (record { turned = a.turned; shown = a.shown }, refl, turned, shown))
 
--- and where there is none, there is none afterwards
+-- and if there is none, there is none afterwards
 pub none_shown : {D S : Type 0} {streams : Ghosts S} (l : Look)
     (before after : Option (Lookout D S streams)) → before ≡ None → after ≡ before
     → AreShown l (shown_to before) (shown_to after)

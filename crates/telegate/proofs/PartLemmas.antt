@@ -117,7 +117,7 @@ module _ (lines part : List ℕ) where
     last_wrong = λ over first. cc;
   }
 
-  -- and at the end, where a line feed ends some of its lines, or none
+  -- and at the end, when a line feed ends some of its lines, or none
   pub last_part : lines_of part ≡ event_lines (whole_lines lines)
       → IsPartRead true lines true part
   last_part are = record {
@@ -244,7 +244,7 @@ pub record RunsTo (IsTextBy : Log → List ℕ → Type 0) (r : Bool) (known com
   pub written : IsTextBy s.log lines
   pub poured : IsPoured is_whole old new lines
 
--- the events of a part, where the tick came before
+-- the events of a part, if the tick came before
 later_events : (b : Bool) (es : List LogEntry) → b ≡ true → behind_tick b es ≡ es
 later_events true es is = refl
 later_events false es is = cc

@@ -131,7 +131,7 @@ stopped_by manner r closing settings known old new began begins = by
     by Unread want stop = either stop
     by other want stop = absurd want
 
--- the whole command, where its settings were read and its trace was judged
+-- the whole command, if its settings were read and its trace was judged
 pub replayed : (config : List ℕ) (manner : Manner) (r : Bool) (has more : List ℕ → Type 0)
     (closing : Closing) (settings : Settings)
     (old new : Option (List ℕ)) → IsReadOfText config (Ok settings) → IsFound manner more r

@@ -71,7 +71,7 @@ wall_first begins settings wishes old new left ended h =
     (λ (k : HasLivedKept begins settings wishes old new left ended).
     k.lived.on.port_is.begins.wall) h
 
--- where the clock goes on the connection is cut first
+-- if the clock goes on, the connection is cut first
 pub moment_there : (o : Origin) → o.moment ≡ moment_at o.beginning o.gateway.moment
     → (o.beginning ≡ beginnings.GoesOn) ⊎ (o.beginning ≡ beginnings.LinksReset)
     → is_some o.moment ≡ true

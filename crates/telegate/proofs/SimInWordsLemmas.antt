@@ -20,7 +20,7 @@ use Rattle.telegate.specs.declared.fault.Fault.{Fault}
 use Rattle.telegate.specs.declared.fault.Fault.TheVariants.{Device, NoMemory}
 use Rattle.telegate.specs.declared.manner.Manner.TheVariants.{Words}
 
--- what was taken off a page is the text of the whole log, where that was all of it
+-- what was taken off a page is the text of the whole log, if that was all of it
 pub words_of_all : (style : Style) (s : Scribing) (log : Log) → s.style ≡ style
     → Some log ≡ Some s.poured
     → IsLadder s.style s.poured s.logged → IsLadder style log s.logged

@@ -10,7 +10,7 @@ use Rattle.telegate.specs.declared.fault.Fault.{Fault}
 use Rattle.telegate.specs.declared.manner.Manner.{Manner}
 use Rattle.telegate.specs.declared.fault.Fault.TheVariants.{Device, NoMemory}
 
--- the command, where its files were read
+-- the command, if its files were read
 pub scripted : (manner : Manner) (config text : List ℕ) (c : Settings) (ds : List Directive)
     (old new : Option (List ℕ))
     (r : Result (Unit {0}) Fault) → IsReadOfText config (Ok c) → IsScriptOf c text (Ok ds)

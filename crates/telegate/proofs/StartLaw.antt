@@ -24,7 +24,7 @@ no_gap : (moment : Option ℕ) (old new : Book) → LogsGap moment None old new 
 no_gap None old new same = same
 no_gap (Some moment) old new same = same
 
--- all that is logged where no gap is reported
+-- all that is logged if no gap is reported
 pub logs_start : (o : Origin) (damage : Option ℕ) (beginning : Beginning) (moved : Bool)
     (moment : Option ℕ) (old new : Book) → LogsBeginning o old new → o.damage ≡ damage
     → o.beginning ≡ beginning → o.is_moved ≡ moved → o.moment ≡ moment → o.gap ≡ None

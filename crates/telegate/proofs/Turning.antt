@@ -34,7 +34,7 @@ one_more_event n a b c before turn =
     ∙ (plus_one (events_logged b) ∙ (ap (option_map (λ (m : ℕ). m + 1)) before
     ∙ plus_more n (events_logged a)))
 
--- what lasts of a port lasts beside its log too, where all that is fixed of it does
+-- what lasts of a port lasts beside its log too, if all that is fixed of it does
 pub lasting_logged : {P F G : Type 0} (script : P → F) (lasting : P → G)
     → ((one other : P) → script one ≡ script other → lasting one ≡ lasting other)
     → (one other : P) (b c : Book)

@@ -13,7 +13,7 @@ use Rattle.settings.specs.declared.site.Site.{Site as SiteFile}
 use Rattle.telegate.specs.declared.fault.Fault.{Fault}
 use Rattle.telegate.specs.declared.host.Wishes.{Wishes}
 
--- what a site's file says can be, where the words that say nothing are met beside it
+-- what a site's file says can be, if the words that say nothing are met beside it
 pub can_be : (words : Said) (octets : List ℕ) (site : SiteFile) (names : SiteNames)
     (wishes : Wishes)
     → words ≡ nothing_said → IsSiteOf octets site

@@ -137,9 +137,9 @@ pub record IsStopOf (settings : Settings) (manner : Manner) (as_record : Bool)
   pub written : IsTextBy manner settings log text
   pub printed : IsBegun old new text
 
--- How a run over a text ends that was judged. Where the output failed, of the text of the whole run
--- a beginning was printed. Where memory was refused, the text can't be read on, or a line of it is
--- wrong that wasn't, the run stops, or doesn't begin.
+-- How a run over a text ends that was judged. If the output failed, a beginning of the text of the
+-- whole run was printed. If memory was refused, the text can't be read on, or a line of it is wrong
+-- that wasn't, the run stops, or doesn't begin.
 abbrev pub IsEndFault : Settings → Manner → (as_record : Bool) → (has : List ℕ → Type 0) → Closing
     → (old new : Option (List ℕ)) → Fault → Type 0
 IsEndFault settings manner as_record has closing old new Device =
@@ -209,9 +209,9 @@ pub record IsScripted (config text : List ℕ)
   pub read_script : IsScriptOf settings text (Ok script)
   pub so : IsSo settings script
 
--- The run of the script ended, and its whole text was printed, or, where the output failed, a
--- beginning of that; or memory was refused: before anything was printed, or in mid-run, and then a
--- beginning of the lines of its actions was.
+-- The run of the script ended, and its whole text was printed, or a beginning of that if the output
+-- failed. Or memory was refused: before anything was printed, or in mid-run, and then a beginning
+-- of the lines of its actions was.
 abbrev pub IsSimulationFault : Manner → Settings → List Directive → (old new : Option (List ℕ))
     → Fault → Type 0
 IsSimulationFault manner settings script old new Device =

@@ -4,8 +4,8 @@ use Rattle.record.specs.Recording.{Recording}
 use Rattle.runlog.specs.Logging.{Book}
 use Rattle.telegate.specs.declared.host.Wishes.{Wishes}
 
--- It was logged, recorded and shown where that was wished, and nowhere else. A log or a record that
--- was wished may have ended before the run, where no line was taken any more.
+-- It was logged, recorded and shown if that was wished, and not otherwise. A log or a record that
+-- was wished may have ended before the run, if no line was taken any more.
 pub record IsAsWished (wishes : Wishes) (book : Book) (pen : Recording) (is_shown : Bool) :
     Type 0 where
   pub logged : book.is_wished ≡ wishes.log

@@ -9,8 +9,8 @@ use Rattle.telegate.specs.declared.host.Wishes.{Wishes}
 
 -- What a site was asked for: where the log goes, and where the record does; the listener for
 -- visitors at a place; the directory of a name, in which a state is kept; the listener for control
--- centres at a place; the line at a place, which is reached again where it ends, or not. And
--- whether it gave that.
+-- centres at a place; the line at a place, which is reached again when it ends, or not. And whether
+-- it gave that.
 pub data SiteCall : Type 0 where
   LogAt : SiteCall
   RecordAt : SiteCall
@@ -21,7 +21,7 @@ pub data SiteCall : Type 0 where
 
 -- The places of a site, and what led to the state at the head of the newest log in its directory.
 -- What it was asked for, the newest first, and the moments, in ms, at which the clocks that it gave
--- begin, where it notes that.
+-- begin, if it notes that.
 pub record Asked : Type 0 where
   pub places : Places
   pub lineage : Log
@@ -63,11 +63,11 @@ clock_asked given moment a = record {
   clocks = clocks_by given moment a.clocks;
 }
 
--- no clock was given where this is an error: so nothing has run
+-- no clock was given if this is an error: so nothing has run
 abbrev pub UnclockedIfErr : {A E : Type 0} → Result A E → (old new : Asked) → Type 0
 UnclockedIfErr result old new = IfErr result (λ _. new.clocks ≡ old.clocks)
 
--- where something is named for it, a call that was given
+-- if something is named for it, a call that was given
 abbrev pub call_if : (call : List ℕ → (given : Bool) → SiteCall) → Option (Bor Text)
     → List SiteCall
 call_if call None = []

@@ -46,7 +46,7 @@ HasNoPage answered silent place request old new exit =
     (IsUnanswered silent place exit ⊎ (IsNoPageAt answered place request × (exit ≡ 3)))
     × Keeps old new
 
--- a page was printed, with this exit status, or, where the output failed, a beginning of it
+-- a page was printed, with this exit status, or a beginning of it if the output failed
 abbrev pub IsShown : (body : List ℕ) → (status : ℕ) → (old new : Option (List ℕ)) → (exit : ℕ)
     → Type 0
 IsShown body status old new exit =
@@ -65,7 +65,7 @@ ShowsPage answered silent place status old new exit =
     HasShownPage answered place status old new exit
     ⊎ HasNoPage answered silent place json_request old new exit
 
--- what is printed where the table has come: that, or the other page
+-- what is printed if the table has come: that, or the other page
 abbrev pub ShowsBy : (answered : Text → List ℕ → List ℕ → Type 0) → (silent : Text → Type 0)
     → (place : Text) → (json : Bool) → (table : List ℕ) → (old new : Option (List ℕ))
     → (exit : ℕ) → Type 0

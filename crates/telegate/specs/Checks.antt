@@ -26,8 +26,8 @@ abbrev pub IsCheckFault : (live : Bool) → List ℕ → Fault → Type 0
 IsCheckFault false config fault = IsConfigFault config fault
 IsCheckFault true config fault = IsLiveConfigFault config fault
 
--- The lines that explain a fault with this status were printed behind it, or, where the output
--- failed, a beginning of them; or memory was refused to them.
+-- The lines that explain a fault with this status were printed behind it, or a beginning of them if
+-- the output failed; or memory was refused to them.
 abbrev pub AreLinesGiven : Result (Vec ℕ Global) AllocError → (status : ℕ)
     → (old new : Option (List ℕ)) → (exit : ℕ) → Type 0
 AreLinesGiven (Ok lines) status old new exit =
@@ -41,7 +41,7 @@ pub record HasExplained (Explain : List ℕ → Type 0) (old new : Option (List 
   pub explained : Explain lines
   pub printed : (Appends old new lines × (exit ≡ 1)) ⊎ (IsBegun old new lines × (exit ≡ 3))
 
--- what is answered of a file with a fault, where an explanation is asked for or not
+-- what is answered of a file with a fault, by whether an explanation is asked for
 abbrev pub IsFileRefused : (explain : Bool) → (Explain : List ℕ → Type 0)
     → (old new : Option (List ℕ)) → (exit : ℕ) → Type 0
 IsFileRefused true Explain old new exit =

@@ -1,4 +1,4 @@
--- What a run prints behind the lines of its actions, where it is asked for (texts of this gateway's
+-- What a run prints behind the lines of its actions, if it is asked for (texts of this gateway's
 -- own profile).
 use Rattle.std.specs.Prelude.{ℕ, Bool, List, [], ◌∷◌, ◌++◌, codes, if◌then◌else◌}
 use Rattle.std.specs.List.{flat_map}

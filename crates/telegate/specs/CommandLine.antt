@@ -212,7 +212,7 @@ AsksFor name rows (Stations config script) = (name ≡ codes "stations")
     × IsGiven rows (codes "CONFIG") config.now × IsGiven rows (codes "SCRIPT") script.now
 AsksFor name rows (Centre words) = (name ≡ codes "centre") × AreCentreWords rows words
 
--- the request, or none where none is asked for
+-- the request, or none if none is asked for
 abbrev pub IsAsked : (name : Text) → List Row → Option CommandRequest → Type 0
 IsAsked name rows asked =
     MatchOption asked ((request : CommandRequest) → AsksFor name rows request

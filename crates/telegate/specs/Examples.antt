@@ -1,4 +1,4 @@
--- What the worked examples of the command line speak of: what words ask for, and how they end where
+-- What the worked examples of the command line speak of: what words ask for, and how they end if
 -- they ask for nothing.
 use Rattle.std.specs.Prelude.{◌≡◌, ℕ, ◌==◌, ◌&&◌, Bool, List, [], ◌∷◌, Option, Some}
 use Rattle.std.specs.Prelude.{codes, map}
@@ -19,12 +19,12 @@ named_by words = subcommand_of program (codes "telegate" ∷ words)
 abbrev pub statuses_of : List Text → List ℕ
 statuses_of words = map status_of_kind (fault_of program (codes "telegate" ∷ words))
 
--- this is so exactly where that is
+-- this is so exactly if that is
 pub record Agree (one other : Type 0) : Type 0 where
   pub there : one → other
   pub back : other → one
 
--- nothing is wrong with the words, and they ask for a request exactly where this is so
+-- nothing is wrong with the words, and they ask for a request exactly if this is so
 abbrev pub Ask : List Text → CommandRequest → Type 0 → Type 0
 Ask words request is =
     (statuses_of words ≡ []) × Agree (IsRequestOf (named_by words) (Some request)) is

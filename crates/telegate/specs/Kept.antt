@@ -16,7 +16,7 @@ use Rattle.telegate.specs.declared.fault.Fault.{Fault}
 use Rattle.telegate.specs.declared.fault.Fault.TheVariants.{EndUnusable, NoMemory, StateInUse}
 use Rattle.telegate.specs.declared.fault.Fault.TheVariants.{StateUnusable}
 
--- where the clock begins, in ms
+-- the moment at which the clock begins, in ms
 abbrev pub first_moment : Option ℕ → ℕ
 first_moment None = 0
 first_moment (Some moment) = moment
@@ -34,9 +34,9 @@ IsKeptFault (StateUnusable cause) = Unit {0}
 IsKeptFault fault = IsEndFault fault
 
 -- A run with this beginning is over. The port is that of these settings and this allow list, and
--- began with the cut where it goes on. It ended well only once all turns that can be counted were
--- used up. Where the gateway began with the state that the lives before lead to, all lives together
--- keep every promise of a gateway with these settings.
+-- began with the cut if it goes on. It ended well only once all turns that can be counted were used
+-- up. If the gateway began with the state that the lives before lead to, all lives together keep
+-- every promise of a gateway with these settings.
 pub record HasLivedOn {E : Type 0} (settings : Settings) (allow_list : AllowList) (origin : Origin)
     (before : Log) (port : LiveEnds) (pen : Recording) (ended : Result (Unit {0}) E) : Type 0 where
   pub behind : before ≡ origin.before.entries

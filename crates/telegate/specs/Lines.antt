@@ -8,7 +8,7 @@ abbrev pub of_line : {L A T : Type 0} → (L → T) → (A → T) → ProcessLin
 of_line once again (Once line) = once line
 of_line once again (Again line) = again line
 
--- it is reached again where it ends
+-- it is reached again when it ends
 abbrev pub is_again : {L A : Type 0} → ProcessLine L A → Bool
 is_again (Once line) = false
 is_again (Again line) = true

@@ -8,7 +8,7 @@ abbrev pub behind : (before : Log) → (this : Option Log) → Option Log
 behind before None = None
 behind before (Some log) = Some (log ++ before)
 
--- the same, where this one is known by its record, or else by its port
+-- the same, if this one is known by its record, or else by its port
 abbrev pub all_passed : (before : Log) → Recording → (port : Option Log) → Option Log
 all_passed before recording port = behind before (logged_first (log_of recording) port)
 

@@ -20,8 +20,8 @@ IsPortOf settings allow_list goes_on port = fixed_of port ≡ record {
 }
 
 -- Nothing has happened at it but by its events and actions since the run began. Its log begins with
--- the wall clock, and where the run goes on then with the cut of the connection of then. It has
--- what passed at the ends, from the first octet on.
+-- the wall clock, and then, if the run goes on, with the cut of the connection of then. It has what
+-- passed at the ends, from the first octet on.
 pub record IsPortOfRun (settings : Settings) (allow_list : AllowList) (goes_on : Bool)
     (port : LiveEnds) : Type 0 where
   pub fixed : IsPortOf settings allow_list goes_on port

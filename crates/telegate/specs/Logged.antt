@@ -27,7 +27,7 @@ abbrev pub note_of_address : Option SocketAddr → Option Note
 note_of_address None = None
 note_of_address (Some address) = Some (note.Listening address)
 
--- the run goes on with so many pieces, where it goes on
+-- the run goes on with so many pieces, if it goes on
 abbrev pub note_if_on : (moment : Option ℕ) → State → Option Note
 note_if_on None gateway = None
 note_if_on (Some moment) gateway = Some (note_of_queue gateway)
@@ -56,7 +56,7 @@ pub record LogsBeginning (o : Origin) (old new : Book) : Type 0 where
 abbrev pub LogsWithout : (old new : Book) → Type 0
 LogsWithout old new = (why : Obstacle) × LogsNote old (note.StateRefused why) new
 
--- it begins with what its directory has, or without that, where it is marked so
+-- it begins with what its directory has, or without that, if it is marked so
 pub data LogsStart (marked : Type 0) (o : Origin) (old new : Book) : Type 0 where
   LogsFound : LogsBeginning o old new → LogsStart marked o old new
   LogsUnused : LogsWithout old new → marked → LogsStart marked o old new

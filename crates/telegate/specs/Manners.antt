@@ -26,7 +26,7 @@ is_set (Ok text) = not (is_empty (string_bytes text))
 is_set (Err NotPresent) = false
 is_set (Err why) = true
 
--- Standard output shows colours of itself where it is a terminal, unless the environment has a
+-- Standard output shows colours of itself if it is a terminal, unless the environment has a
 -- NO_COLOR that isn't empty (https://no-color.org).
 abbrev pub shows_colours : (is_terminal has_no_color : Bool) → Bool
 shows_colours is_terminal has_no_color = is_terminal && not has_no_color

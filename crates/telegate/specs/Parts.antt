@@ -84,7 +84,7 @@ pub record HasDone (p : Setup) (state : State) (log : Log) : Type 0 where
   pub follows : Follows p state (Some log)
   pub accounts : IsAccounted p state log
 
--- the same of a run that goes on from here, where it can
+-- the same of a run that goes on from here, if it can
 abbrev pub GoesOn : (began : State) → (before : Log) → (ended : State) → (after : Log) → Type 0
 GoesOn began before ended after =
     (p : Setup) → Follows p began (Some before) → HasRested p before → HasDone p ended after
@@ -119,8 +119,8 @@ pub record IsPartStopped (IsTextBy : Log → List ℕ → Type 0) (s : Standing)
   pub written : IsTextBy log lines
   pub begun : IsBegun old new lines
 
--- A run over a whole text, of which no line is wrong; all lines of its log were printed, or, where
--- the output failed, a beginning of them.
+-- A run over a whole text, of which no line is wrong. All lines of its log were printed, or a
+-- beginning of them if the output failed.
 pub record IsPartsRun (IsTextBy : Log → List ℕ → Type 0) (as_record : Bool)
     (known : Option (List ℕ)) (began ended : State) (old new : Option (List ℕ)) (is_whole : Bool)
     : Type 0 where

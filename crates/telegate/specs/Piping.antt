@@ -57,7 +57,7 @@ pub record IsAdded (piped : Piped) (words : Bool) (octets : Option (List ℕ))
   pub added : new ≡ old ++ text
   pub judged : later ≡ both condition one
 
--- lines one after another, each whatever the others are; all is well where each line is
+-- lines one after another, each whatever the others are; all is well if each line is
 abbrev pub AreLinesShown : Piped → (words : Bool) → List (List ℕ) → (text : List ℕ) → Condition
     → Type 0
 AreLinesShown piped words [] text condition = (text ≡ []) × (condition ≡ Good)
@@ -102,7 +102,7 @@ abbrev pub Pipes : Piped → (words : Bool) → (has : List ℕ → Type 0) → 
 Pipes piped words has old new result =
     MatchResult result (IsPiped piped words has old new) (IsPipeFault piped words has old new)
 
--- 0 where all is as it should be, 1 where it isn't, or that of the fault
+-- 0 if all is as it should be, 1 if it isn't, or that of the fault
 abbrev pub status_of_pipe : Result Condition Fault → ℕ
 status_of_pipe (Ok condition) = status_by condition
 status_of_pipe (Err fault) = status_of fault

@@ -2,7 +2,7 @@
 use Rattle.telegate.specs.declared.place.Place.{Place}
 use Rattle.telegate.specs.declared.place.Place.TheVariants.{In, Nowhere}
 
--- what its directory says, or this where there is none
+-- what its directory says, or this if there is none
 abbrev pub at_place : {F D T : Type 0} → (F → T) → T → Place F D → T
 at_place says none (In folder) = says folder
 at_place says none Nowhere = none

@@ -31,7 +31,7 @@ behind_tick true events = events
 abbrev pub script_read : (as_record : Bool) → (text : List ℕ) → List LogEntry
 script_read as_record text = behind_tick as_record (events_in (lines_read as_record text))
 
--- Where the lines of actions are printed, a text is a trace. In words a record is printed too, and
+-- If the lines of actions are printed, a text is a trace. In words a record is printed too, and
 -- this says whether a text whose octets may be these is one.
 abbrev pub IsFound : Manner → (has : List ℕ → Type 0) → Bool → Type 0
 IsFound Lines has found = found ≡ false

@@ -32,8 +32,8 @@ HasRun before after result = MatchResult result (λ _. after ≡ before) (λ _. 
 abbrev pub HasEnded : Bool → (before after : Option Log) → Type 0
 HasEnded ended before after = (ended ≡ true) ⊎ MoreEvents 18446744073709551615 before after
 
--- What a log of the run shows, where it is known, keeps every promise of such a gateway; and where
--- the device didn't fail, nothing that may be sent is left.
+-- What a log of the run shows, if it is known, keeps every promise of such a gateway. If the device
+-- didn't fail, nothing that may be sent is left.
 abbrev pub IsRunFaithful : Setup → Option Log → Type 0
 IsRunFaithful p shown = IfSome shown (IsFaithful p)
 
@@ -52,7 +52,7 @@ pub record IsRecordOf {A E : Type 0} (p : Setup) (before : Log) (is_over : Bool)
   pub whole : is_over ≡ false → missed ≡ []
   pub faithful : HasRunFaithfully p (Some ((missed ++ log) ++ before)) result
 
--- where the text, and what passed unwritten, are known
+-- if the text, and what passed unwritten, are known
 abbrev pub IsTextOf : {A E : Type 0} → Setup → (before : Log) → (is_over : Bool)
     → (text : Option (List ℕ)) → (missed : Option Log) → Result A E → Type 0
 IsTextOf p before is_over None missed result = Unit {0}

@@ -52,7 +52,7 @@ IsJobOf has colours (Sim config script words color) (job.Sim c s manner) =
     has config.now c.now × has script.now s.now × (manner ≡ manner_of words color colours)
 IsJobOf has colours _ _ = ⊥
 
--- what is read first where a site's file is judged before the settings are read
+-- what is read first if a site's file is judged before the settings are read
 abbrev pub first_file : (site : Option Text) → (config : Text) → Text
 first_file None config = config
 first_file (Some site) config = site
@@ -139,8 +139,8 @@ pub record HasRefusedSite (has : Text → List ℕ → Type 0) (site : Text) (ex
   pub is : IsFirstSiteFault octets fault
   pub answered : IsRefusalAnswered explain octets fault old new exit
 
--- Settings are judged; where a site's file is named, that is judged before them, and they are only
--- where it is good.
+-- Settings are judged. If a site's file is named, that is judged before them, and they are judged
+-- only if it is good.
 abbrev pub HasCheckedBehind : (has : Text → List ℕ → Type 0) → (lacks : Text → Type 0)
     → (site : Option Text) → (config : Text) → Checking → (old new : Option (List ℕ))
     → (exit : ℕ) → Type 0
@@ -295,13 +295,13 @@ pub record IsRunAskedFor (has : Text → List ℕ → Type 0)
 abbrev pub input : Text
 input = codes "-"
 
--- a frame is shown, or those of standard input are shown where its name stands for octets
+-- a frame is shown, or those of standard input if its name stands for octets
 pub record IsShownOrPiped (hex : Text) (IsShown IsPiped : Type 0) : Type 0 where
   pub piped : hex ≡ input → IsPiped
   pub shown : (hex ≡ input → ⊥) → IsShown
 
--- What a command is to do where its files can be read; a live run prints nothing but its record,
--- which the host writes.
+-- What a command is to do if its files can be read. A live run prints nothing but its record, which
+-- the host writes.
 abbrev pub IsDone : (has : Text → List ℕ → Type 0) → (lacks : Text → Type 0)
     → (ran : List ℕ → Wishes → Result (Unit {0}) Fault → Type 0)
     → (answered : Text → List ℕ → List ℕ → Type 0) → (silent : Text → Type 0)

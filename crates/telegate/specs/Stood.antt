@@ -16,7 +16,7 @@ use Rattle.telegate.specs.declared.fault.Fault.TheVariants.{Unread, NoMemory}
 abbrev pub octets_of : Option (Vec ℕ Global) → Option (List ℕ)
 octets_of given = option_map (λ v. v.items) given
 
--- 1 where what is there can't be read
+-- 1 if what is there can't be read
 abbrev pub status_of_sight : Beginning → ℕ
 status_of_sight beginnings.Anew = 0
 status_of_sight beginnings.PutAside = 1

@@ -16,8 +16,8 @@ use Rattle.runlog.specs.Logging.{Book, Closes, Tends}
 use Rattle.status.specs.declared.streams.Stream.{Ghosts}
 use Rattle.telegate.specs.Lives.{LivesFixture, all_passed, fixture}
 
--- How a run stands: its gateway, its port, what was logged, and what is shown to visitors, where
--- there is a listener for them.
+-- How a run stands: its gateway, its port, what was logged, and what is shown to visitors, if there
+-- is a listener for them.
 pub record RunStanding (P : Type 0) : Type 0 where
   pub gateway : State
   pub port : P
@@ -49,8 +49,8 @@ pub record TakesEvent {P F : Type 0} (log : P → Option Log) (script : P → F)
         → Follows p after.gateway (log after.port) × Rests p (log after.port)
     pub shown : after.shown ≡ before.shown
 
--- Visitors are shown the run as it is at this look, beside the name of who has connected. Where
--- there is no listener for them there is none afterwards.
+-- Visitors are shown the run as it is at this look, beside the name of who has connected. If there
+-- is no listener for them, there is none afterwards.
 abbrev pub AreShown : Look → (before after : Option Standing) → Type 0
 AreShown l None after = after ≡ None
 AreShown l (Some s) after =
@@ -135,8 +135,7 @@ abbrev pub script_in_life : {P F : Type 0} → (P → F) → PortOfLife P
     → LivesFixture (RecordedFixture F)
 script_in_life script l = fixture (recorded_fixture (script l.port) l.pen) l.before
 
--- It tended the state, of which nothing is recorded. What is recorded is what has passed, where
--- both
+-- It tended the state, of which nothing is recorded. What is recorded is what has passed, if both
 -- is known.
 abbrev pub tends_in_life : {P : Type 0} → (P → Option Log)
     → (P → State → P → Option Notice → Type 0) → PortOfLife P → State → PortOfLife P

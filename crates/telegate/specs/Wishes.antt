@@ -54,7 +54,7 @@ said_in site = record {
   status = site.places.status;
 }
 
--- what words say wins, and a flag is set where either says so
+-- what words say wins, and a flag is set if either says so
 abbrev pub said_of : (words site : Said) → Said
 said_of words site = record {
   redial = words.redial || site.redial;
@@ -80,7 +80,7 @@ nothing_said = record {
   status = None;
 }
 
--- the run is to stop where the state can't be kept, and none is named
+-- the run is to stop if the state can't be kept, and none is named
 abbrev pub lacks_state : (state : Option Text) → (or_stop : Bool) → Bool
 lacks_state None or_stop = or_stop
 lacks_state (Some name) or_stop = false
@@ -116,12 +116,12 @@ IsNoSiteAllowList texts NoMemory = Unit {0}
 IsNoSiteAllowList texts fault = IsKeyFault (codes "allow") fault
     × MatchOption texts ⊥ (λ ts. (text : Text) × (Contains ts text × WritesNone text))
 
--- one of the words is none, or, where they name nobody, one of the texts of the site's file
+-- one of the words is none, or, if they name nobody, one of the texts of the site's file
 abbrev pub IsNoAllowList : (words site : Option (List Text)) → Fault → Type 0
 IsNoAllowList None site fault = IsNoSiteAllowList site fault
 IsNoAllowList (Some words) site fault = IsAllowListFault (Some words) fault
 
--- what is said can't be: a state isn't named, or, where it is, the allow list has no addresses
+-- what is said can't be: a state isn't named, or, if it is, the allow list has no addresses
 abbrev pub IsWishFault : (words site : Said) → Fault → Type 0
 IsWishFault words site fault =
     let said = said_of words site in
@@ -135,7 +135,7 @@ abbrev pub site_files : (site : Option Text) → List Text
 site_files None = []
 site_files (Some name) = name ∷ []
 
--- the site is what its file gives; where none is named nothing is said
+-- the site is what its file gives; if none is named, nothing is said
 abbrev pub IsSiteIn : (has : Text → List ℕ → Type 0) → Option Text → SiteFile → Type 0
 IsSiteIn has None site = site_of site ≡ empty_site
 IsSiteIn has (Some name) site = (octets : List ℕ) × (has name octets × IsSiteOf octets site)
@@ -156,8 +156,8 @@ pub record HasWrongSite (has : Text → List ℕ → Type 0) (site : Option Text
   pub is : IsSiteFault octets fault
   pub status : exit ≡ status_of fault
 
--- What a site's file says can be, where words say nothing: a state is named where it has to be
--- kept, and the texts of `allow` are addresses.
+-- What a site's file says can be, if words say nothing: a state is named if it has to be kept, and
+-- the texts of `allow` are addresses.
 pub record CanBe (said : Said) : Type 0 where
   pub is_named : lacks_state said.state said.or_stop ≡ false
   pub allow_list : AllowList
@@ -175,7 +175,7 @@ pub record IsUnfit (octets : List ℕ) (fault : Fault) : Type 0 where
   pub is : IsSiteOf octets site
   pub unfit : IsWishFault nothing_said (said_in (site_of site)) fault
 
--- its first fault, where it stands alone: a wrong or an unknown key, or else that
+-- its first fault, if it stands alone: a wrong or an unknown key, or else that
 abbrev pub IsFirstSiteFault : List ℕ → Fault → Type 0
 IsFirstSiteFault octets fault = IsSiteFault octets fault ⊎ IsUnfit octets fault
 
@@ -234,7 +234,7 @@ pub record HasRunAtSite (has : Text → List ℕ → Type 0)
   pub is : IsSiteIn has (text_of words.site) site
   pub came : CameAt has ran config words site exit
 
--- what came of the words of a live run, where their files can be read
+-- what came of the words of a live run, if their files can be read
 abbrev pub HasRunAsSaid : (has : Text → List ℕ → Type 0)
     → (ran : List ℕ → Wishes → Result (Unit {0}) Fault → Type 0) → (config : Text) → RunWords
     → (exit : ℕ) → Type 0

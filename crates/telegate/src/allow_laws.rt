@@ -8,9 +8,9 @@ ghost use Rattle.live.specs.AllowLists.{Allows};
 ghost use Rattle.live.specs.declared.allow_list.AllowList.{AllowList};
 ghost use Rattle.telegate.specs.AllowLists.{IsAllowListOf, Writes};
 
-/// Who may connect, by the words that name them. Where none were given anyone may. By a list
-/// without a word nobody may. Else exactly those may whose address one of the words writes. A word
-/// that writes an IPv4 address as an IPv6 one (`::ffff:192.0.2.7`) names that IPv4 address.
+/// Who may connect, by the words that name them. If none were given, anyone may. By a list without
+/// a word nobody may. Else exactly those may whose address one of the words writes. A word that
+/// writes an IPv4 address as an IPv6 one (`::ffff:192.0.2.7`) names that IPv4 address.
 pub fn who_is_named_may_connect()
     ensures anyone { (list : AllowList) (address : IpAddr) → IsAllowListOf None list →
         Allows list address }

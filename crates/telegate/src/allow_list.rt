@@ -19,7 +19,7 @@ fn address_of(word: &str) -> Option<IpAddr>
     }
 }
 
-/// Who may connect: whom the words name, or anyone where there are none.
+/// Who may connect: whom the words name, or anyone if there are none.
 pub(crate) fn allow_list_of<S: AsStr>(
     alloc: Global,
     words: Option<&[S]>,

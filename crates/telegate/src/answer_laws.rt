@@ -33,10 +33,10 @@ ghost use Rattle.telegate.specs.declared.fault.Fault.TheVariants as fault;
 ghost use Rattle.telegate.specs.declared.piping.Piped.{Piped};
 ghost use Rattle.telegate.specs.declared.run_words.RunWords.{RunWords};
 
-/// The exit status says how a command ended. It is 0 exactly where the command is done. It is 4
-/// exactly where memory was refused, and 2 exactly where a word is wrong. It is 3 where a file or a
-/// device failed, and 1 where the content is wrong. Words that ask for no command end with 0
-/// exactly where they ask for help or the version, with 4 by want of memory, and else with 2.
+/// The exit status says how a command ended. It is 0 exactly if the command is done. It is 4
+/// exactly if memory was refused, and 2 exactly if a word is wrong. It is 3 if a file or a device
+/// failed, and 1 if the content is wrong. Words that ask for no command end with 0 exactly if they
+/// ask for help or the version, with 4 by want of memory, and else with 2.
 pub fn exit_statuses_say_how_a_command_ended()
     ensures done { (end : Result (Unit {0}) Fault) → (status_of_end end ≡ 0) ↔ (end ≡ Ok tt) }
     ensures memory { (why : Fault) → (status_of_end (Err why) ≡ 4) ↔ (why ≡ fault.NoMemory) }
@@ -73,9 +73,9 @@ pub fn a_stop_over_a_record_keeps_its_reason()
 {}
 
 /// What `audit` answers of a record, behind each log that leads to the state that it begins with.
-/// It ends with 0 where the run begins with the record's lines, and tells how many events and
-/// actions these are. It ends with 1 where the run differs, and tells at which line, and whether
-/// lines are left out there. A wrong line is told by its number, counted from 1.
+/// It ends with 0 if the run begins with the record's lines, and tells how many events and actions
+/// these are. It ends with 1 if the run differs, and tells at which line, and whether lines are
+/// left out there. A wrong line is told by its number, counted from 1.
 pub fn an_audit_tells_what_the_record_has()
     ensures same { (config : List ℕ) (past : Log) (text : List ℕ) (answer : CommandAnswer) →
         IsAuditedBy config past (λ octets. octets ≡ text) (Ok answer) → answer.status ≡ 0 →
@@ -88,8 +88,8 @@ pub fn an_audit_tells_what_the_record_has()
         IsFirstUnknown (record_lines text) number }
 {}
 
-/// Where a site's file is named it is read first. So a `check` that ends with 3 before it has
-/// judged anything couldn't read that file, and a `run` that one, or its settings.
+/// If a site's file is named, it is read first. So a `check` that ends with 3 before it has judged
+/// anything couldn't read that file, and a `run` that one, or its settings.
 pub fn the_file_of_a_site_is_read_first()
     ensures site { (files : Text → Option (List ℕ)) (config site : Bor Text)
         (live explain : Bool) →
@@ -104,8 +104,8 @@ pub fn the_file_of_a_site_is_read_first()
         (files_of (Run config words)) 3 → (files site ≡ None) ⊎ (files config.now ≡ None) }
 {}
 
-/// Frames that come by a pipe end with 0 only where each line is octets of frames as they should
-/// be. They end with 1 only where some line isn't.
+/// Frames that come by a pipe end with 0 only if each line is octets of frames as they should be.
+/// They end with 1 only if some line isn't.
 pub fn a_pipe_ends_as_its_lines_are()
     ensures good { (piped : Piped) (in_words : Bool) (text : List ℕ) (old new : Option (List ℕ)) →
         HasPiped piped in_words (λ octets. octets ≡ text) old new 0 →

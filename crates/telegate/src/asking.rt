@@ -18,9 +18,9 @@ const TABLE: &[u8] = b"GET /status.txt HTTP/1.0\r\n\r\n";
 const JSON: &[u8] = b"GET /status.json HTTP/1.0\r\n\r\n";
 
 /// Asks a live run at its status listener how it stands, prints the table, or the page that
-/// programs read, and answers the exit status that a monitor understands (Nagios): 0 ok, 1 warning,
-/// 2 critical, by the first word of the table; 3 where nothing is known, since nobody answers, or
-/// not as this gateway does, or the output failed; 4 where memory was refused.
+/// programs read, and answers the exit status that a monitor understands (Nagios). This is 0 ok, 1
+/// warning or 2 critical, by the first word of the table. It is 3 if nothing is known, since nobody
+/// answers, or not as this gateway does, or the output failed; and 4 if memory was refused.
 pub(crate) fn ask_status<H: Host, W: Write, E: Write>(
     host: &H,
     place: &str,
@@ -67,7 +67,7 @@ fn ask_json<H: Host, W: Write, E: Write>(
     }
 }
 
-/// What is answered to a request, or the exit status where nothing is.
+/// What is answered to a request, or the exit status if nothing is.
 fn ask<H: Host, E: Write>(host: &H, place: &str, request: &[u8], err: &mut E) -> Result<Vec<u8>, u8>
     ensures answer { IfOk result (λ answer.
         H.answered host.now place.now request.now answer.items) }

@@ -53,7 +53,7 @@ fn fault_of(fault: RecordFault) -> Fault
     }
 }
 
-/// The line of a comparison, and its exit status: 0 where the two are the same.
+/// The line of a comparison, and its exit status: 0 if the two are the same.
 fn answer_comparison(alloc: Global, comparison: Comparison) -> Result<CommandAnswer, Fault>
     ensures { MatchResult result (IsComparisonAnswer comparison) IsMemory }
 {

@@ -24,9 +24,9 @@ pub struct Checking {
     pub explain: bool,
 }
 
-/// Judges a file of settings, and answers the exit status: `ok` is printed, or the first fault is
+/// Judges a file of settings, and answers the exit status. `ok` is printed, or the first fault is
 /// written, with what is wrong and where behind it on `out`, if that is asked for. As for a live
-/// run it is written too where the line is on another machine.
+/// run it is written too if the line is on another machine.
 pub(crate) fn check<W: Write, E: Write>(
     alloc: Global,
     config: &[u8],

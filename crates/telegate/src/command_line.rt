@@ -447,8 +447,8 @@ pub(crate) fn parse<'a>(alloc: Global, words: &'a [String]) -> Result<ArgMatches
     // What the words name is what this command line takes.
     ensures named { IfOk result (λ m. subcommand_rows_of m
         ≡ subcommand_of line.program (map string_bytes words.entry.now)) }
-    // Where they ask for nothing, it is by the first of their faults, or by a question for help or
-    // the version.
+    // If they ask for nothing, it is by the first of their faults, or by a question for help or the
+    // version.
     ensures fails { FailsBy (fault_of line.program (map string_bytes words.entry.now)) result }
 {
     program(alloc)?.try_get_matches_from(words)

@@ -17,10 +17,10 @@ pub(crate) const BAD_CONTENT: u8 = 1;
 /// The exit status of wrong words.
 pub(crate) const USAGE: u8 = 2;
 
-/// The exit status where a file or a device failed.
+/// The exit status if a file or a device failed.
 pub(crate) const DEVICE_FAILED: u8 = 3;
 
-/// The exit status where memory was refused.
+/// The exit status if memory was refused.
 pub(crate) const NO_MEMORY: u8 = 4;
 
 /// Why a command stops. Its text is the one line on standard error.
@@ -53,7 +53,7 @@ pub(crate) enum Fault {
     /// A word behind `--allow` is no address.
     #[error("error: --allow takes the address of a host, as 192.0.2.7")]
     Address,
-    /// The run is to stop where the state can't be kept, and it isn't to be kept anywhere.
+    /// The run is to stop if the state can't be kept, and it isn't to be kept anywhere.
     #[error("error: --state-or-stop needs --state with a directory")]
     NoState,
     /// Another process keeps its state there.

@@ -61,7 +61,7 @@ pub(crate) struct Wishes<'a> {
     pub(crate) record: bool,
     /// The name of the directory in which the state is kept, if it is to be.
     pub(crate) state: Option<&'a str>,
-    /// Where the state can't be kept the run goes on without it.
+    /// If the state can't be kept the run goes on without it.
     pub(crate) bears_loss: bool,
     /// Who may connect.
     pub(crate) allow_list: AllowList,
@@ -358,7 +358,7 @@ fn path_of(name: &str) -> &str {
 /// Files at those of the descriptors 0, 1 and 2 that were closed when the process began, since the
 /// system gives the lowest numbers that are free. Else an end of the run would get one of them, and
 /// the text of the log or of the record would go out on it. They are opened for reading alone, so
-/// that what is written there fails, as it does where they are closed.
+/// that what is written there fails, as it does if they are closed.
 fn standard_descriptors<R: Files>(rt: &R) -> io::Result<(R::File, R::File, R::File)> {
     // For reading alone: a record or a log that goes there ends as one that can't be written
     // (docs/DECISIONS.md, "Closed standard descriptors").

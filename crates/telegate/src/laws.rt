@@ -81,7 +81,7 @@ pub fn sights_show_the_ends<T: RunSite>()
 
 /// Each value of a site's file reaches the run under its own name: flags, the state's directory,
 /// who may connect, and the status listener. So does each word. What words say of a value wins, and
-/// a flag is set where either says so. What is said is what the run is wished to do.
+/// a flag is set if either says so. What is said is what the run is wished to do.
 pub fn what_is_said_keeps_its_name()
     ensures site { (s : SiteValues) → ((said_in s).redial ≡ s.flags.redial)
         × ((said_in s).log ≡ s.flags.log) × ((said_in s).log_severity ≡ s.flags.log_severity)
@@ -108,9 +108,9 @@ pub fn what_is_said_keeps_its_name()
         × (text_of w.status ≡ s.status) × (names_of w.names.now ≡ names) }
 {}
 
-/// What is left of a live run that is over is as its wishes name it: it was logged and recorded
-/// where that was wished, watched and shown where a place is named for that, and these could
-/// connect. Where its state was kept it bore the loss of that if that was wished.
+/// What is left of a live run that is over is as its wishes name it. It was logged and recorded if
+/// that was wished, watched and shown if a place is named for that, and these could connect. If its
+/// state was kept, it bore the loss of that if that was wished.
 #[tactic(auto, using(crate::proofs::RanLemmas::as_wished, crate::proofs::RanLemmas::bears_as_wished))]
 pub fn runs_are_as_they_were_wished<T: RunSite>()
     ensures all { (c : Settings) (w : Wishes) (old new : Asked) (left : RunLeft)
@@ -126,10 +126,10 @@ pub fn runs_are_as_they_were_wished<T: RunSite>()
         left.bears_loss ≡ Some w.bears_loss }
 {}
 
-/// A live run that is over asked its site, where that notes its calls, for each of these once, and
-/// got it: the log, the listener for visitors at the place that is named for them, the record, the
+/// A live run that is over asked its site, if that notes its calls, for each of these once, and got
+/// it: the log, the listener for visitors at the place that is named for them, the record, the
 /// directory that is named for the state, the listener and the line at the places of the settings,
-/// and one clock. The line was to be reached again where that was wished.
+/// and one clock. The line was to be reached again if that was wished.
 #[tactic(auto, using(crate::proofs::RanLemmas::asked_as_wished))]
 pub fn runs_ask_for_the_places_of_their_settings<T: RunSite>()
     ensures { (c : Settings) (w : Wishes) (places : Places) (lineage : Log)
@@ -147,9 +147,9 @@ pub fn runs_ask_for_the_places_of_their_settings<T: RunSite>()
         × (new.clocks ≡ Some (moment ∷ moments)) }
 {}
 
-/// The clock of a live run begins where its gateway stands: at 0 where it begins anew, and where it
-/// goes on at the moment of the gateway that it goes on with. So no timer of that stands still for
-/// as long as the lives before have lasted. What passed in these is what that gateway begins with.
+/// The clock of a live run begins where its gateway stands: at 0 if it begins anew, and if it goes
+/// on, at the moment of the gateway that it goes on with. So no timer of that stands still for as
+/// long as the lives before have lasted. What passed in these is what that gateway begins with.
 #[tactic(auto, using(crate::proofs::ClockLaw::clocked_anew, crate::proofs::ClockLaw::clocked_kept))]
 pub fn the_clock_of_a_run_begins_where_its_gateway_stands<T: RunSite>()
     ensures anew { (c : Settings) (w : Wishes) (places : Places) (lineage : Log)

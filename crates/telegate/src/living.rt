@@ -505,7 +505,7 @@ fn begin_record<W: RecordSheet + Drop>(origin: &Origin, pen: &mut Pen<W>)
     }
 }
 
-/// Where the clock begins, in ms.
+/// The moment at which the clock begins, in ms.
 fn first_moment(moment: Option<u64>) -> u64
     ensures { result ≡ first_moment moment }
 {

@@ -8,15 +8,15 @@
 //! one that the words name with what stands at each place, each file's octets go where its name
 //! stood, a file that can't be read ends it with 3 before anything is printed, `check` judges the
 //! file of a site, if one is named, before it reads the settings, `run` ends as the host's live run
-//! ended, and words that ask for nothing end with 2, or 0 where they ask for help or the version.
+//! ended, and words that ask for nothing end with 2, or 0 if they ask for help or the version.
 //! Proved of `perform` and `replay`: what each appends to a writer that notes its octets is the
-//! text of the command's answer and nothing else, nothing where a text is refused, and a beginning
-//! of the answer's text where the writer failed, or of a run's lines where memory was refused while
-//! they were printed; the exit status is that of the answer or of the first fault. A run that is
-//! printed in words (`--words`) is the same run, and what is printed are the words of its log;
-//! frames that come by a pipe are shown line by line; and `status` prints what a live run answers,
-//! and ends as its table says. What the system's files, terminals and sockets do, and the lines of
-//! faults, are tested.
+//! text of the command's answer and nothing else, nothing if a text is refused, and a beginning of
+//! the answer's text if the writer failed, or of a run's lines if memory was refused while they
+//! were printed. The exit status is that of the answer or of the first fault. A run that is printed
+//! in words (`--words`) is the same run, and what is printed are the words of its log; frames that
+//! come by a pipe are shown line by line; and `status` prints what a live run answers, and ends as
+//! its table says. What the system's files, terminals and sockets do, and the lines of faults, are
+//! tested.
 #![tactic(auto)]
 
 mod allow_laws;

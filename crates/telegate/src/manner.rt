@@ -27,7 +27,7 @@ fn is_set(variable: &Result<String, VarError>) -> bool
     }
 }
 
-/// Whether standard output shows colours of itself: where it is a terminal, unless NO_COLOR says
+/// Whether standard output shows colours of itself: if it is a terminal, unless NO_COLOR says
 /// otherwise (docs/DECISIONS.md, "Colours").
 pub(crate) fn shows_colours(is_terminal: bool, no_color: &Result<String, VarError>) -> bool
     ensures { result ≡ shows_colours is_terminal (is_set no_color.now) }

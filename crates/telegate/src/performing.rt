@@ -14,11 +14,10 @@ use std::io::Write;
 use traces::print;
 
 /// Does a command: its answer goes to `out`, or the line of a fault to `err`. Answers the exit
-/// status: 0 done, 1 a bad frame or a file with wrong content, 3 where the output can't be written
-/// (what was written is then a beginning of the answer's text), 4 where memory was refused. A run
-/// over a script prints while it goes on, so that after 4 a beginning of its lines may have been
-/// written, and where it is watched it says on `err` how far it has come; the others print when all
-/// is there.
+/// status: 0 done, 1 a bad frame or a file with wrong content, 3 if the output can't be written
+/// (what was written is then a beginning of the answer's text), 4 if memory was refused. A run over
+/// a script prints while it goes on. So after 4 a beginning of its lines may have been written, and
+/// if it is watched it says on `err` how far it has come. The others print when all is there.
 pub fn perform<W: Write, E: Write>(
     alloc: Global,
     job: &Job<'_>,

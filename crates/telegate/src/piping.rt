@@ -148,7 +148,7 @@ fn push_shown<E: Write>(
     }
 }
 
-/// The frames of a line of text, or none where it is no octets.
+/// The frames of a line of text, or none if it is no octets.
 fn show_text_line(
     alloc: Global,
     line: &[u8],

@@ -6,7 +6,7 @@ use sqlite_disk::Files;
 use state::{Folder, FolderFault};
 use std::io::ErrorKind;
 
-/// The directory that a run's state is kept in, or none, where that can't be used.
+/// The directory that a run's state is kept in, or none, if that can't be used.
 #[derive(Drop)]
 pub(crate) enum Place<F: Folder + Drop> {
     /// This one.

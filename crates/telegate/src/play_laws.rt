@@ -15,8 +15,8 @@ ghost use Rattle.traces.specs.declared.reading.TextFault.TheVariants.{Line as Wr
 
 /// Outstations are played on and on. A play that is done has played those of this very script, with
 /// these settings, for 18,446,744,073,709,551,615 rounds, as many as 64 bits count. Settings are
-/// judged as for a live run, and before the script: nothing is played where either is wrong, and
-/// the first fault is told.
+/// judged as for a live run, and before the script: nothing is played if either is wrong, and the
+/// first fault is told.
 pub fn outstations_are_played_on()
     ensures done { (config text : List ℕ) → ArePlayedBy config text (Ok tt) →
         (c : Settings) × (places : LiveSettings) × (s : Scenario)

@@ -7,7 +7,7 @@ use std::io::Write;
 use traces::print;
 pub(crate) use traces::{blank_if, drive_printed, show_percent};
 
-/// Prints the lines with which a run ends, where all others were printed.
+/// Prints the lines with which a run ends, when all others were printed.
 pub(crate) fn print_closing<W: Write>(
     lines: &[u8],
     is_whole: bool,

@@ -55,8 +55,8 @@ struct ReplayCourse {
 
 /// Runs the gateway over the events of a trace, and prints a line for each action as it is made, or
 /// one in words for each event and each action, and then the closing lines. The settings are judged
-/// before the trace, and the whole trace before the run, so that nothing is printed where either is
-/// wrong. The trace is read twice, block by block. Where it is watched, a long run says on standard
+/// before the trace, and the whole trace before the run, so that nothing is printed if either is
+/// wrong. The trace is read twice, block by block. If it is watched, a long run says on standard
 /// error how far it has come; one in words doesn't. In words a record is printed too (a text of
 /// which a line is that of an action): its events are run, and the lines of its actions are passed
 /// over.
@@ -110,7 +110,7 @@ pub(crate) fn open<S: Source>(trace: &S) -> Result<S::Text, Fault>
     }
 }
 
-/// Goes on to the next block of a text, where there is one.
+/// Goes on to the next block of a text, if there is one.
 pub(crate) fn advance<R: Read + Drop>(blocks: &mut Blocks<R>) -> Result<(), Fault>
     requires { blocks.old.is_over ≡ false }
     ensures block { OnOk result (IfSome blocks.old.coming (λ text. IsGiven text blocks.new)) }
@@ -284,7 +284,7 @@ pub(crate) fn fault_in(lines: &[u8]) -> Fault
     }
 }
 
-/// Says after each stride how far a run has come, where that is wanted.
+/// Says after each stride how far a run has come, if that is wanted.
 fn show_progress<E: Write>(course: &ReplayCourse, before: u64, size: u64, err: &mut E)
     ensures { course.now.is_watched ≡ false → err.new ≡ err.old }
 {
@@ -294,7 +294,7 @@ fn show_progress<E: Write>(course: &ReplayCourse, before: u64, size: u64, err: &
     }
 }
 
-/// Prints the lines with which a run ends, where all others were printed.
+/// Prints the lines with which a run ends, when all others were printed.
 pub(crate) fn close<W: Write>(
     alloc: Global,
     gateway: &Gateway,

@@ -51,7 +51,7 @@ pub fn no_run_stops_by_itself<T: RunSite>()
 
 /// A live run keeps every promise of a gateway with its settings, however it ended: what passed at
 /// its port does, behind the lives before it. So does what its record says, as long as nothing
-/// passed unwritten. A run that goes on does so where its gateway followed the lives before.
+/// passed unwritten. A run that goes on does so if its gateway followed the lives before.
 pub fn a_live_run_keeps_the_promises_of_its_settings<T: RunSite>()
     ensures anew { (c : Settings) (w : Wishes) (old new : Asked) (left : RunLeft)
         (ended : Result (Unit {0}) DeviceFailed) (log : Log) →

@@ -17,7 +17,7 @@ pub(crate) struct RunWords<'m, 'a> {
     pub(crate) record: bool,
     /// The name of the directory in which the state is kept, if it is.
     pub(crate) state: Option<&'a str>,
-    /// The run stops where the state can't be kept.
+    /// The run stops if the state can't be kept.
     pub(crate) state_or_stop: bool,
     /// The addresses of the control centres that may connect, if not all may.
     pub(crate) allow: Option<&'m [&'a str]>,

@@ -18,7 +18,7 @@ use record::{Pen, RecordSheet, Recorder};
 use runlog::{LogSink, Logger, RunLog};
 use status::{Lookout, StreamSource};
 
-/// A run has stopped: its line has ended, or its state can't be kept where that isn't borne.
+/// A run has stopped: its line has ended, or its state can't be kept and that isn't borne.
 #[derive(Clone, Copy)]
 pub(crate) struct DeviceFailed;
 
@@ -27,7 +27,7 @@ pub(crate) struct DeviceFailed;
 pub(crate) struct Scribes<S: LogSink + Drop, W: RecordSheet + Drop, D: StreamSource + Drop> {
     pub(crate) logger: Logger<S>,
     pub(crate) pen: Pen<W>,
-    /// None where there is no listener for who looks.
+    /// None if there is no listener for who looks.
     pub(crate) lookout: Option<Lookout<D>>,
 }
 
@@ -64,7 +64,7 @@ fn serve<P: Watched + Drop, S: LogSink + Drop, D: StreamSource + Drop>(
     ensures lasting { logged_fixture (P.lasting run_log.new.port) run_log.new.logger
         ≡ logged_fixture (P.lasting run_log.old.port) run_log.old.logger }
     ensures looked { is_some lookout.new ≡ is_some lookout.old }
-    // Where the gateway begins with the state that the log so far leads to, what the log then shows
+    // If the gateway begins with the state that the log so far leads to, what the log then shows
     // keeps every promise of a gateway with these settings.
     ensures faithful { (p : Setup) → Follows p gateway (P.log run_log.old.port) →
         Rests p (P.log run_log.old.port) →
@@ -110,7 +110,7 @@ pub(crate) fn live<
         (all_passed before.entries result.run_log.port.port.pen
         (P.log result.run_log.port.port.port))) }
     ensures lasting { P.lasting result.run_log.port.port.port ≡ P.lasting port }
-    // It was logged, recorded and shown to its end, where it was at its beginning.
+    // It was logged, recorded and shown to its end, if it was at its beginning.
     ensures logged { book_fixture result.run_log.logger ≡ book_fixture scribes.logger }
     ensures recorded { result.run_log.port.port.pen.is_wished ≡ scribes.pen.is_wished }
     ensures looked { is_some result.lookout ≡ is_some scribes.lookout }
@@ -125,7 +125,7 @@ pub(crate) fn live<
         (in_life result.run_log.port.before.entries result.run_log.port.port.pen
         result.run_log.port.port.port) result.run_log.logger (shown_to result.lookout))
         result.ended }
-    // Where the gateway begins with the state that all that passed before leads to, what has passed
+    // If the gateway begins with the state that all that passed before leads to, what has passed
     // then keeps every promise of a gateway with these settings.
     ensures faithful { (p : Setup) →
         Follows p gateway (all_passed before.entries scribes.pen (P.log port)) →

@@ -43,8 +43,7 @@ use std::io;
 use std::io::Write;
 
 /// Does what the words of a process ask for, of which the first is the program's name. Answers the
-/// exit status: that of the command, or 2 where the words are wrong, and 0 for help and the
-/// version.
+/// exit status: that of the command, or 2 if the words are wrong, and 0 for help and the version.
 pub(crate) fn obey<H: Host, W: Write, E: Write>(
     alloc: Global,
     host: &mut H,
@@ -198,8 +197,8 @@ pub(crate) fn respond<H: Host, W: Write, E: Write>(
     }
 }
 
-/// Judges the settings of this name. Where a site's file is named, that is read and judged before
-/// they are, and they are only where it is good. Answers the exit status.
+/// Judges the settings of this name. If a site's file is named, that is read and judged before they
+/// are, and they are judged only if it is good. Answers the exit status.
 fn check_behind<H: Host, W: Write, E: Write>(
     alloc: Global,
     host: &H,
@@ -390,8 +389,8 @@ fn show_state<H: Host, W: Write, E: Write>(
     }
 }
 
-/// The octets of a file, if one is named, or the exit status where it can't be read, which is
-/// written then.
+/// The octets of a file, if one is named, or the exit status if it can't be read, which is written
+/// then.
 fn read_given<H: Host, E: Write>(
     host: &H,
     name: Option<&str>,
@@ -477,8 +476,8 @@ fn run_wished<H: Host, E: Write>(
     }
 }
 
-/// What belongs to a site: what the file of this name says, or nothing where none is named. Or the
-/// exit status, where it can't be read or is refused, which is written then.
+/// What belongs to a site: what the file of this name says, or nothing if none is named. Or the
+/// exit status, if it can't be read or is refused, which is written then.
 fn site_of<H: Host, E: Write>(
     alloc: Global,
     host: &H,
@@ -544,7 +543,7 @@ fn run_live<H: Host, E: Write>(host: &mut H, config: &[u8], wishes: Wishes<'_>, 
     }
 }
 
-/// The octets of two files, read in this order, or the exit status where one can't be read.
+/// The octets of two files, read in this order, or the exit status if one can't be read.
 fn read_files<H: Host, E: Write>(
     host: &H,
     first: &str,
@@ -565,7 +564,7 @@ fn read_files<H: Host, E: Write>(
     }
 }
 
-/// The octets of a file, or the exit status where it can't be read, which is written then.
+/// The octets of a file, or the exit status if it can't be read, which is written then.
 pub(crate) fn read_file<H: Host, E: Write>(host: &H, name: &str, err: &mut E) -> Result<Vec<u8>, u8>
     ensures read { IfOk result (λ octets. H.has host.now name.now octets.items) }
     ensures unread { IfErr result (IsNotRead (H.has host.now) (H.lacks host.now) (name.now ∷ [])) }

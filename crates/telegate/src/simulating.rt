@@ -19,9 +19,8 @@ use std::io::Write;
 /// Runs the gateway as a script says, and prints a line for each action as it is made, or one in
 /// words for each event and each action, and then one for each station, one for each connection,
 /// and one for each station whose link had more than one session. The settings are judged before
-/// the script, and the whole script before the run, so that nothing is printed where either is
-/// wrong. Where it is watched, a long run says on standard error how far it has come; one in words
-/// doesn't.
+/// the script, and the whole script before the run, so that nothing is printed if either is wrong.
+/// If it is watched, a long run says on standard error how far it has come; one in words doesn't.
 pub(crate) fn simulate<W: Write, E: Write>(
     alloc: Global,
     config: &[u8],

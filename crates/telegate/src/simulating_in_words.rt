@@ -55,7 +55,7 @@ pub(crate) fn simulate_in_words<W: Write>(
     }
 }
 
-/// Prints the lines with which a run ends, where all others were printed.
+/// Prints the lines with which a run ends, when all others were printed.
 fn close<W: Write>(alloc: Global, sim: &Sim<'_>, is_whole: bool, out: &mut W) -> Result<(), Fault>
     ensures { (c : Settings) (ds : List Directive) (is_coloured : Bool) (before : Option (List ℕ))
         (words : List ℕ) → sim.now.plan ≡ plan_of c ds →

@@ -73,7 +73,7 @@ pub(crate) trait RunSite {
     // This clock begins at this moment, in ms.
     ghost begins_at: { Self.Clock → ℕ → Type 0 };
 
-    // This line is reached again where it ends.
+    // This line is reached again when it ends.
     ghost comes_back: { Self.Line → Bool };
 
     // Each line of this log begins with how severe it is.
@@ -113,8 +113,8 @@ pub(crate) trait RunSite {
         ensures asked { asked self.new
             ≡ asked_for (StatusAt place.now (is_ok result) ∷ []) (asked self.old) };
 
-    /// The line: one that is there, or one that is reached again where it ends. Nothing has
-    /// happened at it yet.
+    /// The line: one that is there, or one that is reached again when it ends. Nothing has happened
+    /// at it yet.
     fn line(&mut self, redial: bool) -> Result<Self::Line, EndRefusal>
         ensures again { IfOk result (λ line. comes_back line ≡ redial) }
         ensures new { IfOk result (λ line. IsNew (Self.Line.history line)) }
@@ -172,11 +172,11 @@ pub(crate) struct Process<'r> {
 pub(crate) enum ProcessLine<L: Reached, A: Reached> {
     /// One that is reached once.
     Once(L),
-    /// One that is reached again where it ends.
+    /// One that is reached again when it ends.
     Again(A),
 }
 
-/// One that is reached again where it ends, at a place of the network.
+/// One that is reached again when it ends, at a place of the network.
 pub(crate) type ReturningLine<'r, R> = Redialled<LineDialler<'r, R>, SystemClock<'r, R>>;
 
 /// The line of a process at a place of the network.
@@ -324,7 +324,7 @@ impl<'r> RunSite for Process<'r> {
     }
 }
 
-/// The line at a place: one that is there, or one that is reached again where it ends, which is
+/// The line at a place: one that is there, or one that is reached again when it ends, which is
 /// tried first once the gateway looks at it.
 fn reached<'r, R: Net<Stream = TcpStream> + Clock>(
     rt: &'r R,

@@ -14,7 +14,7 @@ ghost use Rattle.telegate.specs.declared.manner.Manner.TheVariants.{Words};
 
 /// Frames are read in the sizes of the very settings that are named. A run in words has its line's
 /// addresses in the size of `line.link`, and its ASDUs in those of the line; the words of its log
-/// are printed first. A capture has the line's addresses in the size of `line.link`, also where the
+/// are printed first. A capture has the line's addresses in the size of `line.link`, also if the
 /// record has a wrong line.
 pub fn frames_are_read_in_the_sizes_of_the_settings()
     ensures replays { (config text : List ℕ) (is_coloured : Bool) (closing : Closing)

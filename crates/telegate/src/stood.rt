@@ -11,8 +11,8 @@ use state_files::Stood;
 use state_words::describe_state;
 use std::alloc::Global;
 
-/// What a start would find in a directory, in lines, with the exit status: 1 where what is there
-/// can't be read. It is compared with these settings, if any are given.
+/// What a start would find in a directory, in lines, with the exit status: 1 if what is there can't
+/// be read. It is compared with these settings, if any are given.
 pub(crate) fn answer_stood(
     alloc: Global,
     stood: Stood,
@@ -60,7 +60,7 @@ fn slice_of(given: &Option<Vec<u8>>) -> Option<&[u8]>
     }
 }
 
-/// The exit status where a run would begin so.
+/// The exit status if a run would begin so.
 fn status_of(beginning: Beginning) -> u8
     ensures { result ≡ status_of_sight beginning }
 {

@@ -53,7 +53,7 @@ fn said<'a>(word: Option<&'a str>, key: &'a Option<String>) -> Option<&'a str>
     }
 }
 
-/// Who may connect by the file of a site: whom it names, or anyone where it names none.
+/// Who may connect by the file of a site: whom it names, or anyone if it names none.
 fn allow_list_in(alloc: Global, allow: &Option<Vec<String>>) -> Result<AllowList, Fault>
     ensures allow_list { IfOk result (IsAllowListOf (option_map texts_in allow.now)) }
     ensures fault { IfErr result (IsNoSiteAllowList (option_map texts_in allow.now)) }
@@ -68,7 +68,7 @@ fn allow_list_in(alloc: Global, allow: &Option<Vec<String>>) -> Result<AllowList
     }
 }
 
-/// Who may connect: by the words, or by the file of the site where these say nothing of it.
+/// Who may connect: by the words, or by the file of the site if these say nothing of it.
 fn allow_list_said(
     alloc: Global,
     words: Option<&[&str]>,
@@ -85,7 +85,7 @@ fn allow_list_said(
     }
 }
 
-/// Why the run can't stop where its state isn't kept: none is named to be kept.
+/// Why the run can't stop if its state isn't kept: none is named to be kept.
 fn state_fault(by_words: bool) -> Fault
     ensures { IsStateFault by_words result }
 {
@@ -96,7 +96,7 @@ fn state_fault(by_words: bool) -> Fault
     }
 }
 
-/// What words and the file of a site wish for. What words say wins, and a flag is set where either
+/// What words and the file of a site wish for. What words say wins, and a flag is set if either
 /// says so.
 pub(crate) fn wishes_of<'a>(
     alloc: Global,

@@ -141,7 +141,7 @@ module _ (block : Reading) (lines : List ℕ) (coming : Option (List ℕ)) (same
       (subst (λ (l : List ℕ). IfSome coming (λ text. AreCutOff text l block.is_over block.coming))
       (sym same) cut)
 
-  -- where it isn't the last, a line feed stands before what is still to come
+  -- if it isn't the last, a line feed stands before what is still to come
   pub gives_on : block.is_over ≡ false → (t : List ℕ) → Gives block.coming t
       → Gives coming (lines ++ 10 ∷ t)
   gives_on goes t is = on_cut coming block.coming lines t (cut_as false goes) is

@@ -165,7 +165,7 @@ moment_then moment (kind ∷ []) now is = rw is refl
 moment_then moment (kind ∷ text ∷ []) now is = ap (λ o. valued_at o kind text) is
 moment_then moment (kind ∷ text ∷ more ∷ fields) now is = refl
 
--- there is none where no number stands before the line's first space
+-- there is none if no number stands before the line's first space
 no_event : (text : List ℕ)
     → ((field rest : List ℕ) → text ≡ field ++ 32 ∷ rest → decimal_of field ≡ None)
     → event_in (first_line text) ≡ None
@@ -359,7 +359,7 @@ no_letter now (kind ∷ more) some ends = by (kind == 32) refl
         let cut = field_last (kind ∷ more) [] more none (ap (λ d. d ∷ more) feed) in
         ap (event_behind now) cut.0
 
--- nor where what stands behind the letter isn't one
+-- nor if what stands behind the letter isn't one
 pub no_value_here : (now : ℕ) (text value : List ℕ) (rest : List (List ℕ)) → 2 ≤ length text
     → slice_index text 1 ≡ 32 → slice_split (λ b. b == 10) (drop 2 text) ≡ value ∷ rest
     → valued_at (Some now) (slice_index text 0 ∷ []) value ≡ None

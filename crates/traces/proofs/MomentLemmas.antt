@@ -42,7 +42,7 @@ half_stays : (row : List ℕ) (start digit : ℕ) → 1 ≤ start → start ≤ 
     → drop 20 (slice_set row (start - 1) digit) ≡ drop 20 row
 half_stays row start digit some within = drop-set-lt 20 row (start - 1) digit (omega arith)
 
--- the last digit of what isn't spelled yet, where that has more
+-- the last digit of what isn't spelled yet, if that has more
 pub last_spelled : (number left : ℕ) (row : List ℕ) (start : ℕ) → number < 2 ^ 64 → left < 2 ^ 64
     → 10 ≤ left
     → IsSpelling number left row start

@@ -89,7 +89,7 @@ octets_decoded text out may decoded =
     let fits : (nat_le 1 (length out) && nat_le (length out) 1024) ≡ true = grind arith in
     ap some_octets both ∙ ap (λ (b : Bool). if b then Some out else None) fits
 
--- of a right length it is octets where each of them is a digit
+-- of a right length it is octets if each of them is a digit
 pub digits_right : (text : List ℕ) → may_be_octets text ≡ true → list_all is_hex_digit text
     ≡ is_some (octets_of text)
 digits_right text may = by (list_all is_hex_digit text) refl
@@ -126,7 +126,7 @@ other_octet text k lt other = by (octets_of text) refl
         let odd : true ≡ false = sym pass ∙ other in
         absurd (cc)
 
--- the bits of several numbers are those of an octet where each is one
+-- the bits of several numbers are those of an octet if each is one
 pub bits_below : (bits value : ℕ) → nat_lt (bit_or bits value) 256
     ≡ (nat_lt bits 256 && nat_lt value 256)
 bits_below bits value = by (nat_lt bits 256) (nat_lt value 256) (nat_lt (bit_or bits value) 256)

@@ -95,7 +95,7 @@ pub pairs_same : (text buf other : List ℕ) (n : ℕ) → take n other ≡ take
 pairs_same text buf other n same so_far rest =
     so_far rest ∙ ap (λ l. prepend l (decode_pairs (2 * n) rest)) (sym same)
 
--- one more in a block, whose octets mean something where all were of digits
+-- one more in a block, whose octets mean something if all were of digits
 pub block_more : (text buf : List ℕ) (from i n bits : ℕ) → 2 * (from + i) + 1 < length text
     → from + i < length buf
     → IsPair (slice_index text (2 * (from + i))) (slice_index text (2 * (from + i) + 1)) n
@@ -169,7 +169,7 @@ pairs_done text buf n all =
     ap (decode_pairs 0) (sym (append-nil (take (2 * n) text))) ∙ all []
     ∙ ap Ok (append-nil (take n buf))
 
--- where no pair behind these is of digits, or there is no room, these are all
+-- if no pair behind these is of digits, or there is no room, these are all
 pub pairs_are : (text buf : List ℕ) (n : ℕ) → 2 * n ≤ length text → n ≤ 1024
     → (n < 1024 → 2 * n + 1 < length text
     → (is_hex_digit (slice_index text (2 * n)) && is_hex_digit (slice_index text (2 * n + 1)))
@@ -238,7 +238,7 @@ long_digits xs len = wrong_length xs (by (length xs) len)
         last true false c e = refl
         last false b c e = refl
 
--- where the line goes on behind the pairs it isn't octets
+-- if the line goes on behind the pairs, it isn't octets
 pub line_goes_on : (text buf : List ℕ) (n : ℕ) → ArePairs text buf n → 2 * n < length text
     → slice_index text (2 * n) ≢ 10 → octets_of (first_line text) ≡ None
 line_goes_on text buf n are lt other = by (is_hex_digit (slice_index text (2 * n))) refl
@@ -304,7 +304,7 @@ line_goes_on text buf n are lt other = by (is_hex_digit (slice_index text (2 * n
         (cases_lt (e + 1) (length text))
         (cases_lt n 1024)
 
--- nor is it where there is no pair
+-- nor is it if there is no pair
 pub no_pair : (text buf : List ℕ) → ArePairs text buf 0 → octets_of (first_line text) ≡ None
 no_pair text buf are = by (cases_lt 0 (length text)) (slice_index text 0 == 10) refl
   where

@@ -37,7 +37,7 @@ pub events_skip : (lines rest : List (List ℕ)) (line : List ℕ) → lines ≡
     → events_in rest ≡ events_in lines
 events_skip lines rest line is e = rw (is, e)
 
--- where each line is right, none is wrong
+-- if each line is right, none is wrong
 pub none_wrong : (n : ℕ) (lines : List (List ℕ)) → AllByRecursion IsRight lines
     → first_wrong n lines ≡ None
 none_wrong n [] all = refl

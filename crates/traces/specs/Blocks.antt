@@ -2,8 +2,8 @@
 use Rattle.std.specs.Prelude.{◌≡◌, ℕ, Bool, true, false, List, ◌∷◌, ◌++◌, take, Option, None, Some}
 use Rattle.std.specs.Io.KnownBytes.{prepend_known}
 
--- how far a text was read: the latest block, whether it was the last, and what is still to come,
--- where that is known
+-- how far a text was read: the latest block, whether it was the last, and what is still to come, if
+-- that is known
 pub record Reading : Type 0 where
   pub lines : List ℕ
   pub is_over : Bool
@@ -21,13 +21,13 @@ AreCutOff text lines false (Some rest) = text ≡ lines ++ 10 ∷ rest
 abbrev pub IsGiven : (text : List ℕ) → Reading → Type 0
 IsGiven text reading = AreCutOff text reading.lines reading.is_over reading.coming
 
--- the first octets of a row, which were read of a text, and then what is left of it, where that is
+-- the first octets of a row, which were read of a text, and then what is left of it, if that is
 -- known
 abbrev pub held_and_left : (held : ℕ) → (row : List ℕ) → (left : Option (List ℕ))
     → Option (List ℕ)
 held_and_left held row left = prepend_known (take held row) left
 
--- these octets are all that a reader will give, where that is known
+-- these octets are all that a reader will give, if that is known
 abbrev pub Gives : Option (List ℕ) → List ℕ → Type 0
 Gives None octets = Unit {0}
 Gives (Some known) octets = known ≡ octets

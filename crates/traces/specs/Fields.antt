@@ -15,7 +15,7 @@ digits_after n (d ∷ ds) =
 abbrev pub decimal_of : List ℕ → Option ℕ
 decimal_of ds = if nat_le 1 (length ds) && nat_le (length ds) 15 then digits_after 0 ds else None
 
--- octets, where there are 1 to 1,024
+-- octets, if there are 1 to 1,024
 abbrev pub some_octets : Result (List ℕ) FromHexError → Option (List ℕ)
 some_octets (Ok octets) =
     if nat_le 1 (length octets) && nat_le (length octets) 1024 then Some octets else None
@@ -25,7 +25,7 @@ some_octets (Err e) = None
 abbrev pub octets_of : List ℕ → Option (List ℕ)
 octets_of text = some_octets (decode_of text)
 
--- the parts of what follows a separator, where there is one
+-- the parts of what follows a separator, if there is one
 abbrev pub parts_after : ℕ → Option (List ℕ) → List (List ℕ)
 parts_after separator None = []
 parts_after separator (Some text) = slice_split (λ b. b == separator) text

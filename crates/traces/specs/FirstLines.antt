@@ -72,14 +72,14 @@ pub record DigitsEnd (text : List ℕ) (i : ℕ) : Type 0 where
   pub digits : list_all is_hex_digit (take i text) ≡ true
   pub over : i < length text → is_hex_digit (slice_index text i) ≡ false
 
--- the first line of a text, where it has digits alone, and the lines behind it
+-- the first line of a text, if it has digits alone, and the lines behind it
 abbrev pub IsDigitsLine : List ℕ → Option (Bor (List ℕ) × Option (Bor (List ℕ))) → Type 0
 IsDigitsLine text None = octets_of (first_line text) ≡ None
 IsDigitsLine text (Some found) =
     (lines_of text ≡ found.0.now ∷ parts_after 10 (option_copied found.1))
     × (list_all is_hex_digit found.0.now ≡ true)
 
--- the first line of a text, where it is octets in hexadecimal, and the lines behind it
+-- the first line of a text, if it is octets in hexadecimal, and the lines behind it
 abbrev pub IsOctetsLine : List ℕ → Option (Bor (List ℕ) × Option (Bor (List ℕ))) → Type 0
 IsOctetsLine text None = octets_of (first_line text) ≡ None
 IsOctetsLine text (Some found) =

@@ -7,7 +7,7 @@ abbrev pub IsBegun : (before after : Option (List ℕ)) → List ℕ → Type 0
 IsBegun before after octets =
     (some : List ℕ) × ((rest : List ℕ) × (some ++ rest ≡ octets)) × Appends before after some
 
--- all of a text was printed, or, where the output failed, a beginning of it
+-- all of a text was printed, or, if the output failed, a beginning of it
 abbrev pub IsPoured : (is_whole : Bool) → (before after : Option (List ℕ)) → List ℕ → Type 0
 IsPoured true before after text = Appends before after text
 IsPoured false before after text = IsBegun before after text

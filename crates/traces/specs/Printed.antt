@@ -173,7 +173,7 @@ entry_from fields = None
 abbrev pub entry_in : List ℕ → Option LogEntry
 entry_in line = entry_from (slice_split (λ b. b == 32) line)
 
--- an entry before those that follow, where all of them are given
+-- an entry before those that follow, if all of them are given
 abbrev pub before_those : Option LogEntry → Option (List LogEntry) → Option (List LogEntry)
 before_those None entries = None
 before_those (Some entry) None = None

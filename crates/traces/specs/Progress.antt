@@ -72,7 +72,7 @@ pub record Standing : Type 0 where
   pub page : List ℕ
   pub failed : ℕ
 
--- before the first part, where the tick at moment 0 is still to come, or isn't to be given
+-- before the first part, when the tick at moment 0 is still to come, or isn't to be given
 abbrev pub first_standing : (started : Bool) → Standing
 first_standing started = record {
   started = started;
@@ -112,8 +112,8 @@ logs_event answers.Done = false
 logs_event answers.Fault = false
 logs_event next = true
 
--- An answer gives the first event of these lines, where there is one and no wrong line before it,
--- and these are left; then none of the others is wrong.
+-- An answer gives the first event of these lines, if there is one and no wrong line before it, and
+-- these are left. Then none of the others is wrong.
 pub record IsFirst (lines : List (List ℕ)) (left : Option (List ℕ)) (next : Next)
     (buf : List ℕ) : Type 0 where
   pub logged : logs_event next ≡ true
@@ -123,7 +123,7 @@ pub record IsFirst (lines : List (List ℕ)) (left : Option (List ℕ)) (next : 
   pub right : AllByRecursion IsRight (parts_after 10 left) → AllByRecursion IsRight lines
   pub fits : FitsBuffer next
 
--- no line is wrong, and this is the number of the line behind them, where the first has this number
+-- no line is wrong, and this is the number of the line behind them, if the first has this number
 abbrev pub AreRight : (first : ℕ) → List (List ℕ) → (next : ℕ) → Type 0
 AreRight first lines next = (first_wrong first lines ≡ None) × (next ≡ first + length lines)
 

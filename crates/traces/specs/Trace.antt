@@ -27,7 +27,7 @@ logged line = if is_skipped line then None else event_in line
 abbrev pub is_wrong : List ℕ → Bool
 is_wrong line = not (is_skipped line) && is_none (event_in line)
 
--- the number of the first wrong line, where the lines are counted from n
+-- the number of the first wrong line, if the lines are counted from n
 abbrev pub first_wrong : ℕ → List (List ℕ) → Option ℕ
 first_wrong n [] = None
 first_wrong n (l ∷ ls) = if is_wrong l then Some n else first_wrong (n + 1) ls

@@ -12,7 +12,7 @@ use Rattle.traces.specs.declared.health.Health.TheVariants.{Good, Refused, Broke
 use Rattle.traces.specs.Actions.{lines_of_actions}
 
 -- the log so far, how often the port failed and why at first, whether the tick at moment 0 was
--- given, the entries that are still to come, and what the writer holds, where that is known
+-- given, the entries that are still to come, and what the writer holds, if that is known
 pub record Traced : Type 0 where
   pub log : Log
   pub failed : ℕ
@@ -21,7 +21,7 @@ pub record Traced : Type 0 where
   pub left : List Entry
   pub written : Option (List ℕ)
 
--- before the first entry, where the tick at moment 0 is still to come, or isn't to be given
+-- before the first entry, when the tick at moment 0 is still to come, or isn't to be given
 abbrev pub first_traced : (started : Bool) → List Entry → (written : Option (List ℕ)) → Traced
 first_traced started entries written = record {
   log = [];
@@ -66,8 +66,8 @@ is_broken Good = false
 is_broken Refused = false
 is_broken Broken = true
 
--- The writer had this before, and has got the lines of the log's actions since; where a write
--- failed it may have got a part of one more line.
+-- The writer had this before, and has got the lines of the log's actions since. If a write failed
+-- it may have got a part of one more line.
 abbrev pub HasLines : Option (List ℕ) → Traced → Type 0
 HasLines before t = is_broken t.health ≡ false → Appends before t.written (lines_of_actions t.log)
 

@@ -1,9 +1,9 @@
 //! A text is read on, block by block. Each block is whole lines, so that a long text takes a buffer
-//! of 32,768 octets, and more only where one line is longer.
+//! of 32,768 octets, and more only if one line is longer.
 //!
-//! Proved, where it is known what the reader will give: the blocks are the text, and two of them
-//! are parted by one line feed, which belongs to neither; so nothing is lost, nothing comes twice,
-//! and nothing comes after the last block. [`Blocks::advance`] answers `false` only after the last
+//! Proved, if it is known what the reader will give: the blocks are the text, and two of them are
+//! parted by one line feed, which belongs to neither. So nothing is lost, nothing comes twice, and
+//! nothing comes after the last block. [`Blocks::advance`] answers `false` only after the last
 //! block, and a fault loses nothing. Not proved is that no octet is searched twice, how much memory
 //! is taken, and which of the faults comes.
 ghost use Rattle.std.specs.Prelude.{◌≡◌, ◌-◌, ◌<◌, ◌≤◌, [], true, false, length, take, drop};
@@ -182,7 +182,7 @@ impl<R: Read> Blocks<R> {
     }
 
     /// Goes on to the next block: answers whether there was one more. There is at least one, which
-    /// is empty where the text is. A text that ends in a line feed may have an empty last block. A
+    /// is empty if the text is. A text that ends in a line feed may have an empty last block. A
     /// read that a signal stopped is tried again.
     ///
     /// `Unread` says that a read failed; `NoMemory`, that memory was refused, here or to the

@@ -26,7 +26,7 @@ pub fn decimal(digits: &[u8]) -> Option<u64>
 pub(crate) fn front_number(text: &[u8]) -> Option<(u64, usize)>
     ensures { IsFrontNumber text.now result }
 {
-    // One more than it may have shows that there are too many. Where that many octets stand, as
+    // One more than it may have shows that there are too many. If that many octets stand there, as
     // they do but at the end of a text, the compiler knows how far it may go, and counts nothing.
     if text.len() > MOST_DIGITS {
         number_within(text, MOST_DIGITS + 1)

@@ -15,15 +15,15 @@ use crate::writing::print;
 use gateway::{End, Gateway, drive_on};
 use std::io::Write;
 
-/// So many turns pass before their lines are printed: some 12 KB, where each event has an action,
-/// and 1.3 MB at most, where each has as many APDUs to answer as it can bring.
+/// So many turns pass before their lines are printed: some 12 KB, if each event has an action, and
+/// 1.3 MB at most, if each has as many APDUs to answer as it can bring.
 const PART: u64 = 256;
 
 /// So many turns pass before a run shows how far it has come: 2^19, about half a second.
 const STRIDE: u64 = 524_288;
 
 /// Takes the events of a port one after another, at most so many, as `drive_on` does, and prints
-/// the lines of the actions as they are made. Where the output fails, or has failed before, nothing
+/// the lines of the actions as they are made. If the output fails, or has failed before, nothing
 /// more is printed, and the run goes on to its end: the second answer is whether all was printed.
 /// If a run of more than one stride is watched, standard error shows after each how far it has
 /// come, and is blank again at the end. Whether it takes that changes nothing.
@@ -50,7 +50,7 @@ pub fn drive_printed<P: Paged, W: Write, E: Write>(
     ensures turns { result.0 ≡ End.Turns → MoreEvents turns (P.log port.old) (P.log port.new) }
     ensures finished { result.0 ≡ End.Finished → P.ended port.new ≡ true }
     ensures course { P.course port.new ≡ P.course port.old }
-    // All lines of the log were printed, or a beginning of them, where that is so of those before.
+    // All lines of the log were printed, or a beginning of them, if that is so of those before.
     ensures all { P.log port.new ≡ Some (P.poured port.new) }
     ensures healthy { UnlessDevice result.0 (P.failed port.new ≡ 0) }
     ensures poured { (before : Option (List ℕ)) →

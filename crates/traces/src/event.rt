@@ -19,9 +19,9 @@ use crate::reading::LINE_FEED;
 use gateway::{Entry, Next};
 use std::alloc::{AllocError, Global};
 
-/// An event as a line spells it, and what follows. Where octets are spelled that is the text from
-/// them on: whether they are right, and where their line ends, is seen as they are read. What
-/// follows stands alike in each variant, `None` where nothing does, so that it stays in registers.
+/// An event as a line spells it, and what follows. If octets are spelled, that is the text from
+/// them on. Whether they are right, and where their line ends, is seen as they are read. What
+/// follows stands alike in each variant, `None` if nothing does, so that it stays in registers.
 #[derive(Clone, Copy)]
 pub(crate) enum Spelled<'a> {
     Line(u64, Option<&'a [u8]>),
@@ -157,7 +157,7 @@ pub(crate) fn judged<'a>(event: &Spelled<'a>) -> Option<Option<&'a [u8]>>
 }
 
 /// An event as a port gives it, and the lines behind it: its octets are put at the front of the
-/// buffer. `None` where they are wrong; then the buffer may hold anything.
+/// buffer. `None` if they are wrong; then the buffer may hold anything.
 #[inline(always)]
 pub(crate) fn announce<'a>(
     event: &Spelled<'a>,

@@ -38,7 +38,7 @@ pub fn printed_lines_read_back()
 
 /// A text is read line by line: each line gives the event that it says, in its order, and an empty
 /// line or a comment gives none. A text with any other line is refused with the number of the first
-/// one. So it is where a text is read part by part, and the lines of each are counted on. A run
+/// one. So it is when a text is read part by part, and the lines of each are counted on. A run
 /// begins with a tick at moment 0.
 pub fn texts_are_read_line_by_line()
     ensures entries { (text : List ℕ) (entries : Vec Entry Global) → IsTraceOf text (Ok entries) →

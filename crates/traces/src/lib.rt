@@ -26,7 +26,7 @@
 //! prints them, so that a run of any length takes the room of a part of its lines. If it is
 //! watched, it shows how far it has come. [`print`] writes one text whole, and [`print_behind`] one
 //! behind others. Proved: what `drive_on` promises of the run; that what was printed is the lines
-//! of all actions of the log, in their order, and nothing else, or, where the output failed, a
+//! of all actions of the log, in their order, and nothing else, or, if the output failed, a
 //! beginning of them. That the percent are shown isn't proved, nor what a terminal makes of them.
 #![tactic(auto)]
 

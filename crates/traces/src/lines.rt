@@ -51,7 +51,7 @@ fn far_place(text: &[u8], separator: u8) -> Option<usize>
     memchr(separator, text)
 }
 
-/// The part of a text before its first separator, and what follows that, where there is one.
+/// The part of a text before its first separator, and what follows that, if there is one.
 #[tactic(auto, using(crate::proofs::LineLemmas::cut_here, crate::proofs::LineLemmas::cut_nowhere))]
 #[inline(always)]
 pub fn cut(text: &[u8], separator: u8) -> (&[u8], Option<&[u8]>)

@@ -38,7 +38,7 @@ impl Moment {
         Moment { number, row, start }
     }
 
-    /// It is this moment from now on. It is spelled anew where it was another.
+    /// It is this moment from now on. It is spelled anew if it was another.
     pub fn renew(&mut self, number: u64)
         ensures { self.new ≡ number }
     {

@@ -16,7 +16,7 @@ use std::alloc::{AllocError, Global};
 /// The most octets of one event.
 const MOST_OCTETS: usize = 1024;
 
-/// The value of each octet as a digit in hexadecimal, and 256 where it is none.
+/// The value of each octet as a digit in hexadecimal, and 256 if it is none.
 #[rattlefmt::skip]
 static VALUES: [u16; 256] = [
     256, 256, 256, 256, 256, 256, 256, 256, 256, 256, 256, 256, 256, 256, 256, 256,
@@ -37,7 +37,7 @@ static VALUES: [u16; 256] = [
     256, 256, 256, 256, 256, 256, 256, 256, 256, 256, 256, 256, 256, 256, 256, 256,
 ];
 
-/// Sixteen times that value, and 256 where the octet is no digit.
+/// Sixteen times that value, and 256 if the octet is no digit.
 #[rattlefmt::skip]
 static HIGH_VALUES: [u16; 256] = [
     256, 256, 256, 256, 256, 256, 256, 256, 256, 256, 256, 256, 256, 256, 256, 256,
@@ -58,7 +58,7 @@ static HIGH_VALUES: [u16; 256] = [
     256, 256, 256, 256, 256, 256, 256, 256, 256, 256, 256, 256, 256, 256, 256, 256,
 ];
 
-/// 1 to 1,024 octets in hexadecimal, each as two digits of either case. `None` where the text is
+/// 1 to 1,024 octets in hexadecimal, each as two digits of either case. `None` if the text is
 /// anything else; an `Err` is want of memory.
 pub fn read_octets(alloc: Global, text: &[u8]) -> Result<Option<Vec<u8>>, AllocError>
     ensures octets { IfOk result (λ octets. option_map (λ v. v.items) octets ≡ octets_of text.now) }
@@ -88,8 +88,8 @@ fn may_be_octets(digits: usize) -> bool
 }
 
 /// The octets in hexadecimal that are the whole first line of a text, and the lines behind it.
-/// `None` where the line is anything else. Its end is found where its digits end, so that each
-/// octet is looked at once.
+/// `None` if the line is anything else. Its end is found where its digits end, so that each octet
+/// is looked at once.
 pub(crate) fn octets_line(text: &[u8]) -> Option<(&[u8], Option<&[u8]>)>
     ensures { IsOctetsLine text.entry.now result }
 {
@@ -101,8 +101,7 @@ pub(crate) fn octets_line(text: &[u8]) -> Option<(&[u8], Option<&[u8]>)>
     }
 }
 
-/// The first line of a text whose digits end here, where these are all of it, and the lines behind
-/// it.
+/// The first line of a text whose digits end here, if these are all of it, and the lines behind it.
 fn digits_line(text: &[u8], end: usize) -> Option<(&[u8], Option<&[u8]>)>
     requires { DigitsEnd text.now end }
     ensures { IsDigitsLine text.entry.now result }
@@ -189,8 +188,8 @@ fn is_digit(octet: u8) -> bool
 }
 
 /// Puts the octets in hexadecimal that are the whole first line of a text at the front of the
-/// buffer, and answers their number and the lines behind it. `None` where the line is anything
-/// else; then the buffer may hold anything. The line's end is found where its digits end.
+/// buffer, and answers their number and the lines behind it. `None` if the line is anything else;
+/// then the buffer may hold anything. The line's end is found where its digits end.
 #[inline(always)]
 pub(crate) fn write_line<'a>(
     text: &'a [u8],
@@ -261,7 +260,7 @@ fn write_each(text: &[u8], buf: &mut [u8; 1024], from: usize, limit: usize) -> u
     limit
 }
 
-/// So many pairs are decoded by arithmetic at a time, where there are so many.
+/// So many pairs are decoded by arithmetic at a time, if there are so many.
 const WIDE_PAIRS: usize = 16;
 
 /// Decodes on, for as many wide blocks of pairs of digits as follow, as far as the limit.
@@ -353,7 +352,7 @@ fn write_narrow(text: &[u8], buf: &mut [u8; 1024], from: usize, limit: usize) ->
 }
 
 /// Decodes one block of pairs more, and says whether all were of digits. That is seen at its end:
-/// what it writes where they weren't means nothing.
+/// what it writes if they weren't means nothing.
 fn write_block(text: &[u8], buf: &mut [u8; 1024], from: usize) -> bool
     requires so_far { Paired text.now buf.old from }
     requires most { from + 4 ≤ 1024 }
@@ -372,7 +371,7 @@ fn write_block(text: &[u8], buf: &mut [u8; 1024], from: usize) -> bool
 /// No octet, and what has no value as a digit.
 const NO_DIGIT: u16 = 256;
 
-/// The octet of two digits. It is none where one of these is no digit.
+/// The octet of two digits. It is none if one of these is no digit.
 fn pair(high: u8, low: u8) -> u16
     ensures { IsPair high low result }
 {

@@ -20,7 +20,7 @@ use std::marker::{Brand, Model, PhantomData};
 pub trait HeldBefore {
     ghost use Rattle.std.specs.Prelude.{ℕ, List, Option};
 
-    /// The octets, where they are known.
+    /// The octets, if they are known.
     ghost held: { Option (List ℕ) };
 }
 
@@ -266,7 +266,7 @@ impl<W: Write, B: HeldBefore> Port for Trace<W, B> {
             self.fail();
             return false;
         };
-        // How much of a line got out isn't known where this fails, so nothing more is written.
+        // How much of a line got out isn't known if this fails, so nothing more is written.
         if self.out.write_all(self.line.as_bytes()).is_err() {
             self.failures += 1;
             self.health = Health::Broken;

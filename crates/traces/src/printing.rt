@@ -9,7 +9,7 @@ ghost use Rattle.traces.specs.Spelling.{IsSpelledTo};
 use crate::moments::Moment;
 
 /// Each octet in hexadecimal, in upper case, from 0 on. A look at a table takes less time than two
-/// digits by arithmetic, where the octets are few.
+/// digits by arithmetic, if the octets are few.
 static PAIRS: [u8; 512] = *b"\
 000102030405060708090A0B0C0D0E0F\
 101112131415161718191A1B1C1D1E1F\
@@ -90,7 +90,7 @@ fn spell(octets: &[u8], out: &mut [u8])
     }
 }
 
-/// So many octets are spelled by arithmetic at a time, where there are so many.
+/// So many octets are spelled by arithmetic at a time, if there are so many.
 const BLOCK: usize = 16;
 
 /// Spells whole blocks of octets, and says how many octets these are.

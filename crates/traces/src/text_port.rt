@@ -99,12 +99,12 @@ impl Pause {
     }
 }
 
-/// A port that gives a tick at moment 0, where the run has not begun, and then the events of a part
-/// of a text, each as its line is due, and prints the line of each action on a page: `MS > S HEX`
-/// (to the line), `MS > T HEX` (to TCP), `MS > X CAUSE` (a close) or `MS > G S K` (a gap of station
-/// S, counted from 1, at the end of its session K), in upper case. It stores no log, and of its
-/// lines those alone that weren't taken off the page. A wrong line is a fault, as want of memory
-/// is; after one it takes and gives nothing more.
+/// A port that gives a tick at moment 0, if the run has not begun, and then the events of a part of
+/// a text, each as its line is due. It prints the line of each action on a page: `MS > S HEX` (to
+/// the line), `MS > T HEX` (to TCP), `MS > X CAUSE` (a close) or `MS > G S K` (a gap of station S,
+/// counted from 1, at the end of its session K), in upper case. It stores no log, and of its lines
+/// those alone that weren't taken off the page. A wrong line is a fault, as want of memory is;
+/// after one it takes and gives nothing more.
 #[derive(Drop)]
 pub struct TextPort<'a> {
     /// Those of this part.
@@ -148,7 +148,7 @@ impl<'a> Model for TextPort<'a> {
 }
 
 /// The first event of these lines, whose octets are put at the front of the buffer, and the lines
-/// behind it; `Done` where they have none. A wrong line before it is a fault.
+/// behind it; `Done` if they have none. A wrong line before it is a fault.
 #[tactic(auto, using(crate::proofs::ProgressLemmas::events_skip, crate::proofs::ProgressLemmas::right_skip, crate::proofs::ProgressLemmas::right_event))]
 pub fn first_event<'a>(text: Option<&'a [u8]>, buf: &mut [u8; 1024]) -> (Next, Option<&'a [u8]>)
     ensures { IsFirst (parts_after 10 (option_copied text.entry)) (option_copied result.1)
@@ -188,7 +188,7 @@ impl<'a> TextPort<'a> {
         // The events that came, and those that are still to come, are those of the log before this
         // part, and then those of the part.
         ensures whole { events_of self.now.log ++ coming_in self.now ≡ script_of self.now.part }
-        // Where all lines were read, none is wrong.
+        // When all lines were read, none is wrong.
         ensures right { is_through self.now ≡ true →
             first_wrong 1 (lines_of self.now.part.text) ≡ None }
     {
@@ -202,7 +202,7 @@ impl<'a> TextPort<'a> {
         self.page.clear();
     }
 
-    /// The run behind this part, or where it was left.
+    /// The run behind this part, or as far as it has come.
     pub fn pause(self) -> Pause
         ensures { result ≡ record {
           started = self.entry.started;

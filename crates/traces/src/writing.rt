@@ -6,7 +6,7 @@ ghost use Rattle.traces.specs.Pouring.{IsBegun, IsPoured};
 use std::io;
 use std::io::{ErrorKind, Write};
 
-/// Writes a whole text. Where that fails, a beginning of it was written.
+/// Writes a whole text. If that fails, a beginning of it was written.
 pub fn print<W: Write>(text: &[u8], out: &mut W) -> io::Result<()>
     ensures all { OnOk result (Appends (W.contents out.old) (W.contents out.new) text.now) }
     ensures begun { OnErr result (IsBegun (W.contents out.old) (W.contents out.new) text.now) }

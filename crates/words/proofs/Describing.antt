@@ -17,7 +17,7 @@ both_good Faulty = refl
 module _ (IsEnd : (octets : List ℕ) → (end : ℕ) → Type 0) (IsLogged : (octets text : List ℕ)
     → Condition
     → Type 0) where
-  -- what is said of all octets, where so much is said of the first, and these are left
+  -- what is said of all octets, if so much is said of the first, and these are left
   abbrev pub IsLoggedUpTo : (all so_far left : List ℕ) → Condition → Type 0
   IsLoggedUpTo all so_far left condition = (texts : List ℕ) (rest : Condition)
       → AreFramesDescribed IsEnd IsLogged left texts rest

@@ -40,7 +40,7 @@ noted_on s news mind page r noted is logged h = record {
   );
 }
 
--- two tests, of which the second is made where the first is so
+-- two tests, of which the second is made if the first is so
 pub and_then : (a b n : Bool) → a ≡ true → n ≡ b → n ≡ (a && b)
 and_then a b n first is = is ∙ ap (λ (x : Bool). x && b) (sym first)
 

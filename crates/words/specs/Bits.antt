@@ -5,6 +5,6 @@ use Rattle.std.specs.Prelude.{ℕ, ◌/◌, ◌%◌, ◌^◌, Bool, if◌then◌
 abbrev pub bit : ℕ → ℕ → ℕ
 bit n octet = octet / 2 ^ n % 2
 
--- 1 where it is set
+-- 1 if it is set
 abbrev pub flag : Bool → ℕ
 flag b = if b then 1 else 0

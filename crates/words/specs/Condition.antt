@@ -4,7 +4,7 @@ use Rattle.std.specs.Fmt.{decimal}
 use Rattle.words.specs.declared.facts.condition.Condition.{Condition}
 use Rattle.words.specs.declared.facts.condition.Condition.TheVariants.{Faulty}
 
--- the line for the octets after a frame, where there are any
+-- the line for the octets after a frame, if there are any
 abbrev pub rest_line : ℕ → List ℕ
 rest_line n = if n == 0 then [] else codes "rest " ++ decimal n ++ 10 ∷ []
 

@@ -19,7 +19,7 @@ abbrev pub IsTcpDescribed : (words : Bool) → (octets text : List ℕ) → Cond
 IsTcpDescribed true = AreConnectionWords
 IsTcpDescribed false = IsTcpShown
 
--- two are as they should be, where both are
+-- two are as they should be, if both are
 abbrev pub both : Condition → Condition → Condition
 both Good other = other
 both Faulty other = Faulty

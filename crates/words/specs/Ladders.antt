@@ -20,7 +20,7 @@ use Rattle.words.specs.declared.ladder.rungs.Style.{Style}
 use Rattle.words.specs.declared.ladder.rungs.Way.TheVariants.{FromCentre, Inside}
 
 -- What is remembered: the octets of the line since its last frame, and those of the connection
--- since its last APDU (none, where octets began none); those of the latest request, and whether no
+-- since its last APDU (none, if octets began none); those of the latest request, and whether no
 -- frame has come since.
 pub record Remembered : Type 0 where
   pub size : LinkSize
@@ -55,7 +55,7 @@ still_awaited is_awaited (line.Never place why) = is_awaited
 still_awaited is_awaited line.Deaf = is_awaited
 
 -- A piece of the line: a line for each frame that ends in it, and one for the rest. A frame is late
--- where one came since the latest request.
+-- if one came since the latest request.
 pub data AreFramesReceived (style : Style) (now : ℕ) : Remembered → (octets : List ℕ)
     → (after : Remembered) → (lines : List ℕ) → Type 0 where
   no_more : (mind : Remembered) → AreFramesReceived style now mind [] mind []
@@ -141,8 +141,8 @@ pub record IsActionLogged (style : Style) (before : Remembered) (now : ℕ) (act
   pub remembered : IsRemembered before action after remark
   pub line : IsActionLine style.sizes style.is_coloured now remark action lines
 
--- the lines of an entry of the log; where only time passes there is none, nor for a restart, which
--- no port gives
+-- the lines of an entry of the log; if only time passes there is none, nor for a restart, which no
+-- port gives
 abbrev pub IsEntryLogged : Style → (before : Remembered) → LogEntry → (after : Remembered)
     → (lines : List ℕ) → Type 0
 IsEntryLogged style before (Came now (LineIn octets)) after lines =

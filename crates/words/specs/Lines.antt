@@ -41,7 +41,7 @@ secondary_name n =
     else (if n == 14 then codes "not functioning"
     else (if n == 15 then codes "not implemented" else codes "reserved function"))))))
 
--- the frame count bit, where it is valid
+-- the frame count bit, if it is valid
 unfoldable pub fcb_text : (fcb fcv : Bool) → List ℕ
 fcb_text fcb fcv =
     if fcv then (if fcb then codes " (FCB 1)" else codes " (FCB 0)") else []

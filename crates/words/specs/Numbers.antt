@@ -3,7 +3,7 @@ use Rattle.std.specs.Prelude.{ℕ, ◌+◌, ◌*◌, ◌/◌, ◌%◌, ◌^◌, 
 use Rattle.std.specs.Prelude.{[], ◌++◌}
 use Rattle.std.specs.Fmt.{decimal}
 
--- a text where bit n of an octet is set; bit 0 is the lowest
+-- a text if bit n of an octet is set; bit 0 is the lowest
 unfoldable pub mark : ℕ → ℕ → List ℕ → List ℕ
 mark n octet text = if octet / 2 ^ n % 2 == 1 then text else []
 
@@ -25,6 +25,6 @@ millionths n k = (n * 2000000 / 2 ^ k + 1) / 2
 unfoldable pub pointed : ℕ → List ℕ
 pointed n = decimal (n / 1000000) ++ (codes "." ++ six_digits n)
 
--- a minus where there is one
+-- a minus if there is one
 abbrev pub minus : Bool → List ℕ
 minus is_negative = if is_negative then codes "-" else []

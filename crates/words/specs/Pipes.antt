@@ -23,7 +23,7 @@ ok_octets (Err fault) = None
 abbrev pub octets_in : List ℕ → Option (List ℕ)
 octets_in text = ok_octets (decode_of (filter is_mark text))
 
--- where the frame at the front of n octets ends; they all go together where no frame is whole
+-- where the frame at the front of n octets ends; they all go together if no frame is whole
 abbrev pub line_end : ℕ → LineFront → ℕ
 line_end n (line.Whole frame len) = len
 line_end n line.More = n
@@ -34,7 +34,7 @@ apdu_end n (tcp.Whole apdu len) = len
 apdu_end n tcp.More = n
 apdu_end n (tcp.Never place why) = n
 
--- so many octets are the frame at the front, or all, where no frame is whole
+-- so many octets are the frame at the front, or all, if no frame is whole
 pub record IsLineEnd (size : LinkSize) (octets : List ℕ) (end : ℕ) : Type 0 where
   pub front : LineFront
   pub is_front : IsLineFront size octets front

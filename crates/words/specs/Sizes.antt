@@ -28,7 +28,7 @@ ioa_size_of d =
     else if d == 51 then Some ioa.Three
     else None
 
--- the sizes, where each digit names one
+-- the sizes, if each digit names one
 abbrev pub sizes_from : Option LinkSize → Option CauseSize → Option CaSize → Option IoaSize →
     Option LineSizes
 sizes_from (Some l) (Some c) (Some a) (Some i) =

@@ -5,7 +5,7 @@ use Rattle.std.specs.Prelude.{List, [], ◌++◌, if◌then◌else◌, unsigned_
 use Rattle.std.specs.Int.{is_negative}
 use Rattle.std.specs.Fmt.{decimal, signed_decimal}
 
--- a text where bit n of an octet is 1; bit 0 is the lowest
+-- a text if bit n of an octet is 1; bit 0 is the lowest
 abbrev pub told : (n octet : ℕ) → (text : List ℕ) → List ℕ
 told n octet text = if octet / 2 ^ n % 2 == 1 then text else []
 

@@ -40,7 +40,7 @@ pub fn describe_apdu(alloc: Global, octets: &[u8], words: bool) -> Result<Shown,
 }
 
 /// Describes octets of the line frame by frame, and those at whose front no frame is whole
-/// together. They are as they should be where each frame is.
+/// together. They are as they should be if each frame is.
 pub fn describe_line_frames(
     alloc: Global,
     sizes: LineSizes,
@@ -82,7 +82,7 @@ pub fn describe_apdus(alloc: Global, octets: &[u8], words: bool) -> Result<Shown
     Ok(Shown { lines, condition })
 }
 
-/// Two are as they should be, where both are.
+/// Two are as they should be, if both are.
 pub fn both(one: Condition, other: Condition) -> Condition
     ensures { result ≡ both_of one other }
 {

@@ -6,7 +6,7 @@ ghost use Rattle.words.specs.Faults.{cut_off, no_frame, rest_words};
 use crate::facts::Condition;
 use std::alloc::AllocError;
 
-/// Appends how many octets follow a frame, where there are any.
+/// Appends how many octets follow a frame, if there are any.
 #[tactic(auto, unfolding(crate::specs::Faults::rest_words))]
 pub(crate) fn push_rest(line: &mut String, rest: usize) -> Result<(), AllocError>
     ensures { OnOk result (string_bytes line.new ≡ string_bytes line.old ++ rest_words rest) }
@@ -34,7 +34,7 @@ pub(crate) fn push_no_frame(line: &mut String, fault: &str, place: usize) -> Res
     write!(line, "no frame: {fault} at {place}")
 }
 
-/// A condition where so many octets follow the frame.
+/// A condition if so many octets follow the frame.
 pub(crate) fn with_rest(condition: Condition, rest: usize) -> Condition
     ensures { result ≡ condition_with rest condition }
 {

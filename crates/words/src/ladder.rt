@@ -8,9 +8,9 @@
 //!
 //! Proved: the log, the script and the failures are the inner port's, and the text that was printed
 //! is that of the run's log (`IsLadder`), line by line in its order: each event and action once,
-//! each frame with the words of the octets that ended it, late answers and repeats as such; or a
-//! beginning of that text, where the output failed, or that of the run up to some turn, where
-//! memory was refused.
+//! each frame with the words of the octets that ended it, late answers and repeats as such. If the
+//! output failed, it is a beginning of that text. If memory was refused, it is that of the run up
+//! to some turn.
 ghost use Rattle.std.specs.Prelude.{◌≡◌, ◌++◌, [], true, Some};
 ghost use Rattle.gateway.specs.Log.{Log};
 ghost use Rattle.words.specs.Ladders.{IsLadder};
@@ -31,7 +31,7 @@ use traces::Paged;
 
 /// A port that passes each event and each action of another one on unchanged, and puts each into
 /// words on a page, as a protocol analyser does: the moment in milliseconds, the way, and the
-/// frame. Where octets come in pieces a line stands at the piece that ends a frame. Once memory is
+/// frame. If octets come in pieces, a line stands at the piece that ends a frame. Once memory is
 /// refused to a line it is a port whose device failed.
 #[derive(Drop)]
 pub struct Ladder<P: Paged + Drop> {

@@ -84,7 +84,7 @@ pub fn asdus_are_told_field_by_field()
 {}
 
 /// A frame of the line is told by the function of its direction (IEC 60870-5-2, 5.1.2; bit 6 is
-/// PRM), its address, and FCB where FCV is 1, or ACD and DFC. What it carries stands behind it, and
+/// PRM), its address, and FCB if FCV is 1, or ACD and DFC. What it carries stands behind it, and
 /// then how many octets follow.
 pub fn frames_are_told_field_by_field()
     ensures asked { (c a : ℕ) → c / 2 ^ 6 % 2 ≡ 1 → control_words c a

@@ -178,7 +178,7 @@ fn secondary_name(function: SecondaryFunction) -> &'static str
     }
 }
 
-/// The frame count bit, where it is valid.
+/// The frame count bit, if it is valid.
 #[tactic(auto, unfolding(crate::specs::Lines::fcb_text))]
 fn fcb_text(fcb: bool, fcv: bool) -> &'static str
     ensures { result.now ≡ fcb_words fcb fcv }

@@ -8,7 +8,7 @@ ghost use Rattle.words.specs.Numbers.{pointed, three_digits, two_digits};
 
 use std::alloc::AllocError;
 
-/// Appends a text where a bit of an octet is set. Bit 0 is the lowest.
+/// Appends a text if a bit of an octet is set. Bit 0 is the lowest.
 #[tactic(auto, unfolding(crate::specs::Numbers::mark))]
 pub(crate) fn push_mark(
     line: &mut String,
@@ -26,7 +26,7 @@ pub(crate) fn push_mark(
     Ok(())
 }
 
-/// A minus where there is one.
+/// A minus if there is one.
 pub(crate) fn minus(is_negative: bool) -> &'static str
     ensures { result.now ≡ minus_of is_negative }
 {

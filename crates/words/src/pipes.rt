@@ -7,8 +7,8 @@ use hex::FromHexError;
 use std::alloc::{AllocError, Global};
 
 /// The octets that a line of text spells, two hexadecimal digits of either case each. Blanks (what
-/// is at most 32, as spaces) stand anywhere, and count for nothing. `None` where anything else
-/// stands there, or half an octet.
+/// is at most 32, as spaces) stand anywhere, and count for nothing. `None` if anything else stands
+/// there, or half an octet.
 pub fn read_line_of_octets(alloc: Global, text: &[u8]) -> Result<Option<Vec<u8>>, AllocError>
     ensures { IfOk result (λ found. option_map (λ v. v.items) found ≡ octets_in text.now) }
 {
@@ -33,7 +33,7 @@ fn without_blanks(alloc: Global, text: &[u8]) -> Result<Vec<u8>, AllocError>
     Ok(marks)
 }
 
-/// Where the frame at the front of octets of the line ends. They all go together where no frame is
+/// Where the frame at the front of octets of the line ends. They all go together if no frame is
 /// whole there: `words_of_line` says why.
 #[tactic(auto, using(crate::proofs::Ends::line_moves))]
 pub fn line_end(size: LinkSize, octets: &[u8]) -> usize
@@ -48,8 +48,8 @@ pub fn line_end(size: LinkSize, octets: &[u8]) -> usize
     }
 }
 
-/// Where the APDU at the front of octets of the connection ends. They all go together where no APDU
-/// is whole there: `words_of_connection` says why.
+/// Where the APDU at the front of octets of the connection ends. They all go together if no APDU is
+/// whole there: `words_of_connection` says why.
 #[tactic(auto, using(crate::proofs::Ends::apdu_moves))]
 pub fn apdu_end(octets: &[u8]) -> usize
     requires { 0 < length octets.now }

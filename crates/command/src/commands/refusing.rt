@@ -13,7 +13,7 @@ use crate::selection::{SelectStage, Selection, Sign};
 use crate::tags::tag_verdict;
 use elements::Verdict;
 
-/// The rule that a time tag with this verdict breaks, where it isn't recent.
+/// The rule that a time tag with this verdict breaks, if it isn't recent.
 fn tag_rule(wall: Option<u64>, verdict: Verdict) -> Refusal
     ensures { result ≡ rule_of_tag wall verdict }
 {
@@ -44,7 +44,7 @@ fn form_rule(octets: &[u8], wall: Option<u64>) -> Refusal
     tag_rule(wall, tag_verdict(octets))
 }
 
-/// The rule that is broken where a fault of the ASDU alone is answered with this cause.
+/// The rule that is broken if a fault of the ASDU alone is answered with this cause.
 fn fault_rule(cause: u8, octets: &[u8], wall: Option<u64>) -> Refusal
     requires { 9 ≤ length octets.now }
     ensures { result ≡ rule_of_fault cause wall octets.now }
@@ -76,21 +76,21 @@ impl Commands {
         }
     }
 
-    /// By which rule [`Commands::judge_command`] would refuse this ASDU now, or none where it would
+    /// By which rule [`Commands::judge_command`] would refuse this ASDU now, or none if it would
     /// forward it.
     pub fn refusal_of(&self, octets: &[u8], now: u64, wall: Option<u64>) -> Option<Refusal>
         requires { 9 ≤ length octets.now }
         ensures rule { result ≡ refusal_of octets.now now wall self.now }
-        // It is one exactly where the judgement is an own answer.
+        // It is one exactly if the judgement is an own answer.
         ensures judged { is_some result ≡ is_some (judged octets.now now wall self.now).0 }
     {
         let mut glance = self.glance();
         self.refusal_at(&mut glance, octets, now, wall)
     }
 
-    /// By which rule an ASDU was refused, or none where it was forwarded, by a glance that was
-    /// taken before its judgement. The glance then is what it would have been after that judgement:
-    /// so the rule of each of several ASDUs can be asked in its turn, when all are judged.
+    /// By which rule an ASDU was refused, or none if it was forwarded, by a glance that was taken
+    /// before its judgement. The glance then is what it would have been after that judgement: so
+    /// the rule of each of several ASDUs can be asked in its turn, when all are judged.
     pub fn refusal_at(
         &self,
         glance: &mut Glance,
@@ -183,7 +183,7 @@ impl Commands {
                 && self.count_others_at(glance, command) >= MOST_SELECTIONS)
     }
 
-    /// A command that may go, where there are places for it.
+    /// A command that may go, if there are places for it.
     fn place_at(&self, glance: &mut Glance, command: Command, now: u64) -> Option<Refusal>
         ensures { (result, glance.new) ≡ seen_placed self.now command now glance.old }
     {

@@ -222,16 +222,16 @@ impl CentreSide {
 
 impl Gateway {
     /// The gateway with the settings `now` that goes on with what this one, whose settings were
-    /// `before`, has; `goes_on` is false where frame count bits and held services hold no more, as
+    /// `before`, has. `goes_on` is false if frame count bits and held services hold no more, as
     /// past an end of the state that was lost.
     ///
-    /// Each piece that is kept stays, in its order, and is unsent again: where there are more than
+    /// Each piece that is kept stays, in its order, and is unsent again: if there are more than
     /// places are set, nothing is polled until enough have gone. Stations are known by their link
-    /// addresses, and [`link_start`] says what becomes of their links; a command that is held for a
-    /// station whose link doesn't go on, or that is gone, is counted as lost. The first answered
+    /// addresses, and [`link_start`] says what becomes of their links. A command is counted as lost
+    /// if it is held for a station that is gone, or whose link doesn't go on. The first answered
     /// reset of a new station reports a gap, since it may have been a station earlier. There is no
     /// connection, and no exchange: a service without an answer is held, and is sent again at its
-    /// station's turn. Counts, the moment and the wall clock stay. `Err` where there is no memory.
+    /// station's turn. Counts, the moment and the wall clock stay. `Err` if there is no memory.
     pub fn carried(
         self,
         alloc: Global,

@@ -132,8 +132,8 @@ impl CentreSide {
         self.assembler.take().unwrap()
     }
 
-    /// A whole APDU at the front of octets that came, where none had come since the last one, and
-    /// how many octets it has. Its ASDU is lent where it stands.
+    /// A whole APDU at the front of octets that came, if none had come since the last one, and how
+    /// many octets it has. Its ASDU is lent where it stands.
     #[inline(always)]
     fn find_whole<'a>(&self, piece: &'a [u8]) -> Option<(ApduRef<'a>, usize)>
         requires { 0 < length piece.now }
@@ -198,8 +198,8 @@ impl CentreSide {
         write_information(octets, ns, nr, asdu)
     }
 
-    /// Writes the frame of the oldest piece that isn't sent, where one may be sent, and says how
-    /// many octets it has.
+    /// Writes the frame of the oldest piece that isn't sent, if one may be sent, and says how many
+    /// octets it has.
     fn write_report(&mut self, octets: &mut [u8; 255], moment: u64) -> Option<usize>
         ensures some { IfSome result (λ count.
             SpellFrame (λ frame. SendsPiece moment self.old frame self.new)
@@ -260,8 +260,8 @@ impl Gateway {
         self.centre.take_whole()
     }
 
-    /// A whole APDU at the front of octets that came, where none had come since the last one, and
-    /// how many octets it has.
+    /// A whole APDU at the front of octets that came, if none had come since the last one, and how
+    /// many octets it has.
     #[inline(always)]
     pub(crate) fn find_whole<'a>(&self, piece: &'a [u8]) -> Option<(ApduRef<'a>, usize)>
         requires { 0 < length piece.now }
@@ -271,7 +271,7 @@ impl Gateway {
         self.centre.find_whole(piece)
     }
 
-    /// Takes an APDU, and judges its ASDU. Where it closes the connection, the cause is answered.
+    /// Takes an APDU, and judges its ASDU. If it closes the connection, the cause is answered.
     #[inline(always)]
     pub(crate) fn judge(&mut self, apdu: ApduRef<'_>) -> Option<Close>
         requires { Fits (owned apdu) }
@@ -293,7 +293,7 @@ impl Gateway {
         self.centre.take_frame(apdu, self.moment)
     }
 
-    /// Judges the ASDU of an APDU, if it has one. Where its answer finds no place, that closes the
+    /// Judges the ASDU of an APDU, if it has one. If its answer finds no place, that closes the
     /// connection.
     fn judge_data(&mut self, apdu: ApduRef<'_>) -> Option<Close>
         requires { Fits (owned apdu) }
@@ -342,7 +342,7 @@ impl Gateway {
         self.centre.pull(self.moment)
     }
 
-    /// The cause to close the connection where a frame has been without an answer for t1.
+    /// The cause to close the connection when a frame has been without an answer for t1.
     pub(crate) fn late(&self) -> Option<Close>
         ensures { result ≡ (
             if answers_late self.now.moment self.now.centre.session

@@ -76,8 +76,8 @@ impl Gateway {
     /// again nor for the first time. Commands that wait, selections and own answers are gone.
     ///
     /// The link of a station whose command is given up is down, and is reset before its next
-    /// service; where an exchange with it was outstanding that is over, and the turn with it. The
-    /// command is counted as lost, as where a station goes down. No other link changes, and of no
+    /// service. If an exchange with it was outstanding, that is over, and the turn with it. The
+    /// command is counted as lost, as when a station goes down. No other link changes. And of no
     /// station is it known whether it was restarted, too, until it answers a service. The queue
     /// keeps each piece that no connection has acknowledged. A gateway that followed its log
     /// between two steps then follows the log with this restart, so each promise on a log holds of

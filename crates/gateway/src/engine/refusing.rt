@@ -14,9 +14,9 @@ impl Gateway {
         self.serial.commands.glance()
     }
 
-    /// By which rule an ASDU was refused that came in the latest step, or none where it went on to
-    /// its station, by a glance that was taken before that step. The glance then is what it would
-    /// have been after the judgement: so the ASDUs of a step are asked for in their order.
+    /// By which rule an ASDU was refused that came in the latest step, or none if it went on to its
+    /// station, by a glance that was taken before that step. The glance then is what it would have
+    /// been after the judgement: so the ASDUs of a step are asked for in their order.
     /// ([`command::Commands::refusal_at`] says that this is the rule of the judgement itself.)
     pub fn refusal_at(&self, glance: &mut Glance, octets: &[u8]) -> Option<Refusal>
         requires { 9 ≤ length octets.now }

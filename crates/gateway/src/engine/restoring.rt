@@ -270,7 +270,7 @@ impl SerialSide {
 }
 
 impl CentreSide {
-    /// These parts, where the queue's pieces that are sent are those that the session counts.
+    /// These parts, if the queue's pieces that are sent are those that the session counts.
     fn joined(
         session: Session,
         assembler: Assembler,
@@ -323,7 +323,7 @@ impl CentreSide {
 }
 
 impl Gateway {
-    /// These parts, where three places are free while a poll is out.
+    /// These parts, if three places are free while a poll is out.
     fn joined(
         sizes: Sizes,
         clock: ClockLine,

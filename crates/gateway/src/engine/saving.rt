@@ -72,7 +72,7 @@ impl Gateway {
     pub fn put_state<S: Sheet>(&self, sheet: &mut S, line: &mut Vec<u64>) -> Result<(), StateFault>
         ensures lines { OnOk result (S.written sheet.new
             ≡ S.written sheet.old ++ state_lines self.now) }
-        // A gateway is between two steps where it follows a log (`steps_leave_nothing_open`).
+        // A gateway is between two steps when it follows a log (`steps_leave_nothing_open`).
         ensures savable { IsBetweenSteps self.now → OnOk result (IsSavable self.now) }
     {
         line.clear();

@@ -145,8 +145,8 @@ impl SerialSide {
     }
 
     /// Gathers octets of the line up to one that may be the last of the answer, and says how many:
-    /// all where none may, and then nothing comes of them. What is received with the others is what
-    /// is received with all.
+    /// all if none may, and then nothing comes of them. What is received with the others is what is
+    /// received with all.
     fn gather_inner(&mut self, octets: &[u8]) -> usize
         ensures within { result ≤ length octets.now }
         ensures all { result ≡ length octets.now → (self.new ≡ arrived octets.now self.old)
@@ -210,8 +210,8 @@ impl SerialSide {
         self.counts.skip();
     }
 
-    /// A station answered a command: where data transfer runs the answer is passed on as own
-    /// answers. `false` says that one of these found no place.
+    /// A station answered a command: if data transfer runs, the answer is passed on as own answers.
+    /// `false` says that one of these found no place.
     ///
     /// It stands apart, so that other reports make no place for its pieces.
     #[inline(never)]
@@ -234,7 +234,7 @@ impl SerialSide {
         true
     }
 
-    /// A station was busy: its command is answered, where the connection that sent it is open.
+    /// A station was busy: its command is answered, if the connection that sent it is open.
     #[inline(never)]
     fn refuse(&mut self, station: usize) -> bool
         ensures state { self.new ≡ refused station self.old }
@@ -256,7 +256,7 @@ impl SerialSide {
         }
     }
 
-    /// Ends the line's exchange where its time is over.
+    /// Ends the line's exchange if its time is over.
     fn end_late_exchange(&mut self, moment: u64)
         ensures state { self.new ≡ timed moment self.old }
         ensures polls { is_polling self.new.line ≡ true → is_polling self.old.line ≡ true }
@@ -295,7 +295,7 @@ impl SerialSide {
         self.commands.cut();
     }
 
-    /// Judges an ASDU of the control centre. Where its answer finds no place, that closes the
+    /// Judges an ASDU of the control centre. If its answer finds no place, that closes the
     /// connection.
     ///
     /// It stands apart, so that a frame without an ASDU makes no place for an answer.
@@ -346,8 +346,8 @@ impl SerialSide {
         next
     }
 
-    /// Writes the frame of the oldest own answer, where one may be sent, and says how many octets
-    /// it has.
+    /// Writes the frame of the oldest own answer, if one may be sent, and says how many octets it
+    /// has.
     pub(super) fn write_own(
         &mut self,
         octets: &mut [u8; 255],
@@ -463,7 +463,7 @@ impl Gateway {
         self.serial.mirror(&asdu, moment, is_transferring)
     }
 
-    /// Ends the line's exchange where its time is over.
+    /// Ends the line's exchange if its time is over.
     pub(crate) fn end_late_exchange(&mut self)
         ensures { self.new ≡ line_timed self.old }
     {
@@ -492,8 +492,8 @@ impl Gateway {
         self.serial.line.is_awaiting()
     }
 
-    /// The line's next request. It is a poll only where the queue has room, or where it is sent
-    /// again at once. A command that goes out for the first time waits no more.
+    /// The line's next request. It is a poll only if the queue has room, or if it is sent again at
+    /// once. A command that goes out for the first time waits no more.
     pub(crate) fn next_request(&mut self) -> Option<Request>
         ensures state { self.new ≡ after_request self.old
             (next_request (has_room self.old.centre.queue) self.old.serial) }

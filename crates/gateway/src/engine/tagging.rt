@@ -10,7 +10,7 @@ ghost use Rattle.gateway.specs.Tags.{bears_tag, AreTagged};
 use asdu::{Piece, Pieces, Sizes, is_plain_command, read, retag};
 use elements::Cp56;
 
-/// The same ASDU with a tag, where it can bear one.
+/// The same ASDU with a tag, if it can bear one.
 fn tagged_piece(piece: &[u8], tag: &Cp56) -> Option<Piece>
     ensures bears { (u : AsduValue) → IsAsdu tcp u piece.now →
         IfSome result (λ other. bears_tag u ≡ true) }

@@ -1,4 +1,4 @@
-//! What becomes of each station where a gateway goes on with other settings.
+//! What becomes of each station when a gateway goes on with other settings.
 ghost use Rattle.std.specs.Prelude.{◌≡◌, ◌<◌, ℕ, [], Bool, true, Some, None, length};
 ghost use Rattle.std.specs.Prelude.{slice_get};
 ghost use Rattle.link.specs.Procedure.{is_up};
@@ -17,11 +17,11 @@ use link::{
 };
 
 /// Each station of the new settings is the one that had its link address before, whatever places
-/// they have: it goes on, or its link is down, as the table says of it, and of no other. Where it
-/// goes on it has the link that it had (so its frame count bit, by `frame_count_bits_go_on`), what
-/// its latest answer showed and its session. One that wasn't there is new, and its session has a
-/// gap, which its first answered reset reports: it may have been a station earlier, and have left
-/// in the middle of a poll, so that a report of it was lost.
+/// they have: it goes on, or its link is down, as the table says of it, and of no other. If it goes
+/// on it has the link that it had (so its frame count bit, by `frame_count_bits_go_on`), what its
+/// latest answer showed and its session. One that wasn't there is new, and its session has a gap,
+/// which its first answered reset reports. For it may have been a station earlier, and have left in
+/// the middle of a poll, so that a report of it was lost.
 pub fn stations_go_on_by_their_addresses()
     ensures known { (goes_on : Bool) (before now : Settings) (s : State) (i k : ℕ)
         (station : StationSettings) →
@@ -45,11 +45,11 @@ pub fn stations_go_on_by_their_addresses()
     seats_have_their_addresses();
 }
 
-/// No link is up where a gateway goes on with other settings, but that of a station which is set as
+/// No link is up when a gateway goes on with other settings, but that of a station which is set as
 /// it was, in a state that is trusted. Each other link is reset before its next service: that of a
-/// new station, that of one whose common address or guard has changed, each where numbers have
-/// other sizes, and each where a state is stale. So no frame count bit is carried into a link whose
-/// station may have taken another one, and no held service into another station.
+/// new station, that of one whose common address or guard has changed, each if numbers have other
+/// sizes, and each if a state is stale. So no frame count bit is carried into a link whose station
+/// may have taken another one, and no held service into another station.
 pub fn no_link_goes_on_but_of_a_station_as_it_was()
     ensures { (goes_on : Bool) (before now : Settings) (s : State) (i : ℕ)
         (station : StationSettings) →

@@ -36,8 +36,8 @@ pub fn each_frame_is_answered_before_the_next()
 {}
 
 /// An own answer that finds no place closes the connection, and nothing goes on behind it: no frame
-/// is taken and none goes out, and no request does. Where all places were found no connection is
-/// closed for want of one. (A place is found exactly where fewer than 16 answers wait:
+/// is taken and none goes out, and no request does. If all places were found, no connection is
+/// closed for want of one. (A place is found exactly if fewer than 16 answers wait:
 /// `KeepsOwnAnswers`.)
 pub fn own_answers_without_a_place_close()
     ensures closed { (p : Setup) (log : Log) (now : ℕ) →

@@ -19,10 +19,10 @@ use link::{
 /// turn is one visit, and each request is awaited for `answer_ms`, as the laws of the link have it
 /// over lists of calls. Only behind a restart is a station that is up asked for its status. The
 /// list is the one that the log shows (`CallsOf`): in each step a request is asked for at the
-/// step's moment, with the commands that wait then, and with leave to poll exactly where the queue
-/// has room. The log's exchanges are those of these calls. At a restart the calls give up the link
-/// to each station with a command without an answer; that ends its visit, and the next visit of
-/// that station resets its link. (Settings have 1 to 32 stations, each with an address.)
+/// step's moment, with the commands that wait then, and with leave to poll exactly if the queue has
+/// room. The log's exchanges are those of these calls. At a restart the calls give up the link to
+/// each station with a command without an answer; that ends its visit, and the next visit of that
+/// station resets its link. (Settings have 1 to 32 stations, each with an address.)
 pub fn logs_keep_turns()
     // None of it is read off the machine: a machine and a course that leave out a call together
     // break this law (docs/DECISIONS.md, "The calls of a log").

@@ -9,8 +9,8 @@ ghost use Rattle.link.specs.Holding.{IsFitting};
 ghost use Rattle.link.specs.Runs.{Call};
 ghost use Rattle.link.specs.Timing.{AnswersHaveTheirTime};
 
-/// A request that went out is outstanding: nothing is next, and asking changes nothing. Where none
-/// is next, none is next after asking, either; and a primary that has just been made has a request.
+/// A request that went out is outstanding: nothing is next, and asking changes nothing. If none is
+/// next, none is next after asking, either. A primary that has just been made has a request.
 pub fn next_changes_nothing()
     ensures over { (p : Primary) (now : ℕ) (may_poll : Bool) (waiting : CommandsWaiting) →
         sending p may_poll waiting ≡ None →

@@ -10,10 +10,10 @@ ghost use Rattle.link.specs.Repeats.{IsMissed};
 ghost use Rattle.link.specs.Primary.{start};
 ghost use Rattle.link.specs.Runs.{Call};
 
-/// Whatever is called: where the latest request of the line is a service that had no answer in
-/// time, and repeats of it are left, the next request is that one again, to the same station and
-/// with the same frame count bit. No other station comes between, and no leave to poll is needed.
-/// (Where the station's link is given up meanwhile, no repeat is left.)
+/// Whatever is called: if the latest request of the line is a service that had no answer in time,
+/// and repeats of it are left, the next request is that one again, to the same station and with the
+/// same frame count bit. No other station comes between, and no leave to poll is needed. (If the
+/// station's link is given up meanwhile, no repeat is left.)
 pub fn repeats_come_at_once()
     ensures { (settings : LinkSettings) (addresses : List ℕ) (calls : List Call) →
         RepeatsComeAtOnce (start settings addresses) None calls }
@@ -21,7 +21,7 @@ pub fn repeats_come_at_once()
 
 /// An unanswered service is repeated as often as the settings say. It has a repeat left as long as
 /// it was sent no more often than `retries` says, each time without an answer, and then none. Until
-/// then its link stays up, and behind the last repeat only where `hold` says so. A service that is
+/// then its link stays up, and behind the last repeat only if `hold` says so. A service that is
 /// held then has no repeat left however often it is sent, so it goes out once a turn.
 pub fn repeats_are_as_many_as_set()
     ensures again { (settings : LinkSettings) (station : ℕ) (fcb : Bool) (service : Service)
@@ -43,11 +43,11 @@ pub fn repeats_are_as_many_as_set()
         ≡ nat_le (length sent) settings.retries }
 {}
 
-/// Whatever is called: where a turn began with a service that was held, its repeats being used up,
-/// and that was answered, and the station's link is up, the next request goes to the same station.
-/// It is the command that waits there, if DFC is clear, whether there is leave to poll or not. Else
-/// it is the poll that ACD asks for, if there is leave. So a held service takes the place of none
-/// of the turn's requests.
+/// Whatever is called: if a turn began with a held service whose repeats were used up, it was
+/// answered, and the station's link is up, the next request goes to the same station. It is the
+/// command that waits there, if DFC is clear, whether there is leave to poll or not. Else it is the
+/// poll that ACD asks for, if there is leave. So a held service takes the place of none of the
+/// turn's requests.
 pub fn turns_go_on_behind_held_services()
     ensures { (settings : LinkSettings) (addresses : List ℕ) (calls : List Call) →
         TurnsGoOn (start settings addresses) None calls }

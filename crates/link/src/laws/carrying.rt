@@ -44,9 +44,9 @@ pub fn giving_up_is_for_one_station()
         is_polling (given_up k p) ≡ true → is_polling p ≡ true }
 {}
 
-/// A station that goes on keeps its frame count bit: where an exchange is broken off whose request
-/// was one that may be sent, and where the station goes on with other settings; and it goes on in
-/// the seat that has its place, and in no other. It also keeps the service that has no answer,
+/// A station that goes on keeps its frame count bit. So it is when an exchange is broken off whose
+/// request was one that may be sent, and when the station goes on with other settings. It goes on
+/// in the seat that has its place, and in no other. It also keeps the service that has no answer,
 /// which is sent again with that bit, and what its latest answer showed by ACD and DFC. How often
 /// that service went unanswered counts on, up to the number of repeats that is set now.
 pub fn frame_count_bits_go_on()
@@ -98,11 +98,11 @@ pub fn seats_have_their_addresses()
         } }
 {}
 
-/// What is known of a station's session outlives a restart: where its link is given up, where an
-/// exchange is broken off, and where it goes on with other settings, its session keeps its number,
-/// and that its last report may be lost, until the next reset is answered: so a gap is reported
-/// then. Where it is marked, the station's own session has a gap, and nothing else of the station,
-/// and no other station, changes.
+/// What is known of a station's session outlives a restart. When its link is given up, an exchange
+/// is broken off, or it goes on with other settings, two things are kept until the next reset is
+/// answered: its session's number, and that its last report may be lost. So a gap is reported then.
+/// When it is marked, the station's own session has a gap. Nothing else of the station changes, and
+/// no other station.
 pub fn sessions_go_on()
     ensures given_up { (p : Primary) (k j : ℕ) →
         (station_at (given_up k p).stations j).session ≡ (station_at p.stations j).session }
@@ -121,11 +121,10 @@ pub fn sessions_go_on()
         station_at (gap_marked k p).stations j ≡ station_at p.stations j }
 {}
 
-/// Where a primary matches the exchanges of its line, it still matches them after giving up. By
-/// them a station awaits a command exactly where the machine says so. The link that is given up is
-/// the link of the exchanges that are marked, at one station and at all that await a command. The
-/// reports of the exchanges, and the sessions of a station that ended with a gap, stay what they
-/// were.
+/// If a primary matches the exchanges of its line, it still matches them after giving up. By them a
+/// station awaits a command exactly if the machine says so. The link that is given up is the link
+/// of the exchanges that are marked, at one station and at all that await a command. The reports of
+/// the exchanges stay what they were. So do the sessions of a station that ended with a gap.
 pub fn giving_up_is_logged()
     ensures awaits { (settings : LinkSettings) (addresses : List ℕ) (p : Primary) (e : Exchanges)
         (k : ℕ) → Matches settings addresses p e →

@@ -21,7 +21,7 @@ pub fn commands_are_those_that_wait()
         waiting s.station ≡ Some asdu }
 {}
 
-/// A command goes out for the first time only where none that was put on the line is without an
+/// A command goes out for the first time only if none that was put on the line is without an
 /// outcome while the link is up.
 pub fn one_command_at_a_time()
     ensures { (settings : LinkSettings) (addresses : List ℕ) (p : Primary) (e : Exchanges)

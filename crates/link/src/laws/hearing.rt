@@ -11,12 +11,12 @@ ghost use Rattle.link.specs.Primary.{Primary, Outstanding, asked, sending, recei
 ghost use Rattle.link.specs.Primary.{received_outcome, outcome_of, turn_gap, with_gap};
 ghost use Rattle.link.specs.declared.outcome.Outcome.TheVariants as outcome;
 
-/// An answer is heard, however long it is, and in whatever pieces it comes. Where the octets of an
-/// exchange begin with a whole frame, the caller learns what that says to the request, and where it
-/// answers it, the exchange is over. Octets that aren't a whole frame yet say nothing, and with
-/// those that follow they say what all of them say at once. A request that goes out is awaited
-/// from that moment on, whichever station it is to, and the first octets that come are the first
-/// of its answer.
+/// An answer is heard, however long it is, and in whatever pieces it comes. If the octets of an
+/// exchange begin with a whole frame, the caller learns what that says to the request. If it
+/// answers the request, the exchange is over. Octets that aren't a whole frame yet say nothing.
+/// With those that follow they say what all of them say at once. A request that goes out is awaited
+/// from that moment on, whichever station it is to. The first octets that come are the first of its
+/// answer.
 pub fn answers_are_heard()
     ensures asked { (p : Primary) (now : ℕ) (may_poll : Bool) (waiting : CommandsWaiting)
         (s : Sending) → sending p may_poll waiting ≡ Some s →

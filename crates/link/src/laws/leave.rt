@@ -28,8 +28,8 @@ pub fn polls_wait_for_leave()
         (is_polling p ≡ true) × (is_polling (received front p octets) ≡ false) }
 {}
 
-/// Where nothing goes out, nothing is left to be asked of any station but data, and that only for
-/// want of leave.
+/// If nothing goes out, nothing is left to be asked of any station but data, and that only for want
+/// of leave.
 pub fn rests_mean()
     ensures leave { (p : Primary) (may_poll : Bool) (waiting : CommandsWaiting) → IsFitting p →
         p.outstanding ≡ None → sending p may_poll waiting ≡ None → may_poll ≡ false }

@@ -13,8 +13,8 @@ ghost use Rattle.link.specs.Sent.{first_of, sent};
 /// Whatever is called, each request that goes out is one exchange of the line, with its station and
 /// its moment, and there are no others, in this order. The exchanges with a station are those whose
 /// request went to it. All octets that come are the exchange's, until it is closed or its link is
-/// given up. Its answer is what the whole frame at the front of its octets says to its request.
-/// Where no whole frame stands there, it has none.
+/// given up. Its answer is what the whole frame at the front of its octets says to its request. If
+/// no whole frame stands there, it has none.
 pub fn each_request_is_an_exchange()
     ensures requests { (p : Primary) (calls : List Call) (e : Exchanges) →
         map first_of (all_of (exchanged_all p calls e)) ≡ map first_of (all_of e) ++ sent p calls }

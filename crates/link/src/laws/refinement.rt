@@ -40,8 +40,8 @@ pub fn sessions_are_known()
         flat_map (λ s. all_done s.turns) (sessions station xs turns) ≡ all_done turns }
 {}
 
-/// Where the link stays up once it is, the same holds of the whole run. All is known where the
-/// latest exchange was answered.
+/// If the link stays up once it is, the same holds of the whole run. All is known if the latest
+/// exchange was answered.
 pub fn each_service_acts_once()
     ensures known { (settings : LinkSettings) (station : ℕ) (xs : List Exchange)
         (turns : List Turn) →
@@ -60,7 +60,7 @@ pub fn each_service_acts_once()
 {}
 
 /// The commands that an honest outstation accepted are the first sendings that weren't answered
-/// busy, or all of them but the last; and all of them where the latest service isn't a command
+/// busy, or all of them but the last. They are all of them if the latest service isn't a command
 /// without an outcome.
 pub fn commands_are_accepted()
     ensures each { (settings : LinkSettings) (station : ℕ) (xs : List Exchange)
@@ -89,15 +89,15 @@ pub fn commands_are_accepted()
         IsLatestAnswered station xs → commands (learnt station xs) ≡ commands (all_done turns) }
 {}
 
-/// Of each session of the link the primary has all reports, or all but the last, and all of them
-/// where there is no gap.
+/// Of each session of the link the primary has all reports, or all but the last. It has all of them
+/// if there is no gap.
 pub fn reports_are_learnt()
     ensures { (settings : LinkSettings) (station : ℕ) (xs : List Exchange) (turns : List Turn) →
         KeepsFrameCountBit settings station Down xs → IsHonest station xs turns →
         AllByRecursion (λ s. HasReports station s) (sessions station xs turns) }
 {}
 
-/// Where unanswered services are held, a link stays up as long as its station refuses nothing, it
+/// If unanswered services are held, a link stays up as long as its station refuses nothing, it
 /// isn't given up at a restart, and no status is asked of a station that is up.
 pub fn silence_is_no_reset()
     ensures { (settings : LinkSettings) (station : ℕ) (xs : List Exchange) → settings.hold ≡ true →

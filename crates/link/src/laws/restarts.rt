@@ -48,9 +48,9 @@ pub fn restarts_change_no_link()
     ensures polls { (p : Primary) → is_polling (doubted p) ≡ is_polling p }
 {}
 
-/// Where unanswered services are held, silence takes a link down only where its station has
-/// answered two statuses since its latest service that was answered, and none was unanswered behind
-/// the first of them. Each of the two goes out behind sendings of which no repeat is left
+/// If unanswered services are held, silence takes a link down only if its station has answered two
+/// statuses since its latest service that was answered, and none was unanswered behind the first of
+/// them. Each of the two goes out behind sendings of which no repeat is left
 /// (`frame_count_bits_are_kept`), and behind a restart (`statuses_follow_restarts`). So a line that
 /// is away, for however long, takes no link down.
 pub fn silence_ends_a_link_behind_two_statuses()

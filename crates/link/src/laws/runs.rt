@@ -40,8 +40,8 @@ pub fn frame_count_bits_are_kept()
 }
 
 /// Turns go round: the present turn goes on as long as it has a request. Then the first station has
-/// its turn, round from the one after the last served, that has a request. Where none goes out,
-/// none has one. Round means in the order of the stations, and behind the last the first again. The
+/// its turn, round from the one after the last served, that has a request. If none goes out, none
+/// has one. Round means in the order of the stations, and behind the last the first again. The
 /// first turn is the first station's.
 pub fn turns_go_round()
     ensures goes_on { (p : Primary) (may_poll : Bool) (waiting : CommandsWaiting) (w : Wanted) →
@@ -76,8 +76,8 @@ pub fn turns_go_round()
 {}
 
 /// What the caller learns of octets is the answer of the exchange that is outstanding, if they
-/// complete it. Where a moment closes it, the caller learns of a station whose link is down then.
-/// Where none is outstanding nothing happens, and nothing is reported.
+/// complete it. If a moment closes it, the caller learns of a station whose link is down then. If
+/// none is outstanding, nothing happens and nothing is reported.
 pub fn outcomes_are_answers()
     ensures octets { (settings : LinkSettings) (addresses : List ℕ) (p : Primary) (e : Exchanges)
         (octets : List ℕ) (x : OpenExchange) →

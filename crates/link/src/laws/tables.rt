@@ -8,11 +8,11 @@ ghost use Rattle.link.specs.Requests.{request_frame, reading_of, Foreign, Unknow
 ghost use Rattle.link.specs.Secondary.{data_frame};
 ghost use Rattle.link.specs.Tables.{plain_row, counted_row, reading_in};
 
-/// Each request has one control octet, whatever the address of its station: PRM 1, FCV 1 and FCB in
-/// bit 5 where it is a service. Of the frames to a station, by each of the sixteen functions of a
-/// primary station, with FCV or without, those in the rows are requests that it knows, and no
-/// others. A frame that a secondary station sent (PRM 0), or that has another address, asks
-/// nothing of it.
+/// Each request has one control octet, whatever the address of its station: PRM 1, and for a
+/// service FCV 1 and FCB in bit 5. Of the frames to a station, by each of the sixteen functions of
+/// a primary station, with FCV or without, those in the rows are requests that it knows, and no
+/// others. A frame that a secondary station sent (PRM 0), or that has another address, asks nothing
+/// of it.
 pub fn requests_are_whole()
     ensures frames { (address : ℕ) (fcb : Bool) (asdu : List ℕ) →
         (request_frame address Status ≡ Fixed 0x49 address)

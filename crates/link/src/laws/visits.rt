@@ -60,9 +60,9 @@ pub fn no_station_starves()
 
 /// Whatever is called, a turn is one visit. The first is the first station's. A request goes on
 /// with the visit only as far as that still has it, and a held service only while it has repeats.
-/// It is over, too, where nothing went out when something might have. Then the first station has
-/// its visit, round from the one behind it, that has a request: the same station again only where
-/// no other has one. So `burst` and the one new command are limits while others wait.
+/// The visit is over, too, when nothing went out when something might have. Then the first station
+/// has its visit, round from the one behind it, that has a request. It is the same station again
+/// only if no other has one. So `burst` and the one new command are limits while others wait.
 pub fn a_turn_is_one_visit()
     ensures { (settings : LinkSettings) (addresses : List ℕ) (calls : List Call) →
         0 < length addresses → All (FitsAddress settings.size) addresses → 0 < settings.burst →

@@ -62,7 +62,7 @@ impl Link {
         }
     }
 
-    /// The link that goes on, where a service is sent again at once so often.
+    /// The link that goes on, if a service is sent again at once so often.
     fn carried(&self, retries: u8) -> Link
         ensures same { result ≡ link_carried retries self.now }
         ensures fits { (size other : LinkSize) → FitsLink size self.now → FitsLink other result }
@@ -185,7 +185,7 @@ impl Master {
     }
 
     /// Marks that of the latest session of the station with this index a report may be lost: that
-    /// is reported where its link is reset.
+    /// is reported when its link is reset.
     pub fn mark_gap(&mut self, station: usize)
         requires { station < length self.old.stations }
         ensures { self.new ≡ gap_marked station self.old }
@@ -194,7 +194,7 @@ impl Master {
     }
 
     /// Breaks off an exchange that is outstanding: its service is held, and is sent again with its
-    /// frame count bit at the station's turn. Where it was to start the link, the link is down.
+    /// frame count bit at the station's turn. If it was to start the link, the link is down.
     pub fn release(&mut self)
         ensures { self.new ≡ released self.old }
     {
@@ -206,8 +206,8 @@ impl Master {
     }
 
     /// A primary station with these settings and stations, in the order of their turns. Each that
-    /// was one of this one's goes on, where no service counts as unanswered more often than it is
-    /// repeated; the link to every other is down. Nothing is outstanding, and the first turn is the
+    /// was one of this one's goes on, and no service counts as unanswered more often than it is
+    /// repeated. The link to every other is down. Nothing is outstanding, and the first turn is the
     /// first station's. Spoilt exchanges stay counted. It asks for what [`Master::new`] asks for,
     /// and takes memory for the stations.
     pub fn reseated(

@@ -214,7 +214,7 @@ fn awaited_from(deaf: bool, numbers: &[u64]) -> Option<Option<Awaited>>
     awaited_by(deaf, *kind, others)
 }
 
-/// The octets that numbers are: none where one of them is above 255.
+/// The octets that numbers are: none if one of them is above 255.
 fn octets_from(alloc: Global, numbers: &[u64]) -> Result<Option<Vec<u8>>, AllocError>
     ensures { IfOk result (λ o. option_map (λ v. v.items) o ≡ octets_from numbers.now) }
 {
@@ -259,8 +259,8 @@ fn answered_with(alloc: Global, numbers: &[u64]) -> Result<Option<(bool, Vec<u8>
 }
 
 impl Master {
-    /// A primary station with these parts, where they fit the line, and where what arrived of an
-    /// answer is the beginning of a frame.
+    /// A primary station with these parts, if they fit the line, and if what arrived of an answer
+    /// is the beginning of a frame.
     fn restored(
         settings: LinkSettings,
         head: TurnLine,

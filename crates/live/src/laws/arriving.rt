@@ -53,7 +53,7 @@ pub fn only_strangers_are_refused()
 
 /// Whoever comes and may not connect is refused, and whoever may is let in, by the answers of the
 /// system alone. Of those who may the newest stays. He is accepted, unless his stream can't be
-/// used. Where nobody's is opened there is no such one. Who comes has his own address, but an IPv4
+/// used. If nobody's is opened, there is no such one. Who comes has his own address, but an IPv4
 /// address that is written as an IPv6 one counts as that IPv4 address. At each look all are asked
 /// for who wait, up to 256 of them. Each one who was refused is counted, and nobody else.
 pub fn who_comes_is_refused_or_let_in()
@@ -103,9 +103,9 @@ pub fn who_comes_is_refused_or_let_in()
 {}
 
 /// That nobody can be accepted is told at the first fault that says so, and not again until
-/// somebody has come. Nothing is told where nobody waits, where somebody came, where he has gone
-/// again and where a signal broke the call off. So it is answer by answer, in their order. At each
-/// look it follows from all answers of that look, and from what was told before.
+/// somebody has come. Nothing is told if nobody waits, if somebody came, if he has gone again and
+/// if a signal broke the call off. So it is answer by answer, in their order. At each look it
+/// follows from all answers of that look, and from what was told before.
 pub fn that_nobody_can_be_accepted_is_told_once()
     ensures first { (t : Telling) (fault : Error) → t.is_shut ≡ false → ShutsOut fault →
         told_by (Err fault ∷ []) t ≡ record {

@@ -23,9 +23,9 @@ ghost use Rattle.live.specs.declared.reach.Standing.TheVariants.{Broken, Through
 ghost use Rattle.live.specs.declared.redial.Dialled.{Dialled};
 ghost use Rattle.live.specs.declared.redial.Dialled.TheVariants.{Failed, Pending};
 
-/// A try reaches a line exactly where its connect came through and the stream can be used. So it is
-/// at the socket of a path. A connect that is under way to an address goes on for 5 s and is kept.
-/// Behind that, or where the clock can't be read, it doesn't: then more is asked for.
+/// A try reaches a line exactly if its connect came through and the stream can be used. So it is at
+/// the socket of a path. A connect that is under way to an address goes on for 5 s and is kept.
+/// Behind that, or if the clock can't be read, it doesn't: then more is asked for.
 pub fn a_try_ends_as_its_connect_does()
     ensures reached { (connecting : Connecting) (steps after : List ReachStep)
         (answer : Dialled StreamHistory) (new : Option Connecting) →

@@ -19,7 +19,7 @@ use crate::laws::a_cut_has_its_reason;
 /// The ends are shown as they are. Of the line that is what it says itself, and how many of its
 /// octets were dropped before requests. Of the connection it is whose is open, and none behind a
 /// cut and a close; and why the latest was cut: its stream was gone, or didn't take what was
-/// written. What has failed is the line, where it has failed.
+/// written. What has failed is the line, if it has failed.
 pub fn the_ends_are_shown_as_they_are()
     ensures line { (ends : LiveEnds) (sight : EndsSight) (presence : Presence) →
         ShowsEnds ends sight → ends.presence ≡ Some presence → sight.line ≡ presence }

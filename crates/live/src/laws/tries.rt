@@ -1,4 +1,4 @@
-//! Laws of a stream that is reached again where it has gone.
+//! Laws of a stream that is reached again when it has gone.
 ghost use Rattle.std.specs.Prelude.{◌≡◌, ◌≢◌, IfSome, None, ◌+◌, ◌-◌, ◌<◌, ◌≤◌, ℕ, List, ◌∷◌, Some};
 ghost use Rattle.std.specs.Prelude.{Bool, true, false, is_some};
 ghost use Rattle.live.specs.Law.{AtClock};
@@ -86,7 +86,7 @@ pub fn tries_lie_farther_apart_while_nothing_comes()
 /// have for as long as it is borne, and never before. That is 30 s behind octets, and twice as long
 /// behind each that was closed, up to 240 s. Between two requests the time counts that lies between
 /// them, but no more than 5 s: so a gateway that sends none, as with a full queue, closes nothing.
-/// Behind octets, and where a stream is reached, it begins anew.
+/// Behind octets, and when a stream is reached, it begins anew.
 pub fn a_stream_that_gives_nothing_is_closed()
     ensures over { (old new : Redial) (buf : List ℕ) (history : StreamHistory) →
         IsRedialled old Quiet buf new → old.stream ≡ Some history → is_over old.silence ≡ true →

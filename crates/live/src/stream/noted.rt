@@ -56,13 +56,13 @@ fn with_setting(log: &History, kind: u64, number: u64) -> History
     log.came(&Next::Wall(kind, number), &NO_OCTETS)
 }
 
-/// A stream that gives these octets, so many a call, and is quiet where they have all come. It
-/// takes so many a call, too.
+/// A stream that gives these octets, so many a call, and is quiet when they have all come. It takes
+/// so many a call, too.
 #[derive(Drop)]
 pub(super) struct PiecewiseStream<'a> {
     octets: &'a [u8],
     size: usize,
-    /// What it answers where none have come.
+    /// What it answers when none have come.
     fault: io::Error,
     /// Its calls.
     log: History,

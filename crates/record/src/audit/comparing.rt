@@ -96,8 +96,8 @@ fn compare_all<'a>(lines: Option<&'a [u8]>, first: u64, run: &'a [u8]) -> Option
     }
 }
 
-/// Compares the lines of a part, of which the first has this number, with those of its run, where
-/// the lines before were the run's, which had more.
+/// Compares the lines of a part, of which the first has this number, with those of its run. The
+/// lines before were the run's, which had more.
 fn go_on(
     alloc: Global,
     ahead: Vec<u8>,

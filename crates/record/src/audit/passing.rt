@@ -14,8 +14,8 @@ use traces::{TextFault, cut, first_event, judge};
 
 pub(crate) const LINE_FEED: u8 = b'\n';
 
-/// The lines of a block: all of them, or, where the block is the end of a text, those that a line
-/// feed ends.
+/// The lines of a block: all of them, or, if the block is the end of a text, those that a line feed
+/// ends.
 pub fn part_of(block: &[u8], is_last: bool) -> Option<&[u8]>
     ensures last { is_last ≡ true →
         parts_after 10 (option_copied result) ≡ whole_lines block.entry.now }
@@ -128,8 +128,8 @@ fn judge_line(line: &[u8]) -> Result<(), TextFault>
     Ok(())
 }
 
-/// The first wrong one of these lines, of which the first has this number; or `NoMemory`, where
-/// none is.
+/// The first wrong one of these lines, of which the first has this number; or `NoMemory`, if none
+/// is.
 pub(crate) fn fault_among(lines: Option<&[u8]>, first: u64) -> TextFault
     ensures { IsWrongAmong first (parts_after 10 (option_copied lines.entry)) result }
 {
@@ -149,8 +149,8 @@ pub(crate) fn fault_among(lines: Option<&[u8]>, first: u64) -> TextFault
 }
 
 /// The first event of these lines, whose octets are put at the front of the buffer, or `Done`; the
-/// lines behind it, and how many were passed then. `Fault` where a line before it is wrong; then
-/// none counts as passed.
+/// lines behind it, and how many were passed then. `Fault` if a line before it is wrong; then none
+/// counts as passed.
 pub(crate) fn next_event<'a>(
     lines: Option<&'a [u8]>,
     before: LineCounts,

@@ -13,9 +13,9 @@ ghost use Rattle.record.specs.Wires.{Line, after_request, answers, asked, gap, r
 ghost use Rattle.record.specs.Wires.{still_awaited};
 
 /// What is said beside the packets of the line, and of a close (docs/TEXTS.md has the comments in
-/// words): a request that has the octets of the one before it repeats that; a frame is late where
-/// one came since the latest request; and octets that are no frame are spoilt, or were cut off by
-/// the next request. Each frame is a packet of its own.
+/// words): a request that has the octets of the one before it repeats that; a frame is late if one
+/// came since the latest request; and octets that are no frame are spoilt, or were cut off by the
+/// next request. Each frame is a packet of its own.
 pub fn comments_by_example()
     ensures requests { (line : Line) →
         (asked (behind line reset []) poll ≡ sent poll [] ∷ [])

@@ -61,7 +61,7 @@ fn pour<W: Write>(page: &mut Page, out: &mut W) -> Result<(), CaptureFault>
     }
 }
 
-/// Goes on to the next block of a text, where there is one.
+/// Goes on to the next block of a text, if there is one.
 fn advance<R: Read + Drop>(blocks: &mut Blocks<R>) -> Result<(), CaptureFault>
     requires { blocks.old.is_over ≡ false }
     ensures block { OnOk result (IfSome blocks.old.coming (λ text. IsGiven text blocks.new)) }

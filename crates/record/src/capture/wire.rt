@@ -90,7 +90,7 @@ fn put_no_frame(
     put_serial(page, packet, micros, false, octets, comment)
 }
 
-/// Puts a frame from an outstation. It is late where nobody waits for one.
+/// Puts a frame from an outstation. It is late if nobody waits for one.
 fn put_answer(
     page: &mut Page,
     packet: &mut Page,

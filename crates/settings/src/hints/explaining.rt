@@ -13,9 +13,10 @@ use crate::site::SiteFault;
 use std::alloc::{AllocError, Global};
 use toml::{Table, Value};
 
-/// The lines behind a fault of the settings that these octets are: where the value stands, or the
-/// key belongs; what is wanted; and where another station has the number. Of octets that are no
-/// document: where reading stopped, and why. None, where memory was refused to the reader.
+/// The lines behind a fault of the settings that these octets are. They say where the value stands,
+/// or the key belongs, what is wanted, and where another station has the number. Of octets that are
+/// no document they say where reading stopped, and why. There are none if memory was refused to the
+/// reader.
 pub fn explain(alloc: Global, text: &[u8], fault: &ConfigFault) -> Result<Vec<u8>, AllocError>
 {
     match fault {
@@ -100,7 +101,7 @@ fn item_of(alloc: Global, file: File, root: &Table, path: &str) -> Result<Option
     }
 }
 
-/// The key of a dotted path, of this station. Where its table is none, the key of that.
+/// The key of a dotted path, of this station. If its table is none, the key of that.
 fn spot_of<'a>(root: &Table, path: &'a str, item: Option<usize>) -> Spot<'a>
 {
     let Some((table, key)) = path.split_once('.') else {

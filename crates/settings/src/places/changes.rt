@@ -16,7 +16,7 @@ const MARK: &[u8] = b"\"\\u0001\"";
 /// A key, by its table.
 #[derive(Clone, Copy)]
 pub struct Spot<'a> {
-    /// The key of the table; none, where the document itself is meant.
+    /// The key of the table; none, if the document itself is meant.
     pub table: Option<&'a str>,
     /// Which item of an array of tables is meant, from 0, if it is one.
     pub item: Option<usize>,
@@ -32,16 +32,16 @@ enum Sought {
     Gap,
 }
 
-/// The octets of a text that write the value of a key. None, where the text is longer than
-/// [`MOST_OCTETS`], and where the key isn't written as this crate looks for it.
+/// The octets of a text that write the value of a key. None, if the text is longer than
+/// [`MOST_OCTETS`], and if the key isn't written as this crate looks for it.
 pub fn find_value(alloc: Global, text: &[u8], spot: &Spot<'_>) -> Result<Option<Span>, AllocError>
     ensures { IfOk result (IsWithin text.now) }
 {
     first(alloc, text, spot, Sought::Value)
 }
 
-/// The place behind the header below which a key belongs that isn't there. None, where the text is
-/// longer than [`MOST_OCTETS`], and where there is no such header.
+/// The place behind the header below which a key belongs that isn't there. None, if the text is
+/// longer than [`MOST_OCTETS`], and if there is no such header.
 pub fn find_gap(alloc: Global, text: &[u8], spot: &Spot<'_>) -> Result<Option<Span>, AllocError>
     ensures { IfOk result (IsWithin text.now) }
 {

@@ -9,7 +9,7 @@ pub struct Span {
     pub to: usize,
 }
 
-/// The octets of a value, where its key stands at `at`, and behind it an equals sign.
+/// The octets of a value, if its key stands at `at`, and behind it an equals sign.
 pub(crate) fn value_at(text: &[u8], key: &[u8], at: usize) -> Option<Span>
     requires { at ≤ length text.now }
     ensures { IsWithin text.now result }
@@ -21,7 +21,7 @@ pub(crate) fn value_at(text: &[u8], key: &[u8], at: usize) -> Option<Span>
     }
 }
 
-/// The octets of a value behind an equals sign, where one stands here.
+/// The octets of a value behind an equals sign, if one stands here.
 fn value_behind(text: &[u8], equals: usize) -> Option<Span>
     requires { equals ≤ length text.now }
     ensures { IsWithin text.now result }

@@ -1,6 +1,6 @@
 //! What is wanted of each key, in words: the table of docs/SITE.md.
 
-/// What is wanted of the value of the key with this dotted path, in words; none, where there is no
+/// What is wanted of the value of the key with this dotted path, in words; none, if there is no
 /// such key.
 pub fn site_values(path: &str) -> Option<&'static str>
 {

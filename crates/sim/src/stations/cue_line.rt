@@ -150,8 +150,8 @@ fn timed(
     }))
 }
 
-/// What a line says, where there are so many stations and link addresses have this size. `None`
-/// where it says nothing.
+/// What a line says, if there are so many stations and link addresses have this size. `None` if it
+/// says nothing.
 pub(crate) fn read_cue(
     alloc: Global,
     size: LinkSize,

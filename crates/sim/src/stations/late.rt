@@ -65,7 +65,7 @@ impl Late {
     }
 }
 
-/// How late a line has the answer to a request go out. `None` where it doesn't speak of it.
+/// How late a line has the answer to a request go out. `None` if it doesn't speak of it.
 fn delay_in(request: u64, cue: &Cue) -> Option<u64>
     ensures { result ≡ delay_in request cue.now }
 {

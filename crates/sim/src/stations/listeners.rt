@@ -23,7 +23,7 @@ impl<'a, R: Net<Listener = TcpListener, Stream = TcpStream> + Eprint + Files> Li
     ///
     /// # Errors
     ///
-    /// Those of the system, and `InvalidInput` where the text is neither.
+    /// Those of the system, and `InvalidInput` if the text is neither.
     // What the system binds, and where, no clause can say: a listener holds a number of the
     // system's alone (checks/stations.py connects by both ways).
     pub fn listen(rt: &'a R, place: &str) -> io::Result<LineListener<'a, R>> {

@@ -10,7 +10,7 @@ use std::alloc::{AllocError, Global};
 /// A station of the settings, with the name that the site gives it.
 #[derive(Drop)]
 pub(crate) struct Known {
-    /// Empty where it has none.
+    /// Empty if it has none.
     pub(crate) name: String,
     pub(crate) common_address: u16,
 }

@@ -43,9 +43,9 @@ pub fn each_station_has_its_row()
         length s.stations.now ≡ length c.stations }
 {}
 
-/// Where no connection is open, nobody is shown as connected and data transfer isn't shown as
-/// started. That is so since the first look that found no connection. Where one is open, somebody
-/// is shown since it was opened, and data transfer is shown as started just if it is.
+/// If no connection is open, nobody is shown as connected and data transfer isn't shown as started.
+/// That is so since the first look that found no connection. If one is open, somebody is shown
+/// since it was opened, and data transfer is shown as started just if it is.
 pub fn the_centre_is_shown_as_it_is()
     ensures nobody { (c : Settings) (names : LogNames) (keeps : Bool) (looks : List Look)
         (last : Look) (s : Snapshot) → IsSight c names keeps looks last s → IsClosed last →

@@ -17,7 +17,7 @@ pub(crate) fn cause_in(octet: u8) -> u8
     octet & 0x3F
 }
 
-/// 1 where it is set.
+/// 1 if it is set.
 pub(crate) fn flag(is_set: bool) -> u8
     ensures { result ≡ flag is_set }
 {

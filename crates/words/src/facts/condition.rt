@@ -22,7 +22,7 @@ pub struct Shown {
 }
 
 impl Condition {
-    /// The condition where so many octets follow the frame.
+    /// The condition if so many octets follow the frame.
     pub(crate) fn with_rest(self, rest: usize) -> Condition
         ensures { result ≡ with_rest rest self }
     {
@@ -30,7 +30,7 @@ impl Condition {
     }
 }
 
-/// Appends the line for the octets after a frame, where there are any.
+/// Appends the line for the octets after a frame, if there are any.
 pub(crate) fn push_rest(lines: &mut String, rest: usize) -> Result<(), AllocError>
     ensures { OnOk result (string_bytes lines.new ≡ string_bytes lines.old ++ rest_line rest) }
 {

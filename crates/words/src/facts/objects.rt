@@ -22,7 +22,7 @@ fn verdict_text(alloc: Global, verdict: Verdict) -> Result<String, AllocError>
     }
 }
 
-/// A time tag in hexadecimal and the verdict on it; nothing where there is none.
+/// A time tag in hexadecimal and the verdict on it; nothing if there is none.
 fn tag_text(alloc: Global, tag: Option<&[u8]>) -> Result<String, AllocError>
     requires { ForSome tag (λ octets. length octets.now ≡ 7) }
     ensures { IfOk result (λ text. string_bytes text ≡ tag_text (option_copied tag.entry)) }

@@ -15,7 +15,7 @@ pub struct LineSizes {
 }
 
 /// The sizes that four digits name: of the link address (1 or 2 octets), the cause (1 or 2), the
-/// common address (1 or 2) and the object address (1 to 3), as `1112`. `None` where the text is
+/// common address (1 or 2) and the object address (1 to 3), as `1112`. `None` if the text is
 /// anything else.
 pub fn read_sizes(text: &str) -> Option<LineSizes>
     ensures { result ≡ sizes_of text.now }

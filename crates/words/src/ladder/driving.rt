@@ -13,11 +13,11 @@ use gateway::{End, Gateway, drive_on};
 use std::io::Write;
 use traces::{Paged, print_behind};
 
-/// So many turns pass before their lines are printed: some 30 KB, where each event has an action.
+/// So many turns pass before their lines are printed: some 30 KB, if each event has an action.
 const PART: u64 = 256;
 
 /// Takes the events of the port in a ladder one after another, at most so many, as `drive_on` does,
-/// and prints the ladder's lines while it goes on. Where the output fails, or has failed before,
+/// and prints the ladder's lines while it goes on. If the output fails, or has failed before,
 /// nothing more is printed, and the run goes on to its end: the second answer is whether all was
 /// printed. After `Device`, which says that the port failed or memory was refused to a line, what
 /// was printed are the lines of the run up to some turn before.
@@ -51,7 +51,7 @@ pub fn drive_in_words<P: Paged + Drop, W: Write>(
     ensures so_far { (out.new ≡ out.old) ⊎ ((p : Setup) →
         Follows p gateway.old (P.log ladder.old.port) → Rests p (P.log ladder.old.port) →
         IsFaithful p ladder.new.scribe.poured) }
-    // All of the log was printed, or a beginning, where that is so of what was before.
+    // All of the log was printed, or a beginning, if that is so of what was before.
     ensures all { UnlessDevice result.0 (P.log ladder.new.port ≡ Some ladder.new.scribe.poured) }
     ensures cleared { UnlessDevice result.0
         (P.log ladder.new.port ≡ Some (P.poured ladder.new.port)) }
@@ -77,7 +77,7 @@ pub fn drive_in_words<P: Paged + Drop, W: Write>(
 }
 
 /// Prints the lines on the page behind a part of a run that ended so, unless the output failed
-/// before, and takes them off it. Where memory was refused to a line the device has failed.
+/// before, and takes them off it. If memory was refused to a line the device has failed.
 fn pour<P: Paged + Drop, W: Write>(
     ladder: &mut Ladder<P>,
     end: End,

@@ -17,7 +17,7 @@ use apci::{Apdu, Received as ApduReceived};
 use gateway::{Action, Next};
 use std::alloc::{AllocError, Global};
 
-/// Appends the lines of an event, whose octets are the front of the buffer. Where only time passes
+/// Appends the lines of an event, whose octets are the front of the buffer. If only time passes
 /// there is none.
 pub(crate) fn push_event(
     alloc: Global,
@@ -127,7 +127,7 @@ fn push_apdu_words(
     }
 }
 
-/// Appends an APDU, where one is whole.
+/// Appends an APDU, if one is whole.
 fn push_whole(alloc: Global, text: &mut String, whole: &Option<Apdu>) -> Result<(), AllocError>
     ensures { OnOk result (string_bytes text.new
         ≡ string_bytes text.old ++ whole_words whole.now) }

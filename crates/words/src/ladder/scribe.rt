@@ -56,7 +56,7 @@ impl Model for Scribe {
 
 impl Scribe {
     /// One before the first event, on whose line addresses have these sizes. The lines show colours
-    /// where it is said so: that they go to a terminal is the caller's to know.
+    /// if it is said so: that they go to a terminal is the caller's to know.
     pub fn new(alloc: Global, style: Style) -> Scribe
         ensures { result ≡ record {
           style = style;

@@ -3,7 +3,7 @@ use Rattle.std.specs.List.{AllByRecursion}
 use Rattle.asdu.specs.Objects.{infos_left}
 use Rattle.asdu.proofs.writing.addresses_fit.Given as goal
 
--- the addresses that are left fit exactly where all do
+-- the addresses that are left fit exactly if all do
 abbrev pub invariant-loop-object : goal.invariant-loop-object
 invariant-loop-object l = record {
   can : goal.iterator-loop-object.can_next l.object-iterator;

@@ -10,7 +10,7 @@ use Rattle.command.specs.declared.content.Target.{Target}
 use Rattle.command.specs.declared.tags.Sending.{Sending}
 use Rattle.command.proofs.tags.newest_tag.Goals as goal
 
--- the last sending decides, where it has the target
+-- the last sending decides, if it has the target
 newest_last : (t : Target) (found : Option Cp56) (zs : List Sending) (z : Sending)
     → newest_tag t found (zs ++ z ∷ []) ≡ (if same_target z.target t then z.tag
     else newest_tag t found zs)

@@ -10,7 +10,7 @@ use Rattle.library_example.proofs.receiving.data_of.Goals.{in_default-via-in-Who
 use Rattle.library_example.proofs.receiving.data_of.Goals.{in_default-via-in-Whole+in_default}
 use Rattle.library_example.proofs.receiving.data_of.Goals.{in_default-via-in_default}
 
--- The octets have one front. Where they are such a frame it is that one, whole.
+-- The octets have one front. If they are such a frame it is that one, whole.
 pub returns-in_default-clause-only : goal.returns-in_default-clause-only
 returns-in_default-clause-only c = λ body is.
     let octets = c.args.octets.now in

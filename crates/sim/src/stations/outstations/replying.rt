@@ -45,8 +45,8 @@ pub(super) fn none_replied(alloc: Global, stations: usize) -> Result<Vec<ReplyPr
     Ok(all)
 }
 
-/// How a line has a station reply to commands: whether it refuses them. `None` where it says
-/// nothing of that.
+/// How a line has a station reply to commands: whether it refuses them. `None` if it says nothing
+/// of that.
 fn manner_in(station: usize, cue: &Cue) -> Option<bool>
     ensures { result ≡ manner_in station cue.now }
 {

@@ -14,7 +14,7 @@ returns-in_err-ends-clause-fault g c =
     c.from_residual-in_err-ends.ensures.1
     (end_is_kept c.in_err-ends.field-0.0 c.in_err-ends.ensures.fault)
 
--- what was asked for, where the clock begins at this moment
+-- what was asked for, if the clock begins at this moment
 clocked : (again : Bool) (at moment : ℕ) (calls : List SiteCall) (status : Option (Bor Text))
     (first scribed begun ended : Asked) → at ≡ moment → ended ≡ ends_asked again at begun
     → begun ≡ asked_for calls scribed → scribed ≡ scribes_asked status first
