@@ -1,48 +1,18 @@
 -- Octets cut into frames.
-use Rattle.std.proofs.Common.{◌≡◌, ℕ, zero, suc, ◌<◌, ◌≤◌, List, ◌∷◌, ◌++◌, length, take, drop}
-use Rattle.std.proofs.Common.{refl, ap, ◌∙◌, arith}
-use Rattle.std.proofs.lemmas.List.{append_assoc, take-append-drop, length-append}
-use Rattle.std.specs.List.{flat_map}
+use Rattle.std.proofs.Common.{◌≡◌, ℕ, zero, suc, ◌<◌, ◌≤◌, List, ◌∷◌, ◌++◌, length}
+use Rattle.std.proofs.Common.{refl, ap, arith}
+use Rattle.std.proofs.lemmas.List.{length-append}
 use Rattle.ft12.specs.Borrowed.{owned_front}
-use Rattle.ft12.specs.Fronts.{front_of}
 use Rattle.ft12.specs.Reading.{IsFront, IsProperBeginning}
 use Rattle.ft12.specs.Spelling.{spelling, Fits}
 use Rattle.ft12.specs.declared.frame.Frame.{Frame}
 use Rattle.ft12.specs.declared.frame.Frame.TheVariants.{Single, Fixed, Data}
-use Rattle.ft12.specs.declared.frame.Front.{Front}
 use Rattle.ft12.specs.declared.frame.Front.TheVariants.{Whole, More, Never}
 use Rattle.ft12.specs.declared.frame.FrameRef.{FrameRef}
 use Rattle.ft12.specs.declared.frame.FrontRef.{FrontRef}
 use Rattle.ft12.specs.declared.frame.FrontRef.TheVariants as lent
 use Rattle.ft12.specs.declared.frame.LinkSize.{LinkSize}
 use Rattle.ft12.specs.declared.frame.LinkSize.TheVariants.{One, Two}
-use Rattle.record.specs.Wires.{Cut, cut_at, cut_up_to, cut_of}
-
--- lists joined
-abbrev pub flat : List (List ℕ) → List ℕ
-flat xss = flat_map (λ (xs : List ℕ). xs) xss
-
--- the frames and the rest, joined, are the octets
-at_joined : (f : Front) (xs : List ℕ) (next : List ℕ → Cut) →
-    ((ys : List ℕ) → flat (next ys).frames ++ (next ys).rest ≡ ys) →
-    flat (cut_at f xs next).frames ++ (cut_at f xs next).rest ≡ xs
-at_joined (Whole frame n) xs next h =
-    append_assoc (take n xs) (flat (next (drop n xs)).frames) (next (drop n xs)).rest
-    ∙ (ap (λ (ys : List ℕ). take n xs ++ ys) (h (drop n xs)) ∙ take-append-drop n xs)
-at_joined More xs next h = refl
-at_joined (Never place why) xs next h = refl
-
-pub up_to_joined : (most : ℕ) (size : LinkSize) (xs : List ℕ) →
-    flat (cut_up_to most size xs).frames ++ (cut_up_to most size xs).rest ≡ xs
-up_to_joined zero size xs = refl
-up_to_joined (suc most) size xs =
-    at_joined (front_of size xs) xs (cut_up_to most size) (up_to_joined most size)
-
-pub cut_joined : (size : LinkSize) (xs : List ℕ) →
-    flat (cut_of size xs).frames ++ (cut_of size xs).rest ≡ xs
-cut_joined size xs = up_to_joined (length xs) size xs
-
--- ---- Lengths
 
 -- a spelling has 261 octets at most
 spelling_short : (size : LinkSize) (frame : Frame) → Fits size frame →

@@ -1,128 +1,32 @@
 -- A record that is run part by part.
-use Rattle.std.proofs.Common.{◌≡◌, ℕ, ◌+◌, true, cond, length, List, [], ◌∷◌, ◌++◌, Option, Some}
-use Rattle.std.proofs.Common.{None, refl, ap, sym, ◌∙◌, subst, append_assoc, arith}
+use Rattle.std.proofs.Common.{◌≡◌, ℕ, ◌+◌, true, cond, length, List, [], ◌++◌, Option, Some}
+use Rattle.std.proofs.Common.{None, refl, ap, sym, ◌∙◌, subst, arith}
 use Rattle.std.proofs.lemmas.List.{append-nil, length-append, map-append}
 use Rattle.std.proofs.lemmas.List.Sums.{sum_by-append}
 use Rattle.std.specs.List.{AllByRecursion, count_by}
 use Rattle.std.specs.Option.{is_none}
 use Rattle.gateway.specs.Agrees.{Follows, Rests}
 use Rattle.gateway.specs.Config.{Settings}
-use Rattle.gateway.specs.Log.{Log, events_of}
-use Rattle.gateway.specs.Ports.{logged_by}
+use Rattle.gateway.specs.Log.{events_of}
 use Rattle.gateway.specs.Setups.{setup_of}
 use Rattle.gateway.specs.State.{State}
 use Rattle.gateway.specs.Traffic.{HasRested}
-use Rattle.gateway.specs.declared.ports.Next.{Next}
 use Rattle.gateway.specs.declared.ports.Next.TheVariants as answers
 use Rattle.traces.specs.Fields.{parts_after}
-use Rattle.traces.specs.Printed.{IsPrintable, lines_of_log}
+use Rattle.traces.specs.Printed.{lines_of_log}
 use Rattle.traces.specs.Progress.{events_in, IsRight}
 use Rattle.traces.specs.Trace.{first_wrong}
 use Rattle.traces.proofs.JoinedLemmas.{events_joined, none_wrong_from, wrong_behind}
 use Rattle.traces.proofs.ProgressLemmas.{none_wrong}
 use Rattle.record.proofs.LineLemmas.{page_lines}
 use Rattle.record.specs.Comparing.{IsCompared}
-use Rattle.record.specs.Passing.{IsNext}
 use Rattle.record.specs.Lines.{event_line, event_lines, is_action, whole_lines}
 use Rattle.record.specs.Opening.{BeginsBehind}
-use Rattle.record.specs.Rerunning.{Halted, IsHalted, Rerunning, IsRerunning, RunsSoFar, Stands}
+use Rattle.record.specs.Rerunning.{Halted, Rerunning, IsRerunning, RunsSoFar, Stands}
 use Rattle.record.specs.Rerunning.{whole_log}
 use Rattle.record.specs.declared.audit.comparing.Agreement.{Agreement}
-use Rattle.record.specs.declared.audit.passing.LineCounts.{LineCounts}
 
 -- The log
-
--- an answer comes behind the events before it, and its line behind theirs
-events_logged : (next : Next) (buf : List ℕ) (log : Log) → events_of (logged_by next buf ++ log)
-    ≡ events_of log ++ logged_by next buf
-events_logged (answers.Line now len) buf log = refl
-events_logged (answers.Open now) buf log = refl
-events_logged (answers.Bytes now len) buf log = refl
-events_logged (answers.Cut now) buf log = refl
-events_logged (answers.Tick now) buf log = refl
-events_logged (answers.Wall now number) buf log = refl
-events_logged answers.Done buf log = sym (append-nil (events_of log))
-events_logged answers.Fault buf log = sym (append-nil (events_of log))
-
-lines_logged : (next : Next) (buf : List ℕ) (log : Log)
-    → lines_of_log (logged_by next buf ++ log) ≡ lines_of_log log
-    ++ lines_of_log (logged_by next buf)
-lines_logged (answers.Line now len) buf log = refl
-lines_logged (answers.Open now) buf log = refl
-lines_logged (answers.Bytes now len) buf log = refl
-lines_logged (answers.Cut now) buf log = refl
-lines_logged (answers.Tick now) buf log = refl
-lines_logged (answers.Wall now number) buf log = refl
-lines_logged answers.Done buf log = sym (append-nil (lines_of_log log))
-lines_logged answers.Fault buf log = sym (append-nil (lines_of_log log))
-
-both_all : {A : Type 0} (P : A → Type 0) (xs ys : List A) → AllByRecursion P xs
-    → AllByRecursion P ys → AllByRecursion P (xs ++ ys)
-both_all P [] ys all more = more
-both_all P (x ∷ xs) ys all more = (all.0, both_all P xs ys all.1 more)
-
--- The port
-
--- a part begins
-pub begun : (h : Halted) (part : Option (List ℕ)) (earlier : Log) → earlier ≡ h.log → IsHalted h
-    → IsRerunning (record {
-      part = part;
-      start = record { tally = h.tally; log = earlier; past = h.past };
-      left = part;
-      now = h;
-      page = [];
-      failed = 0;
-    })
-begun h part earlier same halted = record {
-  halted = halted;
-  past = refl;
-  whole = ap (λ log. events_of log ++ events_in (event_lines (parts_after 10 part))) (sym same);
-  right = λ all. all;
-  lines = refl;
-  actions = refl;
-  page = append-nil (lines_of_log earlier) ∙ ap lines_of_log same;
-}
-
--- an event came, or none does any more
-pub came : (r : Rerunning) (page : List ℕ) (left : Option (List ℕ)) (tally : LineCounts)
-    (next : Next)
-    (buf : List ℕ)
-    → IsRerunning r → IsNext (parts_after 10 r.left) r.now.tally next buf left tally
-    → page ≡ r.page ++ lines_of_log (logged_by next buf)
-    → AllByRecursion IsPrintable (logged_by next buf)
-    → IsRerunning (record r {
-      left = left;
-      now = record { tally = tally; log = logged_by next buf ++ r.now.log; past = r.now.past };
-      page = page;
-    })
-came r page left tally next buf holds found printed printable = record {
-  halted = record {
-    few = found.few;
-    events =
-        let count : length (events_of (logged_by next buf ++ r.now.log))
-        ≡ length (events_of r.now.log ++ logged_by next buf) =
-        ap length (events_logged next buf r.now.log) in
-        let split = length-append (events_of r.now.log) (logged_by next buf) in
-        omega (arith, count, split, found.passes.events, holds.halted.events);
-    printable = both_all IsPrintable (logged_by next buf) r.now.log printable
-        holds.halted.printable;
-  };
-  past = holds.past;
-  whole =
-      let rest = events_in (event_lines (parts_after 10 left)) in
-      ap (λ es. es ++ rest) (events_logged next buf r.now.log)
-      ∙ append_assoc (events_of r.now.log) (logged_by next buf) rest
-      ∙ ap (λ es. events_of r.now.log ++ es) found.passes.logged ∙ holds.whole;
-  right = λ all. holds.right (found.passes.right all);
-  lines = found.passes.counted ∙ holds.lines;
-  actions = found.passes.actions ∙ holds.actions;
-  page = ap (λ xs. lines_of_log r.start.log ++ xs) printed
-      ∙ sym (append_assoc (lines_of_log r.start.log) r.page (lines_of_log (logged_by next buf)))
-      ∙ ap (λ xs. xs ++ lines_of_log (logged_by next buf)) holds.page
-      ∙ sym (lines_logged next buf r.now.log);
-}
-
--- Part by part
 
 none_left : (left : Option (List ℕ)) → is_none left ≡ true → left ≡ None
 none_left None over = refl

@@ -183,12 +183,6 @@ held_logged reads old new news ok kept goes is =
     ap log_of is ∙ logged_more reads old.taken old.held old.missed news ok kept.written
     (kept.whole goes)
 
-logged_missed : (t : Option (List ℕ)) (missed : Option Log) (news : Log)
-    → logged_behind t (with_news missed news) ≡ with_news (logged_behind t missed) news
-logged_missed None missed news = refl
-logged_missed (Some text) None news = refl
-logged_missed (Some text) (Some log) news = ap Some (append_assoc news log (log_in text))
-
 -- what holds if a call succeeds
 pub on_success : {T E : Type 0} (r : Result T E) (P : Type 0) → is_err r ≡ false → OnOk r P → P
 on_success (Ok v) P good h = h

@@ -1,8 +1,7 @@
 -- The moments of a record as times of the wall clock.
-use Rattle.std.specs.Prelude.{ℕ, ◌-◌, ◌+◌, ◌*◌, ◌^◌, min, max, List, [], ◌∷◌, unwrap_or}
+use Rattle.std.specs.Prelude.{ℕ, ◌-◌, ◌+◌, ◌*◌, ◌^◌, min, max}
 use Rattle.record.specs.declared.capture.clock.Clock.{Clock}
-use Rattle.gateway.specs.Log.{Log, LogEntry, Came, Went, WallIs, last_moment, latest}
-use Rattle.gateway.specs.Walls.{wall_on}
+use Rattle.gateway.specs.Log.{LogEntry, Came, Went, WallIs, last_moment, latest}
 
 -- an event comes: a moment that goes back counts as the greatest so far, and one past the last as
 -- the last
@@ -22,18 +21,3 @@ clock_after clock (Went now action) = clock
 abbrev pub micros_of : Clock → ℕ
 micros_of clock =
     min (min (clock.wall + (clock.latest - clock.wall_at)) (2 ^ 64 - 1) * 1000) (2 ^ 64 - 1)
-
--- The same of a log: the wall clock at its latest moment, by the latest event that gave it. Before
--- any gave it, the moment itself counts as the time.
-abbrev pub time_of : Log → ℕ
-time_of log = min (unwrap_or (wall_on log (latest log)) (latest log) * 1000) (2 ^ 64 - 1)
-
--- a log with entries behind it
-abbrev pub behind : Log → List LogEntry → Log
-behind log [] = log
-behind log (entry ∷ entries) = behind (entry ∷ log) entries
-
--- the times of entries, one after another, behind a log
-abbrev pub times_of : Log → List LogEntry → List ℕ
-times_of log [] = []
-times_of log (entry ∷ entries) = time_of (entry ∷ log) ∷ times_of (entry ∷ log) entries

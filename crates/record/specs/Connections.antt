@@ -1,5 +1,5 @@
 -- The connection as segments: what is sent at each deed (RFC 9293), and whose octets they carry.
-use Rattle.std.specs.Prelude.{◌≡◌, ℕ, ◌+◌, ◌%◌, ◌^◌, ◌==◌, Bool, true, false, if◌then◌else◌, List}
+use Rattle.std.specs.Prelude.{ℕ, ◌+◌, ◌%◌, ◌^◌, ◌==◌, Bool, true, false, if◌then◌else◌, List}
 use Rattle.std.specs.Prelude.{[], ◌∷◌, ◌++◌, length}
 use Rattle.std.specs.List.{flat_map}
 use Rattle.record.specs.declared.capture.connection.Connection.{Connection}
@@ -118,11 +118,3 @@ sent_in c [] = []
 sent_in c (deed ∷ deeds) = sent_at c deed ++ sent_in (after c deed) deeds
 
 -- ---- Octets
-
--- the data of segments that go one way, joined
-abbrev pub data_of : (is_up : Bool) → Sent → List ℕ
-data_of true s = if s.segment.is_up then s.payload else []
-data_of false s = if s.segment.is_up then [] else s.payload
-
-abbrev pub joined : (is_up : Bool) → List Sent → List ℕ
-joined is_up sent = flat_map (data_of is_up) sent

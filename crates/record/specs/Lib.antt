@@ -12,7 +12,6 @@ pub mod Steps
 pub mod Octets
 pub mod Blocks
 pub mod Segments
-pub mod Formats
 pub mod Connections
 pub mod Wires
 pub mod Clocks
@@ -20,5 +19,4 @@ pub mod Recorded
 pub mod Entries
 pub mod CaptureExamples
 pub mod Captures
-pub mod Readers
 pub mod Texts

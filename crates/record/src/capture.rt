@@ -11,13 +11,9 @@
 //!
 //! Proved: what each call appends are the octets of one definition (`specs/Captures.antt`), and a
 //! line that is neither an event nor an action, nor empty or a comment, is reported, and appends
-//! nothing. Above it, for every record: the data of the segments that go one way, joined, are the
-//! octets that TCP took or brought by its lines, and so for the line;
-//! the packets of each line stand at the time of the wall clock
-//! ([`packets_stand_at_their_times`]); each end numbers its segments on, from SYN to FIN or RST,
-//! and acknowledges what the other has sent. A reader finds each packet in
-//! the octets again, by the rules of pcapng, IPv4 and TCP ([`captures_are_read_back`]). Comments
-//! have worked examples ([`comments_by_example`]).
+//! nothing. The definition has the data of each segment and of each packet of the line, their time
+//! by the wall clock, and the numbers of the segments, from SYN to FIN or RST. Comments have worked
+//! examples ([`comments_by_example`]).
 //!
 //! [`capture_text`] writes the capture of a whole record, which is read block by block, and which
 //! lines of it were cut short it knows as `audit` does. Proved: what it writes is the file of the
@@ -32,7 +28,6 @@ mod clock;
 mod connection;
 mod entry;
 pub(crate) mod examples;
-pub(crate) mod laws;
 mod octets;
 mod passing;
 pub(crate) mod pcapng;

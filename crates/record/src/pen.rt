@@ -1,5 +1,5 @@
 //! Lines that are held, and given to a sheet.
-ghost use Rattle.std.specs.Prelude.{◌≡◌, ◌++◌, ◌∷◌, [], true, IfSome, false};
+ghost use Rattle.std.specs.Prelude.{◌≡◌, ◌∷◌, [], true, IfSome, false};
 ghost use Rattle.std.specs.List.{AllByRecursion};
 ghost use Rattle.gateway.specs.Log.{Went, with_news};
 ghost use Rattle.gateway.specs.Ports.{FitsBuffer, output_of, logged_by};
@@ -56,7 +56,6 @@ impl<W: RecordSheet + Drop> Model for Pen<W> {
 struct StateText(Vec<u8>);
 
 impl Octets for StateText {
-    ghost use Rattle.std.specs.Prelude.{ℕ, List};
 
     ghost appended = { λ text. text.0.items };
 

@@ -1,13 +1,13 @@
 -- The names of stations, item by item.
 use Rattle.std.proofs.Common.{◌≡◌, ℕ, ◌<◌, ◌≤◌, List, [], ◌∷◌, length, drop, get_or, map}
-use Rattle.std.proofs.Common.{Ok, Err, Some, None, refl, ◌==◌}
+use Rattle.std.proofs.Common.{Ok, Err, refl, ◌==◌}
 use Rattle.std.proofs.lemmas.List.{drop_all}
 use Rattle.std.specs.List.{list_any}
 use Rattle.toml.specs.View.{view, items_view}
 use Rattle.toml.specs.declared.value.Value.{Value}
 use Rattle.toml.proofs.Views.{items_view-drop}
 use Rattle.settings.specs.Faults.{Path}
-use Rattle.settings.specs.SiteNames.{Named, named, named_of, stations_from, wrong_from}
+use Rattle.settings.specs.SiteNames.{Named, named, named_of, stations_from}
 use Rattle.settings.specs.declared.site.names.StationName.{StationName}
 
 pub stations_from_wrong : (before : List Named) (vs : List Value) (i : ℕ) (d : Value) (f : Path)
@@ -19,16 +19,6 @@ stations_from_wrong before vs i d f lt e = rw (items_view-drop vs i d lt, e)
 pub stations_from_end : (before : List Named) (vs : List Value) (i : ℕ) → length vs ≤ i
     → stations_from before (items_view (drop i vs)) ≡ Ok before
 stations_from_end before vs i le = rw (drop_all i vs le)
-
-pub wrong_here : (at : ℕ) (before : List Named) (vs : List Value) (i : ℕ) (d : Value) (f : Path)
-    → i < length vs
-    → named_of before (view (get_or vs i d)) ≡ Err f
-    → wrong_from at before (items_view (drop i vs)) ≡ Some at
-wrong_here at before vs i d f lt e = rw (items_view-drop vs i d lt, e)
-
-pub wrong_end : (at : ℕ) (before : List Named) (vs : List Value) (i : ℕ) → length vs ≤ i
-    → wrong_from at before (items_view (drop i vs)) ≡ None
-wrong_end at before vs i le = rw (drop_all i vs le)
 
 -- a link address is among the names if it is among those that the code keeps
 pub any_named : (link : ℕ) (stations : List StationName)

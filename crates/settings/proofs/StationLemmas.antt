@@ -1,6 +1,6 @@
 -- The list of stations, item by item.
 use Rattle.std.proofs.Common.{◌≡◌, ℕ, ◌+◌, ◌<◌, ◌≤◌, ◌==◌, false, suc, List, [], ◌∷◌, ◌++◌, length}
-use Rattle.std.proofs.Common.{drop, get_or, Ok, Err, Some, None, refl, ap}
+use Rattle.std.proofs.Common.{drop, get_or, Ok, Err, refl, ap}
 use Rattle.std.proofs.lemmas.Bool.{or_parts, eqb-false}
 use Rattle.std.proofs.lemmas.List.{drop_all}
 use Rattle.std.specs.List.{list_any, AllByRecursion}
@@ -11,7 +11,7 @@ use Rattle.ft12.specs.declared.frame.LinkSize.{LinkSize}
 use Rattle.asdu.specs.declared.sizes.CaSize.{CaSize}
 use Rattle.settings.specs.Faults.{Path}
 use Rattle.gateway.specs.Config.{AreApart, AreDistinct, IsStation}
-use Rattle.settings.specs.Stations.{IsNext, count_of, station_of, stations_from, wrong_from}
+use Rattle.settings.specs.Stations.{IsNext, count_of, station_of, stations_from}
 use Rattle.gateway.specs.declared.settings.StationSettings.{StationSettings}
 
 pub count_of_view : (vs : List Value) → count_of (items_view vs) ≡ length vs
@@ -38,17 +38,6 @@ pub stations_from_end : (link : LinkSize) (ca : CaSize) (before : List StationSe
     (i : ℕ)
     → length vs ≤ i → stations_from link ca before (items_view (drop i vs)) ≡ Ok before
 stations_from_end link ca before vs i le = rw (drop_all i vs le)
-
-pub wrong_here : (link : LinkSize) (ca : CaSize) (at : ℕ) (before : List StationSettings)
-    (vs : List Value) (i : ℕ) (d : Value) (f : Path) → i < length vs
-    → station_of link ca before (view (get_or vs i d)) ≡ Err f
-    → wrong_from link ca at before (items_view (drop i vs)) ≡ Some at
-wrong_here link ca at before vs i d f lt e = rw (items_view-drop vs i d lt, e)
-
-pub wrong_end : (link : LinkSize) (ca : CaSize) (at : ℕ) (before : List StationSettings)
-    (vs : List Value) (i : ℕ) → length vs ≤ i
-    → wrong_from link ca at before (items_view (drop i vs)) ≡ None
-wrong_end link ca at before vs i le = rw (drop_all i vs le)
 
 -- one more at the end, of which P holds
 all_more : {X : Type 0} (P : X → Type 0) (xs : List X) (x : X) → AllByRecursion P xs → P x

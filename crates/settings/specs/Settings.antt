@@ -2,7 +2,7 @@
 -- (this gateway's own profile). The keys and their values stand in `Line.antt`, `Tcp.antt`,
 -- `Stations.antt` and `Live.antt`, in the order in which they are judged. A default is judged like
 -- a given value. Where `line`, `tcp` or `live` is no table, its first key is wrong.
-use Rattle.std.specs.Prelude.{◌≡◌, ℕ, Bool, true, false, codes, List, [], Option, Some, None}
+use Rattle.std.specs.Prelude.{◌≡◌, ℕ, Bool, true, false, codes, List, [], Some, None}
 use Rattle.std.specs.Prelude.{Result, Ok, Err, IsOk, IsUtf8, MatchResult}
 use Rattle.toml.specs.Data.{Members, get_member}
 use Rattle.toml.specs.Parse.{parse_document}
@@ -13,7 +13,7 @@ use Rattle.settings.specs.Keys.{section_of}
 use Rattle.settings.specs.Line.{Line, line_of, line_settings}
 use Rattle.settings.specs.Live.{live_keys, live_places, Places, places_of}
 use Rattle.settings.specs.declared.live.LiveSettings.{LiveSettings}
-use Rattle.settings.specs.Stations.{stations_of, wrong_of}
+use Rattle.settings.specs.Stations.{stations_of}
 use Rattle.settings.specs.Tcp.{Tcp, tcp_of, tcp_settings}
 use Rattle.settings.specs.Unknown.{unknown_paths, IsLeastUnknown}
 use Rattle.settings.specs.declared.fault.ConfigFault.{ConfigFault}
@@ -53,18 +53,6 @@ known_live root = do
   vt ← section_of (codes "live") (codes "live.line") root
   places ← live_places vt
   Ok (v, places)
-
--- which station of a file is the first that is wrong, counted from 0: none, where the line is
-abbrev pub wrong_behind : Members → Result Line Path → Option ℕ
-wrong_behind root (Err path) = None
-wrong_behind root (Ok l) = wrong_of l.link l.sizes.ca (get_member (codes "station") root)
-
--- the values of the line
-abbrev pub line_values : Members → Result Line Path
-line_values root = section_of (codes "line") (codes "line.link") root >>= line_settings
-
-abbrev pub wrong_station : Members → Option ℕ
-wrong_station root = wrong_behind root (line_values root)
 
 -- the settings of a live run, as values
 abbrev pub live_values_of : Settings × LiveSettings → Values × Places

@@ -5,7 +5,7 @@ use Rattle.std.specs.Prelude.{Some}
 use Rattle.std.specs.Prelude.{None, Result, Ok, Err, Vec, MatchResult, map, string_bytes}
 use Rattle.std.specs.List.{list_any}
 use Rattle.std.specs.declared.alloc.Global.{Global}
-use Rattle.toml.specs.Data.{Data, Items, no_items, item, Members, as_array, as_table, get_member}
+use Rattle.toml.specs.Data.{Data, Items, no_items, item, Members, as_array, as_table}
 use Rattle.settings.specs.Faults.{Path, ◌>>=◌}
 use Rattle.settings.specs.Keys.{row, whole_of}
 use Rattle.settings.specs.SiteFaults.{IsWrongKeyOf}
@@ -62,28 +62,6 @@ stations_in (Some ds) = stations_from [] ds
 abbrev pub stations_of : Option Data → Result (List Named) Path
 stations_of None = Ok []
 stations_of (Some d) = stations_in (as_array d)
-
--- which item is the first that is wrong, where so many stand before these
-abbrev pub or_later : (at : ℕ) → (Named → Option ℕ) → Result Named Path → Option ℕ
-or_later at later (Err path) = Some at
-or_later at later (Ok s) = later s
-
-abbrev pub wrong_from : (at : ℕ) → List Named → Items → Option ℕ
-wrong_from at before no_items = None
-wrong_from at before (item d ds) =
-    or_later at (λ s. wrong_from (at + 1) (before ++ s ∷ []) ds) (named_of before d)
-
-abbrev pub wrong_in : Option Items → Option ℕ
-wrong_in None = None
-wrong_in (Some ds) = wrong_from 0 [] ds
-
-abbrev pub wrong_of : Option Data → Option ℕ
-wrong_of None = None
-wrong_of (Some d) = wrong_in (as_array d)
-
--- which station of a file is the first that is wrong, counted from 0
-abbrev pub wrong_station : Members → Option ℕ
-wrong_station root = wrong_of (get_member (codes "station") root)
 
 -- the name that was read is the expected one, and a fault is the expected wrong key or want of
 -- memory

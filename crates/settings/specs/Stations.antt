@@ -84,26 +84,6 @@ abbrev pub stations_of : LinkSize → CaSize → Option Data → Result (List St
 stations_of link ca None = Err (codes "station")
 stations_of link ca (Some d) = stations_in link ca (as_array d)
 
--- which item is the first that is wrong, where so many stand before these
-abbrev pub or_later : (at : ℕ) → (StationSettings → Option ℕ) → Result StationSettings Path
-    → Option ℕ
-or_later at later (Err path) = Some at
-or_later at later (Ok s) = later s
-
-abbrev pub wrong_from : LinkSize → CaSize → (at : ℕ) → List StationSettings → Items → Option ℕ
-wrong_from link ca at before no_items = None
-wrong_from link ca at before (item d ds) =
-    or_later at (λ s. wrong_from link ca (at + 1) (before ++ s ∷ []) ds)
-    (station_of link ca before d)
-
-abbrev pub wrong_in : LinkSize → CaSize → Option Items → Option ℕ
-wrong_in link ca None = None
-wrong_in link ca (Some ds) = wrong_from link ca 0 [] ds
-
-abbrev pub wrong_of : LinkSize → CaSize → Option Data → Option ℕ
-wrong_of link ca None = None
-wrong_of link ca (Some d) = wrong_in link ca (as_array d)
-
 -- the list that was read is the expected one, and a fault is the expected wrong key or want of
 -- memory
 abbrev pub IsAsExpected : Result (List StationSettings) Path →

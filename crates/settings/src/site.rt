@@ -16,13 +16,11 @@ ghost use Rattle.settings.specs.Site.{known_site, names_of, places_of, site_of, 
 
 mod fault;
 mod keys;
-mod named;
 mod names;
 mod unknown;
 mod wanted;
 
 pub use self::fault::SiteFault;
-pub use self::named::{named_sites_are_read, other_site_keys_are_refused};
 pub use self::names::{Names, StationName, wrong_station};
 pub use self::wanted::site_values;
 use crate::fault::WrongKey;

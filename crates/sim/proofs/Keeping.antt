@@ -8,7 +8,6 @@ use Rattle.ft12.specs.Spelling.{Fits}
 use Rattle.link.specs.Secondary.{Secondary}
 use Rattle.gateway.specs.Log.{Log, LogEntry, Came, Went, Input, LineOut, TcpOut, Closed, GapOut}
 use Rattle.gateway.specs.Log.{last_moment}
-use Rattle.gateway.specs.declared.ports.Next.{Next}
 use Rattle.session.specs.declared.kinds.Close.{Close}
 use Rattle.sim.specs.declared.centre.Centre.{Centre}
 use Rattle.sim.specs.Centres.{shut, after_receiving}

@@ -18,7 +18,6 @@ pub mod Honest
 pub mod Few
 pub mod Serviceable
 pub mod Served
-pub mod Closing
 pub mod Keeping
 pub mod BeginningLemmas
 pub mod TextLemmas
@@ -34,7 +33,5 @@ pub mod Placing
 pub mod Rounds
 pub mod BothReadings
 pub mod Replying
-pub mod Requesting
 pub mod Sizes
 pub mod Reporting
-pub mod Timing

@@ -2,7 +2,6 @@
 use Rattle.std.proofs.Common.{◌≡◌, ℕ, ◌<◌, ◌^◌, List, Option, ap, subst, ◌∙◌}
 use Rattle.ft12.specs.declared.frame.Frame.{Frame}
 use Rattle.link.specs.Secondary.{Secondary}
-use Rattle.gateway.specs.Course.{here_of}
 use Rattle.gateway.specs.Log.{Log}
 use Rattle.gateway.specs.Order.{KeepsOrder}
 use Rattle.gateway.specs.Config.{Settings}
@@ -11,13 +10,11 @@ use Rattle.gateway.specs.Traffic.{IsFaithful, HasRested}
 use Rattle.delivery.specs.Delivery.{Delivers}
 use Rattle.sim.specs.declared.directive.Directive.{Directive}
 use Rattle.sim.specs.declared.tally.StationTally.{StationTally}
-use Rattle.sim.specs.Connections.{counted_in}
 use Rattle.sim.specs.Tallies.{tallies_of}
 use Rattle.sim.specs.Losses.{turns_of}
 use Rattle.sim.specs.Lives.{Plan, plan_of, requests_in}
 use Rattle.sim.specs.Calls.{calls_in}
 use Rattle.sim.specs.Played.{IsPlayed, Stands, Simulated}
-use Rattle.sim.specs.Closing.{connections_in, lines_of_connections}
 use Rattle.sim.specs.Texts.{connection_lines, closing_lines}
 use Rattle.sim.specs.Outstations.{HaveServed}
 use Rattle.sim.specs.Runs.{IsRun}
@@ -40,12 +37,8 @@ pub logged_run : (c : Settings) (ds : List Directive) (s : Simulated) (closing :
     ((answers : List (Option Frame)) (ss : List Secondary) (ts : List StationTally)
     (played : IsPlayed (plan_of c ds) s.log answers ss)
     → ts ≡ tallies_of (plan_of c ds) s.log answers ss played.lived
-    → requests_in s.log < 2 ^ 64 → HaveServed c ds s.log 0 ss ts) →
-    ((d : Delivers (setup_of c) s.log)
-    → connection_lines 1 (counted_in s.log)
-    ≡ lines_of_connections (connections_in s.log (here_of d.course) d.course.earlier))
-    → IsRun c ds s.log closing
-logged_run c ds s closing plan calls faithful rests order lines k delivers serve count =
+    → requests_in s.log < 2 ^ 64 → HaveServed c ds s.log 0 ss ts) → IsRun c ds s.log closing
+logged_run c ds s closing plan calls faithful rests order lines k delivers serve =
     let was : IsLogged s.plan s.log s.stations k.answers s.standing.tallied.each =
     record { played = k.played; counted = k.each } in
     let now : IsLogged (plan_of c ds) s.log s.stations k.answers s.standing.tallied.each =
@@ -68,7 +61,5 @@ logged_run c ds s closing plan calls faithful rests order lines k delivers serve
           (connection_lines 1 s.standing.counts)
           s.standing.tallied.each) plan
           ∙ ap (λ (ns : List ℕ). closing_lines ds s.stations (connection_lines 1 ns)
-          s.standing.tallied.each) k.counts
-          ∙ ap (λ (ls : List ℕ). closing_lines ds s.stations ls s.standing.tallied.each)
-          (count delivers);
+          s.standing.tallied.each) k.counts;
     }

@@ -1,6 +1,5 @@
--- What a simulated line counts of each connection, entry by entry of the log (this gateway's own
--- profile). That the counts are those of the connections' frames is the promise of
--- `connections_are_counted`.
+-- The monitor objects that went to the control centre on each connection of a log (this gateway's
+-- own profile), for its closing line.
 use Rattle.std.specs.Prelude.{ℕ, ◌+◌, ◌-◌, ◌^◌, min, if◌then◌else◌, List, [], ◌∷◌, ◌++◌, drop}
 use Rattle.std.specs.Prelude.{length}
 use Rattle.gateway.specs.Log.{Log, LogEntry, Came, Went, Opened, TcpOut}

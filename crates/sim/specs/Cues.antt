@@ -1,13 +1,12 @@
 -- When a line's report is due (profile). Moments are given in ms behind the start.
-use Rattle.std.specs.Prelude.{◌≡◌, ℕ, ◌+◌, ◌-◌, ◌/◌, ◌%◌, ◌<◌, ◌≤◌, nat_le, ◌&&◌, Bool, false}
-use Rattle.std.specs.Prelude.{if◌then◌else◌, List}
-use Rattle.std.specs.Prelude.{[], ◌∷◌, Option, Some, None, IfSome}
+use Rattle.std.specs.Prelude.{ℕ, ◌+◌, ◌-◌, ◌%◌, ◌≤◌, nat_le, Bool, false}
+use Rattle.std.specs.Prelude.{if◌then◌else◌}
+use Rattle.std.specs.Prelude.{Option, Some, None, IfSome}
 use Rattle.ft12.specs.declared.frame.LinkSize.{LinkSize}
 use Rattle.link.specs.Requests.{FitsFrame}
 use Rattle.sim.specs.declared.stations.cue.Cue.{Cue}
 use Rattle.sim.specs.declared.stations.cue.Cue.TheVariants.{Timed}
 use Rattle.sim.specs.declared.stations.cue.DueReport.{DueReport}
-use Rattle.sim.specs.declared.stations.cue.Timer.{Timer}
 
 -- it is due at this moment
 abbrev pub is_due : (passed : ℕ) → (due : Option ℕ) → Bool
@@ -44,23 +43,3 @@ IsTimely cue = Unit {0}
 abbrev pub FitsLine : LinkSize → Cue → Type 0
 FitsLine size (Timed t) = FitsFrame size t.report × IfSome t.every IsPeriod
 FitsLine size cue = Unit {0}
-
--- The moments at which a line's report is given, of the moments of a play and whether its station
--- takes a report at each of them.
-abbrev pub given_moments : Timer → List (ℕ × Bool) → List ℕ
-given_moments t [] = []
-given_moments t (m ∷ ms) =
-    if is_due m.0 t.due && m.1
-    then m.0 ∷ given_moments (record t { due = next_due m.0 t.every }) ms
-    else given_moments t ms
-
--- there is one of these moments at the most, and it is at or behind this one
-abbrev pub IsOneFrom : (due : ℕ) → List ℕ → Type 0
-IsOneFrom due [] = Unit {0}
-IsOneFrom due (m ∷ ms) = (due ≤ m) × (ms ≡ [])
-
--- Time is parted into periods of so many ms. Each of these moments is in a later one than the one
--- before it, and none is in the one with this number, or before it.
-abbrev pub AreInPeriods : (every : ℕ) → (last : ℕ) → List ℕ → Type 0
-AreInPeriods every last [] = Unit {0}
-AreInPeriods every last (m ∷ ms) = (last < m / every) × AreInPeriods every (m / every) ms

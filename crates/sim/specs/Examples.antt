@@ -1,12 +1,10 @@
 -- What the worked examples of a simulated line speak of: the control centre on an open connection,
 -- a command, and the texts of scripts.
-use Rattle.std.specs.Prelude.{ℕ, true, List, [], ◌∷◌, ◌++◌, Option}
+use Rattle.std.specs.Prelude.{ℕ, true, List, [], ◌∷◌}
 use Rattle.ft12.specs.declared.frame.LinkSize.TheVariants.{One}
 use Rattle.gateway.specs.Log.{Log, Came, Went, Opened, TcpIn, TcpOut}
 use Rattle.sim.specs.declared.centre.Centre.{Centre}
 use Rattle.sim.specs.declared.directive.Directive.{Directive}
-use Rattle.sim.specs.Directives.{directive_in}
-use Rattle.sim.specs.Scripts.{first_wrong, lines_of}
 use Rattle.sim.specs.Lives.{Plan}
 
 -- data transfer runs on its connection, with these counts of I frames
@@ -32,15 +30,3 @@ command = 0x2D ∷ 0x01 ∷ 0x06 ∷ 0x00 ∷ 0x01 ∷ 0x00 ∷ 0x0A ∷ 0x00 �
 -- a plan of a line with one-octet addresses, of this script
 abbrev pub with_script : Plan → List Directive → Plan
 with_script plan directives = record plan { size = One; directives = directives }
-
--- what a line says where there are two stations, with one-octet link addresses
-abbrev pub says : List ℕ → Option Directive
-says text = directive_in One 2 text
-
--- a line with the line feed that ends it
-abbrev pub line : List ℕ → List ℕ
-line text = text ++ 10 ∷ []
-
--- the first wrong line of a text, for the same stations
-abbrev pub wrong_line : List ℕ → Option ℕ
-wrong_line text = first_wrong One 2 [] 1 (lines_of text)

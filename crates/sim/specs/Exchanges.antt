@@ -1,7 +1,7 @@
 -- What comes over a line to its outstations, and what goes out (profile).
 use Rattle.std.specs.Prelude.{◌||◌, ◌≡◌, ℕ, ◌+◌, ◌-◌, ◌^◌, ◌≤◌, min, Bool, true, false, List, []}
 use Rattle.std.specs.Prelude.{◌∷◌, ◌++◌, drop, length, Option, Some, None, zero, suc, count_by}
-use Rattle.std.specs.List.{flat_map, list_all}
+use Rattle.std.specs.List.{list_all}
 use Rattle.std.specs.Option.{is_none}
 use Rattle.asdu.specs.declared.sizes.Sizes.{Sizes}
 use Rattle.ft12.specs.Reading.{IsFront}
@@ -130,10 +130,6 @@ Brings size so_far octets [] last left = (last ≡ so_far) × (left ≡ octets)
 Brings size so_far octets (x ∷ xs) last left =
     (n : ℕ) × IsFront size (so_far ++ octets) (Whole x.request (length so_far + n))
     × Brings size [] (drop n octets) xs last left
-
--- the octets of requests, one after another
-abbrev pub requests_joined : LinkSize → List RequestExchange → List ℕ
-requests_joined size xs = flat_map (λ (x : RequestExchange). spelling size x.request) xs
 
 -- What is kept of octets that are left behind those so far, and aren't a whole frame. If none are
 -- left, those so far are kept, else the beginning of a frame, or nothing if they begin none.

@@ -11,7 +11,6 @@ pub mod Dues
 pub mod Played
 pub mod Texts
 pub mod Outstations
-pub mod Closing
 pub mod Runs
 pub mod Simulations
 pub mod Examples

@@ -3,7 +3,6 @@ use Rattle.std.specs.Prelude.{◌≡◌, ◌≤◌, ◌++◌, ℕ, List, Option}
 use Rattle.std.specs.Io.KnownBytes.{Appends}
 use Rattle.ft12.specs.declared.frame.Frame.{Frame}
 use Rattle.link.specs.Secondary.{Secondary}
-use Rattle.gateway.specs.Course.{here_of}
 use Rattle.gateway.specs.Config.{Settings}
 use Rattle.gateway.specs.Log.{Log}
 use Rattle.gateway.specs.Order.{KeepsOrder}
@@ -19,8 +18,8 @@ use Rattle.sim.specs.Lives.{plan_of}
 use Rattle.sim.specs.Calls.{calls_in}
 use Rattle.sim.specs.Played.{IsPlayed}
 use Rattle.sim.specs.Outstations.{HaveServed}
-use Rattle.sim.specs.Closing.{connections_in, lines_of_connections}
-use Rattle.sim.specs.Texts.{closing_lines}
+use Rattle.sim.specs.Connections.{counted_in}
+use Rattle.sim.specs.Texts.{closing_lines, connection_lines}
 
 -- A run of the script, and its closing lines. Its events are what the script gives at each of so
 -- many calls, and its stations have answered and stand as their requests make them. What the
@@ -41,9 +40,7 @@ pub record IsRun (c : Settings) (ds : List Directive) (log : Log) (closing : Lis
   pub ordered : KeepsOrder log
   pub delivers : Delivers (setup_of c) log
   pub served : HaveServed c ds log 0 stations tallies
-  pub lines : closing ≡ closing_lines ds stations
-      (lines_of_connections
-      (connections_in log (here_of delivers.course) delivers.course.earlier)) tallies
+  pub lines : closing ≡ closing_lines ds stations (connection_lines 1 (counted_in log)) tallies
 
 -- What was written is the text of a run of the script: a line for each action, and closing lines.
 pub record IsSimulated (c : Settings) (ds : List Directive)

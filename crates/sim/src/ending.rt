@@ -9,7 +9,7 @@ ghost use Rattle.sim.specs.Lives.{plan_of};
 ghost use Rattle.sim.specs.Losses.{turns_of};
 ghost use Rattle.sim.specs.Runs.{IsRun};
 
-use crate::laws::{connections_are_counted, stations_are_honest};
+use crate::laws::stations_are_honest;
 use crate::sim::Sim;
 use crate::text::closing_lines;
 use delivery::nothing_is_lost;
@@ -35,7 +35,6 @@ impl Sim<'_> {
             IfOk result (λ text. IsRun c ds self.now.log (string_bytes text)) }
     {
         stations_are_honest();
-        connections_are_counted();
         nothing_is_lost();
         steps_keep_their_order();
         let _page = self.page();

@@ -1,5 +1,5 @@
-//! Scripts, losses and calls by worked examples: literal texts and octets.
-ghost use Rattle.std.specs.Prelude.{◌≡◌, ◌++◌, ◌∷◌, [], ℕ, List, codes, replicate, true, false};
+//! Losses and calls by worked examples: literal octets.
+ghost use Rattle.std.specs.Prelude.{◌≡◌, ◌∷◌, [], true, false};
 ghost use Rattle.std.specs.Prelude.{Some, None};
 ghost use Rattle.ft12.specs.declared.frame.Frame.TheVariants.{Single, Fixed};
 ghost use Rattle.ft12.specs.declared.frame.LinkSize.TheVariants.{One, Two};
@@ -15,73 +15,10 @@ ghost use Rattle.sim.specs.declared.directive.RequestFate.TheVariants.{AnswerSpo
 ghost use Rattle.sim.specs.declared.directive.RequestFate.TheVariants.{Answered};
 ghost use Rattle.sim.specs.Calls.{calls_in, moment_of, event_at, lasting, next_moment};
 ghost use Rattle.sim.specs.Centres.{shut, opened, centre_of, data_apdu};
-ghost use Rattle.sim.specs.Directives.{of_three, of_four, reporting_by, sending_by};
-ghost use Rattle.sim.specs.Examples.{started, busy, command, with_script, says, line, wrong_line};
+ghost use Rattle.sim.specs.Examples.{started, busy, command, with_script};
 ghost use Rattle.sim.specs.Lives.{Plan, arriving, later, requests_in, waiting_in};
 ghost use Rattle.sim.specs.Losses.{turns_of, ack_of, wall_at, is_cut_at, sent_at, fate_of};
 ghost use Rattle.sim.specs.Losses.{report_said};
-ghost use Rattle.sim.specs.Scripts.{clashes, lines_of};
-ghost use Rattle.traces.specs.Fields.{octets_of};
-
-/// What each line of a script says, the edges of its ranges and what no line says (docs/TEXTS.md
-/// has them in words); which lines clash; and the first wrong line of a text.
-pub fn scripts_by_example()
-    ensures numbers { (says (codes "turns 000000008") ≡ Some (Turns 8))
-        × (says (codes "turns 999999999") ≡ Some (Turns 999999999))
-        × (says (codes "turns 0000000001") ≡ None) × (says (codes "turns x") ≡ None)
-        × (says (codes "turns  1") ≡ None) × (says (codes "Turns 1") ≡ None)
-        × (says (codes "ack 1") ≡ Some (Ack 1)) × (says (codes "ack 32767") ≡ Some (Ack 32767))
-        × (says (codes "ack 0") ≡ None) × (says (codes "ack 32768") ≡ None)
-        × (says (codes "cut 7") ≡ Some (Cut 7))
-        × (says (codes "wall 999999999999999") ≡ Some (Wall 999999999999999))
-        × (says (codes "wall 1000000000000000") ≡ None) }
-    ensures losses { (says (codes "lose request 0") ≡ Some (LoseRequest 0))
-        × (says (codes "lose answer 3") ≡ Some (LoseAnswer 3))
-        × (says (codes "lose reply 3") ≡ None)
-        × (says (codes "spoil answer 3 999999999") ≡ Some (SpoilAnswer 3 999999999))
-        × (says (codes "spoil request 3 1") ≡ None) }
-    // What octets stand in hexadecimal `traces` says.
-    ensures octets { (text octets : List ℕ) → octets_of text ≡ Some octets →
-        (of_four One 2 (codes "report") (codes "2") (codes "1") text
-        ≡ reporting_by One 2 (Some 2) (Some 1) (Some octets))
-        × (of_three (codes "send") (codes "4") text ≡ sending_by (Some 4) (Some octets)) }
-    ensures stations { (reporting_by One 2 (Some 2) (Some 1) (Some (10 ∷ 255 ∷ []))
-        ≡ Some (Report 1 class.One (10 ∷ 255 ∷ [])))
-        × (reporting_by One 2 (Some 1) (Some 2) (Some (7 ∷ []))
-        ≡ Some (Report 0 class.Two (7 ∷ [])))
-        × (reporting_by One 2 (Some 0) (Some 1) (Some (0 ∷ [])) ≡ None)
-        × (reporting_by One 2 (Some 3) (Some 1) (Some (0 ∷ [])) ≡ None)
-        × (reporting_by One 2 (Some 1) (Some 0) (Some (0 ∷ [])) ≡ None)
-        × (reporting_by One 2 (Some 1) (Some 3) (Some (0 ∷ [])) ≡ None) }
-    ensures lengths { (reporting_by One 1 (Some 1) (Some 2) (Some (replicate 253 7))
-        ≡ Some (Report 0 class.Two (replicate 253 7)))
-        × (reporting_by One 1 (Some 1) (Some 2) (Some (replicate 254 7)) ≡ None)
-        × (reporting_by Two 1 (Some 1) (Some 2) (Some (replicate 252 7))
-        ≡ Some (Report 0 class.Two (replicate 252 7)))
-        × (reporting_by Two 1 (Some 1) (Some 2) (Some (replicate 253 7)) ≡ None)
-        × (sending_by (Some 1) (Some (replicate 9 7)) ≡ Some (Send 1 (replicate 9 7)))
-        × (sending_by (Some 1) (Some (replicate 8 7)) ≡ None)
-        × (sending_by (Some 1) (Some (replicate 249 7)) ≡ Some (Send 1 (replicate 249 7)))
-        × (sending_by (Some 1) (Some (replicate 250 7)) ≡ None) }
-    ensures clash { (clashes (Turns 1) (Turns 2) ≡ true) × (clashes (Ack 1) (Ack 2) ≡ true)
-        × (clashes (Wall 1) (Wall 2) ≡ true)
-        × (clashes (SpoilAnswer 1 2) (SpoilAnswer 1 3) ≡ true)
-        × (clashes (SpoilAnswer 1 2) (SpoilAnswer 2 2) ≡ false)
-        × (clashes (Send 1 command) (Send 1 []) ≡ true)
-        × (clashes (Send 1 command) (Send 2 command) ≡ false)
-        × (clashes (Cut 1) (Cut 1) ≡ false) × (clashes (LoseAnswer 1) (LoseAnswer 1) ≡ false)
-        × (clashes (Report 0 class.One []) (Report 0 class.One []) ≡ false) }
-    // What follows the last line feed is a line where there is something.
-    ensures lines { (lines_of (line (codes "a") ++ line [] ++ line (codes "b"))
-        ≡ codes "a" ∷ [] ∷ codes "b" ∷ [])
-        × (lines_of (line (codes "a") ++ codes "b") ≡ codes "a" ∷ codes "b" ∷ [])
-        × (lines_of [] ≡ []) }
-    ensures texts { (wrong_line (line (codes "turns 1")) ≡ None)
-        × (wrong_line (codes "turns 1") ≡ None) × (wrong_line [] ≡ Some 1)
-        × (wrong_line (line (codes "# turns 1") ++ line [] ++ line (codes "ack 1")) ≡ Some 4)
-        × (wrong_line (line (codes "turns 1") ++ line [] ++ line (codes "cut")) ≡ Some 3)
-        × (wrong_line (line (codes "turns 1") ++ line (codes "turns 1")) ≡ Some 2) }
-{}
 
 /// What a script has become of a request, of an answer and of a call, and what it says if it has no
 /// such line.

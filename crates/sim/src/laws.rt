@@ -4,24 +4,17 @@ ghost use Rattle.std.specs.Prelude.{List};
 ghost use Rattle.std.specs.Prelude.{Option};
 ghost use Rattle.ft12.specs.declared.frame.Frame.{Frame};
 ghost use Rattle.link.specs.Secondary.{Secondary};
-ghost use Rattle.gateway.specs.Course.{here_of};
 ghost use Rattle.gateway.specs.Config.{Settings, AreStations};
 ghost use Rattle.gateway.specs.Log.{Log};
-ghost use Rattle.gateway.specs.Reports.{Setup};
 ghost use Rattle.gateway.specs.Setups.{setup_of};
 ghost use Rattle.gateway.specs.Traffic.{IsFaithful};
-ghost use Rattle.delivery.specs.Delivery.{Delivers};
 ghost use Rattle.sim.specs.declared.directive.Directive.{Directive};
 ghost use Rattle.sim.specs.declared.tally.StationTally.{StationTally};
 ghost use Rattle.sim.specs.Tallies.{tallies_of};
-ghost use Rattle.sim.specs.Connections.{counted_in};
 ghost use Rattle.sim.specs.Lives.{plan_of, requests_in};
 ghost use Rattle.sim.specs.Played.{IsPlayed};
 ghost use Rattle.sim.specs.Outstations.{HaveServed};
-ghost use Rattle.sim.specs.Texts.{connection_lines};
-ghost use Rattle.sim.specs.Closing.{connections_in, lines_of_connections};
 
-use apci::spellings_cancel;
 use delivery::{each_session_is_known, losses_have_gaps, nothing_is_lost, silence_is_no_reset};
 use ft12::{front_is_computed, spoilt_lines_are_no_lines};
 use link::station_is_an_outstation;
@@ -50,14 +43,4 @@ pub fn stations_are_honest()
     each_session_is_known();
     losses_have_gaps();
     silence_is_no_reset();
-}
-
-/// The closing lines of a run's connections, which are counted action by action, have the numbers
-/// of the monitor objects that the frames of the connections bear.
-pub fn connections_are_counted()
-    ensures { (p : Setup) (log : Log) → IsFaithful p log → (d : Delivers p log) →
-        connection_lines 1 (counted_in log)
-        ≡ lines_of_connections (connections_in log (here_of d.course) d.course.earlier) }
-{
-    spellings_cancel();
 }

@@ -21,14 +21,13 @@
 //! gives the script's reports of each class in order, each once, and what is taken from it is what
 //! it gave, or all but the last: in each session of its link, and where unanswered services are
 //! held in the whole run. What is counted of the sessions of each link ([`StationTally`]) is what
-//! its exchanges and turns say, and what is counted of each connection is what its frames bear
-//! ([`connections_are_counted`], `specs/Closing.antt`). [`Sim::closing`] promises that a run of as
-//! many calls as the script says, in which the gateway keeps every promise of a gateway, keeps the
-//! order of actions in each step and delivers what was taken, and that its lines have the numbers
-//! of that run (`specs/Runs.antt`).
+//! its exchanges and turns say. [`Sim::closing`] promises that a run of as many calls as the script
+//! says, in which the gateway keeps every promise of a gateway, keeps the order of actions in each
+//! step and delivers what was taken, and that its lines have the numbers of that run
+//! (`specs/Runs.antt`).
 //!
-//! Worked examples have literal texts and octets: of scripts ([`scripts_by_example`]), of what they
-//! do to requests and answers ([`losses_by_example`]), and of calls ([`calls_by_example`]).
+//! Worked examples have literal octets: of what scripts do to requests and answers
+//! ([`losses_by_example`]), and of calls ([`calls_by_example`]).
 //!
 //! Not proved: that a report is ever asked for, or that a port whose device fails wanted memory (it
 //! fails too if more than 2^64 requests or frames would be counted).
@@ -60,9 +59,9 @@ mod text;
 
 pub use beginning::begin;
 pub use directive::{Class, Directive, RequestFate};
-pub use examples::{calls_by_example, losses_by_example, scripts_by_example};
+pub use examples::{calls_by_example, losses_by_example};
 pub use fault::SimFault;
-pub use laws::{connections_are_counted, stations_are_honest};
+pub use laws::stations_are_honest;
 pub use line::read_line;
 pub use reading::read_script;
 pub use receiving::{arriving, put_out};
@@ -70,9 +69,8 @@ pub use script::Script;
 pub use sim::Sim;
 pub use simulating::{simulate, simulate_watched};
 pub use stations::{
-    Cue, GatewaySocket, LineListener, OutstationServer, Outstations, Scenario, TimedServer, Timer,
-    lines_are_read_by_example, play, read_scenario, reports_come_at_their_moments,
-    requests_are_what_came, serve, stations_take_their_own_requests_alone,
+    Cue, GatewaySocket, LineListener, OutstationServer, Outstations, Scenario, TimedServer, Timer, play,
+    read_scenario, serve,
 };
 pub use tally::StationTally;
 pub use traces::TextFault;

@@ -3,9 +3,7 @@
 //! the script.
 mod cue;
 mod cue_line;
-mod examples;
 mod late;
-mod laws;
 mod listeners;
 mod outstations;
 mod place;
@@ -16,10 +14,6 @@ mod scenario;
 mod timed_server;
 
 pub use self::cue::{Cue, Timer};
-pub use self::examples::lines_are_read_by_example;
-pub use self::laws::{
-    reports_come_at_their_moments, requests_are_what_came, stations_take_their_own_requests_alone,
-};
 pub use self::listeners::{GatewaySocket, LineListener};
 pub use self::outstations::Outstations;
 pub use self::place::OutstationServer;

@@ -1,7 +1,6 @@
 //! The port over the lines of a record, part by part.
-ghost use Rattle.std.specs.Prelude.{◌≡◌, ◌+◌, ◌∷◌, ◌++◌, [], Some, true, if◌then◌else◌};
+ghost use Rattle.std.specs.Prelude.{◌≡◌, ◌+◌, [], Some, true};
 ghost use Rattle.std.specs.Option.{option_copied};
-ghost use Rattle.gateway.specs.Log.{Went};
 ghost use Rattle.record.specs.Rerunning.{IsHalted, IsRerunning};
 
 use super::passing::{LineCounts, next_event};

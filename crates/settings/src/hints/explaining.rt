@@ -1,11 +1,6 @@
 //! A fault of settings, or of a site's file, explained.
-ghost use Rattle.std.specs.Prelude.{◌≡◌, IfOk};
-ghost use Rattle.toml.specs.Data.{get_member};
-ghost use Rattle.toml.specs.View.{table_view, view};
-ghost use Rattle.settings.specs.Settings.{IsDocument};
-ghost use Rattle.settings.specs.Explained.{IsExplained, IsKeyExplained, IsSpotOf, IsTextExplained};
-ghost use Rattle.settings.specs.Explained.{IsItemOf, IsSiteExplained, IsTwin, is_scalar, is_single};
-ghost use Rattle.settings.specs.Changes.{IsWithin};
+ghost use Rattle.std.specs.Prelude.{IfOk};
+ghost use Rattle.settings.specs.Spans.{IsWithin};
 
 use crate::fault::ConfigFault;
 use crate::hints::file::File;
@@ -23,7 +18,6 @@ use toml::{Table, Value};
 /// no document they say where reading stopped, and why. There are none if memory was refused to the
 /// reader.
 pub fn explain(alloc: Global, text: &[u8], fault: &ConfigFault) -> Result<Vec<u8>, AllocError>
-    ensures { IfOk result (λ lines. IsExplained text.now fault.now lines.items) }
 {
     match fault {
         ConfigFault::NotToml => explain_text(alloc, text),
@@ -35,7 +29,6 @@ pub fn explain(alloc: Global, text: &[u8], fault: &ConfigFault) -> Result<Vec<u8
 
 /// The same lines behind a fault of the site's file that these octets are.
 pub fn explain_site(alloc: Global, text: &[u8], fault: &SiteFault) -> Result<Vec<u8>, AllocError>
-    ensures { IfOk result (λ lines. IsSiteExplained text.now fault.now lines.items) }
 {
     match fault {
         SiteFault::NotToml => explain_text(alloc, text),
@@ -47,7 +40,6 @@ pub fn explain_site(alloc: Global, text: &[u8], fault: &SiteFault) -> Result<Vec
 
 /// Where octets are no document, and why.
 fn explain_text(alloc: Global, text: &[u8]) -> Result<Vec<u8>, AllocError>
-    ensures { IfOk result (λ lines. IsTextExplained text.now lines.items) }
 {
     let Err(fault) = toml::table_from_slice(alloc, text) else {
         return Ok(Vec::new(alloc));
@@ -64,7 +56,6 @@ fn explain_text(alloc: Global, text: &[u8]) -> Result<Vec<u8>, AllocError>
 
 /// Where the value of a key stands, or the key belongs, and what is wanted.
 fn explain_key(alloc: Global, file: File, text: &[u8], path: &str) -> Result<Vec<u8>, AllocError>
-    ensures { IfOk result (λ lines. IsKeyExplained file text.now path.now lines.items) }
 {
     match toml::table_from_slice(alloc, text) {
         Ok(root) => explain_under(alloc, file, text, &root, path),
@@ -80,8 +71,6 @@ fn explain_under(
     root: &Table,
     path: &str,
 ) -> Result<Vec<u8>, AllocError>
-    requires { IsDocument text.now (table_view root.now) }
-    ensures { IfOk result (λ lines. IsKeyExplained file text.now path.now lines.items) }
 {
     let item = item_of(alloc, file, root, path)?;
     let spot = spot_of(root, path, item);
@@ -97,7 +86,6 @@ fn explain_under(
 
 /// Which station is meant, counted from 0, if one is.
 fn item_of(alloc: Global, file: File, root: &Table, path: &str) -> Result<Option<usize>, AllocError>
-    ensures { IfOk result (IsItemOf file path.now (table_view root.now)) }
 {
     match file {
         File::Settings => match path {
@@ -115,8 +103,6 @@ fn item_of(alloc: Global, file: File, root: &Table, path: &str) -> Result<Option
 
 /// The key of a dotted path, of this station. If its table is none, the key of that.
 fn spot_of<'a>(root: &Table, path: &'a str, item: Option<usize>) -> Spot<'a>
-    ensures of { IsSpotOf (table_view root.now) path.entry.now result }
-    ensures item { result.item ≡ item }
 {
     let Some((table, key)) = path.split_once('.') else {
         return Spot {
@@ -141,7 +127,6 @@ fn spot_of<'a>(root: &Table, path: &'a str, item: Option<usize>) -> Spot<'a>
 
 /// Whether there is such a key, whose value is neither a table nor an array.
 fn is_scalar(root: &Table, key: &str) -> bool
-    ensures { result ≡ is_scalar (get_member key.now (table_view root.now)) }
 {
     match given(Some(root), key) {
         Some(value) => is_single(value),
@@ -150,7 +135,6 @@ fn is_scalar(root: &Table, key: &str) -> bool
 }
 
 fn is_single(value: &Value) -> bool
-    ensures { result ≡ is_single (view value.now) }
 {
     !value.is_table() && !value.is_array()
 }
@@ -162,8 +146,7 @@ fn twin_of(
     root: &Table,
     spot: &Spot<'_>,
 ) -> Result<Option<Span>, AllocError>
-    ensures twin { IfOk result (IsTwin (table_view root.now) spot.now text.now) }
-    ensures within { IfOk result (IsWithin text.now) }
+    ensures { IfOk result (IsWithin text.now) }
 {
     let Some(item) = spot.item else {
         return Ok(None);

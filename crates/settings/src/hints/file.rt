@@ -1,12 +1,10 @@
 //! The files whose faults are explained.
-ghost use Rattle.std.specs.Prelude.{◌≡◌, option_map};
-ghost use Rattle.settings.specs.Explained.{page_of, values_in};
 
 use crate::site::site_values;
 use crate::wanted::wanted_values;
 
 /// A file whose faults are explained.
-#[derive(Clone, Copy, PartialEq, Eq)]
+#[derive(Clone, Copy)]
 pub(crate) enum File {
     /// The settings.
     Settings,
@@ -17,7 +15,6 @@ pub(crate) enum File {
 impl File {
     /// What is wanted of the key with this dotted path, in words, if there is such a key.
     pub(crate) fn values(self, path: &str) -> Option<&'static str>
-        ensures { option_map (λ values. values.now) result ≡ values_in self path.now }
     {
         match self {
             File::Settings => wanted_values(path),
@@ -27,7 +24,6 @@ impl File {
 
     /// The page that has the table of its keys.
     pub(crate) fn page(self) -> &'static str
-        ensures { result.now ≡ page_of self }
     {
         match self {
             File::Settings => "docs/SETTINGS.md",

@@ -1,12 +1,12 @@
 //! Where a value stands, or belongs.
 ghost use Rattle.std.specs.Prelude.{IfOk};
-ghost use Rattle.settings.specs.Explained.{IsInside, IsPlace};
+ghost use Rattle.settings.specs.Spans.{IsInside};
 
 use crate::places::{Span, Spot, find_gap, find_value};
 use std::alloc::{AllocError, Global};
 
 /// Where the value of a key stands.
-#[derive(Clone, Copy, PartialEq, Eq)]
+#[derive(Clone, Copy)]
 pub(crate) enum KeyPlace {
     /// These octets write it.
     Value(Span),
@@ -17,8 +17,7 @@ pub(crate) enum KeyPlace {
 }
 
 pub(crate) fn find(alloc: Global, text: &[u8], spot: &Spot<'_>) -> Result<KeyPlace, AllocError>
-    ensures place { IfOk result (IsPlace spot.now text.now) }
-    ensures inside { IfOk result (IsInside text.now) }
+    ensures { IfOk result (IsInside text.now) }
 {
     if let Some(span) = find_value(alloc, text, spot)? {
         return Ok(KeyPlace::Value(span));

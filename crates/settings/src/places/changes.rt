@@ -1,9 +1,6 @@
 //! A text that is changed at one place, and what its document has then.
-ghost use Rattle.std.specs.Prelude.{◌≡◌, ◌≤◌, length, IfOk, IfSome, MatchBool, option_map};
-ghost use Rattle.toml.specs.Data.{get_member};
-ghost use Rattle.toml.specs.View.{view, table_view};
-ghost use Rattle.settings.specs.Changes.{IsFound, IsGapFound, IsMarked, IsValueFound, IsWithin};
-ghost use Rattle.settings.specs.Changes.{data_at, data_in, edited, span_at, written};
+ghost use Rattle.std.specs.Prelude.{◌≤◌, length, IfOk};
+ghost use Rattle.settings.specs.Spans.{IsWithin};
 
 use crate::places::spans::{Span, gap_at, value_at};
 use std::alloc::{AllocError, Global};
@@ -17,7 +14,7 @@ pub const MOST_OCTETS: usize = 16384;
 const MARK: &[u8] = b"\"\\u0001\"";
 
 /// A key, by its table.
-#[derive(Clone, Copy, PartialEq, Eq)]
+#[derive(Clone, Copy)]
 pub struct Spot<'a> {
     /// The key of the table; none, if the document itself is meant.
     pub table: Option<&'a str>,
@@ -27,7 +24,7 @@ pub struct Spot<'a> {
 }
 
 /// What is looked for.
-#[derive(Clone, Copy, PartialEq, Eq)]
+#[derive(Clone, Copy)]
 enum Sought {
     /// The value of a key.
     Value,
@@ -38,8 +35,7 @@ enum Sought {
 /// The octets of a text that write the value of a key. None, if the text is longer than
 /// [`MOST_OCTETS`], and if the key isn't written as this crate looks for it.
 pub fn find_value(alloc: Global, text: &[u8], spot: &Spot<'_>) -> Result<Option<Span>, AllocError>
-    ensures place { IfOk result (IsValueFound spot.now text.now) }
-    ensures within { IfOk result (IsWithin text.now) }
+    ensures { IfOk result (IsWithin text.now) }
 {
     first(alloc, text, spot, Sought::Value)
 }
@@ -47,8 +43,7 @@ pub fn find_value(alloc: Global, text: &[u8], spot: &Spot<'_>) -> Result<Option<
 /// The place behind the header below which a key belongs that isn't there. None, if the text is
 /// longer than [`MOST_OCTETS`], and if there is no such header.
 pub fn find_gap(alloc: Global, text: &[u8], spot: &Spot<'_>) -> Result<Option<Span>, AllocError>
-    ensures place { IfOk result (IsGapFound spot.now text.now) }
-    ensures within { IfOk result (IsWithin text.now) }
+    ensures { IfOk result (IsWithin text.now) }
 {
     first(alloc, text, spot, Sought::Gap)
 }
@@ -60,8 +55,7 @@ fn first(
     spot: &Spot<'_>,
     kind: Sought,
 ) -> Result<Option<Span>, AllocError>
-    ensures place { IfOk result (IsFound spot.now kind text.now) }
-    ensures within { IfOk result (IsWithin text.now) }
+    ensures { IfOk result (IsWithin text.now) }
 {
     if text.len() > MOST_OCTETS {
         return Ok(None);
@@ -84,8 +78,7 @@ fn first(
 /// What may be the place, by what stands at `at`.
 fn span_at(kind: Sought, text: &[u8], key: &[u8], at: usize) -> Option<Span>
     requires { at ≤ length text.now }
-    ensures value { result ≡ span_at kind text.now key.now at }
-    ensures within { IfSome result (λ s. (s.from ≤ s.to) × (s.to ≤ length text.now)) }
+    ensures { IsWithin text.now result }
 {
     match kind {
         Sought::Value => value_at(text, key, at),
@@ -103,7 +96,6 @@ fn edited(
 ) -> Result<Vec<u8>, AllocError>
     requires order { span.from ≤ span.to }
     requires within { span.to ≤ length text.now }
-    ensures { IfOk result (λ v. v.items ≡ edited text.now span (written kind key.now)) }
 {
     let mut changed = text[..span.from].to_vec(alloc)?;
     match kind {
@@ -121,8 +113,6 @@ fn edited(
 
 /// Whether the text is a document with the mark's value under a key.
 fn is_marked(alloc: Global, text: &[u8], spot: &Spot<'_>) -> Result<bool, AllocError>
-    ensures { IfOk result (λ is. MatchBool is (IsMarked spot.now text.now)
-        (¬ IsMarked spot.now text.now)) }
 {
     match toml::table_from_slice(alloc, text) {
         Ok(root) => match value_under(&root, spot) {
@@ -135,16 +125,13 @@ fn is_marked(alloc: Global, text: &[u8], spot: &Spot<'_>) -> Result<bool, AllocE
 }
 
 /// The value at a key of a table.
-#[tactic(auto, using(toml::proofs::Views::table_get))]
 fn member<'a>(table: &'a Table, key: &str) -> Option<&'a Value>
-    ensures { option_map (λ v. view v.now) result ≡ get_member key.now (table_view table.now) }
 {
     table.get(key)
 }
 
 /// The value under a key.
 fn value_under<'a>(root: &'a Table, spot: &Spot<'_>) -> Option<&'a Value>
-    ensures { option_map (λ v. view v.now) result ≡ data_at spot.now (table_view root.now) }
 {
     match spot.table {
         None => member(root, spot.key),
@@ -157,7 +144,6 @@ fn value_under<'a>(root: &'a Table, spot: &Spot<'_>) -> Option<&'a Value>
 
 /// The value under a key of a table, or of an item of an array of tables.
 fn value_in<'a>(table: &'a Value, item: Option<usize>, key: &str) -> Option<&'a Value>
-    ensures { option_map (λ v. view v.now) result ≡ data_in item key.now (view table.now) }
 {
     match item {
         None => table.get(key),

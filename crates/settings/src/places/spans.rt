@@ -1,12 +1,9 @@
 //! The octets that write a value.
 ghost use Rattle.std.specs.Prelude.{◌≡◌, ◌==◌, ◌<◌, ◌≤◌, length, position, IfSome, slice_index};
-ghost use Rattle.std.specs.List.{prefix_len};
-ghost use Rattle.settings.specs.Spans.{behind_blanks, behind_quote, closing, enclosed_end};
-ghost use Rattle.settings.specs.Spans.{gap_at, is_blank, is_plain, value_at, value_behind};
-ghost use Rattle.settings.specs.Spans.{value_end, equals_at};
+ghost use Rattle.settings.specs.Spans.{IsWithin};
 
 /// The octets of a text from `from` on to before `to`.
-#[derive(Clone, Copy, PartialEq, Eq)]
+#[derive(Clone, Copy)]
 pub struct Span {
     pub from: usize,
     pub to: usize,
@@ -15,8 +12,7 @@ pub struct Span {
 /// The octets of a value, if its key stands at `at`, and behind it an equals sign.
 pub(crate) fn value_at(text: &[u8], key: &[u8], at: usize) -> Option<Span>
     requires { at ≤ length text.now }
-    ensures value { result ≡ value_at text.now key.now at }
-    ensures within { IfSome result (λ s. (s.from ≤ s.to) × (s.to ≤ length text.now)) }
+    ensures { IsWithin text.now result }
 {
     if text[at..].starts_with(key) {
         value_behind(text, equals_at(text, at + key.len()))
@@ -28,8 +24,7 @@ pub(crate) fn value_at(text: &[u8], key: &[u8], at: usize) -> Option<Span>
 /// The octets of a value behind an equals sign, if one stands here.
 fn value_behind(text: &[u8], equals: usize) -> Option<Span>
     requires { equals ≤ length text.now }
-    ensures value { result ≡ value_behind text.now equals }
-    ensures within { IfSome result (λ s. (s.from ≤ s.to) × (s.to ≤ length text.now)) }
+    ensures { IsWithin text.now result }
 {
     if octet_at(text, equals) != b'=' {
         return None;
@@ -43,8 +38,7 @@ fn value_behind(text: &[u8], equals: usize) -> Option<Span>
 
 /// The empty place behind a closing bracket at `at`.
 pub(crate) fn gap_at(text: &[u8], at: usize) -> Option<Span>
-    ensures value { result ≡ gap_at text.now at }
-    ensures within { IfSome result (λ s. (s.from ≤ s.to) × (s.to ≤ length text.now)) }
+    ensures { IsWithin text.now result }
 {
     if octet_at(text, at) != b']' {
         return None;
@@ -68,7 +62,6 @@ fn octet_at(text: &[u8], at: usize) -> u8
 /// Where the equals sign of a key stands that ends at `at`, if it has one.
 fn equals_at(text: &[u8], at: usize) -> usize
     requires { at ≤ length text.now }
-    ensures value { result ≡ equals_at text.now at }
     ensures within { result ≤ length text.now }
 {
     behind_blanks(text, behind_quote(text, at))
@@ -77,7 +70,6 @@ fn equals_at(text: &[u8], at: usize) -> usize
 /// Behind a quotation mark, if one stands here.
 fn behind_quote(text: &[u8], at: usize) -> usize
     requires { at ≤ length text.now }
-    ensures value { result ≡ behind_quote text.now at }
     ensures within { result ≤ length text.now }
 {
     match octet_at(text, at) {
@@ -89,7 +81,6 @@ fn behind_quote(text: &[u8], at: usize) -> usize
 /// Behind the blanks that stand here.
 fn behind_blanks(text: &[u8], at: usize) -> usize
     requires { at ≤ length text.now }
-    ensures value { result ≡ behind_blanks text.now at }
     ensures within { result ≤ length text.now }
 {
     at + blanks_of(&text[at..])
@@ -97,28 +88,24 @@ fn behind_blanks(text: &[u8], at: usize) -> usize
 
 /// How many blanks the text begins with.
 fn blanks_of(text: &[u8]) -> usize
-    ensures value { result ≡ prefix_len is_blank text.now }
     ensures within { result ≤ length text.now }
 {
     text.iter().take_while(|octet| is_blank(**octet)).count()
 }
 
 fn is_blank(octet: u8) -> bool
-    ensures { result ≡ is_blank octet }
 {
     octet == b' ' || octet == b'\t'
 }
 
 /// Whether the octet belongs to a value that no quotation marks or brackets enclose.
 fn is_plain(octet: u8) -> bool
-    ensures { result ≡ is_plain octet }
 {
     !is_blank(octet) && !matches!(octet, b'\n' | b'\r' | b',' | b'#' | b']' | b'}')
 }
 
 /// What ends a value that begins so, if it is enclosed.
 fn closing(octet: u8) -> Option<u8>
-    ensures { result ≡ closing octet }
 {
     match octet {
         b'"' => Some(b'"'),
@@ -132,7 +119,6 @@ fn closing(octet: u8) -> Option<u8>
 /// Where a value ends that begins here.
 fn value_end(text: &[u8], from: usize) -> usize
     requires { from ≤ length text.now }
-    ensures value { result ≡ value_end text.now from }
     ensures behind { from ≤ result }
     ensures within { result ≤ length text.now }
 {
@@ -144,7 +130,6 @@ fn value_end(text: &[u8], from: usize) -> usize
 
 /// How many octets the text begins with that belong to such a value.
 fn plain_of(text: &[u8]) -> usize
-    ensures value { result ≡ prefix_len is_plain text.now }
     ensures within { result ≤ length text.now }
 {
     text.iter().take_while(|octet| is_plain(**octet)).count()
@@ -153,7 +138,6 @@ fn plain_of(text: &[u8]) -> usize
 /// Behind the first `close` that follows the octet at `from`, or behind the last octet.
 fn enclosed_end(text: &[u8], from: usize, close: u8) -> usize
     requires { from ≤ length text.now }
-    ensures value { result ≡ enclosed_end text.now from close }
     ensures behind { from ≤ result }
     ensures within { result ≤ length text.now }
 {
@@ -168,7 +152,6 @@ fn enclosed_end(text: &[u8], from: usize, close: u8) -> usize
 
 /// How many octets stand before the first of this value.
 fn first_of(text: &[u8], octet: u8) -> Option<usize>
-    ensures value { result ≡ position (λ o. o == octet) text.now }
     ensures within { IfSome result (λ n. n < length text.now) }
 {
     text.iter().position(|o| *o == octet)

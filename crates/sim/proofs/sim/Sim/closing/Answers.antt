@@ -31,6 +31,5 @@ returns c = λ settings ds plan apart calls faithful rests.
     c.page-page.ensures.stands (c.nothing_is_lost.ensures (setup_of settings) s.log faithful)
     (λ answers ss ts played are few. c.stations_are_honest.ensures settings ds s.log answers ss ts
     apart played are few
-    faithful)
-    (λ d. c.connections_are_counted.ensures (setup_of settings) s.log faithful d))
+    faithful))
     c.closing_lines.ensures
