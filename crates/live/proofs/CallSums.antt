@@ -94,31 +94,6 @@ pub handed_on : (old new : List SystemCall) (octets : List ℕ) (is_taken : Bool
 handed_on old new octets is_taken w =
     handed_by (Some old) (Some new) octets old new w.goes_on refl refl
 
--- behind a whole frame nothing is read on
-never_on : (old : Calls) (first : List ℕ) (count : ℕ) (octets : List ℕ) (mid : Calls)
-    → ReadsOn old first count octets mid → ends_frame first ≡ true
-    → (octets ≡ first) × (mid ≡ old)
-never_on old first _ _ _ NoMore whole = (refl, refl)
-never_on old first _ _ _ (OneMore count n octets more mid new reads not once some) whole =
-    let before = never_on old first count octets mid reads whole in
-    let no : false ≡ true = sym not ∙ (ap ends_frame before.0 ∙ whole) in absurd (cc)
-
-whole_by : (old : Calls) (first : List ℕ) (count : ℕ) (octets : List ℕ) (mid new : Calls)
-    → ReadsOn old first count octets mid → IsReadOut count octets mid new
-    → ends_frame first ≡ true → (octets ≡ first) × (new ≡ old)
-whole_by old first count octets mid new reads (Whole ends same) whole =
-    let s = never_on old first count octets mid reads whole in (s.0, same ∙ s.1)
-whole_by old first count octets mid new reads (NoneCame not once) whole =
-    let s = never_on old first count octets mid reads whole in
-    let no : false ≡ true = sym not ∙ (ap ends_frame s.0 ∙ whole) in absurd (cc)
-whole_by old first count octets mid new reads (Enough many same) whole =
-    let s = never_on old first count octets mid reads whole in (s.0, same ∙ s.1)
-
-pub whole_alone : (calls new : Calls) (first octets : List ℕ) → ReadsFrame calls first octets new
-    → ends_frame first ≡ true → (octets ≡ first) × (new ≡ calls)
-whole_alone calls new first octets f whole =
-    whole_by calls first f.count octets f.mid new f.reads f.out whole
-
 -- a look goes on until a frame ends
 on_noted : (calls : List SystemCall) (first : List ℕ) (count : ℕ) (octets : List ℕ) (mid : Calls)
     → ReadsOn (Some calls) first count octets mid

@@ -1,6 +1,6 @@
 -- Which places a dialler of the line asks for, and what its tries come to (this gateway's own
 -- profile).
-use Rattle.std.specs.Prelude.{◌≡◌, ◌⊎◌, ◌-◌, ◌*◌, ℕ, ◌+◌, ◌<◌, nat_le, List, [], ◌∷◌, ◌++◌, length}
+use Rattle.std.specs.Prelude.{◌≡◌, ◌⊎◌, ◌-◌, ◌*◌, ℕ, ◌+◌, ◌<◌, nat_le, List, [], ◌∷◌, ◌++◌}
 use Rattle.std.specs.Prelude.{Bool, true, false}
 use Rattle.std.specs.Prelude.{Option, Some, None, Result, Ok, Err, MatchResult, option_map}
 use Rattle.std.specs.IoError.{error_kind}
@@ -188,42 +188,3 @@ pub data ReachesHost {A : Type 0} (host : List ℕ) (answer : Result A Error)
   Known : (found : Unit {0})
       → ReachesOne answer (step_noted (LookedUp host (Ok found)) before) after
       → ReachesHost host answer before after
-
--- the addresses that came, the newest first
-abbrev pub came_in : List ReachStep → List SocketAddr
-came_in [] = []
-came_in (Came (Some address) ∷ before) = address ∷ came_in before
-came_in (step ∷ before) = came_in before
-
--- the addresses to which a connect was begun, the newest first
-abbrev pub began_in : List ReachStep → List SocketAddr
-began_in [] = []
-began_in (Began address answer ∷ before) = address ∷ began_in before
-began_in (step ∷ before) = began_in before
-
--- No address comes any more, or 32 have come.
-abbrev pub IsExhausted : List ReachStep → Type 0
-IsExhausted tried =
-    (length (came_in tried) ≡ 32) ⊎ (rest : List ReachStep) × (tried ≡ Came None ∷ rest)
-
--- Since then a connect was begun to each address that came, one after another, until one goes on or
--- the addresses are exhausted.
-pub record TriesEach {A : Type 0} (answer : Dialled A) (before after : List ReachStep) : Type
-    0 where
-  pub tried : List ReachStep
-  pub behind : after ≡ tried ++ before
-  pub each : began_in tried ≡ came_in tried
-  pub ends : (answer ≡ Pending) ⊎ ((answer ≡ Failed) × IsExhausted tried)
-
--- the addresses that were waited for, the newest first
-abbrev pub waited_in : List ReachStep → List SocketAddr
-waited_in [] = []
-waited_in (Waited address ms answer ∷ before) = address ∷ waited_in before
-waited_in (step ∷ before) = waited_in before
-
--- Since then each address that came was waited for, one after another, until they were exhausted.
-pub record WaitsForEach (before after : List ReachStep) : Type 0 where
-  pub tried : List ReachStep
-  pub behind : after ≡ tried ++ before
-  pub each : waited_in tried ≡ came_in tried
-  pub ends : IsExhausted tried
