@@ -22,20 +22,6 @@ use Rattle.live.specs.declared.found.SourceEvent.TheVariants as found
 use Rattle.live.specs.declared.timing.Timing.{Timing}
 use Rattle.live.specs.declared.timing.WrittenRequest.{WrittenRequest}
 
--- when the line was looked at last before the last round: as before, or when the round before began
-abbrev looked_before : (looked : ℕ) → (quiet : List ℕ) → ℕ
-looked_before looked [] = looked
-looked_before looked (begun ∷ quiet) = begun
-
--- the rounds that found nothing, by when each began, the newest first, and when the next begins
-pub data RoundsOf (start : LiveEnds) : (quiet : List ℕ) → (begun : ℕ) → LiveEnds → Type 0 where
-  NoRoundOf : (begun : ℕ) → RoundsOf start [] begun start
-  OneRoundOf : (quiet : List ℕ) (begun now : ℕ) (before found : LiveEnds) (buf : List ℕ)
-      → RoundsOf start quiet begun before
-      → before.timing ≡ line_looked_at (looked_before start.timing.looked quiet) start.timing
-      → IsTurn begun before None buf found
-      → RoundsOf start (begun ∷ quiet) now (clock_read_at now found)
-
 -- what the rounds that found nothing say of the moments at which they began
 pub record Begins (start : LiveEnds) (first count begun : ℕ) (e : LiveEnds) (before : List ℕ) : Type
     0 where
@@ -43,11 +29,8 @@ pub record Begins (start : LiveEnds) (first count begun : ℕ) (e : LiveEnds) (b
   pub given : e.clock ≡ Some (begun ∷ (quiet ++ before))
   pub first_is : first_of begun quiet ≡ first
   pub brief : All (λ m. m < first + 100) (begun ∷ quiet)
-  pub many : length quiet ≡ count
-  pub rounds : RoundsOf start quiet begun e
   pub asked : e.timing.request ≡ start.timing.request
   pub waits : e.timing.answer_ms ≡ start.timing.answer_ms
-  pub reads : e.timing ≡ line_looked_at (looked_before start.timing.looked quiet) start.timing
   pub looked : (e.timing.looked ≡ start.timing.looked) ⊎ IsOneOf quiet e.timing.looked
   pub in_time : (r : WrittenRequest) → start.timing.request ≡ Some r → is_awaited start.timing
       ≡ true
@@ -85,11 +68,8 @@ begins start first _ _ _ before NoRound given =
       given = given;
       first_is = refl;
       brief = All-cons (λ m. m < first + 100) first [] short (All-nil (λ m. m < first + 100));
-      many = refl;
-      rounds = NoRoundOf first;
       asked = refl;
       waits = refl;
-      reads = refl;
       looked = inl refl;
       in_time = λ r is was. All-nil (λ m. m - r.written < start.timing.answer_ms);
     }
@@ -107,11 +87,8 @@ begins start first _ _ _ before (OneRound count begun now earlier found buf q t 
       first_is = b.first_is;
       brief = All-cons (λ m. m < first + 100) now (begun ∷ b.quiet) (brief_by first now short)
           b.brief;
-      many = grind (arith, b.many);
-      rounds = OneRoundOf b.quiet begun now earlier found buf b.rounds b.reads t;
       asked = ap (λ (k : Timing). k.request) looked ∙ b.asked;
       waits = ap (λ (k : Timing). k.answer_ms) looked ∙ b.waits;
-      reads = looked ∙ ap (line_looked_at begun) b.reads;
       looked = inr (inl (ap (λ (k : Timing). k.looked) looked));
       in_time = λ r is was.
           let still = not_late (nat_le 100 (now - first)) (is_awaited start.timing)
