@@ -49,7 +49,7 @@ tried_kept : (call : Bool → DialCall) (answer : Dialled StreamHistory) (r : Re
     → (answered call answer r).tried ≡ r.tried
 tried_kept call (Reached stream) r = refl
 tried_kept call Pending r = refl
-tried_kept call Failed r = refl
+tried_kept call (Failed cause) r = refl
 
 called_so : (call : Bool → DialCall) (answer : Dialled StreamHistory) (c : DialCalls) (r : Redial)
     → (let n = answered call answer (record r { stream = None; calls = c }) in
@@ -57,7 +57,7 @@ called_so : (call : Bool → DialCall) (answer : Dialled StreamHistory) (c : Dia
 called_so call answer None r = tt
 called_so call (Reached stream) (Some before) r = refl
 called_so call Pending (Some before) r = refl
-called_so call Failed (Some before) r = refl
+called_so call (Failed cause) (Some before) r = refl
 
 begins_so : (now : ℕ) (answer : Dialled StreamHistory) (old : Redial)
     → BeginsTry now old
@@ -167,7 +167,7 @@ answered_new : (call : Bool → DialCall) (answer : Dialled StreamHistory) (r : 
     → IfSome (answered call answer (record r { stream = None })).stream IsNew
 answered_new call (Reached stream) r fresh = fresh
 answered_new call Pending r fresh = tt
-answered_new call Failed r fresh = tt
+answered_new call (Failed cause) r fresh = tt
 
 begun_new : (due : Bool) (now : ℕ) (answer : Dialled StreamHistory) (r : Redial)
     → IfReached answer IsNew
@@ -207,7 +207,7 @@ answered_waits call (Reached stream) r = (
   (refl, refl),
 )
 answered_waits call Pending r = (tt, λ gone. refl, tt)
-answered_waits call Failed r = (tt, λ gone. refl, tt)
+answered_waits call (Failed cause) r = (tt, λ gone. refl, tt)
 
 begun_waits : (due : Bool) (now : ℕ) (answer : Dialled StreamHistory) (r : Redial)
     → Waits r (begun_by due now answer (record r { stream = None }))
@@ -244,7 +244,7 @@ still_waits old new got buf l away none = (away_waits old new got buf l away).1 
 -- what one that is there finds, and how it is left
 IsLeft : (h : StreamHistory) → (old new : Redial) → Type 0
 IsLeft h old new =
-    (new.presence ≢ Silent → (new.presence ≡ Away) × IsFoundGone (Some (is_some h)) new.gone)
+    (new.presence ≢ Silent → (new.presence ≡ Away None) × IsFoundGone (Some (is_some h)) new.gone)
     × (new.presence ≡ Silent → (is_over old.silence ≡ true)
     × (new.gone ≡ Some (noted h WasQuiet)) × (new.silence ≡ borne_longer old.silence))
 
