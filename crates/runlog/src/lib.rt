@@ -73,6 +73,7 @@ mod waiting;
 mod watch;
 mod word_examples;
 
+pub use causes::{cause_words, line_cause_words};
 pub use befallen_laws::{
     answers_are_noted_of_the_station_that_was_asked, each_apdu_of_a_step_is_read,
     what_passes_is_known_and_logged,
@@ -110,7 +111,7 @@ pub use station_laws::{
     a_station_stands_as_its_requests_say, each_station_has_its_own_watch,
     requests_are_noted_of_their_own_station,
 };
-pub use stations::{StationStanding, StationWatch};
+pub use stations::{RequestCounts, StationStanding, StationWatch};
 pub use traffic::Traffic;
 pub use watch::Watch;
 pub use word_examples::each_word_by_example;
