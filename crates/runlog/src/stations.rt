@@ -64,7 +64,7 @@ pub enum StationStanding {
 }
 
 /// What was counted of the requests to a station, while the line was there.
-#[derive(Clone, Copy, PartialEq, Eq)]
+#[derive(Clone, Copy, Default, PartialEq, Eq)]
 pub struct RequestCounts {
     /// How many went out.
     pub sent: u64,
