@@ -31,6 +31,7 @@ import sys
 import tempfile
 import threading
 import time
+import types
 
 import disks
 import ends
@@ -409,8 +410,7 @@ def a_run(count, program, folder):
 
 def lost(count, program, folder):
     """What is wrong stands first, the cause of all else before it, under the line's name."""
-    stations = Stations([1])
-    stations.server.close()
+    stations = types.SimpleNamespace(stations=[1], server=types.SimpleNamespace(getsockname=lambda: ("", ends.free_port())))
     site = os.path.join(folder, "lost.toml")
     with open(site, "w") as file:
         file.write('[line]\nname = "North <ring>"\n')

@@ -1,14 +1,13 @@
 -- What the calls of a stream mean, and what they came to.
-use Rattle.std.proofs.Common.{◌≡◌, ◌≢◌, ℕ, ◌+◌, ◌≤◌, ◌==◌, Bool, true, false, List, [], ◌∷◌, ◌++◌}
-use Rattle.std.proofs.Common.{not, length, take, Option, Some, None, Result, Ok, Err, refl, sym, ap}
+use Rattle.std.proofs.Common.{◌≡◌, ℕ, ◌+◌, ◌≤◌, ◌==◌, Bool, true, false, List, [], ◌∷◌, ◌++◌}
+use Rattle.std.proofs.Common.{not, length, take, Some, None, Result, Ok, Err, refl, sym, ap}
 use Rattle.std.proofs.Common.{subst, drop}
-use Rattle.std.proofs.Common.{◌∙◌, arith, inl, inr, ◌⊎◌, if◌then◌else◌}
+use Rattle.std.proofs.Common.{◌∙◌, arith, inl, inr, ◌⊎◌}
 use Rattle.std.specs.Prelude.{◌↔◌}
 use Rattle.std.proofs.lemmas.List.{append_cancel_left, length-take-le, take_all}
 use Rattle.std.specs.declared.io.Error.{Error}
-use Rattle.std.specs.declared.io.ErrorKind.{ErrorKind}
 use Rattle.live.specs.CallSums.{BroughtNone, IsHandedOn, IsReadEmpty, brought_in, received_in}
-use Rattle.live.specs.Streams.{Calls, DropsWaiting, Drained, Drains, Enough, IsDrained, IsReadOut}
+use Rattle.live.specs.Streams.{Calls, DropsWaiting, Drained, Enough, IsDrained, IsReadOut}
 use Rattle.live.specs.Streams.{NoMore, NoneCame, OneMore, ReadAnswer, ReadsFrame, ReadsOn}
 use Rattle.live.specs.Streams.{Received, Refused, Sent, SystemCall, Took, Waits, Whole, WritesAll}
 use Rattle.live.specs.Streams.{Again, AtOnce, HandsOn, Unwaited, WritesInTwo}

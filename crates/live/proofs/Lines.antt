@@ -1,7 +1,6 @@
 -- A look at the line goes on behind its first octets.
-use Rattle.std.proofs.Common.{◌≡◌, ℕ, ◌+◌, ◌-◌, ◌≤◌, false, Bool, ◌||◌, List, [], ◌∷◌, ◌++◌}
+use Rattle.std.proofs.Common.{◌≡◌, ℕ, ◌+◌, ◌≤◌, false, Bool, List, ◌++◌}
 use Rattle.std.proofs.Common.{length, take}
-use Rattle.std.specs.Prelude.{◌==◌, ◌⊎◌, ◌↔◌}
 use Rattle.std.proofs.Common.{sym, ap, subst, ◌∙◌, arith, length-take-le}
 use Rattle.std.proofs.Math.Seq.{take-append-add}
 use Rattle.std.proofs.lemmas.List.{take-append-le}

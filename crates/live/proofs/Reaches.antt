@@ -5,12 +5,13 @@ use Rattle.std.specs.IoError.{error_kind}
 use Rattle.std.specs.Result.{is_ok}
 use Rattle.std.specs.declared.io.Error.{Error}
 use Rattle.std.specs.declared.io.ErrorKind.{ErrorKind}
-use Rattle.std.specs.declared.io.ErrorKind.TheVariants.{NotFound, TimedOut}
+use Rattle.std.specs.declared.io.ErrorKind.TheVariants.{TimedOut}
 use Rattle.std.specs.declared.net.socket_addr.SocketAddr.{SocketAddr}
 use Rattle.std.specs.declared.time.Instant.{Instant}
 use Rattle.live.specs.Reaching.{AsksOn, AtPath, Began, BrokeOff, Came, CameThrough, ConnectsAt}
-use Rattle.live.specs.Reaching.{DialsAt, DialsHost, Ends, Enough, FailsAt, GoesOn, GoesOnAsIs, InTime}
-use Rattle.live.specs.Reaching.{IsFault, IsUnderWay, LookedUp, NoneLeft, OneMore, OpensAt, Opened}
+use Rattle.live.specs.Reaching.{DialsAt, DialsHost, Ends, Enough, FailsAt, GoesOn, GoesOnAsIs}
+use Rattle.live.specs.Reaching.{InTime}
+use Rattle.live.specs.Reaching.{IsUnderWay, LookedUp, NoneLeft, OneMore, OpensAt, Opened}
 use Rattle.live.specs.Reaching.{Absent, ReachSteps, Refused, Showed, Stood, There, TooLate, Tries}
 use Rattle.live.specs.Reaching.{TriesOn, Untimed, is_in_time, step_noted, unfound}
 use Rattle.live.specs.declared.reach.Connecting.{Connecting}
@@ -51,7 +52,8 @@ pub next_try : (first cause kind : ErrorKind) (before between mid after : ReachS
     → mid ≡ step_noted (Came (Some address)) between → answer ≡ Err fault
     → ConnectsAt address mid answer after → kind ≡ error_kind fault
     → Tries first before (count + 1) kind after
-next_try first cause kind before between mid after count address answer fault tries came was connects
+next_try first cause kind before between mid after count address answer fault tries came was
+    connects
     is =
     let fails : FailsAt address fault mid after =
     subst (λ a. ConnectsAt address mid a after) was connects in

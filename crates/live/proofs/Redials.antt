@@ -1,12 +1,12 @@
 -- When a stream that is away is tried again, and what is known of it.
-use Rattle.std.proofs.Common.{◌≡◌, ◌≢◌, ℕ, ◌+◌, ◌-◌, ◌<◌, ◌≤◌, Bool, true, false, List, [], ◌∷◌}
+use Rattle.std.proofs.Common.{◌≡◌, ◌≢◌, ℕ, ◌+◌, ◌-◌, ◌<◌, ◌≤◌, Bool, true, false, List, ◌∷◌}
 use Rattle.std.proofs.Common.{Option, Some, None, IfSome, refl, sym, ap, subst, arith, ◌∙◌}
 use Rattle.std.specs.Prelude.{is_some, nat_le, option_map}
 use Rattle.live.specs.OctetStreams.{StreamHistory, IsNew, noted, Wrote, Dropped}
 use Rattle.live.specs.Redial.{Redial, is_due, clock_read_at, begun_by, tried_by, is_due_by}
 use Rattle.live.specs.Redial.{IsRedialled, IsPut, HasDropped, answered, put_by, dropped_by}
 use Rattle.live.specs.Redial.{waited, IfReached, looked_by, Asked, DialCall, DialCalls, Dialed}
-use Rattle.live.specs.Redial.{BeginsTry, closed_by, is_closed, known_by, known_reached}
+use Rattle.live.specs.Redial.{BeginsTry, closed_by, known_reached}
 use Rattle.live.specs.OctetStreams.{WasQuiet}
 use Rattle.live.specs.Silence.{asked_at, begun_anew, borne_longer, counted_by, is_over, no_silence}
 use Rattle.live.specs.declared.silence.Silence.{Silence}

@@ -1,14 +1,13 @@
 -- Whom the looks at the listener refuse. Those of a run are those of its looks, one after another.
-use Rattle.std.proofs.Common.{◌≡◌, ℕ, List, [], ◌∷◌, ◌++◌}
-use Rattle.std.proofs.Common.{Option, Some, None, refl, ap, ◌∙◌}
-use Rattle.std.specs.Prelude.{◌↔◌, IsTrue, option_map}
+use Rattle.std.proofs.Common.{◌≡◌, List, [], ◌∷◌, ◌++◌}
+use Rattle.std.proofs.Common.{Option, Some, None, refl, ap}
+use Rattle.std.specs.Prelude.{option_map}
 use Rattle.std.proofs.lemmas.List.Elements.{All-cons}
 use Rattle.std.specs.declared.net.ip_addr.IpAddr.{IpAddr}
 use Rattle.live.specs.AllowLists.{Allows, Refusals, RefusesStrangers}
 use Rattle.live.specs.AllowLists.{one_more_refused}
 use Rattle.live.specs.declared.allow_list.AllowList.{AllowList}
 use Rattle.live.specs.declared.ends.RefusedPeers.{RefusedPeers}
-use Rattle.live.specs.declared.found.SourceEvent.TheVariants as found
 use Rattle.live.proofs.Plain.{no_strangers}
 
 -- nobody, one after another

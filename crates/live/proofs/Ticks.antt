@@ -1,6 +1,6 @@
 -- When rounds of looks begin, and why they end in a tick.
-use Rattle.std.proofs.Common.{◌≡◌, ℕ, ◌+◌, ◌-◌, ◌<◌, ◌≤◌, nat_le, ◌⊎◌, ◌&&◌, ◌||◌, not, true, false}
-use Rattle.std.proofs.Common.{Bool, List, [], ◌∷◌, ◌++◌, length, Option, Some, None, refl, sym, ap}
+use Rattle.std.proofs.Common.{◌≡◌, ℕ, ◌+◌, ◌-◌, ◌<◌, nat_le, ◌⊎◌, ◌&&◌, ◌||◌, not, true, false}
+use Rattle.std.proofs.Common.{Bool, List, [], ◌∷◌, ◌++◌, Option, Some, None, refl, sym, ap}
 use Rattle.std.proofs.Common.{subst, arith, ◌∙◌, inl, inr}
 use Rattle.std.specs.Prelude.{All}
 use Rattle.std.proofs.lemmas.List.Elements.{All-cons, All-nil}
@@ -13,7 +13,7 @@ use Rattle.live.specs.Law.{IsOneOf}
 use Rattle.live.specs.Ends.{LiveEnds, Turns, LogsTurn, as_logged, TurnsToWall, TurnsToEnds}
 use Rattle.live.specs.Ends.{QuietRounds}
 use Rattle.live.specs.Ends.{NoRound, OneRound, taken_by, looking}
-use Rattle.live.specs.Ends.{IsTurn, clock_read_at}
+use Rattle.live.specs.Ends.{clock_read_at}
 use Rattle.live.proofs.Apart.{clock_of, clock_apart, taken_same}
 use Rattle.live.proofs.Rounds.{turn_kept}
 use Rattle.live.proofs.LineReads.{quiet_reads}

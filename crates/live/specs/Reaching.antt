@@ -1,6 +1,6 @@
 -- Which places a dialler of the line asks for, and what its tries come to (this gateway's own
 -- profile).
-use Rattle.std.specs.Prelude.{◌≡◌, ◌⊎◌, ◌-◌, ◌*◌, ℕ, ◌+◌, ◌<◌, nat_le, List, [], ◌∷◌, ◌++◌}
+use Rattle.std.specs.Prelude.{◌≡◌, ◌-◌, ◌*◌, ℕ, ◌+◌, ◌<◌, nat_le, List, ◌∷◌}
 use Rattle.std.specs.Prelude.{Bool, true, false}
 use Rattle.std.specs.Prelude.{Option, Some, None, Result, Ok, Err, MatchResult, option_map}
 use Rattle.std.specs.IoError.{error_kind}
@@ -100,7 +100,8 @@ pub data OpensAt {A : Type 0} (path : List ℕ) (line : Result A Error) (before 
   Absent : (fault : Error) → IsFault line fault
       → after ≡ step_noted (AtPath path (Err fault)) before → OpensAt path line before after
   There : (stream : ReachedStream)
-      → after ≡ step_noted (Opened stream (is_ok line)) (step_noted (AtPath path (Ok stream)) before)
+      → after
+      ≡ step_noted (Opened stream (is_ok line)) (step_noted (AtPath path (Ok stream)) before)
       → OpensAt path line before after
 
 -- A try at the socket of this path has ended so.

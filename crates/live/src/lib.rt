@@ -83,14 +83,28 @@ pub use clock::Timed;
 pub use ends::{
     Accepted, CutCause, Got, Listener, OctetStream, Presence, Reached, RefusedPeers, RunClock,
 };
-pub use laws::arriving::{only_allowed_addresses_connect, that_nobody_can_be_accepted_is_told_once, who_comes_is_refused_or_let_in};
-pub use laws::reaching::{a_clock_begins_at_its_moment, a_try_ends_as_its_connect_does, calls_of_streams_wait_so_long};
+pub use laws::arriving::{
+    only_allowed_addresses_connect, that_nobody_can_be_accepted_is_told_once,
+    who_comes_is_refused_or_let_in,
+};
+pub use laws::reaching::{
+    a_clock_begins_at_its_moment, a_try_ends_as_its_connect_does, calls_of_streams_wait_so_long,
+};
 pub use laws::showing::the_ends_are_shown_as_they_are;
 pub use laws::tries::{
     a_stream_that_gives_nothing_is_closed, a_stream_that_is_away_is_tried_when_due,
     tries_lie_farther_apart_while_nothing_comes,
 };
-pub use laws::{a_clock_goes_on_with_the_systems, a_close_shuts_the_connection, a_cut_has_its_reason, a_cut_that_is_due_comes_next, a_frame_catches_the_clock_up, a_run_begins_with_the_wall_clock, a_run_logs_what_passed, a_run_that_goes_on_begins_with_a_cut, an_exchange_that_is_over_gives_an_event_at_once, looks_ask_nothing, looks_at_the_line_are_timed_by_the_clock, looks_for_an_event_begin_within_100_ms, no_exchange_ends_unread, the_log_has_what_passed, the_wall_clock_is_given_each_second, what_is_noted_is_noted_to_the_end, what_passed_by_example, what_the_centre_sent_is_given_in_time};
+pub use laws::{
+    a_clock_goes_on_with_the_systems, a_close_shuts_the_connection, a_cut_has_its_reason,
+    a_cut_that_is_due_comes_next, a_frame_catches_the_clock_up, a_run_begins_with_the_wall_clock,
+    a_run_logs_what_passed, a_run_that_goes_on_begins_with_a_cut,
+    an_exchange_that_is_over_gives_an_event_at_once, looks_ask_nothing,
+    looks_at_the_line_are_timed_by_the_clock, looks_for_an_event_begin_within_100_ms,
+    no_exchange_ends_unread, the_log_has_what_passed, the_wall_clock_is_given_each_second,
+    what_is_noted_is_noted_to_the_end, what_passed_by_example,
+    what_the_centre_sent_is_given_in_time,
+};
 pub use port::Live;
 pub use redial::{Dialled, Dialler, Redialled};
 pub use room::{MOST_AT_ONCE, STANDARD_ERROR, STANDARD_OUTPUT, has_room};
@@ -98,6 +112,8 @@ pub use run_port::RunPort;
 pub use sockets::{
     CentreListener, CentreSocket, LineDialler, LineSocket, LocalSocket, SystemClock,
 };
-pub use stream_laws::{a_write_is_taken_where_all_its_octets_are, what_waits_is_dropped_to_its_end};
+pub use stream_laws::{
+    a_write_is_taken_where_all_its_octets_are, what_waits_is_dropped_to_its_end,
+};
 pub use syncs::SlowSyncs;
 pub use watched::{EndsSight, Failure, Notice, Watched};
