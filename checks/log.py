@@ -173,11 +173,11 @@ def replies(asdu):
 
 
 class Run:
-    def __init__(self, program, folder, station, *flags, host="127.0.0.1", settings=SETTINGS, output=subprocess.PIPE):
+    def __init__(self, program, folder, station, *flags, host="127.0.0.1", settings=SETTINGS, output=subprocess.PIPE, place=None):
         self.listener = (host, ends.free_port())
         config = os.path.join(folder, "live.toml")
         with open(config, "w") as file:
-            place = f"tcp:127.0.0.1:{station.port}"
+            place = place or f"tcp:127.0.0.1:{station.port}"
             file.write(f'{settings}[live]\nline = "{place}"\nlisten = "{host}:{self.listener[1]}"\n')
         self.process = subprocess.Popen(
             [program, "run", *flags, config], stdin=subprocess.DEVNULL, stdout=output, stderr=subprocess.PIPE
@@ -213,7 +213,7 @@ def a_run(count, program, folder):
 
         comes("listening at 127.0.0.1:%d" % run.listener[1])
         comes("station 7 asked for its status")
-        comes("line not there")
+        comes("line not there: connection refused")
         station.begin()
         comes("line reached")
         comes("station 7 up")
@@ -325,6 +325,27 @@ def fickle(count, program, folder):
             # Whether the first look finds the line away, there or neither is the system's.
             told = (["line reached", "line lost"], ["line not there"], ["line not there", "line reached", "line lost"])
             count.judge("few lines tell of it", lines in told, run.log.lines)
+
+
+def causes(count, program, folder):
+    """Why each try failed: at once for another cause, and for the same one each minute."""
+    path = os.path.join(folder, "line.socket")
+    with Run(program, folder, Station(is_there=False), "--redial", "--log", place=f"unix:{path}") as run:
+        first = run.log.waits("line not there: name unknown")
+        count.judge("no such path", first, run.log.lines)
+        # A socket that nobody listens at.
+        with socket.socket(socket.AF_UNIX) as server:
+            server.bind(path)
+            then = run.log.waits("line not there: connection refused", first or 0)
+            count.judge("nobody listens there any more", then, run.log.lines)
+            time.sleep(3.2)
+            told = [line for line in run.log.lines if line.startswith("line")]
+            count.judge("the same cause is told once", len(told) == 2, told)
+            server.listen()
+            count.judge("it is reached then", run.log.waits("line reached", then or 0), run.log.lines)
+    os.remove(path)
+    with Run(program, folder, Station(is_there=False), "--redial", "--log", place="tcp:no.such.host.invalid:2404") as run:
+        count.judge("no such host", run.log.waits("line not there: ", seconds=20), run.log.lines)
 
 
 def second(count, program, folder):
@@ -884,4 +905,4 @@ def troubles(count, program, folder):
 
 
 if __name__ == "__main__":
-    frame.main(a_run, held, mute, fickle, commands, trail, skipped, late, told_apart, unheard, allowed, troubles, second, closed)
+    frame.main(a_run, held, mute, fickle, causes, commands, trail, skipped, late, told_apart, unheard, allowed, troubles, second, closed)

@@ -8,6 +8,7 @@ and what they cost.
   what the stations did.
 - Then comes the listener itself: any path, any method, garbage, octets one at a time, a request of 10
   KB, a hundred connections at once, readers that read nothing, and readers that read slowly.
+- What is wrong stands first, and dead stations before the others.
 - Settings of 32 stations fit a page.
 - The syncs of a slow disk stand on each page, with their times.
 - Python reads the JSON and the HTML. Prometheus' own `promtool` reads the metrics. Headless
@@ -30,6 +31,7 @@ import sys
 import tempfile
 import threading
 import time
+import types
 
 import disks
 import ends
@@ -143,7 +145,8 @@ def pages(count, listener):
     count.judge("HTML: each element is closed", not page.open and not page.odd, (page.open, page.odd))
     count.judge("HTML: no script, nothing from elsewhere", "script" not in page.tags and not page.links, (page.tags, page.links))
     names = [row[0] for row in page.rows if len(row) == 10][1:]
-    count.judge("HTML: the names", names == [station["name"] for station in stations], names)
+    wanted = [station["name"] for station in dead_first(stations)]
+    count.judge("HTML: the names, of dead stations first", names == wanted, (names, wanted))
     samples = metrics_of(get(listener, "/metrics").body.decode())
     for station in stations:
         label = '{station="%d"}' % station["address"]
@@ -153,6 +156,11 @@ def pages(count, listener):
     count.judge("table: its first word", table.split(":")[0] in ("OK", "WARNING", "CRITICAL"), table[:80])
     rows = [line for line in table.splitlines() if re.match(r" *\d+ +\d+  ", line)]
     count.judge("table: a row a station", len(rows) == len(stations), table)
+
+
+def dead_first(stations):
+    """The stations as the page has them: those that don't answer stand before the others."""
+    return sorted(stations, key=lambda station: station["standing"] not in ("silent", "down"))
 
 
 def promtool(count, listener):
@@ -368,6 +376,27 @@ def a_run(count, program, folder):
         stations.silent.add(2)
         count.judge("station 2 falls silent", run.waits(lambda s: standing(s, 2)["standing"] in ("silent", "down")), run.json())
         client(count, run, "WARNING")
+        dead = standing(run.json(), 2)
+        count.judge("what it didn't answer is counted", dead["requests"] > dead["repeats"] > 0 < dead["unanswered"], dead)
+        samples = metrics_of(get(run.status, "/metrics").body.decode())
+        for key in ("requests", "repeats", "unanswered", "spoilt", "late"):
+            told = samples['telegate_station_%s_total{station="2"}' % key]
+            count.judge(f"{key} in the metrics", told >= dead[key], (told, dead))
+        moment = standing(run.json(), 1)["last_report_ms"] // 1000
+        told = samples['telegate_station_last_report_seconds{station="1"}']
+        count.judge("the last report in the metrics", told == moment <= samples["telegate_moment_seconds"], (told, moment))
+        rows = [row[1] for row in Page(get(run.status, "/").body.decode()).rows if len(row) == 10][1:]
+        wanted = [str(station["address"]) for station in dead_first(run.json()["stations"])]
+        count.judge("dead stations stand first", rows == wanted and rows[-1] == "1", (rows, wanted))
+        table = get(run.status, "/status.txt").body.decode().splitlines()[0]
+        count.judge("performance data", re.search(r" \| stations_up=1;;;0;3 queue=12;500;997;0;1000$", table), table)
+        page = get(run.status, "/").body.decode()
+        count.judge("a queue below 80 % is good", '<meter min="0" optimum="0" low="799" high="997" max="1000" value="12">' in page, page)
+        stations.silent.add(1)
+        count.judge("no station answers", run.waits(lambda s: s["judgement"] == "CRITICAL"), run.json())
+        client(count, run, "CRITICAL")
+        stations.silent.remove(1)
+        count.judge("one answers again", run.waits(lambda s: s["judgement"] == "WARNING"), run.json())
         centre.close()
         count.judge("the control centre goes", run.waits(lambda s: s["centre"]["peer"] is None), run.json())
         client(count, run, "CRITICAL")
@@ -377,6 +406,27 @@ def a_run(count, program, folder):
         visitors(count, run.status)
         chromium(count, run.status, folder)
         count.judge("still up", run.process.poll() is None, run.process.poll())
+
+
+def lost(count, program, folder):
+    """What is wrong stands first, the cause of all else before it, under the line's name."""
+    stations = types.SimpleNamespace(stations=[1], server=types.SimpleNamespace(getsockname=lambda: ("", ends.free_port())))
+    site = os.path.join(folder, "lost.toml")
+    with open(site, "w") as file:
+        file.write('[line]\nname = "North <ring>"\n')
+    with Run(program, folder, stations, "--site", site) as run:
+        cause = "connection refused"
+        count.judge("the JSON has the cause", run.waits(lambda s: s["line"]["cause"] == cause), run.json())
+        first = f"CRITICAL: line lost: {cause}; control centre not connected; 0 of 1 stations up, line away"
+        count.judge("the JSON's summary", run.json()["summary"].startswith(first), run.json())
+        count.judge("the table", get(run.status, "/status.txt").body.decode().startswith(first), "")
+        page = get(run.status, "/").body.decode()
+        begins = re.search(r"<body>\n(.*)\n(.*)\n", page)
+        count.judge("the page", begins and begins[2].startswith(f'<p class="CRITICAL">{first}'), page)
+        heads = re.findall(r"<(?:title|h1)>(.*?)</", page)
+        count.judge("title and heading", heads == ["North &lt;ring&gt;"] * 2, heads)
+        with socket.create_connection(run.listener, timeout=ends.PATIENCE):
+            count.judge("a control centre comes", run.waits(lambda s: "not connected" not in s["summary"]), run.json())
 
 
 SYNCS = re.compile(r"(\d+), the last (\d+) ms, the longest (\d+) ms")
@@ -498,7 +548,7 @@ def a_listener(count, _program, _folder):
 if __name__ == "__main__":
     is_elsewhere = any(word.startswith("--listener") for word in sys.argv)
     frame.main(
-        *((a_listener,) if is_elsewhere else (a_run, largest, taken_port, slow_disk, passage)),
+        *((a_listener,) if is_elsewhere else (a_run, lost, largest, taken_port, slow_disk, passage)),
         needs_program=not is_elsewhere,
         words={"--listener": {"metavar": "HOST:PORT", "help": "judge what listens there, and nothing else"}},
     )

@@ -18,7 +18,7 @@ fn a_sink_that_notes_its_lines_has_them(rt: HostRuntime) -> Result<(), Fail> {
     for note in [
         Note::LineReached,
         Note::Up(1),
-        Note::LineLost,
+        Note::LineLost(None),
         Note::Down(1),
     ] {
         note_line(&mut logger, note);

@@ -15,6 +15,7 @@ fn snapshot() -> Snapshot<'static> {
         line: LineView {
             is_there: true,
             since_ms: 0,
+            cause: None,
         },
         centre: CentreView {
             peer: None,
@@ -28,6 +29,7 @@ fn snapshot() -> Snapshot<'static> {
             hour: &[],
         },
         keeping: Keeping::Off,
+        lost_by: None,
         syncs: SlowSyncs::none(),
         stations: &[],
         settings: &[],

@@ -1,7 +1,6 @@
 -- Only allowed addresses connect.
 use Rattle.std.proofs.Common.{◌≡◌, ℕ, true, false, Bool, List, [], ◌∷◌, Option, Some, None, IfSome}
-use Rattle.std.proofs.Common.{option_map, refl, sym, ap, subst, inl, inr, ◌∙◌, ◌<◌, ◌⊎◌}
-use Rattle.std.specs.Prelude.{◌↔◌}
+use Rattle.std.proofs.Common.{option_map, refl, sym, ap, subst, inl, inr, ◌∙◌}
 use Rattle.std.specs.declared.net.ip_addr.IpAddr.{IpAddr}
 use Rattle.gateway.specs.Log.{Log, Output, LineOut, TcpOut, Closed, GapOut}
 use Rattle.session.specs.declared.kinds.Close.TheVariants as close

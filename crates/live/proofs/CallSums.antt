@@ -1,14 +1,13 @@
 -- What the calls of a stream mean, and what they came to.
-use Rattle.std.proofs.Common.{◌≡◌, ◌≢◌, ℕ, ◌+◌, ◌≤◌, ◌==◌, Bool, true, false, List, [], ◌∷◌, ◌++◌}
-use Rattle.std.proofs.Common.{not, length, take, Option, Some, None, Result, Ok, Err, refl, sym, ap}
+use Rattle.std.proofs.Common.{◌≡◌, ℕ, ◌+◌, ◌≤◌, ◌==◌, Bool, true, false, List, [], ◌∷◌, ◌++◌}
+use Rattle.std.proofs.Common.{not, length, take, Some, None, Result, Ok, Err, refl, sym, ap}
 use Rattle.std.proofs.Common.{subst, drop}
-use Rattle.std.proofs.Common.{◌∙◌, arith, inl, inr, ◌⊎◌, if◌then◌else◌}
+use Rattle.std.proofs.Common.{◌∙◌, arith, inl, inr, ◌⊎◌}
 use Rattle.std.specs.Prelude.{◌↔◌}
 use Rattle.std.proofs.lemmas.List.{append_cancel_left, length-take-le, take_all}
 use Rattle.std.specs.declared.io.Error.{Error}
-use Rattle.std.specs.declared.io.ErrorKind.{ErrorKind}
 use Rattle.live.specs.CallSums.{BroughtNone, IsHandedOn, IsReadEmpty, brought_in, received_in}
-use Rattle.live.specs.Streams.{Calls, DropsWaiting, Drained, Drains, Enough, IsDrained, IsReadOut}
+use Rattle.live.specs.Streams.{Calls, DropsWaiting, Drained, Enough, IsDrained, IsReadOut}
 use Rattle.live.specs.Streams.{NoMore, NoneCame, OneMore, ReadAnswer, ReadsFrame, ReadsOn}
 use Rattle.live.specs.Streams.{Received, Refused, Sent, SystemCall, Took, Waits, Whole, WritesAll}
 use Rattle.live.specs.Streams.{Again, AtOnce, HandsOn, Unwaited, WritesInTwo}
@@ -93,31 +92,6 @@ pub handed_on : (old new : List SystemCall) (octets : List ℕ) (is_taken : Bool
     → (first : Result ℕ Error) × IsHandedOn octets first old new
 handed_on old new octets is_taken w =
     handed_by (Some old) (Some new) octets old new w.goes_on refl refl
-
--- behind a whole frame nothing is read on
-never_on : (old : Calls) (first : List ℕ) (count : ℕ) (octets : List ℕ) (mid : Calls)
-    → ReadsOn old first count octets mid → ends_frame first ≡ true
-    → (octets ≡ first) × (mid ≡ old)
-never_on old first _ _ _ NoMore whole = (refl, refl)
-never_on old first _ _ _ (OneMore count n octets more mid new reads not once some) whole =
-    let before = never_on old first count octets mid reads whole in
-    let no : false ≡ true = sym not ∙ (ap ends_frame before.0 ∙ whole) in absurd (cc)
-
-whole_by : (old : Calls) (first : List ℕ) (count : ℕ) (octets : List ℕ) (mid new : Calls)
-    → ReadsOn old first count octets mid → IsReadOut count octets mid new
-    → ends_frame first ≡ true → (octets ≡ first) × (new ≡ old)
-whole_by old first count octets mid new reads (Whole ends same) whole =
-    let s = never_on old first count octets mid reads whole in (s.0, same ∙ s.1)
-whole_by old first count octets mid new reads (NoneCame not once) whole =
-    let s = never_on old first count octets mid reads whole in
-    let no : false ≡ true = sym not ∙ (ap ends_frame s.0 ∙ whole) in absurd (cc)
-whole_by old first count octets mid new reads (Enough many same) whole =
-    let s = never_on old first count octets mid reads whole in (s.0, same ∙ s.1)
-
-pub whole_alone : (calls new : Calls) (first octets : List ℕ) → ReadsFrame calls first octets new
-    → ends_frame first ≡ true → (octets ≡ first) × (new ≡ calls)
-whole_alone calls new first octets f whole =
-    whole_by calls first f.count octets f.mid new f.reads f.out whole
 
 -- a look goes on until a frame ends
 on_noted : (calls : List SystemCall) (first : List ℕ) (count : ℕ) (octets : List ℕ) (mid : Calls)

@@ -5,9 +5,9 @@ use Rattle.std.proofs.Common.{subst, arith, ◌∙◌}
 use Rattle.std.specs.Prelude.{option_map}
 use Rattle.gateway.specs.Log.{Output, LineOut, TcpOut, Closed, GapOut}
 use Rattle.live.specs.OctetStreams.{Dropped, Happening, Wrote, StreamHistory, IsNew, looked, noted}
-use Rattle.live.specs.Ends.{LiveEnds, Peer, Answers, PutsOut, as_logged, looked_at, accepted}
+use Rattle.live.specs.Ends.{LiveEnds, Peer, Answers, as_logged, looked_at, accepted}
 use Rattle.live.specs.Ends.{turned_away}
-use Rattle.live.specs.Ends.{failed_by, written_open, closed_by, after_action}
+use Rattle.live.specs.Ends.{failed_by, after_action}
 use Rattle.live.specs.Late.{gone_of}
 use Rattle.live.specs.Passed.{LiveRun, Begun, Turned, Put}
 use Rattle.live.proofs.Apart.{Apart}

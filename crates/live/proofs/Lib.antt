@@ -8,7 +8,6 @@ pub mod Closes
 pub mod Writes
 pub mod Drops
 pub mod Lines
-pub mod Came
 pub mod Tries
 pub mod Redials
 pub mod Law
@@ -17,10 +16,6 @@ pub mod Octets
 pub mod Walls
 pub mod Ticks
 pub mod WaitsTimed
-pub mod SourceLooks
-pub mod EachRound
-pub mod InTurn
-pub mod Behind
 pub mod Logs
 pub mod Fixed
 pub mod Passed
@@ -37,6 +32,5 @@ pub mod Told
 pub mod Clocks
 pub mod Connects
 pub mod Reaches
-pub mod Turnwise
 pub mod CallSums
 pub mod Plain

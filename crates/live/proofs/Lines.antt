@@ -1,12 +1,9 @@
 -- A look at the line goes on behind its first octets.
-use Rattle.std.proofs.Common.{◌≡◌, ℕ, ◌+◌, ◌-◌, ◌≤◌, true, false, Bool, ◌||◌, List, [], ◌∷◌, ◌++◌}
-use Rattle.std.proofs.Common.{inl, inr, length, take}
-use Rattle.std.specs.Prelude.{◌==◌, ◌⊎◌, ◌↔◌, slice_index}
+use Rattle.std.proofs.Common.{◌≡◌, ℕ, ◌+◌, ◌≤◌, false, Bool, List, ◌++◌}
+use Rattle.std.proofs.Common.{length, take}
 use Rattle.std.proofs.Common.{sym, ap, subst, ◌∙◌, arith, length-take-le}
-use Rattle.std.proofs.Math.Bool.{or-true}
-use Rattle.std.proofs.Math.Seq.{get_or-append_seam, take-append-add}
-use Rattle.std.proofs.lemmas.Bool.{eq-eqb, eqb-true, or_cases}
-use Rattle.std.proofs.lemmas.List.{length-append, take-append-le}
+use Rattle.std.proofs.Math.Seq.{take-append-add}
+use Rattle.std.proofs.lemmas.List.{take-append-le}
 use Rattle.std.proofs.lemmas.Slice.{take-put_mid_below}
 use borrow.Rule.Slice.PartMut.{put_mid, post_of}
 use Rattle.live.specs.Streams.{Calls, ReadsOn, OneMore, ReadsFrame, NoneCame, ReceivesOnce}
@@ -48,30 +45,3 @@ reads_out old mid new first xs ys count a k n ends reads is not receives none wi
     })
 
 -- a frame's end is its last octet
-
-last_of : (octets : List ℕ) (last : ℕ)
-    → slice_index (octets ++ last ∷ []) (length (octets ++ last ∷ []) - 1) ≡ last
-last_of octets last =
-    let count : length (octets ++ last ∷ []) - 1 ≡ length octets =
-    omega (arith, length-append octets (last ∷ [])) in
-    subst (λ (n : ℕ). slice_index (octets ++ last ∷ []) n ≡ last) (sym count)
-    (get_or-append_seam octets last [] 0)
-
-either_end : (last : ℕ) → (((last == 0x16) || (last == 0xE5)) ≡ true)
-    ↔ ((last ≡ 0x16) ⊎ (last ≡ 0xE5))
-either_end last = (
-  λ ends. elim (or_cases (last == 0x16) (last == 0xE5) ends) [
-    | inl one ↦ inl (eqb-true last 0x16 one)
-    | inr other ↦ inr (eqb-true last 0xE5 other)
-  ],
-  λ is. elim is [
-    | inl one ↦ ap (λ b. b || (last == 0xE5)) (eq-eqb last 0x16 one)
-    | inr other ↦ ap (λ b. (last == 0x16) || b) (eq-eqb last 0xE5 other) ∙ or-true (last == 0x16)
-  ],
-)
-
-pub ends_by_last : (octets : List ℕ) (last : ℕ)
-    → (ends_frame (octets ++ last ∷ []) ≡ true) ↔ ((last ≡ 0x16) ⊎ (last ≡ 0xE5))
-ends_by_last octets last =
-    subst (λ (n : ℕ). (((n == 0x16) || (n == 0xE5)) ≡ true) ↔ ((last ≡ 0x16) ⊎ (last ≡ 0xE5)))
-    (sym (last_of octets last)) (either_end last)

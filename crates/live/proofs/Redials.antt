@@ -1,12 +1,12 @@
 -- When a stream that is away is tried again, and what is known of it.
-use Rattle.std.proofs.Common.{◌≡◌, ◌≢◌, ℕ, ◌+◌, ◌-◌, ◌<◌, ◌≤◌, Bool, true, false, List, [], ◌∷◌}
+use Rattle.std.proofs.Common.{◌≡◌, ◌≢◌, ℕ, ◌+◌, ◌-◌, ◌<◌, ◌≤◌, Bool, true, false, List, ◌∷◌}
 use Rattle.std.proofs.Common.{Option, Some, None, IfSome, refl, sym, ap, subst, arith, ◌∙◌}
 use Rattle.std.specs.Prelude.{is_some, nat_le, option_map}
 use Rattle.live.specs.OctetStreams.{StreamHistory, IsNew, noted, Wrote, Dropped}
 use Rattle.live.specs.Redial.{Redial, is_due, clock_read_at, begun_by, tried_by, is_due_by}
 use Rattle.live.specs.Redial.{IsRedialled, IsPut, HasDropped, answered, put_by, dropped_by}
 use Rattle.live.specs.Redial.{waited, IfReached, looked_by, Asked, DialCall, DialCalls, Dialed}
-use Rattle.live.specs.Redial.{BeginsTry, closed_by, is_closed, known_by, known_reached}
+use Rattle.live.specs.Redial.{BeginsTry, closed_by, known_reached}
 use Rattle.live.specs.OctetStreams.{WasQuiet}
 use Rattle.live.specs.Silence.{asked_at, begun_anew, borne_longer, counted_by, is_over, no_silence}
 use Rattle.live.specs.declared.silence.Silence.{Silence}
@@ -49,7 +49,7 @@ tried_kept : (call : Bool → DialCall) (answer : Dialled StreamHistory) (r : Re
     → (answered call answer r).tried ≡ r.tried
 tried_kept call (Reached stream) r = refl
 tried_kept call Pending r = refl
-tried_kept call Failed r = refl
+tried_kept call (Failed cause) r = refl
 
 called_so : (call : Bool → DialCall) (answer : Dialled StreamHistory) (c : DialCalls) (r : Redial)
     → (let n = answered call answer (record r { stream = None; calls = c }) in
@@ -57,7 +57,7 @@ called_so : (call : Bool → DialCall) (answer : Dialled StreamHistory) (c : Dia
 called_so call answer None r = tt
 called_so call (Reached stream) (Some before) r = refl
 called_so call Pending (Some before) r = refl
-called_so call Failed (Some before) r = refl
+called_so call (Failed cause) (Some before) r = refl
 
 begins_so : (now : ℕ) (answer : Dialled StreamHistory) (old : Redial)
     → BeginsTry now old
@@ -167,7 +167,7 @@ answered_new : (call : Bool → DialCall) (answer : Dialled StreamHistory) (r : 
     → IfSome (answered call answer (record r { stream = None })).stream IsNew
 answered_new call (Reached stream) r fresh = fresh
 answered_new call Pending r fresh = tt
-answered_new call Failed r fresh = tt
+answered_new call (Failed cause) r fresh = tt
 
 begun_new : (due : Bool) (now : ℕ) (answer : Dialled StreamHistory) (r : Redial)
     → IfReached answer IsNew
@@ -207,7 +207,7 @@ answered_waits call (Reached stream) r = (
   (refl, refl),
 )
 answered_waits call Pending r = (tt, λ gone. refl, tt)
-answered_waits call Failed r = (tt, λ gone. refl, tt)
+answered_waits call (Failed cause) r = (tt, λ gone. refl, tt)
 
 begun_waits : (due : Bool) (now : ℕ) (answer : Dialled StreamHistory) (r : Redial)
     → Waits r (begun_by due now answer (record r { stream = None }))
@@ -244,7 +244,7 @@ still_waits old new got buf l away none = (away_waits old new got buf l away).1 
 -- what one that is there finds, and how it is left
 IsLeft : (h : StreamHistory) → (old new : Redial) → Type 0
 IsLeft h old new =
-    (new.presence ≢ Silent → (new.presence ≡ Away) × IsFoundGone (Some (is_some h)) new.gone)
+    (new.presence ≢ Silent → (new.presence ≡ Away None) × IsFoundGone (Some (is_some h)) new.gone)
     × (new.presence ≡ Silent → (is_over old.silence ≡ true)
     × (new.gone ≡ Some (noted h WasQuiet)) × (new.silence ≡ borne_longer old.silence))
 

@@ -1,15 +1,14 @@
 -- A run from its beginning on: what stays of it, and what its log begins with.
-use Rattle.std.proofs.Common.{◌≡◌, ℕ, true, false, Bool, not, ◌&&◌, ◌||◌, List, [], ◌∷◌, ◌++◌, All}
+use Rattle.std.proofs.Common.{◌≡◌, ℕ, true, false, Bool, not, ◌||◌, List, [], ◌∷◌, ◌++◌, All}
 use Rattle.std.proofs.Common.{Option, Some, None, take, refl, sym, ap, subst, ◌∙◌, inl, inr}
 use Rattle.std.specs.Prelude.{is_some}
 use Rattle.std.proofs.lemmas.Bool.{and_from, and_parts}
 use Rattle.std.proofs.lemmas.List.Elements.{All-head, All-tail}
-use Rattle.gateway.specs.Log.{Log, LogEntry, Came, Went, Input, LineIn, Opened, TcpIn, CutOff}
+use Rattle.gateway.specs.Log.{Log, LogEntry, Came, Went, LineIn, Opened, TcpIn, CutOff}
 use Rattle.gateway.specs.Log.{Ticked, WallIs, Output}
 use Rattle.gateway.specs.Ports.{logged_by}
 use Rattle.gateway.specs.declared.ports.Next.{Next}
 use Rattle.gateway.specs.declared.ports.Next.TheVariants as next
-use Rattle.live.specs.Cuts.{CutsFirst, is_wall_in}
 use Rattle.live.specs.Ends.{Fixture, LiveEnds, LogsPut, LogsTurn, Turns, as_logged, fixed_of}
 use Rattle.live.specs.Passed.{LiveRun, Begun, Turned, Put}
 use Rattle.live.specs.Runs.{BeginsSo, HasPassed, IsInRun, IsStart, ShowsRun, WallFirst, all_actions}

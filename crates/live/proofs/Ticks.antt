@@ -1,38 +1,26 @@
 -- When rounds of looks begin, and why they end in a tick.
-use Rattle.std.proofs.Common.{◌≡◌, ℕ, ◌+◌, ◌-◌, ◌<◌, ◌≤◌, nat_le, ◌⊎◌, ◌&&◌, ◌||◌, not, true, false}
-use Rattle.std.proofs.Common.{Bool, List, [], ◌∷◌, ◌++◌, length, Option, Some, None, refl, sym, ap}
+use Rattle.std.proofs.Common.{◌≡◌, ℕ, ◌+◌, ◌-◌, ◌<◌, nat_le, ◌⊎◌, ◌&&◌, ◌||◌, not, true, false}
+use Rattle.std.proofs.Common.{Bool, List, [], ◌∷◌, ◌++◌, Option, Some, None, refl, sym, ap}
 use Rattle.std.proofs.Common.{subst, arith, ◌∙◌, inl, inr}
 use Rattle.std.specs.Prelude.{All}
 use Rattle.std.proofs.lemmas.List.Elements.{All-cons, All-nil}
 use Rattle.gateway.specs.declared.ports.Next.{Next}
-use Rattle.live.specs.Timing.{Moments, read_at, told_at, is_awaited, is_awaited_by, is_behind}
+use Rattle.live.specs.Timing.{Moments, read_at, is_awaited, is_awaited_by, is_behind}
 use Rattle.live.specs.Timing.{line_looked_at}
-use Rattle.live.specs.InTurn.{looked_before}
 use Rattle.live.specs.Walls.{is_wall, is_wall_due}
-use Rattle.live.specs.Law.{SomeRounds, AtRounds, first_of, IsTickDue, LongSince, TooLate, WallIsDue}
-use Rattle.live.specs.Law.{FarBehind, ManyRounds, IfTick, IsOneOf}
-use Rattle.live.specs.Ends.{brings_frame}
+use Rattle.live.specs.Law.{SomeRounds, AtRounds, first_of}
+use Rattle.live.specs.Law.{IsOneOf}
 use Rattle.live.specs.Ends.{LiveEnds, Turns, LogsTurn, as_logged, TurnsToWall, TurnsToEnds}
 use Rattle.live.specs.Ends.{QuietRounds}
-use Rattle.live.specs.Ends.{NoRound, OneRound, is_tick_due, IsLast, event_at, taken_by, looking}
-use Rattle.live.specs.Ends.{IsTurn, clock_read_at}
-use Rattle.live.proofs.Apart.{clock_of, clock_apart, walled_of, walled_apart, taken_same}
+use Rattle.live.specs.Ends.{NoRound, OneRound, taken_by, looking}
+use Rattle.live.specs.Ends.{clock_read_at}
+use Rattle.live.proofs.Apart.{clock_of, clock_apart, taken_same}
 use Rattle.live.proofs.Rounds.{turn_kept}
 use Rattle.live.proofs.LineReads.{quiet_reads}
 use Rattle.live.specs.declared.found.SourceEvent.{SourceEvent}
 use Rattle.live.specs.declared.found.SourceEvent.TheVariants as found
 use Rattle.live.specs.declared.timing.Timing.{Timing}
-use Rattle.live.specs.declared.walled.Walled.{Walled}
 use Rattle.live.specs.declared.timing.WrittenRequest.{WrittenRequest}
-
--- the rounds that found nothing, by when each began, the newest first, and when the next begins
-pub data RoundsOf (start : LiveEnds) : (quiet : List ℕ) → (begun : ℕ) → LiveEnds → Type 0 where
-  NoRoundOf : (begun : ℕ) → RoundsOf start [] begun start
-  OneRoundOf : (quiet : List ℕ) (begun now : ℕ) (before found : LiveEnds) (buf : List ℕ)
-      → RoundsOf start quiet begun before
-      → before.timing ≡ line_looked_at (looked_before start.timing.looked quiet) start.timing
-      → IsTurn begun before None buf found
-      → RoundsOf start (begun ∷ quiet) now (clock_read_at now found)
 
 -- what the rounds that found nothing say of the moments at which they began
 pub record Begins (start : LiveEnds) (first count begun : ℕ) (e : LiveEnds) (before : List ℕ) : Type
@@ -41,11 +29,8 @@ pub record Begins (start : LiveEnds) (first count begun : ℕ) (e : LiveEnds) (b
   pub given : e.clock ≡ Some (begun ∷ (quiet ++ before))
   pub first_is : first_of begun quiet ≡ first
   pub brief : All (λ m. m < first + 100) (begun ∷ quiet)
-  pub many : length quiet ≡ count
-  pub rounds : RoundsOf start quiet begun e
   pub asked : e.timing.request ≡ start.timing.request
   pub waits : e.timing.answer_ms ≡ start.timing.answer_ms
-  pub reads : e.timing ≡ line_looked_at (looked_before start.timing.looked quiet) start.timing
   pub looked : (e.timing.looked ≡ start.timing.looked) ⊎ IsOneOf quiet e.timing.looked
   pub in_time : (r : WrittenRequest) → start.timing.request ≡ Some r → is_awaited start.timing
       ≡ true
@@ -83,11 +68,8 @@ begins start first _ _ _ before NoRound given =
       given = given;
       first_is = refl;
       brief = All-cons (λ m. m < first + 100) first [] short (All-nil (λ m. m < first + 100));
-      many = refl;
-      rounds = NoRoundOf first;
       asked = refl;
       waits = refl;
-      reads = refl;
       looked = inl refl;
       in_time = λ r is was. All-nil (λ m. m - r.written < start.timing.answer_ms);
     }
@@ -105,11 +87,8 @@ begins start first _ _ _ before (OneRound count begun now earlier found buf q t 
       first_is = b.first_is;
       brief = All-cons (λ m. m < first + 100) now (begun ∷ b.quiet) (brief_by first now short)
           b.brief;
-      many = grind (arith, b.many);
-      rounds = OneRoundOf b.quiet begun now earlier found buf b.rounds b.reads t;
       asked = ap (λ (k : Timing). k.request) looked ∙ b.asked;
       waits = ap (λ (k : Timing). k.answer_ms) looked ∙ b.waits;
-      reads = looked ∙ ap (line_looked_at begun) b.reads;
       looked = inr (inl (ap (λ (k : Timing). k.looked) looked));
       in_time = λ r is was.
           let still = not_late (nat_le 100 (now - first)) (is_awaited start.timing)
@@ -237,26 +216,6 @@ taken_timing true buf (Some found.Cut) e = refl
 taken_timing true buf (Some (found.Line len)) e = refl
 taken_timing true buf (Some found.Fault) e = refl
 
-due_by : (old new : Timing) (walled : Walled) (first now : ℕ) (quiet : List ℕ) (a w h c : Bool)
-    → nat_le 100 (now - first) ≡ a → is_awaited old ≡ w → is_awaited new ≡ h
-    → is_wall_due walled now ≡ c
-    → (a || (w && not h || c)) ≡ true → IsTickDue old new walled first quiet now
-due_by old new walled first now quiet true w h c long was still wall due =
-    let passed : first + 100 ≤ now = grind (arith, long) in LongSince passed
-due_by old new walled first now quiet false w h true long was still wall due = WallIsDue wall
-due_by old new walled first now quiet false true false false long was still wall due =
-    TooLate was still
-due_by old new walled first now quiet false true true false long was still wall due = absurd (cc)
-due_by old new walled first now quiet false false h false long was still wall due = absurd (cc)
-
-if_tick : (m : ℕ) (f : Option SourceEvent) (X : Type 0) → (f ≡ None → X) → IfTick (event_at m f) X
-if_tick m None X h = h refl
-if_tick m (Some found.Open) X h = tt
-if_tick m (Some (found.Bytes len)) X h = tt
-if_tick m (Some found.Cut) X h = tt
-if_tick m (Some (found.Line len)) X h = tt
-if_tick m (Some found.Fault) X h = tt
-
 -- what the looks left, as it is behind the event
 pub looked_timing : (old : LiveEnds) (event : Next) (buf : List ℕ) (new : LiveEnds)
     → (t : TurnsToEnds old event buf new)
@@ -265,73 +224,3 @@ looked_timing old event buf new t =
     ap (λ (p : Option SourceEvent × LiveEnds). p.1.timing) t.given.ends
     ∙ (taken_timing (is_behind t.found.timing t.now) buf t.f t.found
     ∙ ap (λ (e : LiveEnds). e.timing) t.looks.done)
-
-looked_walled : (old : LiveEnds) (event : Next) (buf : List ℕ) (new : LiveEnds)
-    → (t : TurnsToEnds old event buf new)
-    → new.walled ≡ t.looks.found.walled
-looked_walled old event buf new t =
-    ap (λ (p : Option SourceEvent × LiveEnds). walled_of p.1) t.given.ends
-    ∙ (taken_same walled_of walled_apart (is_behind t.found.timing t.now) buf t.f t.found
-    ∙ ap walled_of t.looks.done)
-
-last_by : (old : LiveEnds) (event : Next) (buf : List ℕ) (new : LiveEnds)
-    (t : TurnsToEnds old event buf new) (quiet : List ℕ)
-    → length quiet ≡ t.looks.count
-    → (is_tick_due t.first (is_awaited old.timing) t.now t.looks.found ≡ true)
-    ⊎ (t.looks.count ≡ 200)
-    → IsTickDue old.timing new.timing new.walled t.first quiet t.now
-last_by old event buf new t quiet many (inl due) =
-    let found = t.looks.found in
-    due_by old.timing new.timing new.walled t.first t.now quiet (nat_le 100 (t.now - t.first))
-    (is_awaited old.timing)
-    (is_awaited found.timing) (is_wall_due found.walled t.now) refl refl
-    (ap is_awaited (looked_timing old event buf new t))
-    (ap (λ (w : Walled). is_wall_due w t.now) (looked_walled old event buf new t)) due
-last_by old event buf new t quiet many (inr all) = ManyRounds (many ∙ all)
-
-cause_by : (old : LiveEnds) (event : Next) (buf : List ℕ) (new : LiveEnds)
-    (t : TurnsToEnds old event buf new) (quiet : List ℕ)
-    (behind : Bool) → length quiet ≡ t.looks.count → t.given.taken ≡ None
-    → is_behind t.found.timing t.now ≡ behind
-    → (t.given.taken, new) ≡ taken_by behind buf t.f t.found
-    → IsTickDue old.timing new.timing new.walled t.first quiet t.now
-cause_by old event buf new t quiet true many none is ends =
-    FarBehind
-    (ap (λ (k : Timing). is_behind k t.now) (ap (λ (p : Option SourceEvent × LiveEnds). p.1.timing)
-    ends
-    ∙ taken_timing true buf t.f t.found) ∙ is)
-cause_by old event buf new t quiet false many none is ends =
-    let nothing : t.f ≡ None = sym (ap (λ (p : Option SourceEvent × LiveEnds). p.0) ends) ∙ none in
-    let due = is_tick_due t.first (is_awaited old.timing) t.now t.looks.found in
-    let P : Option SourceEvent → Type 0 = λ f. IsLast due t.looks.count f in
-    last_by old event buf new t quiet many (subst P nothing t.looks.last)
-
-tick_by : (old new : LiveEnds) (event : Next) (buf : List ℕ) → Turns old event buf new
-    → IfTick event
-    (AtRounds old.clock new.clock (λ begun quiet now. IsTickDue old.timing new.timing new.walled
-    (first_of begun quiet) quiet now))
-tick_by old new event buf (inl t) =
-    let X =
-    AtRounds old.clock new.clock (λ begun quiet now. IsTickDue old.timing new.timing new.walled
-    (first_of begun quiet) quiet now) in
-    let P : Next → Type 0 = λ e. IfTick e X in
-    subst P (sym t.given.given) tt
-tick_by old new event buf (inr t) =
-    let Holds : ℕ → List ℕ → ℕ → Type 0 = λ begun quiet now. IsTickDue old.timing new.timing
-    new.walled (first_of begun quiet) quiet now in
-    let P : Next → Type 0 = λ e. IfTick e (AtRounds old.clock new.clock Holds) in
-    subst P (sym t.given.given) (if_tick
-    (told_at new.timing (brings_frame t.given.taken buf) t.now) t.given.taken
-    (AtRounds old.clock new.clock Holds)
-    (λ none. at_rounds old event buf new t Holds
-    (λ before b. let Q : ℕ → Type 0 = λ first. IsTickDue old.timing new.timing new.walled first
-    b.quiet t.now in
-    subst Q (sym b.first_is) (cause_by old event buf new t b.quiet (is_behind t.found.timing t.now)
-    b.many none refl
-    t.given.ends))))
-
-pub why : (old new : LiveEnds) (event : Next) (buf : List ℕ) → LogsTurn old event buf new
-    → IfTick event (AtRounds old.clock new.clock
-    (λ begun quiet now. IsTickDue old.timing new.timing new.walled (first_of begun quiet) quiet
-    now))
-why old new event buf l = tick_by old (as_logged old.log new) event buf l.turns

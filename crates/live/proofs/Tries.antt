@@ -22,20 +22,20 @@ ended_map : {A : Type 0} (f : A → StreamHistory) (t : Attempts) (d : Dialled A
     ≡ ended t d
 ended_map f t (Reached stream) = refl
 ended_map f t Pending = refl
-ended_map f t Failed = refl
+ended_map f t (Failed cause) = refl
 
 new_map : {A : Type 0} (f : A → StreamHistory) (d : Dialled A)
     → IfReached d (λ stream. IsNew (f stream))
     → IfReached (dialled_map f d) IsNew
 new_map f (Reached stream) fresh = fresh
 new_map f Pending fresh = tt
-new_map f Failed fresh = tt
+new_map f (Failed cause) fresh = tt
 
 reached_map : {A : Type 0} (f : A → StreamHistory) (d : Dialled A)
     → is_reached (dialled_map f d) ≡ is_reached d
 reached_map f (Reached stream) = refl
 reached_map f Pending = refl
-reached_map f Failed = refl
+reached_map f (Failed cause) = refl
 
 -- what has become of a try
 answered_so : {A : Type 0} (f : A → StreamHistory) (call : Bool → DialCall) (d : Dialled A)
@@ -121,7 +121,7 @@ finds got r = (got, r)
 settled_clock : (d : Dialled StreamHistory) (r : Redial) → (settled d r).clock ≡ r.clock
 settled_clock (Reached stream) r = refl
 settled_clock Pending r = refl
-settled_clock Failed r = refl
+settled_clock (Failed cause) r = refl
 
 -- a look at a stream that is away, by the try that it makes
 pub away_by : (old new : Redial) (got : Got) (buf : List ℕ) → (l : IsRedialled old got buf new)
@@ -173,7 +173,7 @@ answered_pauses : (call : Bool → DialCall) (answer : Dialled StreamHistory) (r
     → (answered call answer r).pauses ≡ r.pauses
 answered_pauses call (Reached stream) r = refl
 answered_pauses call Pending r = refl
-answered_pauses call Failed r = refl
+answered_pauses call (Failed cause) r = refl
 
 begun_pauses : (b : Bool) (now : ℕ) (answer : Dialled StreamHistory) (r : Redial)
     → (begun_by b now answer r).pauses ≡ r.pauses

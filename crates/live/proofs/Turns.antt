@@ -1,6 +1,6 @@
 -- A turn from its looks. Each source answers at its look; a turn is stated by the answers of all
 -- three.
-use Rattle.std.proofs.Common.{◌≡◌, ℕ, ◌+◌, arith, ◌==◌, ◌⊎◌, is_some, true, false, Bool, List, []}
+use Rattle.std.proofs.Common.{◌≡◌, ℕ, ◌+◌, arith, ◌==◌, is_some, true, false, Bool, List, []}
 use Rattle.std.proofs.Common.{◌∷◌, length, take, Option, Some, None, IfSome, refl, sym, ap, subst}
 use Rattle.std.proofs.Common.{◌∙◌, inl, inr}
 use Rattle.std.specs.declared.net.ip_addr.IpAddr.{IpAddr}

@@ -20,7 +20,6 @@ use Rattle.live.proofs.Law.{at_moment, at_clock, clock_read}
 use Rattle.live.proofs.Ticks.{at_rounds, looked_timing, wall_of as no_wall_of}
 use Rattle.live.proofs.Walls.{of_ends}
 use Rattle.live.specs.declared.found.SourceEvent.{SourceEvent}
-use Rattle.live.specs.declared.found.SourceEvent.TheVariants as found
 use Rattle.live.specs.declared.source.EventSource.{EventSource}
 use Rattle.live.specs.declared.source.EventSource.TheVariants.{Listener, Connection, Line}
 use Rattle.live.specs.declared.timing.Timing.{Timing}

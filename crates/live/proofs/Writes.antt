@@ -7,7 +7,7 @@ use Rattle.std.specs.declared.io.Error.{Error}
 use Rattle.std.proofs.Math.Seq.{take-add, take-append_seam}
 use Rattle.std.proofs.lemmas.List.{append_assoc, append-nil, length-drop}
 use Rattle.live.specs.Streams.{Calls, Sent, Waits, called, taken_of, takes_all, took, Took}
-use Rattle.live.specs.Streams.{WritesOnce, WritesAll, WritesFront, WritesInTwo, HandsOn, AtOnce}
+use Rattle.live.specs.Streams.{WritesOnce, WritesAll, WritesFront, WritesInTwo, AtOnce}
 use Rattle.live.specs.Streams.{Unwaited, Again}
 
 -- octets that one call more took

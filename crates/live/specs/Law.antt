@@ -1,15 +1,13 @@
 -- Words of the laws (this gateway's own profile).
-use Rattle.std.specs.Prelude.{◌≡◌, ℕ, ◌+◌, ◌-◌, ◌<◌, ◌≤◌, true, false, List, [], ◌∷◌, ◌++◌, length}
+use Rattle.std.specs.Prelude.{◌≡◌, ℕ, ◌+◌, ◌-◌, ◌<◌, ◌≤◌, true, false, List, [], ◌∷◌, ◌++◌}
 use Rattle.std.specs.Prelude.{take, ◌⊎◌, Bool, Option, Some, None, option_map, is_some}
 use Rattle.std.specs.declared.net.ip_addr.IpAddr.{IpAddr}
 use Rattle.live.specs.Ends.{LiveEnds, Peer}
 use Rattle.live.specs.AllowLists.{Allows}
 use Rattle.live.specs.OctetStreams.{Happening, StreamHistory, WasGone, Wrote, noted}
-use Rattle.live.specs.Timing.{Moments, is_awaited, is_behind}
+use Rattle.live.specs.Timing.{Moments}
 use Rattle.live.specs.Streams.{ends_frame}
-use Rattle.live.specs.Walls.{is_wall_due}
 use Rattle.live.specs.declared.timing.Timing.{Timing}
-use Rattle.live.specs.declared.walled.Walled.{Walled}
 use Rattle.live.specs.declared.timing.WrittenRequest.{WrittenRequest}
 use Rattle.live.specs.declared.allow_list.AllowList.{AllowList}
 use Rattle.gateway.specs.Log.{Output, LineOut, TcpOut, Closed, GapOut}
@@ -90,29 +88,6 @@ AtRounds (Some before) (Some after) Holds = SomeRounds before after Holds
 abbrev pub first_of : (begun : ℕ) → (quiet : List ℕ) → ℕ
 first_of begun [] = begun
 first_of begun (earlier ∷ quiet) = first_of earlier quiet
-
--- Why a tick is given: 100 ms have passed since the first round began; the answer that was awaited
--- then comes too late; the wall clock is due; the event's moment is too far behind the clock for
--- octets that came, which are held; or 200 rounds before the last one found nothing.
-pub data IsTickDue (old new : Timing) (walled : Walled) (first : ℕ) (quiet : List ℕ) (now : ℕ) :
-    Type 0 where
-  LongSince : first + 100 ≤ now → IsTickDue old new walled first quiet now
-  TooLate : is_awaited old ≡ true → is_awaited new ≡ false
-      → IsTickDue old new walled first quiet now
-  WallIsDue : is_wall_due walled now ≡ true → IsTickDue old new walled first quiet now
-  FarBehind : is_behind new now ≡ true → IsTickDue old new walled first quiet now
-  ManyRounds : length quiet ≡ 200 → IsTickDue old new walled first quiet now
-
--- this holds where the event is a tick
-abbrev pub IfTick : Next → Type 0 → Type 0
-IfTick (next.Tick now) Holds = Holds
-IfTick (next.Line now len) Holds = Unit {0}
-IfTick (next.Open now) Holds = Unit {0}
-IfTick (next.Bytes now len) Holds = Unit {0}
-IfTick (next.Cut now) Holds = Unit {0}
-IfTick (next.Wall now number) Holds = Unit {0}
-IfTick next.Done Holds = Unit {0}
-IfTick next.Fault Holds = Unit {0}
 
 -- The exchange of the latest request would be over by now, but the line hasn't been looked at for
 -- answer_ms since the request was written: this is the last moment at which it isn't over.

@@ -9,7 +9,6 @@ pub mod Streams
 pub mod Sockets
 pub mod Silence
 pub mod Redial
-pub mod InTurn
 pub mod Law
 pub mod Passed
 pub mod Memory

@@ -1,12 +1,14 @@
 -- Which places a dialler of the line asks for, and what its tries come to (this gateway's own
 -- profile).
-use Rattle.std.specs.Prelude.{◌≡◌, ◌⊎◌, ◌-◌, ◌*◌, ℕ, ◌+◌, ◌<◌, nat_le, List, [], ◌∷◌, ◌++◌, length}
+use Rattle.std.specs.Prelude.{◌≡◌, ◌-◌, ◌*◌, ℕ, ◌+◌, ◌<◌, nat_le, List, ◌∷◌}
 use Rattle.std.specs.Prelude.{Bool, true, false}
 use Rattle.std.specs.Prelude.{Option, Some, None, Result, Ok, Err, MatchResult, option_map}
 use Rattle.std.specs.IoError.{error_kind}
 use Rattle.std.specs.Time.{instant_nanos}
+use Rattle.std.specs.Result.{is_ok}
 use Rattle.std.specs.declared.io.Error.{Error}
-use Rattle.std.specs.declared.io.ErrorKind.TheVariants.{NotFound}
+use Rattle.std.specs.declared.io.ErrorKind.{ErrorKind}
+use Rattle.std.specs.declared.io.ErrorKind.TheVariants.{NotConnected, NotFound, TimedOut}
 use Rattle.std.specs.declared.net.socket_addr.SocketAddr.{SocketAddr}
 use Rattle.std.specs.declared.time.Instant.{Instant}
 use Rattle.live.specs.declared.reach.Connecting.{Connecting}
@@ -39,13 +41,14 @@ ReachSteps = Option (List ReachStep)
 abbrev pub step_noted : ReachStep → ReachSteps → ReachSteps
 step_noted step steps = option_map (λ before. step ∷ before) steps
 
--- No connect to this address goes on: it couldn't be begun, or when it began can't be told.
-pub data FailsAt (address : SocketAddr) (before after : ReachSteps) : Type 0 where
-  Refused : (fault : Error) → after ≡ step_noted (Began address (Err fault)) before
-      → FailsAt address before after
-  Untimed : (stream : ReachedStream) (fault : Error)
+-- No connect to this address goes on for this fault: it couldn't be begun, or when it began can't
+-- be told.
+pub data FailsAt (address : SocketAddr) (fault : Error) (before after : ReachSteps) : Type 0 where
+  Refused : after ≡ step_noted (Began address (Err fault)) before
+      → FailsAt address fault before after
+  Untimed : (stream : ReachedStream)
       → after ≡ step_noted (Showed (Err fault)) (step_noted (Began address (Ok stream)) before)
-      → FailsAt address before after
+      → FailsAt address fault before after
 
 -- A connect to it goes on, since the moment that the clock showed behind its beginning; or none.
 abbrev pub ConnectsAt : SocketAddr → (before : ReachSteps) → Result Connecting Error
@@ -53,55 +56,71 @@ abbrev pub ConnectsAt : SocketAddr → (before : ReachSteps) → Result Connecti
 ConnectsAt address before answer after =
     MatchResult answer (λ connecting. after ≡ step_noted (Showed (Ok connecting.since))
     (step_noted (Began address (Ok connecting.stream)) before))
-    (λ fault. FailsAt address before after)
+    (λ fault. FailsAt address fault before after)
 
--- So many addresses came one after another, and no connect to any of them went on.
-pub data Tries (before : ReachSteps) : (count : ℕ) → ReachSteps → Type 0 where
-  NoneYet : Tries before 0 before
-  OneMore : (count : ℕ) (between after : ReachSteps) (address : SocketAddr)
-      → Tries before count between
-      → FailsAt address (step_noted (Came (Some address)) between) after
-      → Tries before (count + 1) after
+-- So many addresses came one after another, and no connect to any of them went on. This was the
+-- cause at the last of them; if none came, the one before.
+pub data Tries (first : ErrorKind) (before : ReachSteps) : (count : ℕ) → (cause : ErrorKind)
+    → ReachSteps → Type 0 where
+  NoneYet : Tries first before 0 first before
+  OneMore : (count : ℕ) (between after : ReachSteps) (address : SocketAddr) (cause : ErrorKind)
+      (fault : Error) → Tries first before count cause between
+      → FailsAt address fault (step_noted (Came (Some address)) between) after
+      → Tries first before (count + 1) (error_kind fault) after
 
 -- A connect to an address that came goes on; or none did, of all that came, or of 32.
-pub data TriesOn {A : Type 0} (answer : Dialled A) (old : Option Connecting) (before : ReachSteps)
-    (new : Option Connecting) (after : ReachSteps) : Type 0 where
-  GoesOn : (count : ℕ) (between : ReachSteps) (address : SocketAddr) (connecting : Connecting)
-      → Tries before count between → count < 32
+pub data TriesOn {A : Type 0} (answer : Dialled A) (first : ErrorKind) (old : Option Connecting)
+    (before : ReachSteps) (new : Option Connecting) (after : ReachSteps) : Type 0 where
+  GoesOn : (count : ℕ) (between : ReachSteps) (address : SocketAddr) (cause : ErrorKind)
+      (connecting : Connecting) → Tries first before count cause between → count < 32
       → ConnectsAt address (step_noted (Came (Some address)) between) (Ok connecting) after
-      → answer ≡ Pending → new ≡ Some connecting → TriesOn answer old before new after
-  NoneLeft : (count : ℕ) (between : ReachSteps) → Tries before count between
-      → after ≡ step_noted (Came None) between → answer ≡ Failed → new ≡ old
-      → TriesOn answer old before new after
-  Enough : Tries before 32 after → answer ≡ Failed → new ≡ old
-      → TriesOn answer old before new after
+      → answer ≡ Pending → new ≡ Some connecting → TriesOn answer first old before new after
+  NoneLeft : (count : ℕ) (between : ReachSteps) (cause : ErrorKind)
+      → Tries first before count cause between → after ≡ step_noted (Came None) between
+      → answer ≡ Failed cause → new ≡ old → TriesOn answer first old before new after
+  Enough : (cause : ErrorKind) → Tries first before 32 cause after → answer ≡ Failed cause
+      → new ≡ old → TriesOn answer first old before new after
 
--- a try has ended, and whether it reached a stream
-abbrev pub Ends : {A : Type 0} → Dialled A → (is_reached : Bool) → Type 0
-Ends (Reached stream) is_reached = is_reached ≡ true
-Ends Pending is_reached = ⊥
-Ends Failed is_reached = is_reached ≡ false
+-- a line was reached, or this is the fault
+abbrev pub IsFault : {A : Type 0} → Result A Error → Error → Type 0
+IsFault (Ok line) fault = ⊥
+IsFault (Err it) fault = it ≡ fault
+
+-- a try has ended: a line was opened, or this is why not
+abbrev pub Ends : {A : Type 0} → Dialled A → Result A Error → Type 0
+Ends (Reached stream) (Ok line) = Unit {0}
+Ends (Reached stream) (Err fault) = ⊥
+Ends Pending line = ⊥
+Ends (Failed cause) (Ok line) = ⊥
+Ends (Failed cause) (Err fault) = cause ≡ error_kind fault
 
 -- The socket at this path was asked for, and is a line if it answers and can be used.
-pub data OpensAt (path : List ℕ) (is_reached : Bool) (before after : ReachSteps) : Type 0 where
-  Absent : (fault : Error) → is_reached ≡ false
-      → after ≡ step_noted (AtPath path (Err fault)) before → OpensAt path is_reached before after
+pub data OpensAt {A : Type 0} (path : List ℕ) (line : Result A Error) (before after : ReachSteps)
+    : Type 0 where
+  Absent : (fault : Error) → IsFault line fault
+      → after ≡ step_noted (AtPath path (Err fault)) before → OpensAt path line before after
   There : (stream : ReachedStream)
-      → after ≡ step_noted (Opened stream is_reached) (step_noted (AtPath path (Ok stream)) before)
-      → OpensAt path is_reached before after
+      → after
+      ≡ step_noted (Opened stream (is_ok line)) (step_noted (AtPath path (Ok stream)) before)
+      → OpensAt path line before after
 
 -- A try at the socket of this path has ended so.
 pub record DialsAt {A : Type 0} (path : List ℕ) (answer : Dialled A) (before after : ReachSteps)
     : Type 0 where
-  pub is_reached : Bool
-  pub ends : Ends answer is_reached
-  pub opens : OpensAt path is_reached before after
+  pub line : Result A Error
+  pub ends : Ends answer line
+  pub opens : OpensAt path line before after
+
+-- why none goes on if the host has no address, or isn't known
+abbrev pub unfound : Result (Unit {0}) Error → ErrorKind
+unfound (Ok found) = NotFound
+unfound (Err fault) = error_kind fault
 
 -- A try at this host looks it up, and begins with its first address.
 pub record DialsHost {A : Type 0} (host : List ℕ) (answer : Dialled A) (old : Option Connecting)
     (before : ReachSteps) (new : Option Connecting) (after : ReachSteps) : Type 0 where
   pub found : Result (Unit {0}) Error
-  pub tries : TriesOn answer old (step_noted (LookedUp host found) before) new after
+  pub tries : TriesOn answer (unfound found) old (step_noted (LookedUp host found) before) new after
 
 -- by the clock a connect has gone on for 5 s at the most
 abbrev pub is_in_time : (since : Instant) → Result Instant Error → Bool
@@ -116,24 +135,25 @@ pub data GoesOnAsIs {A : Type 0} (connecting : Connecting) (before : ReachSteps)
       → after ≡ step_noted (Showed shown) before → answer ≡ Pending → new ≡ Some connecting
       → GoesOnAsIs connecting before answer new after
   TooLate : (shown : Result Instant Error) → is_in_time connecting.since shown ≡ false
-      → TriesOn answer None (step_noted (Showed shown) before) new after
+      → TriesOn answer TimedOut None (step_noted (Showed shown) before) new after
       → GoesOnAsIs connecting before answer new after
 
 -- It is asked how the connect that goes on stands. If it came through, its stream is a line, if
 -- that can be used. If it broke off, one to the next address is begun.
 pub data AsksOn {A : Type 0} (old : Option Connecting) (before : ReachSteps) (answer : Dialled A)
     (new : Option Connecting) (after : ReachSteps) : Type 0 where
-  NoConnect : old ≡ None → answer ≡ Failed → new ≡ None → after ≡ before
+  NoConnect : old ≡ None → answer ≡ Failed NotConnected → new ≡ None → after ≡ before
       → AsksOn old before answer new after
-  CameThrough : (connecting : Connecting) (is_reached : Bool) → old ≡ Some connecting
-      → after ≡ step_noted (Opened connecting.stream is_reached)
+  CameThrough : (connecting : Connecting) (line : Result A Error) → old ≡ Some connecting
+      → after ≡ step_noted (Opened connecting.stream (is_ok line))
       (step_noted (Stood connecting.stream Through) before)
-      → Ends answer is_reached → new ≡ None → AsksOn old before answer new after
+      → Ends answer line → new ≡ None → AsksOn old before answer new after
   IsUnderWay : (connecting : Connecting) → old ≡ Some connecting
       → GoesOnAsIs connecting (step_noted (Stood connecting.stream UnderWay) before) answer new
       after → AsksOn old before answer new after
-  BrokeOff : (connecting : Connecting) → old ≡ Some connecting
-      → TriesOn answer None (step_noted (Stood connecting.stream Broken) before) new after
+  BrokeOff : (connecting : Connecting) (cause : ErrorKind) → old ≡ Some connecting
+      → TriesOn answer cause None (step_noted (Stood connecting.stream (Broken cause)) before) new
+      after
       → AsksOn old before answer new after
 
 -- So many addresses came one after another, each was waited for 5 s at the most, and none was
@@ -146,11 +166,6 @@ pub data WaitsInVain (before : ReachSteps) : (count : ℕ) → (last : Error) �
       → WaitsInVain before (count + 1) fault
       (step_noted (Waited address 5000 (Err fault))
       (step_noted (Came (Some address)) between))
-
--- a line was reached, or this is the fault
-abbrev pub IsFault : {A : Type 0} → Result A Error → Error → Type 0
-IsFault (Ok line) fault = ⊥
-IsFault (Err it) fault = it ≡ fault
 
 abbrev pub IsUsable : {A : Type 0} → Result A Error → (is_usable : Bool) → Type 0
 IsUsable (Ok line) is_usable = is_usable ≡ true
@@ -188,42 +203,3 @@ pub data ReachesHost {A : Type 0} (host : List ℕ) (answer : Result A Error)
   Known : (found : Unit {0})
       → ReachesOne answer (step_noted (LookedUp host (Ok found)) before) after
       → ReachesHost host answer before after
-
--- the addresses that came, the newest first
-abbrev pub came_in : List ReachStep → List SocketAddr
-came_in [] = []
-came_in (Came (Some address) ∷ before) = address ∷ came_in before
-came_in (step ∷ before) = came_in before
-
--- the addresses to which a connect was begun, the newest first
-abbrev pub began_in : List ReachStep → List SocketAddr
-began_in [] = []
-began_in (Began address answer ∷ before) = address ∷ began_in before
-began_in (step ∷ before) = began_in before
-
--- No address comes any more, or 32 have come.
-abbrev pub IsExhausted : List ReachStep → Type 0
-IsExhausted tried =
-    (length (came_in tried) ≡ 32) ⊎ (rest : List ReachStep) × (tried ≡ Came None ∷ rest)
-
--- Since then a connect was begun to each address that came, one after another, until one goes on or
--- the addresses are exhausted.
-pub record TriesEach {A : Type 0} (answer : Dialled A) (before after : List ReachStep) : Type
-    0 where
-  pub tried : List ReachStep
-  pub behind : after ≡ tried ++ before
-  pub each : began_in tried ≡ came_in tried
-  pub ends : (answer ≡ Pending) ⊎ ((answer ≡ Failed) × IsExhausted tried)
-
--- the addresses that were waited for, the newest first
-abbrev pub waited_in : List ReachStep → List SocketAddr
-waited_in [] = []
-waited_in (Waited address ms answer ∷ before) = address ∷ waited_in before
-waited_in (step ∷ before) = waited_in before
-
--- Since then each address that came was waited for, one after another, until they were exhausted.
-pub record WaitsForEach (before after : List ReachStep) : Type 0 where
-  pub tried : List ReachStep
-  pub behind : after ≡ tried ++ before
-  pub each : waited_in tried ≡ came_in tried
-  pub ends : IsExhausted tried

@@ -41,7 +41,7 @@ paused (Some count) = Some (count + 1)
 abbrev pub is_reached : {A : Type 0} → Dialled A → Bool
 is_reached (Reached stream) = true
 is_reached Pending = false
-is_reached Failed = false
+is_reached (Failed cause) = false
 
 -- Whether each try that ended reached a stream, the dialler's calls, how often it has waited, what
 -- the clock gave, what happened at the stream, if there is one, and at one that was found gone,
@@ -64,13 +64,13 @@ pub record Redial : Type 0 where
 abbrev pub ended : {A : Type 0} → Attempts → Dialled A → Attempts
 ended tries (Reached stream) = attempted tries true
 ended tries Pending = tries
-ended tries Failed = attempted tries false
+ended tries (Failed cause) = attempted tries false
 
 -- this holds of the stream that was reached, if one was
 abbrev pub IfReached : {A : Type 0} → Dialled A → (A → Type 0) → Type 0
 IfReached (Reached stream) Holds = Holds stream
 IfReached Pending Holds = Unit {0}
-IfReached Failed Holds = Unit {0}
+IfReached (Failed cause) Holds = Unit {0}
 
 -- a try begins at once, and then so long after the last one began; none while one goes on
 abbrev pub is_due_by : (is_trying : Bool) → Option ℕ → (wait now : ℕ) → Bool
@@ -93,7 +93,7 @@ clock_read_at now r = record r { clock = read_at r.clock now; gone = None }
 abbrev pub dialled_map : {A B : Type 0} → (A → B) → Dialled A → Dialled B
 dialled_map f (Reached stream) = Reached (f stream)
 dialled_map f Pending = Pending
-dialled_map f Failed = Failed
+dialled_map f (Failed cause) = Failed cause
 
 -- what is known of a stream that was just reached
 abbrev pub known_reached : Presence → Presence
@@ -110,7 +110,7 @@ settled (Reached stream) r = record r {
   presence = known_reached r.presence;
 }
 settled Pending r = record r { is_trying = true }
-settled Failed r = record r { is_trying = false; presence = Away }
+settled (Failed cause) r = record r { is_trying = false; presence = Away (Some cause) }
 
 -- by such a call
 abbrev pub answered : (call : Bool → DialCall) → Dialled StreamHistory → Redial → Redial
@@ -149,7 +149,7 @@ quieted Gone = Quiet
 abbrev pub known_by : Got → Redial → Redial
 known_by (Octets len) r = record r { wait = 1000; silence = no_silence; presence = Receiving }
 known_by Quiet r = r
-known_by Gone r = record r { presence = Away }
+known_by Gone r = record r { presence = Away None }
 
 -- the stream that was found gone
 abbrev pub gone_by : StreamHistory → Got → (before : Option StreamHistory) → Option StreamHistory

@@ -148,12 +148,6 @@ Came None octets (Some after) = ⊥
 Came (Some before) octets None = ⊥
 Came (Some before) octets (Some after) = came after ≡ came before ++ octets
 
--- the octets that a look gives
-abbrev pub octets_of : Got → (buf : List ℕ) → List ℕ
-octets_of (Octets len) buf = take len buf
-octets_of Quiet buf = []
-octets_of Gone buf = []
-
 -- one call, and how many of the octets it took
 pub record WritesOnce (old : Calls) (octets : List ℕ) (taken : ℕ) (new : Calls) : Type 0 where
   pub answer : Result ℕ Error

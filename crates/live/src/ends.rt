@@ -4,6 +4,7 @@ ghost use Rattle.live.specs.AllowLists.{nobody, one_more_refused};
 
 use crate::allow_list::AllowList;
 use crate::clock::Timed;
+use std::io::ErrorKind;
 use std::net::IpAddr;
 
 /// What one look at a stream finds.
@@ -63,7 +64,8 @@ pub enum CutCause {
 pub enum Presence {
     /// It isn't known yet: no try to reach it has ended.
     Untried,
-    Away,
+    /// It isn't there: the cause is that of the latest try, if one has failed since it went.
+    Away(Option<ErrorKind>),
     /// Requests went out to it and nothing came for so long that it was closed, or one that was
     /// reached behind that has given nothing yet.
     Silent,

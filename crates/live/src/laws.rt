@@ -6,7 +6,7 @@ pub(crate) mod showing;
 pub(crate) mod tries;
 
 ghost use Rattle.std.specs.Prelude.{◌⊎◌, ◌≡◌, ◌≢◌, All, IfSome, None, ◌+◌, ◌-◌, ◌<◌, ◌≤◌, ℕ, List};
-ghost use Rattle.std.specs.Prelude.{[], ◌∷◌, length, take, Some, true, false};
+ghost use Rattle.std.specs.Prelude.{[], ◌∷◌, Some, true, false};
 ghost use Rattle.std.specs.Prelude.{◌*◌, ◌^◌, Ok, Err, Result};
 ghost use Rattle.std.specs.Time.{instant_nanos, system_time_nanos};
 ghost use Rattle.std.specs.declared.io.Error.{Error};
@@ -15,7 +15,7 @@ ghost use Rattle.std.specs.declared.time.SystemTime.{SystemTime};
 ghost use Rattle.gateway.specs.declared.ports.Next.{Next};
 ghost use Rattle.live.specs.Ends.{LiveEnds, LogsTurn, LogsPut};
 ghost use Rattle.live.specs.Law.{AtMoment, AtBytes, AtClock, AtBegun, AtRounds};
-ghost use Rattle.live.specs.Law.{first_of, IsTickDue, IfTick, IsOneOf};
+ghost use Rattle.live.specs.Law.{first_of, IsOneOf};
 ghost use Rattle.live.specs.Law.{IsFoundGone, IsLost, is_cut};
 ghost use Rattle.live.specs.Law.{is_frame};
 ghost use Rattle.live.specs.Law.{notes_of};
@@ -24,22 +24,14 @@ ghost use Rattle.live.specs.Cuts.{CutsFirst, is_wall_in, shuts_nothing};
 ghost use Rattle.live.specs.Runs.{HasPassed, IsInRun, WallFirst, is_action};
 ghost use Rattle.live.specs.declared.ends.CutCause.TheVariants.{Gone, NotTaken};
 ghost use Rattle.gateway.specs.Log.{Closed, GapOut, Input, LineOut, Output, TcpOut, WallIs, Went};
-ghost use Rattle.live.specs.InTurn.{LooksBefore, IsLookedAt, begins_behind};
-ghost use Rattle.live.specs.InTurn.{EachRoundLooks, GivesOctets, HoldsFound, HoldsOctets};
-ghost use Rattle.live.specs.InTurn.{level_rounds};
-ghost use Rattle.live.specs.declared.source.EventSource.TheVariants.{Line};
 ghost use Rattle.session.specs.declared.kinds.Close.{Close};
 ghost use Rattle.session.specs.declared.kinds.Close.TheVariants.{Replaced};
 ghost use Rattle.live.specs.Passed.{IsFreshRun, LiveRun, LogsEnds, NotesStill, line_in, line_out};
 ghost use Rattle.live.specs.Passed.{centre_in, centre_out, opened_in, accepted_in, given, handed};
 ghost use Rattle.live.specs.Passed.{taken_of, example_log, example_line};
 ghost use Rattle.live.specs.Late.{dropped_of, gone_of};
-ghost use Rattle.live.specs.Streams.{Calls, Came, ReadsLine, ReadsOnce, octets_of};
-ghost use Rattle.live.specs.Timing.{is_behind};
 ghost use Rattle.live.specs.Walls.{is_wall, is_wall_due};
-ghost use Rattle.live.specs.declared.ends.Got.{Got};
 ghost use Rattle.live.specs.OctetStreams.{WasGone, WasQuiet, looked};
-ghost use Rattle.live.specs.declared.timing.Timing.{Timing};
 ghost use Rattle.live.specs.declared.timing.WrittenRequest.{WrittenRequest};
 ghost use Rattle.live.specs.declared.walled.Walled.{Walled};
 
@@ -72,48 +64,6 @@ pub fn an_exchange_that_is_over_gives_an_event_at_once()
         old.timing.looked - r.written < old.timing.answer_ms →
         AtRounds old.clock new.clock (λ begun quiet now.
         All (λ moment. moment - r.written < old.timing.answer_ms) quiet) }
-{}
-
-/// A tick is given only where 100 ms have passed since the first round of looks began, where the
-/// answer that was awaited then comes too late, where the wall clock is due, where the event's
-/// moment is more than 50 ms behind the clock, and where 200 rounds before found nothing.
-pub fn a_tick_has_a_reason()
-    ensures { (old new : LiveEnds) (event : Next) (buf : List ℕ) → LogsTurn old event buf new →
-        IfTick event (AtRounds old.clock new.clock (λ begun quiet now.
-        IsTickDue old.timing new.timing new.walled (first_of begun quiet) quiet now)) }
-{}
-
-/// No source that always has something hides another. For an event each source of the round was
-/// looked at, up to the one where it was found, and for a tick all three were. So they were in each
-/// round before. Octets that are held come before any look. Where an event's moment is more than
-/// 50 ms behind the clock when a round begins, the line is looked at. Where it is so behind the
-/// round a tick is given, and octets that came are held: all that the look at the connection gave,
-/// behind looks at the sources before it. It is so only where an exchange would have been over for
-/// 50 ms, and the line hasn't been looked at for `answer_ms` behind its request.
-pub fn no_source_hides_another()
-    ensures round { (old new : LiveEnds) (event : Next) (buf : List ℕ) →
-        LogsTurn old event buf new → old.is_cut_due ≡ false → old.held ≡ [] →
-        is_wall event ≡ false → AtRounds old.clock new.clock (λ begun quiet now.
-        begins_behind old.timing begun quiet ≡ false →
-        LooksBefore begun quiet event old.first old new
-        ⊎ HoldsFound begun quiet event buf old.first old new now) }
-    ensures rounds { (old new : LiveEnds) (event : Next) (buf : List ℕ) →
-        LogsTurn old event buf new → is_wall event ≡ false →
-        AtRounds old.clock new.clock (λ begun quiet now. EachRoundLooks quiet event old new) }
-    ensures held { (old new : LiveEnds) (event : Next) (buf : List ℕ) →
-        LogsTurn old event buf new → old.is_cut_due ≡ false → old.held ≢ [] →
-        is_wall event ≡ false → AtRounds old.clock new.clock (λ begun quiet now.
-        (level_rounds old.timing quiet ≡ 0) × (begins_behind old.timing begun quiet ≡ false →
-        GivesOctets event (length old.held)
-        ⊎ HoldsOctets event (take (length old.held) buf) new.timing new.held now)) }
-    ensures line { (old new : LiveEnds) (event : Next) (buf : List ℕ) →
-        LogsTurn old event buf new → old.is_cut_due ≡ false → is_wall event ≡ false →
-        AtRounds old.clock new.clock (λ begun quiet now.
-        begins_behind old.timing begun quiet ≡ true → IsLookedAt begun quiet Line old new) }
-    ensures behind { (timing : Timing) (now : ℕ) → is_behind timing now ≡ true →
-        (r : WrittenRequest) × (timing.request ≡ Some r)
-        × (timing.looked - r.written < timing.answer_ms)
-        × (r.moment + timing.answer_ms + 50 ≤ now) }
 {}
 
 /// Behind a close no connection is open, no octets of it are held and no cut of it is due, unless
@@ -266,15 +216,6 @@ pub fn a_run_logs_what_passed()
 /// a run: so no law over what they note is about nothing from then on.
 pub fn what_is_noted_is_noted_to_the_end()
     ensures { (start end : LiveEnds) → LiveRun start end → NotesStill start end }
-{}
-
-/// A look gives the octets that its calls brought, all of them and in their order, where the stream
-/// notes its calls. So it is at the line, and in one call.
-pub fn a_look_gives_what_its_calls_brought()
-    ensures line { (old new : Calls) (got : Got) (buf : List ℕ) → ReadsLine old got buf new →
-        Came old (octets_of got buf) new }
-    ensures once { (old new : Calls) (got : Got) (buf : List ℕ) → ReadsOnce old got buf new →
-        Came old (octets_of got buf) new }
 {}
 
 /// The system's clock has gone on by so many ms if the system's own has, since the start. If that

@@ -8,11 +8,10 @@
 //!
 //! Proved, for any ends that note what happens at them: an event is the first thing found in rounds
 //! of looks, which begin after the source of the last event; each source of a round is looked at
-//! once, and none after the one that had something, so no source hides another
-//! ([`no_source_hides_another`]). Where nothing is found a tick is given: 100 ms after the first
-//! round began, at once where the time of an exchange is over, and where the wall clock is due
-//! ([`looks_for_an_event_begin_within_100_ms`],
-//! [`an_exchange_that_is_over_gives_an_event_at_once`], [`a_tick_has_a_reason`]).
+//! once, and none after the one that had something. Where nothing is found a tick is given: 100 ms
+//! after the first round began, at once where the time of an exchange is over, and where the wall
+//! clock is due ([`looks_for_an_event_begin_within_100_ms`],
+//! [`an_exchange_that_is_over_gives_an_event_at_once`]).
 //!
 //! A connection that is gone is a cut. After a write to the connection that failed the next event
 //! but the wall clock is a cut, no end is looked at before, and nothing more is written to it. A
@@ -85,12 +84,11 @@ pub use ends::{
     Accepted, CutCause, Got, Listener, OctetStream, Presence, Reached, RefusedPeers, RunClock,
 };
 pub use laws::arriving::{
-    only_allowed_addresses_connect, only_strangers_are_refused,
-    that_nobody_can_be_accepted_is_told_once, who_comes_is_refused_or_let_in,
+    only_allowed_addresses_connect, that_nobody_can_be_accepted_is_told_once,
+    who_comes_is_refused_or_let_in,
 };
 pub use laws::reaching::{
-    a_clock_begins_at_its_moment, a_line_is_reached_at_its_place, a_try_ends_as_its_connect_does,
-    calls_of_streams_wait_so_long, the_addresses_of_a_host_are_tried_in_turn,
+    a_clock_begins_at_its_moment, a_try_ends_as_its_connect_does, calls_of_streams_wait_so_long,
 };
 pub use laws::showing::the_ends_are_shown_as_they_are;
 pub use laws::tries::{
@@ -99,13 +97,12 @@ pub use laws::tries::{
 };
 pub use laws::{
     a_clock_goes_on_with_the_systems, a_close_shuts_the_connection, a_cut_has_its_reason,
-    a_cut_that_is_due_comes_next, a_frame_catches_the_clock_up,
-    a_look_gives_what_its_calls_brought, a_run_begins_with_the_wall_clock, a_run_logs_what_passed,
-    a_run_that_goes_on_begins_with_a_cut, a_tick_has_a_reason,
+    a_cut_that_is_due_comes_next, a_frame_catches_the_clock_up, a_run_begins_with_the_wall_clock,
+    a_run_logs_what_passed, a_run_that_goes_on_begins_with_a_cut,
     an_exchange_that_is_over_gives_an_event_at_once, looks_ask_nothing,
     looks_at_the_line_are_timed_by_the_clock, looks_for_an_event_begin_within_100_ms,
-    no_exchange_ends_unread, no_source_hides_another, the_log_has_what_passed,
-    the_wall_clock_is_given_each_second, what_is_noted_is_noted_to_the_end, what_passed_by_example,
+    no_exchange_ends_unread, the_log_has_what_passed, the_wall_clock_is_given_each_second,
+    what_is_noted_is_noted_to_the_end, what_passed_by_example,
     what_the_centre_sent_is_given_in_time,
 };
 pub use port::Live;
@@ -116,8 +113,7 @@ pub use sockets::{
     CentreListener, CentreSocket, LineDialler, LineSocket, LocalSocket, SystemClock,
 };
 pub use stream_laws::{
-    a_look_goes_on_until_a_frame_ends, a_write_is_taken_where_all_its_octets_are,
-    what_waits_is_dropped_to_its_end,
+    a_write_is_taken_where_all_its_octets_are, what_waits_is_dropped_to_its_end,
 };
 pub use syncs::SlowSyncs;
 pub use watched::{EndsSight, Failure, Notice, Watched};

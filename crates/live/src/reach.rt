@@ -2,6 +2,7 @@
 
 use crate::sockets::LineSocket;
 use crate::stream::SocketStream;
+use std::io::ErrorKind;
 use std::net::{HostAddrs, Net, SocketAddr, TcpStream, ToSocketAddrs};
 use std::os::unix::net::UnixStream;
 use std::rt::Clock;
@@ -27,7 +28,8 @@ pub enum Standing {
     /// It came through.
     Through,
     UnderWay,
-    Broken,
+    /// It failed for this cause.
+    Broken(ErrorKind),
 }
 
 /// A connect that goes on.
@@ -156,8 +158,9 @@ impl SystemReach for HostReach {
             return Standing::Through;
         };
         // The system reports a failure once.
-        if !matches!(stream.take_error(), Ok(None)) {
-            return Standing::Broken;
+        match stream.take_error() {
+            Ok(None) => {}
+            Ok(Some(fault)) | Err(fault) => return Standing::Broken(fault.kind()),
         }
         if stream.peer_addr().is_ok() {
             Standing::Through

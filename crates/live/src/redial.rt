@@ -10,6 +10,7 @@ ghost use Rattle.live.specs.declared.ends.Presence.TheVariants.{Untried};
 
 use crate::ends::{Got, OctetStream, Presence, Reached, RunClock};
 use crate::silence::Silence;
+use std::io::ErrorKind;
 use std::marker::Model;
 
 /// How long after a try began the next one follows, in ms.
@@ -25,7 +26,8 @@ pub enum Dialled<W> {
     Reached(W),
     /// The try goes on.
     Pending,
-    Failed,
+    /// It failed for this cause.
+    Failed(ErrorKind),
 }
 
 /// Reaches a stream. One that notes its tries adds each that ended. Nothing has happened yet at a
@@ -240,9 +242,9 @@ impl<D: Dialler + Drop, C: RunClock + Drop> Redialled<D, C> {
                 }
             }
             Dialled::Pending => self.is_trying = true,
-            Dialled::Failed => {
+            Dialled::Failed(cause) => {
                 self.is_trying = false;
-                self.presence = Presence::Away;
+                self.presence = Presence::Away(Some(cause));
             }
         }
     }
@@ -296,7 +298,7 @@ impl<D: Dialler + Drop, C: RunClock + Drop> OctetStream for Redialled<D, C> {
                 // Kept until the next look, as a port does (docs/DECISIONS.md, "A stream that was
                 // found gone").
                 self.gone = self.stream.take();
-                self.presence = Presence::Away;
+                self.presence = Presence::Away(None);
                 Got::Quiet
             }
         }

@@ -18,8 +18,7 @@ ghost use Rattle.live.specs.Streams.{Waits, as_centre, as_line, called};
 ghost use Rattle.live.specs.Telling.{Tells, told_unless};
 ghost use Rattle.live.specs.Reaching.{AsksOn, ConnectsAt, DialsAt, DialsHost, Ends, GoesOnAsIs};
 ghost use Rattle.live.specs.Reaching.{OpensAt, ReachesAt, ReachesHost, ReachesOne, Showed, Slept};
-ghost use Rattle.live.specs.Reaching.{TriesOn, is_in_time, step_noted};
-ghost use Rattle.std.specs.Result.{is_ok};
+ghost use Rattle.live.specs.Reaching.{TriesOn, is_in_time, step_noted, unfound};
 ghost use Rattle.std.specs.declared.io.Error.{Error};
 ghost use Rattle.std.specs.declared.time.Instant.{Instant};
 ghost use Rattle.live.specs.Redial.{IfReached, ended};
@@ -229,22 +228,27 @@ impl<'a, R: Net<Stream = TcpStream> + std::rt::Clock, W: SystemReach + Drop> Lin
         Err(last)
     }
 
-    /// Begins a connect to the next address that lets it.
-    fn connect_next(&mut self) -> Dialled<LineSocket>
+    /// Begins a connect to the next address that lets it. Without one the try has failed for the
+    /// cause at the last address, or for this first one.
+    fn connect_next(&mut self, first: ErrorKind) -> Dialled<LineSocket>
         ensures place { self.new.place.now ≡ self.old.place.now }
-        ensures tries { TriesOn result self.old.connecting (W.steps self.old.reach)
+        ensures tries { TriesOn result first self.old.connecting (W.steps self.old.reach)
             self.new.connecting (W.steps self.new.reach) }
     {
+        let mut cause = first;
         for _ in 0..MOST_ADDRESSES {
             let Some(address) = self.reach.next_address() else {
-                return Dialled::Failed;
+                return Dialled::Failed(cause);
             };
-            if let Ok(connecting) = self.connect_at(address) {
-                self.connecting = Some(connecting);
-                return Dialled::Pending;
+            match self.connect_at(address) {
+                Ok(connecting) => {
+                    self.connecting = Some(connecting);
+                    return Dialled::Pending;
+                }
+                Err(fault) => cause = fault.kind(),
             }
         }
-        Dialled::Failed
+        Dialled::Failed(cause)
     }
 
     /// Begins a connect to this address.
@@ -263,7 +267,7 @@ impl<'a, R: Net<Stream = TcpStream> + std::rt::Clock, W: SystemReach + Drop> Lin
     fn connect_path(&mut self, path: &str) -> io::Result<LineSocket>
         ensures place { self.new.place.now ≡ self.old.place.now }
         ensures connecting { self.new.connecting ≡ self.old.connecting }
-        ensures opens { OpensAt path.now (is_ok result) (W.steps self.old.reach)
+        ensures opens { OpensAt path.now result (W.steps self.old.reach)
             (W.steps self.new.reach) }
     {
         let stream = self.reach.begin_at(self.rt, path)?;
@@ -281,7 +285,7 @@ impl<'a, R: Net<Stream = TcpStream> + std::rt::Clock, W: SystemReach + Drop> Lin
             self.connecting = Some(connecting);
             return Dialled::Pending;
         }
-        self.connect_next()
+        self.connect_next(ErrorKind::TimedOut)
     }
 
     /// Its time isn't over.
@@ -301,11 +305,21 @@ impl<'a, R: Net<Stream = TcpStream> + std::rt::Clock, W: SystemReach + Drop> Lin
 
 /// What became of a try that has ended.
 fn dialled(line: io::Result<LineSocket>) -> Dialled<LineSocket>
-    ensures { Ends result (is_ok line) }
+    ensures { Ends result line }
 {
     match line {
         Ok(line) => Dialled::Reached(line),
-        Err(_) => Dialled::Failed,
+        Err(fault) => Dialled::Failed(fault.kind()),
+    }
+}
+
+/// Why no connect goes on if a host that was looked up so has no address.
+fn unfound(found: io::Result<()>) -> ErrorKind
+    ensures { result ≡ unfound found }
+{
+    match found {
+        Ok(()) => ErrorKind::NotFound,
+        Err(fault) => fault.kind(),
     }
 }
 
@@ -330,10 +344,10 @@ impl<R: Net<Stream = TcpStream> + std::rt::Clock, W: SystemReach + Drop> Dialler
             return dialled(self.connect_path(path));
         }
         let Some(host) = self.place.strip_prefix("tcp:") else {
-            return Dialled::Failed;
+            return Dialled::Failed(ErrorKind::InvalidInput);
         };
-        let _ = self.reach.look_up(self.rt, host);
-        self.connect_next()
+        let cause = unfound(self.reach.look_up(self.rt, host));
+        self.connect_next(cause)
     }
 
     fn ask(&mut self) -> Dialled<LineSocket>
@@ -344,12 +358,12 @@ impl<R: Net<Stream = TcpStream> + std::rt::Clock, W: SystemReach + Drop> Dialler
             self.new.connecting (W.steps self.new.reach) }
     {
         let Some(connecting) = self.connecting.take() else {
-            return Dialled::Failed;
+            return Dialled::Failed(ErrorKind::NotConnected);
         };
         match self.reach.standing(&connecting.stream) {
             Standing::Through => dialled(self.reach.open(connecting.stream)),
             Standing::UnderWay => self.go_on(connecting),
-            Standing::Broken => self.connect_next(),
+            Standing::Broken(cause) => self.connect_next(cause),
         }
     }
 

@@ -2,10 +2,9 @@
 ghost use Rattle.std.specs.Prelude.{◌≡◌, ◌≢◌, ◌⊎◌, ◌↔◌, ℕ, ◌+◌, ◌≤◌, List, [], ◌∷◌, ◌++◌, length};
 ghost use Rattle.std.specs.Prelude.{Bool, true, false, Some, Result};
 ghost use Rattle.std.specs.declared.io.Error.{Error};
-ghost use Rattle.live.specs.CallSums.{BroughtNone, IsHandedOn, IsReadEmpty, brought_in};
-ghost use Rattle.live.specs.CallSums.{received_in};
-ghost use Rattle.live.specs.Streams.{Calls, DropsWaiting, ReadsFrame, SystemCall};
-ghost use Rattle.live.specs.Streams.{Waits, WritesAll, WritesInTwo, ends_frame, took};
+ghost use Rattle.live.specs.CallSums.{IsHandedOn, IsReadEmpty, brought_in};
+ghost use Rattle.live.specs.Streams.{DropsWaiting, SystemCall};
+ghost use Rattle.live.specs.Streams.{Waits, WritesAll, WritesInTwo, took};
 
 /// A write counts as taken exactly if the stream took all its octets, once and in their order: in
 /// one call, and in two. A part of a write isn't the whole. Each write in two is tried: the stream
@@ -20,20 +19,6 @@ pub fn a_write_is_taken_where_all_its_octets_are()
     ensures tried { (old new : List SystemCall) (octets : List ℕ) (is_taken : Bool) →
         WritesInTwo (Some old) octets is_taken (Some new) →
         (first : Result ℕ Error) × IsHandedOn octets first old new }
-{}
-
-/// A look at the line goes on until its octets end as a line frame does, a call brings none, or it
-/// has made 15 calls more. Behind octets that end so nothing is waited for. A frame ends with the
-/// end character, or is the single character.
-pub fn a_look_goes_on_until_a_frame_ends()
-    ensures on { (calls new : List SystemCall) (first came : List ℕ) →
-        ReadsFrame (Some calls) first came (Some new) → (ends_frame came ≡ true)
-        ⊎ (BroughtNone new ⊎ (received_in new ≡ received_in calls + 15)) }
-    ensures whole { (calls new : Calls) (first came : List ℕ) →
-        ReadsFrame calls first came new → ends_frame first ≡ true →
-        (came ≡ first) × (new ≡ calls) }
-    ensures ends { (octets : List ℕ) (last : ℕ) →
-        (ends_frame (octets ++ last ∷ []) ≡ true) ↔ ((last ≡ 0x16) ⊎ (last ≡ 0xE5)) }
 {}
 
 /// What waits is dropped, however many buffers it fills: it is read until a read brings none, or 64

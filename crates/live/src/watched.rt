@@ -9,6 +9,7 @@ use crate::ends::{CutCause, Listener, OctetStream, Presence, Reached, RefusedPee
 use crate::port::Live;
 use crate::syncs::SlowSyncs;
 use gateway::{Gateway, Port};
+use std::io::ErrorKind;
 use std::net::IpAddr;
 
 /// What is seen of a port's ends.
@@ -43,8 +44,9 @@ pub enum Failure {
 /// What is reported of the state on the disk.
 #[derive(Clone, Copy, PartialEq, Eq)]
 pub enum Notice {
-    /// It isn't kept: what is polled now is lost if the gateway stops.
-    NotKept,
+    /// It isn't kept: what is polled now is lost if the gateway stops. The cause is what the system
+    /// said of the call that failed, if it said anything.
+    NotKept(Option<ErrorKind>),
     /// It is kept again.
     KeptAgain,
 }

@@ -74,25 +74,6 @@ connection_is (Went now (LineOut octets)) w = (asked_same octets now w).connecti
 connection_is (Went now (GapOut station session)) w = refl
 connection_is (Between gateway) w = (looked_same gateway w).connection
 
-pub line_is : (p : Passed) (w : Watching) → step_of p ≢ Nothing
-    → (passed p w).1 ≡ (stepped (step_of p) w.connection).1
-unfolding stepped
-line_is (Came (next.Open now) octets s) w is =
-    ap (λ c. (connection_opened s.peer now c).1) (late_same s.late_octets w).connection
-line_is (Came (next.Cut now) octets s) w is =
-    ap (λ c. (connection_cut s.why_cut now c).1) (late_same s.late_octets w).connection
-line_is (Came (next.Line now len) octets s) w is = absurd (is refl)
-line_is (Came (next.Bytes now len) octets s) w is = absurd (is refl)
-line_is (Came (next.Tick now) octets s) w is = absurd (is refl)
-line_is (Came (next.Wall now shown) octets s) w is = absurd (is refl)
-line_is (Came next.Fault octets s) w is = absurd (is refl)
-line_is (Came next.Done octets s) w is = absurd (is refl)
-line_is (Went now (TcpOut octets)) w is = ap (λ x. x.1) (sent_so octets now w.connection)
-line_is (Went now (Closed cause)) w is = refl
-line_is (Went now (LineOut octets)) w is = absurd (is refl)
-line_is (Went now (GapOut station session)) w is = absurd (is refl)
-line_is (Between gateway) w is = absurd (is refl)
-
 after : ConnectionWatch → List Step → ConnectionWatch
 after c [] = c
 after c (s ∷ steps) = (stepped s (after c steps)).0

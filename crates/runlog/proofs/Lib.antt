@@ -3,15 +3,10 @@ pub mod Seconds
 pub mod Gatherings
 pub mod Inboxes
 pub mod Firsts
-pub mod RulesRead
 pub mod Letters
-pub mod Worded
-pub mod Apart
 pub mod Waits
-pub mod RowLemmas
 pub mod Passings
 pub mod Connections
-pub mod ConnectionLines
 pub mod Failures
 pub mod Seen
 pub mod Standing
@@ -21,8 +16,6 @@ pub mod Counted
 pub mod Answered
 pub mod Namings
 pub mod Noted
-pub mod Skipping
 pub mod Stepwise
 pub mod Books
-pub mod Systems
 pub mod Trailing

@@ -118,8 +118,8 @@ subject_is link what (Late _ ms) = refl
 line_subject : (what : Note) → IsAboutTheLine what → subject_of what ≡ subject.Line
 line_subject what Reached = refl
 line_subject what ReachedAgain = refl
-line_subject what Lost = refl
-line_subject what NotThere = refl
+line_subject what (Lost cause) = refl
+line_subject what (NotThere cause) = refl
 line_subject what SilentLine = refl
 
 not_it : (a b : ℕ) → (a ≡ b → ⊥) → (a == b) ≡ false
@@ -194,8 +194,8 @@ other_subject : (what : Note) → ((link : ℕ) → IsAbout link what → ⊥) �
     → subject_of what ≡ subject.Other
 other_subject note.LineReached station line = absurd (line Reached)
 other_subject note.LineReachedAgain station line = absurd (line ReachedAgain)
-other_subject note.LineLost station line = absurd (line Lost)
-other_subject note.LineNotThere station line = absurd (line NotThere)
+other_subject (note.LineLost cause) station line = absurd (line (Lost cause))
+other_subject (note.LineNotThere cause) station line = absurd (line (NotThere cause))
 other_subject note.LineSilent station line = absurd (line SilentLine)
 other_subject (note.Listening a) station line = refl
 other_subject (note.Opened a) station line = refl

@@ -3,6 +3,7 @@ use Rattle.std.proofs.Common.{◌≡◌, ◌≢◌, ℕ, Bool, true, false, [], 
 use Rattle.std.proofs.Common.{None, refl, ap, ◌∙◌, length}
 use Rattle.std.specs.Prelude.{if◌then◌else◌}
 use Rattle.std.specs.Bool.{beq}
+use Rattle.std.specs.declared.io.ErrorKind.{ErrorKind}
 use Rattle.std.specs.declared.net.ip_addr.IpAddr.{IpAddr}
 use Rattle.session.specs.declared.kinds.Close.{Close}
 use Rattle.session.specs.declared.kinds.Close.TheVariants as close
@@ -11,11 +12,10 @@ use Rattle.gateway.specs.State.{State}
 use Rattle.live.specs.declared.ends.Presence.{Presence}
 use Rattle.live.specs.declared.ends.Presence.TheVariants as presence
 use Rattle.runlog.specs.Ends.{changed, is_away, is_receiving, is_there, line_change, line_changed}
-use Rattle.runlog.specs.Ends.{line_logged}
+use Rattle.runlog.specs.Ends.{is_line_due, line_logged}
 use Rattle.runlog.specs.Ends.{line_seen, line_seen_so}
 use Rattle.runlog.specs.Ends.{presence_noted, seen_as}
 use Rattle.runlog.specs.Inbox.{Inbox, all_noted, judged}
-use Rattle.runlog.specs.Limits.{is_minute_after}
 use Rattle.runlog.specs.Passing.{Went, passed}
 use Rattle.runlog.specs.Watching.{Watching}
 use Rattle.runlog.specs.declared.ends.LineLogged.{LineLogged}
@@ -46,7 +46,7 @@ pub seen_since : (p is was : Presence) (now : ℕ) (w : LineWatch) → seen_as w
     → w.presence ≡ was → (line_seen p now w).0.since ≡ since_by is was now w
 seen_since p is was now w so before =
     ap (λ x. (line_seen_so x now w).0.since) so
-    ∙ kept_since (line_change w.logged is (is_minute_after w.away.logged now)) (is_away is) now
+    ∙ kept_since (line_change w.logged is (is_line_due is now w)) (is_away is) now
     (presence_noted is now w)
     ∙ ap (λ x. since_by is x now w) before
 
@@ -55,10 +55,12 @@ pub receiving_since : (was : Presence) (w : LineWatch) (now : ℕ) → w.presenc
 receiving_since was w now before =
     seen_since presence.Receiving presence.Receiving was now w (receiving_so w.is_receiving) before
 
-pub away_since : (was : Presence) (w : LineWatch) (now : ℕ) → w.presence ≡ was
-    → (line_seen presence.Away now w).0.since ≡ since_by presence.Away was now w
-away_since was w now before =
-    seen_since presence.Away presence.Away was now w (away_so w.is_receiving) before
+pub away_since : (cause : Option ErrorKind) (was : Presence) (w : LineWatch) (now : ℕ)
+    → w.presence ≡ was
+    → (line_seen (presence.Away cause) now w).0.since ≡ since_by (presence.Away cause) was now w
+away_since cause was w now before =
+    seen_since (presence.Away cause) (presence.Away cause) was now w (away_so cause w.is_receiving)
+    before
 
 logged_so : (l : LineLogged) (line : Option LogLine) (w : LineWatch)
     → ((line_logged l line w).0.presence ≡ w.presence)
@@ -80,7 +82,7 @@ pub found_so : (p is : Presence) (now : ℕ) (w : LineWatch) → seen_as w.is_re
     → ((line_seen p now w).0.presence ≡ is)
     × ((line_seen p now w).0.is_receiving ≡ is_receiving is)
 found_so p is now w so =
-    let kept = kept_so (line_change w.logged is (is_minute_after w.away.logged now)) (is_away is)
+    let kept = kept_so (line_change w.logged is (is_line_due is now w)) (is_away is)
     now (presence_noted is now w) in (
       ap (λ x. (line_seen_so x now w).0.presence) so ∙ kept.0,
       ap (λ x. (line_seen_so x now w).0.is_receiving) so ∙ kept.1,

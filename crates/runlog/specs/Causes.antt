@@ -1,5 +1,5 @@
 -- The words for what the system answers (those of the standard library's errors).
-use Rattle.std.specs.Prelude.{ℕ, List, codes}
+use Rattle.std.specs.Prelude.{ℕ, List, Bool, true, false, not, bytes_eq, Option, Some, None, codes}
 use Rattle.std.specs.declared.io.ErrorKind.{ErrorKind}
 use Rattle.std.specs.declared.io.ErrorKind.TheVariants as kind
 
@@ -45,4 +45,16 @@ cause_words kind.UnexpectedEof = codes "unexpected end of file"
 cause_words kind.OutOfMemory = codes "out of memory"
 cause_words kind.InProgress = codes "in progress"
 cause_words kind.Other = codes "other error"
-cause_words kind.Uncategorized = codes "uncategorized error"
+cause_words kind.Uncategorized = codes "input or output error"
+
+-- why the line can't be reached: a host or a path may not be known
+abbrev pub line_cause_words : ErrorKind → List ℕ
+line_cause_words kind.NotFound = codes "name unknown"
+line_cause_words cause = cause_words cause
+
+-- another cause than the one that was told, in words
+abbrev pub is_news : (cause told : Option ErrorKind) → Bool
+is_news None told = false
+is_news (Some cause) None = true
+is_news (Some cause) (Some told) =
+    not (bytes_eq (line_cause_words cause) (line_cause_words told))

@@ -1,6 +1,7 @@
 -- What is logged of the line, of the listener and of the connection (this gateway's own profile).
 use Rattle.std.specs.Prelude.{ℕ, ◌-◌, nat_le, bytes_eq, Bool, true, false, List, [], ◌∷◌, Option}
-use Rattle.std.specs.Prelude.{Some, None, if◌then◌else◌}
+use Rattle.std.specs.Prelude.{Some, None, ◌||◌, if◌then◌else◌}
+use Rattle.std.specs.declared.io.ErrorKind.{ErrorKind}
 use Rattle.std.specs.declared.net.ip_addr.IpAddr.{IpAddr}
 use Rattle.std.specs.Bool.{beq}
 use Rattle.session.specs.declared.kinds.Close.{Close}
@@ -10,6 +11,7 @@ use Rattle.live.specs.declared.ends.RefusedPeers.{RefusedPeers}
 use Rattle.live.specs.declared.ends.Presence.{Presence}
 use Rattle.live.specs.declared.ends.Presence.TheVariants as presence
 use Rattle.live.specs.declared.ends.Presence.TheVariants.{Untried, Away}
+use Rattle.runlog.specs.Causes.{is_news}
 use Rattle.runlog.specs.Limits.{asked, is_free, is_minute_after, none_left, one_more}
 use Rattle.runlog.specs.declared.limit.LeftOut.{LeftOut}
 use Rattle.runlog.specs.declared.limit.Limit.{Limit}
@@ -48,33 +50,41 @@ new_line = record {
   is_receiving = false;
   presence = Untried;
   since = 0;
+  told = None;
 }
 
--- A line is logged once it was tried, and that it isn't there, or silent, again each minute. One
--- that was lost is there again once it has given octets, or is there for a minute.
-abbrev pub line_change : LineLogged → Presence → (is_minute : Bool) → Option (LineLogged × Note)
-line_change logged Untried is_minute = None
-line_change Nothing Away is_minute = Some (NotThere, note.LineNotThere)
-line_change NotThere Away true = Some (NotThere, note.LineNotThere)
-line_change NotThere Away false = None
-line_change There Away is_minute = Some (Lost, note.LineLost)
-line_change Lost Away true = Some (Lost, note.LineNotThere)
-line_change Lost Away false = None
+-- A line is logged once it was tried. That it isn't there, or silent, is due again each minute, and
+-- for another cause. One that was lost is there again once it has given octets, or is there for a
+-- minute.
+abbrev pub line_change : LineLogged → Presence → (is_due : Bool) → Option (LineLogged × Note)
+line_change logged Untried is_due = None
+line_change Nothing (Away cause) is_due = Some (NotThere, note.LineNotThere cause)
+line_change NotThere (Away cause) true = Some (NotThere, note.LineNotThere cause)
+line_change NotThere (Away cause) false = None
+line_change There (Away cause) is_due = Some (Lost, note.LineLost cause)
+line_change Lost (Away cause) true = Some (Lost, note.LineNotThere cause)
+line_change Lost (Away cause) false = None
 line_change Lost presence.Silent false = None
-line_change logged presence.Silent is_minute = Some (Lost, note.LineSilent)
-line_change There presence is_minute = None
-line_change Lost presence.Receiving is_minute = Some (There, note.LineReachedAgain)
+line_change logged presence.Silent is_due = Some (Lost, note.LineSilent)
+line_change There presence is_due = None
+line_change Lost presence.Receiving is_due = Some (There, note.LineReachedAgain)
 line_change Lost presence.There true = Some (There, note.LineReachedAgain)
 line_change Lost presence.There false = None
-line_change logged presence is_minute = Some (There, note.LineReached)
+line_change logged presence is_due = Some (There, note.LineReached)
+
+-- why a line that is seen so isn't there, if that is known
+abbrev pub cause_of : Presence → Option ErrorKind
+cause_of (Away cause) = cause
+cause_of presence = None
 
 -- it was logged, or not yet
 abbrev pub line_logged : LineLogged → Option LogLine → LineWatch → LineWatch × Option LogLine
 line_logged logged None w = (w, None)
-line_logged logged (Some line) w = (record w { logged = logged }, Some line)
+line_logged logged (Some line) w =
+    (record w { logged = logged; told = cause_of w.presence }, Some line)
 
 abbrev pub is_away : Presence → Bool
-is_away Away = true
+is_away (Away cause) = true
 is_away presence.Silent = true
 is_away presence = false
 
@@ -92,7 +102,7 @@ line_changed (Some (logged, what)) is_away now w = line_tried is_away now logged
 
 -- A line that is there, and from which nothing has come, was away if octets had come before.
 abbrev pub seen_as : (was_receiving : Bool) → Presence → Presence
-seen_as true presence.There = Away
+seen_as true presence.There = Away None
 seen_as was_receiving presence = presence
 
 abbrev pub is_receiving : Presence → Bool
@@ -112,11 +122,15 @@ presence_noted presence now w = record w {
   since = if beq (is_there presence) (is_there w.presence) then w.since else now;
 }
 
+-- that it isn't there is to be logged again: a minute has passed, or the cause is another one
+abbrev pub is_line_due : Presence → ℕ → LineWatch → Bool
+is_line_due presence now w =
+    is_minute_after w.away.logged now || is_news (cause_of presence) w.told
+
 abbrev pub line_seen_so : Presence → ℕ → LineWatch → LineWatch × Option LogLine
 line_seen_so presence now w =
-    line_changed (line_change w.logged presence (is_minute_after w.away.logged now))
-    (is_away presence)
-    now (presence_noted presence now w)
+    line_changed (line_change w.logged presence (is_line_due presence now w)) (is_away presence) now
+    (presence_noted presence now w)
 
 abbrev pub line_seen : Presence → ℕ → LineWatch → LineWatch × Option LogLine
 line_seen presence now w = line_seen_so (seen_as w.is_receiving presence) now w

@@ -4,11 +4,9 @@ pub mod LineLines
 pub mod Orders
 pub mod OrderWords
 pub mod OrderLists
-pub mod Wordings
 pub mod Spoilings
 pub mod Notes
 pub mod Severities
-pub mod SeverityRows
 pub mod Ends
 pub mod SyncLines
 pub mod Gathering

@@ -14,8 +14,8 @@ use Rattle.runlog.specs.declared.note.Note.TheVariants as note
 abbrev pub subject_of : Note → Subject
 subject_of note.LineReached = subject.Line
 subject_of note.LineReachedAgain = subject.Line
-subject_of note.LineLost = subject.Line
-subject_of note.LineNotThere = subject.Line
+subject_of (note.LineLost cause) = subject.Line
+subject_of (note.LineNotThere cause) = subject.Line
 subject_of note.LineSilent = subject.Line
 subject_of (note.Asked address) = subject.Station address
 subject_of (note.Up address) = subject.Station address

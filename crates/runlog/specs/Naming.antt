@@ -1,5 +1,6 @@
 -- Whose name stands behind a line (this gateway's own profile, docs/SITE.md and docs/TEXTS.md).
-use Rattle.std.specs.Prelude.{◌≡◌, ℕ, List, ◌++◌, codes}
+use Rattle.std.specs.Prelude.{◌≡◌, ℕ, List, ◌++◌, Option, codes}
+use Rattle.std.specs.declared.io.ErrorKind.{ErrorKind}
 use Rattle.std.specs.List.{AllByRecursion}
 use Rattle.std.specs.Fmt.{decimal}
 use Rattle.runlog.specs.Notes.{words}
@@ -31,8 +32,8 @@ pub data IsAbout : (link : ℕ) → Note → Type 0 where
 pub data IsAboutTheLine : Note → Type 0 where
   Reached : IsAboutTheLine note.LineReached
   ReachedAgain : IsAboutTheLine note.LineReachedAgain
-  Lost : IsAboutTheLine note.LineLost
-  NotThere : IsAboutTheLine note.LineNotThere
+  Lost : (cause : Option ErrorKind) → IsAboutTheLine (note.LineLost cause)
+  NotThere : (cause : Option ErrorKind) → IsAboutTheLine (note.LineNotThere cause)
   SilentLine : IsAboutTheLine note.LineSilent
 
 -- the station's number stands in the line's words

@@ -9,7 +9,8 @@ use Rattle.live.specs.declared.ends.CutCause.{CutCause}
 use Rattle.live.specs.declared.ends.CutCause.TheVariants as cut
 use Rattle.live.specs.declared.watched.Notice.{Notice}
 use Rattle.live.specs.declared.watched.Notice.TheVariants as notices
-use Rattle.runlog.specs.Causes.{cause_words}
+use Rattle.std.specs.declared.io.ErrorKind.{ErrorKind}
+use Rattle.runlog.specs.Causes.{cause_words, line_cause_words}
 use Rattle.runlog.specs.OrderWords.{order_words, reason_words, fate_words, type_name}
 use Rattle.runlog.specs.Spoilings.{spoiling_words}
 use Rattle.runlog.specs.declared.content.Skip.{Skip}
@@ -55,9 +56,18 @@ trouble_words trouble.StateInUse = codes "state in use by another process"
 trouble_words trouble.StateUnusable = codes "state can't be kept there"
 trouble_words trouble.StatusUnusable = codes "status port can't be used"
 
+-- what the system said, if it said anything
+abbrev pub said_words : Option ErrorKind → List ℕ
+said_words None = []
+said_words (Some cause) = cause_words cause ++ codes ": "
+
+abbrev pub not_kept_words : Option ErrorKind → List ℕ
+not_kept_words cause =
+    codes "state isn't kept: " ++ said_words cause
+    ++ codes "what is polled now is lost if the gateway stops"
+
 abbrev pub notice_words : Notice → List ℕ
-notice_words notices.NotKept =
-    codes "state isn't kept: what is polled now is lost if the gateway stops"
+notice_words (notices.NotKept cause) = not_kept_words cause
 notice_words notices.KeptAgain = codes "state is kept again"
 
 abbrev pub counts_words : RunCounts → List ℕ
@@ -128,11 +138,19 @@ late_words address ms =
     (codes "answers of station " ++ decimal address ++ codes " come late, ")
     ++ (decimal ms ++ codes " ms behind their request: answer_ms is short")
 
+-- the cause, if that is known
+abbrev pub behind_colon : Option ErrorKind → List ℕ
+behind_colon None = []
+behind_colon (Some cause) = codes ": " ++ line_cause_words cause
+
+abbrev pub line_words : (what : List ℕ) → Option ErrorKind → List ℕ
+line_words what cause = what ++ behind_colon cause
+
 abbrev pub words : Note → List ℕ
 words note.LineReached = codes "line reached"
 words note.LineReachedAgain = codes "line reached again"
-words note.LineLost = codes "line lost"
-words note.LineNotThere = codes "line not there"
+words (note.LineLost cause) = line_words (codes "line lost") cause
+words (note.LineNotThere cause) = line_words (codes "line not there") cause
 words note.LineSilent =
     codes "line silent: requests went out and nothing came, it is dialled anew"
 words (note.Listening address) = codes "listening at " ++ socket_text address

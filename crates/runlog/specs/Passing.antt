@@ -1,7 +1,7 @@
 -- What passes a run that is watched, the newest first; and what an operator knows by it of the
 -- connections, of their lines and of the wall clock (docs/TEXTS.md, docs/STATUS.md).
 use Rattle.std.specs.Prelude.{◌≡◌, ◌≢◌, ℕ, ◌+◌, ◌<◌, ◌≤◌, Bool, true, false, List, [], ◌∷◌}
-use Rattle.std.specs.Prelude.{Option, Some, None, bytes_eq, if◌then◌else◌}
+use Rattle.std.specs.Prelude.{Option, bytes_eq, if◌then◌else◌}
 use Rattle.std.specs.declared.net.ip_addr.IpAddr.{IpAddr}
 use Rattle.session.specs.declared.kinds.Close.{Close}
 use Rattle.session.specs.declared.kinds.Close.TheVariants as close
@@ -11,14 +11,10 @@ use Rattle.gateway.specs.declared.ports.Next.{Next}
 use Rattle.gateway.specs.declared.ports.Next.TheVariants as next
 use Rattle.live.specs.declared.ends.CutCause.{CutCause}
 use Rattle.live.specs.declared.watched.EndsSight.{EndsSight}
-use Rattle.runlog.specs.Limits.{IsSecondAfter}
 use Rattle.runlog.specs.Logging.{looked}
 use Rattle.runlog.specs.Watching.{Watching, event_noted, put}
-use Rattle.runlog.specs.declared.ends.ConnectionWatch.{ConnectionWatch}
 use Rattle.runlog.specs.declared.ends.OpenConnection.{OpenConnection}
-use Rattle.runlog.specs.declared.limit.Limit.{Limit}
 use Rattle.runlog.specs.declared.note.LogLine.{LogLine}
-use Rattle.runlog.specs.declared.note.Note.{Note}
 use Rattle.runlog.specs.declared.note.Note.TheVariants as note
 
 -- an event whose octets are the front of these, with a sight of the ends; an action that goes out
@@ -105,72 +101,3 @@ opened_in (Opens now peer ∷ steps) = opened_in steps + 1
 opened_in (s ∷ steps) = opened_in steps
 
 -- ---- Their lines
-
-pub data StepKind : Type 0 where
-  Opening : StepKind
-  Cutting : StepKind
-  Closing : StepKind
-  Starting : StepKind
-  Stopping : StepKind
-
--- what a step is logged as: its peer or its cause stands there
-pub data IsLoggedAs : Step → StepKind → (now : ℕ) → Note → Type 0 where
-  AsOpened : (now : ℕ) (peer : Option IpAddr)
-      → IsLoggedAs (Opens now peer) Opening now (note.Opened peer)
-  AsCut : (now : ℕ) (cause : CutCause) → IsLoggedAs (Cuts now cause) Cutting now (note.Cut cause)
-  AsClosed : (now : ℕ) (cause : Close)
-      → IsLoggedAs (Closes now cause) Closing now (note.Closed cause)
-  AsStarted : (now : ℕ) → IsLoggedAs (Starts now) Starting now note.Started
-  AsStopped : (now : ℕ) → IsLoggedAs (Stops now) Stopping now note.Stopped
-
-abbrev pub is_of : StepKind → Step → Bool
-is_of Opening (Opens now peer) = true
-is_of Cutting (Cuts now cause) = true
-is_of Closing (Closes now cause) = true
-is_of Starting (Starts now) = true
-is_of Stopping (Stops now) = true
-is_of kind s = false
-
--- when a line of this kind was logged last, and how many were left out since
-abbrev pub limit_of : StepKind → ConnectionWatch → Limit
-limit_of Opening c = c.opened
-limit_of Cutting c = c.cut
-limit_of Closing c = c.closed
-limit_of Starting c = c.started
-limit_of Stopping c = c.stopped
-
--- It is logged at once where a second has passed since the line before of its kind, with how many
--- were left out. Else there is no line.
-pub record IsLineOf (before : Limit) (now : ℕ) (what : Note) (line : Option LogLine) : Type 0 where
-  pub at_once : IsSecondAfter before.logged now
-      → line ≡ Some (record { moment = now; note = what; left_out = before.left_out })
-  pub within : (logged : ℕ) → before.logged ≡ Some logged → now < logged + 1000 → line ≡ None
-
-abbrev pub with_line : (is_of_kind : Bool) → Option LogLine → List LogLine → List LogLine
-with_line true (Some line) lines = line ∷ lines
-with_line is_of_kind line lines = lines
-
--- the lines of the steps of this kind
-abbrev pub lines_of : StepKind → Watching → List Passed → List LogLine
-lines_of kind start [] = []
-lines_of kind start (p ∷ ps) =
-    with_line (is_of kind (step_of p)) (passed p (watched start ps)).1 (lines_of kind start ps)
-
--- how many steps of this kind there were
-abbrev pub steps_in : StepKind → List Step → ℕ
-steps_in kind [] = 0
-steps_in kind (s ∷ steps) = if is_of kind s then steps_in kind steps + 1 else steps_in kind steps
-
--- how many steps lines speak of: each of its own, and of those left out before it
-abbrev pub spoken_of : List LogLine → ℕ
-spoken_of [] = 0
-spoken_of (line ∷ lines) = (line.left_out.count + 1) + spoken_of lines
-
--- each line is a second behind the one before
-abbrev pub AreSecondsBehind : List LogLine → Type 0
-AreSecondsBehind [] = Unit {0}
-AreSecondsBehind (line ∷ []) = Unit {0}
-AreSecondsBehind (line ∷ before ∷ lines) =
-    before.moment + 1000 ≤ line.moment × AreSecondsBehind (before ∷ lines)
-
--- ---- The wall clock

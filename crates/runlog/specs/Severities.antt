@@ -18,7 +18,7 @@ number_of Noted = 5
 number_of Info = 6
 
 abbrev pub notice_severity : Notice → Severity
-notice_severity notices.NotKept = Error
+notice_severity (notices.NotKept cause) = Error
 notice_severity notices.KeptAgain = Noted
 
 abbrev pub fate_severity : CommandFate → Severity
@@ -34,8 +34,8 @@ fate_severity fate.GivenUp = Warning
 abbrev pub severity_of : Note → Severity
 severity_of note.LineReached = Noted
 severity_of note.LineReachedAgain = Noted
-severity_of note.LineLost = Error
-severity_of note.LineNotThere = Error
+severity_of (note.LineLost cause) = Error
+severity_of (note.LineNotThere cause) = Error
 severity_of note.LineSilent = Error
 severity_of (note.Listening address) = Info
 severity_of (note.Opened peer) = Info

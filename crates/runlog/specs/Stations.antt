@@ -1,6 +1,7 @@
 -- What is logged of the stations, by the requests that go out to them (IEC 60870-5-2; the lines are
 -- this gateway's own profile).
-use Rattle.std.specs.Prelude.{ℕ, ◌+◌, ◌*◌, ◌==◌, nat_lt, Bool, true, false, not, List, [], ◌∷◌, map}
+use Rattle.std.specs.Prelude.{ℕ, ◌+◌, ◌*◌, ◌==◌, ◌&&◌, nat_lt, Bool, true, false, not, List, []}
+use Rattle.std.specs.Prelude.{◌∷◌, map}
 use Rattle.std.specs.Prelude.{slice_get, Option, Some, None, is_none, is_some, if◌then◌else◌}
 use Rattle.std.specs.Bool.{beq}
 use Rattle.ft12.specs.declared.frame.LinkSize.{LinkSize}
@@ -21,6 +22,7 @@ use Rattle.runlog.specs.declared.stations.LinkKnown.TheVariants as known
 use Rattle.runlog.specs.declared.stations.StationLogged.{StationLogged}
 use Rattle.runlog.specs.declared.stations.StationLogged.TheVariants.{Nothing, Asked, Up, Silent}
 use Rattle.runlog.specs.declared.stations.StationLogged.TheVariants.{Down, Unanswered}
+use Rattle.runlog.specs.declared.stations.RequestCounts.{RequestCounts}
 use Rattle.runlog.specs.declared.stations.StationWatch.{StationWatch}
 
 -- A request begins with 10, and its control octet follows, or with 68, two lengths and 68 (IEC
@@ -55,6 +57,7 @@ new_station tries address = record {
   link = known.Nothing;
   since = 0;
   gaps = 0;
+  requests = record { sent = 0; repeats = 0; unanswered = 0 };
   logged = Nothing;
   asked = new_limit;
   up = new_limit;
@@ -170,8 +173,27 @@ abbrev pub since_noted : ℕ → StationWatch → StationWatch → StationWatch
 since_noted now old w =
     record w { since = if is_same (standing_of old) (standing_of w) then w.since else now }
 
+abbrev pub more_if : Bool → (count : ℕ) → ℕ
+more_if is_so count = if is_so then one_more count else count
+
+abbrev pub is_request : Asking → Bool
+is_request Missed = false
+is_request asking = true
+
+-- what is counted of requests behind this one: it may be the one before again, and by it the
+-- station may begin not to answer
+abbrev pub requests_after : Asking → (before : StationWatch) → (is_unanswered : Bool)
+    → RequestCounts
+requests_after asking before is_so = record {
+  sent = more_if (is_request asking) before.requests.sent;
+  repeats = more_if (is_repeat asking before) before.requests.repeats;
+  unanswered = more_if (is_so && not (is_unanswered before)) before.requests.unanswered;
+}
+
 abbrev pub counted : Asking → ℕ → StationWatch → StationWatch
-counted asking now w = since_noted now w (counting asking w)
+counted asking now w = record (since_noted now w (counting asking w)) {
+  requests = requests_after asking w (is_unanswered (counting asking w));
+}
 
 -- that it doesn't answer is logged
 abbrev pub silent_by : (is_unanswered : Bool) → StationLogged → ℕ → StationWatch

@@ -69,6 +69,8 @@ new_traffic address = record {
   skipped = 0;
   commands = 0;
   order = None;
+  spoilings = 0;
+  late_answers = 0;
   skips = nothing;
   mirrors = nothing;
   spoilt = nothing;
@@ -87,9 +89,14 @@ abbrev pub suffered : Mishap → (now : ℕ) → Traffic → Traffic
 suffered mishap.GivenUp now t = t
 suffered mishap.MirrorDropped now t =
     record t { mirrors = added (note.MirrorDropped t.address) now t.mirrors }
-suffered (mishap.Spoilt by) now t =
-    record t { spoilt = added (note.Spoilt t.address by) now t.spoilt }
-suffered (mishap.Late ms) now t = record t { late = added (note.Late t.address ms) now t.late }
+suffered (mishap.Spoilt by) now t = record t {
+  spoilings = one_more t.spoilings;
+  spoilt = added (note.Spoilt t.address by) now t.spoilt;
+}
+suffered (mishap.Late ms) now t = record t {
+  late_answers = one_more t.late_answers;
+  late = added (note.Late t.address ms) now t.late;
+}
 
 abbrev pub skip_noted : Skip → (kind now : ℕ) → Traffic → Traffic
 skip_noted why kind now t = record t {

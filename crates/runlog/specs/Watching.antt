@@ -374,7 +374,7 @@ line_of what w = record { moment = w.moment; note = what; left_out = none_left }
 -- The device failed: that the line is away, or that the state can't be kept; nothing if it didn't.
 abbrev pub failed : Option Failure → Watching → Watching × Option LogLine
 failed None w = (w, None)
-failed (Some failure.Line) w = with_line (line_seen Away w.moment w.line) w
+failed (Some failure.Line) w = with_line (line_seen (Away None) w.moment w.line) w
 failed (Some failure.State) w = (w, Some (line_of (note.Trouble StateUnusable) w))
 
 abbrev pub sum_line : Counts → (taken : ℕ) → Watching → LogLine

@@ -4,8 +4,8 @@ ghost use Rattle.runlog.specs.Causes as spec;
 
 use std::io::ErrorKind;
 
-/// Why a file can't be used. No contract gives the text of the library's own `Display`.
-pub(crate) fn cause_words(cause: ErrorKind) -> &'static str
+/// Why a call of the system failed. No contract gives the text of the library's own `Display`.
+pub fn cause_words(cause: ErrorKind) -> &'static str
     ensures { result.now ≡ spec.cause_words cause }
 {
     match cause {
@@ -50,6 +50,31 @@ pub(crate) fn cause_words(cause: ErrorKind) -> &'static str
         ErrorKind::OutOfMemory => "out of memory",
         ErrorKind::InProgress => "in progress",
         ErrorKind::Other => "other error",
-        ErrorKind::Uncategorized => "uncategorized error",
+        // What the library has no kind for is mostly EIO, which a dying disk says.
+        ErrorKind::Uncategorized => "input or output error",
+    }
+}
+
+/// Why the line can't be reached.
+pub fn line_cause_words(cause: ErrorKind) -> &'static str
+    ensures { result.now ≡ spec.line_cause_words cause }
+{
+    match cause {
+        // Of a host, or of the path of a socket.
+        ErrorKind::NotFound => "name unknown",
+        cause => cause_words(cause),
+    }
+}
+
+/// Whether this is another cause than the one that was told, in words.
+pub(crate) fn is_news(cause: Option<ErrorKind>, told: Option<ErrorKind>) -> bool
+    ensures { result ≡ spec.is_news cause told }
+{
+    match (cause, told) {
+        (None, _) => false,
+        (Some(_), None) => true,
+        (Some(cause), Some(told)) => {
+            line_cause_words(cause).as_bytes() != line_cause_words(told).as_bytes()
+        }
     }
 }

@@ -2,10 +2,12 @@
 ghost use Rattle.std.specs.Prelude.{◌≡◌};
 ghost use Rattle.runlog.specs.Ends as spec;
 
+use crate::causes::is_news;
 use crate::limit::Limit;
 use crate::note::{LogLine, Note};
 use live::{CutCause, Presence, RefusedPeers};
 use session::Close;
+use std::io::ErrorKind;
 use std::net::IpAddr;
 
 /// The APDU STARTDT con (IEC 60870-5-104, 5.1).
@@ -57,6 +59,8 @@ pub(crate) struct LineWatch {
     /// How it was seen last, and since when it is there or not, in ms.
     presence: Presence,
     since: u64,
+    /// Why it wasn't there, as that was logged last.
+    told: Option<ErrorKind>,
 }
 
 impl LineWatch {
@@ -70,6 +74,7 @@ impl LineWatch {
             is_receiving: false,
             presence: Presence::Untried,
             since: 0,
+            told: None,
         }
     }
 
@@ -112,8 +117,8 @@ impl LineWatch {
         // It may go and come back between two events: then nothing has come from it any more.
         let presence = seen_as(self.is_receiving, presence);
         self.note(presence, now);
-        let is_minute = self.away.is_minute_after(now);
-        let (logged, note) = line_change(self.logged, presence, is_minute)?;
+        let is_due = self.away.is_minute_after(now) || is_news(cause_of(presence), self.told);
+        let (logged, note) = line_change(self.logged, presence, is_due)?;
         // A limit for each way: a line that is lost right behind its coming is logged as lost.
         let line = if is_away(presence) {
             changed(note, &mut self.away, now)?
@@ -121,7 +126,18 @@ impl LineWatch {
             changed(note, &mut self.there, now)?
         };
         self.logged = logged;
+        self.told = cause_of(presence);
         Some(line)
+    }
+}
+
+/// Why a line that is seen so isn't there, if that is known.
+fn cause_of(presence: Presence) -> Option<ErrorKind>
+    ensures { result ≡ spec.cause_of presence }
+{
+    match presence {
+        Presence::Away(cause) => cause,
+        _ => None,
     }
 }
 
@@ -129,7 +145,7 @@ impl LineWatch {
 fn is_away(presence: Presence) -> bool
     ensures { result ≡ spec.is_away presence }
 {
-    matches!(presence, Presence::Away | Presence::Silent)
+    matches!(presence, Presence::Away(_) | Presence::Silent)
 }
 
 /// Whether a line that is seen so is there.
@@ -138,7 +154,7 @@ fn is_there(presence: Presence) -> bool
 {
     match presence {
         Presence::There | Presence::Receiving => true,
-        Presence::Untried | Presence::Away | Presence::Silent => false,
+        Presence::Untried | Presence::Away(_) | Presence::Silent => false,
     }
 }
 
@@ -147,32 +163,37 @@ fn seen_as(was_receiving: bool, presence: Presence) -> Presence
     ensures { result ≡ spec.seen_as was_receiving presence }
 {
     match (was_receiving, presence) {
-        (true, Presence::There) => Presence::Away,
+        (true, Presence::There) => Presence::Away(None),
         (_, presence) => presence,
     }
 }
 
-/// What is to be logged next of a line of which this was logged last, and, if it was, that it isn't
-/// there, a minute ago or not.
+/// What is to be logged next of a line of which this was logged last. That it isn't there is due
+/// again a minute after it was logged, or for another cause.
 fn line_change(
     logged: LineLogged,
     presence: Presence,
-    is_minute: bool,
+    is_due: bool,
 ) -> Option<(LineLogged, Note)>
-    ensures { result ≡ spec.line_change logged presence is_minute }
+    ensures { result ≡ spec.line_change logged presence is_due }
 {
     match (logged, presence) {
         (_, Presence::Untried) => None,
-        (LineLogged::Nothing, Presence::Away) => Some((LineLogged::NotThere, Note::LineNotThere)),
-        (LineLogged::There, Presence::Away) => Some((LineLogged::Lost, Note::LineLost)),
-        (LineLogged::NotThere, Presence::Away) | (LineLogged::Lost, Presence::Away) => {
-            is_minute.then_some((logged, Note::LineNotThere))
+        (LineLogged::Nothing, Presence::Away(cause)) => {
+            Some((LineLogged::NotThere, Note::LineNotThere(cause)))
         }
-        (LineLogged::Lost, Presence::Silent) if !is_minute => None,
+        (LineLogged::There, Presence::Away(cause)) => {
+            Some((LineLogged::Lost, Note::LineLost(cause)))
+        }
+        (LineLogged::NotThere, Presence::Away(cause))
+        | (LineLogged::Lost, Presence::Away(cause)) => {
+            is_due.then_some((logged, Note::LineNotThere(cause)))
+        }
+        (LineLogged::Lost, Presence::Silent) if !is_due => None,
         (_, Presence::Silent) => Some((LineLogged::Lost, Note::LineSilent)),
         (LineLogged::There, _) => None,
         // A server that accepts and closes is reached at each try, and nothing comes from it.
-        (LineLogged::Lost, Presence::There) if !is_minute => None,
+        (LineLogged::Lost, Presence::There) if !is_due => None,
         (LineLogged::Lost, _) => Some((LineLogged::There, Note::LineReachedAgain)),
         (LineLogged::Nothing, _) | (LineLogged::NotThere, _) => {
             Some((LineLogged::There, Note::LineReached))

@@ -2,6 +2,7 @@
 //! of octets that one connection leaves behind.
 ghost use Rattle.std.specs.Prelude.{◌≡◌, ◌≢◌, ℕ, ◌+◌, ◌-◌, ◌<◌, ◌≤◌, List, [], Option, Some, None};
 ghost use Rattle.std.specs.Prelude.{true, false};
+ghost use Rattle.std.specs.declared.io.ErrorKind.{ErrorKind};
 ghost use Rattle.std.specs.declared.net.ip_addr.IpAddr.{IpAddr};
 ghost use Rattle.session.specs.declared.kinds.Close.{Close};
 ghost use Rattle.session.specs.declared.kinds.Close.TheVariants as close;
@@ -25,28 +26,33 @@ ghost use Rattle.runlog.specs.declared.note.Note.TheVariants as note;
 /// was away first. It is away, too, before it was tried. How a look finds it is known until the
 /// next one, and whether octets had come.
 pub fn a_line_stands_so_since_the_look_that_found_it_so()
-    ensures came { (w : LineWatch) (now : ℕ) → w.presence ≡ presence.Away →
+    ensures came { (w : LineWatch) (now : ℕ) (cause : Option ErrorKind) →
+        w.presence ≡ presence.Away cause →
         (line_seen presence.Receiving now w).0.since ≡ now }
     ensures first { (w : LineWatch) (now : ℕ) → w.presence ≡ presence.Untried →
         (line_seen presence.Receiving now w).0.since ≡ now }
-    ensures gone { (w : LineWatch) (now : ℕ) → w.presence ≡ presence.Receiving →
-        (line_seen presence.Away now w).0.since ≡ now }
-    ensures lost { (w : LineWatch) (now : ℕ) → w.presence ≡ presence.There →
-        (line_seen presence.Away now w).0.since ≡ now }
+    ensures gone { (w : LineWatch) (now : ℕ) (cause : Option ErrorKind) →
+        w.presence ≡ presence.Receiving →
+        (line_seen (presence.Away cause) now w).0.since ≡ now }
+    ensures lost { (w : LineWatch) (now : ℕ) (cause : Option ErrorKind) →
+        w.presence ≡ presence.There →
+        (line_seen (presence.Away cause) now w).0.since ≡ now }
     ensures receiving { (w : LineWatch) (now : ℕ) → w.presence ≡ presence.Receiving →
         (line_seen presence.Receiving now w).0.since ≡ w.since }
     ensures there { (w : LineWatch) (now : ℕ) → w.presence ≡ presence.There →
         (line_seen presence.Receiving now w).0.since ≡ w.since }
-    ensures away { (w : LineWatch) (now : ℕ) → w.presence ≡ presence.Away →
-        (line_seen presence.Away now w).0.since ≡ w.since }
-    ensures untried { (w : LineWatch) (now : ℕ) → w.presence ≡ presence.Untried →
-        (line_seen presence.Away now w).0.since ≡ w.since }
+    ensures away { (w : LineWatch) (now : ℕ) (before cause : Option ErrorKind) →
+        w.presence ≡ presence.Away before →
+        (line_seen (presence.Away cause) now w).0.since ≡ w.since }
+    ensures untried { (w : LineWatch) (now : ℕ) (cause : Option ErrorKind) →
+        w.presence ≡ presence.Untried →
+        (line_seen (presence.Away cause) now w).0.since ≡ w.since }
     ensures receives { (w : LineWatch) (now : ℕ) →
         ((line_seen presence.Receiving now w).0.presence ≡ presence.Receiving)
         × ((line_seen presence.Receiving now w).0.is_receiving ≡ true) }
-    ensures goes { (w : LineWatch) (now : ℕ) →
-        ((line_seen presence.Away now w).0.presence ≡ presence.Away)
-        × ((line_seen presence.Away now w).0.is_receiving ≡ false) }
+    ensures goes { (w : LineWatch) (now : ℕ) (cause : Option ErrorKind) →
+        ((line_seen (presence.Away cause) now w).0.presence ≡ presence.Away cause)
+        × ((line_seen (presence.Away cause) now w).0.is_receiving ≡ false) }
     ensures quiet { (w : LineWatch) (now : ℕ) → w.is_receiving ≡ false →
         ((line_seen presence.There now w).0.presence ≡ presence.There)
         × ((line_seen presence.There now w).0.is_receiving ≡ false) }

@@ -3,6 +3,8 @@ ghost use Rattle.std.specs.Prelude.{◌≡◌, ◌∷◌, ◌++◌, [], codes, t
 ghost use Rattle.ft12.specs.declared.frame.LinkSize.TheVariants.{One, Two};
 ghost use Rattle.gateway.specs.declared.counts.Counts.{Counts};
 ghost use Rattle.live.specs.declared.ends.CutCause.TheVariants as cut;
+ghost use Rattle.std.specs.declared.io.ErrorKind.TheVariants.{ConnectionRefused, NotFound};
+ghost use Rattle.std.specs.declared.io.ErrorKind.TheVariants.{TimedOut};
 ghost use Rattle.live.specs.declared.ends.Presence.TheVariants.{Untried, Away, Silent, There};
 ghost use Rattle.live.specs.declared.ends.Presence.TheVariants.{Receiving};
 ghost use Rattle.session.specs.declared.kinds.Close.TheVariants as close;
@@ -102,15 +104,25 @@ pub fn stations_by_example()
 /// counts, and when.
 pub fn moments_by_example()
     ensures line { lines_of_looks
-        ((0, Untried) ∷ (100, Away) ∷ (500, Away) ∷ (1000, There) ∷ (2000, Away) ∷ (3000, Receiving)
-        ∷ (3500, Away) ∷ (4000, Away) ∷ []) new_line
-        ≡ at 100 note.LineNotThere ∷ at 1000 note.LineReached ∷ at 2000 note.LineLost
-        ∷ at 3000 note.LineReachedAgain ∷ at 3500 note.LineLost ∷ [] }
+        ((0, Untried) ∷ (100, Away None) ∷ (500, Away None) ∷ (1000, There) ∷ (2000, Away None)
+        ∷ (3000, Receiving) ∷ (3500, Away None) ∷ (4000, Away None) ∷ []) new_line
+        ≡ at 100 (note.LineNotThere None) ∷ at 1000 note.LineReached
+        ∷ at 2000 (note.LineLost None)
+        ∷ at 3000 note.LineReachedAgain ∷ at 3500 (note.LineLost None) ∷ [] }
+    // For another cause it is said at once, but at most once a second.
+    ensures causes { lines_of_looks
+        ((100, Away (Some ConnectionRefused)) ∷ (1200, Away (Some ConnectionRefused))
+        ∷ (2300, Away (Some TimedOut)) ∷ (2400, Away (Some ConnectionRefused)) ∷ (2500, Away None)
+        ∷ (3300, Away (Some ConnectionRefused)) ∷ (3400, There) ∷ []) new_line
+        ≡ at 100 (note.LineNotThere (Some ConnectionRefused))
+        ∷ at 2300 (note.LineNotThere (Some TimedOut))
+        ∷ at 3300 (note.LineNotThere (Some ConnectionRefused)) ∷ at 3400 note.LineReached ∷ [] }
     // A server that accepts and closes: one line a minute.
     ensures flicker { lines_of_looks
-        ((0, There) ∷ (10, Away) ∷ (2000, There) ∷ (2010, Away) ∷ (6000, There) ∷ (6010, Away)
-        ∷ (60009, Away) ∷ (60010, Away) ∷ (120009, There) ∷ (120010, There) ∷ []) new_line
-        ≡ at 0 note.LineReached ∷ at 10 note.LineLost ∷ at 60010 note.LineNotThere
+        ((0, There) ∷ (10, Away None) ∷ (2000, There) ∷ (2010, Away None) ∷ (6000, There)
+        ∷ (6010, Away None) ∷ (60009, Away None) ∷ (60010, Away None) ∷ (120009, There)
+        ∷ (120010, There) ∷ []) new_line
+        ≡ at 0 note.LineReached ∷ at 10 (note.LineLost None) ∷ at 60010 (note.LineNotThere None)
         ∷ at 120010 note.LineReachedAgain ∷ [] }
     // A device server that hangs: it is closed and reached each time, and gives nothing.
     ensures silent { lines_of_looks
@@ -153,13 +165,14 @@ pub fn log_lines_by_example()
     ensures lines { (line_text (at 10 (note.Up 1)) ≡ codes "10 station 1 up")
         × (line_text (record {
           moment = 10;
-          note = note.LineLost;
+          note = note.LineLost None;
           left_out = record { count = 3; since = 7 };
         }) ≡ codes "10 line lost (3 left out since 7)") }
     ensures ends { (words note.LineReached ≡ codes "line reached")
         × (words note.LineReachedAgain ≡ codes "line reached again")
-        × (words note.LineLost ≡ codes "line lost")
-        × (words note.LineNotThere ≡ codes "line not there")
+        × (words (note.LineLost (Some ConnectionRefused))
+        ≡ codes "line lost: connection refused")
+        × (words (note.LineNotThere (Some NotFound)) ≡ codes "line not there: name unknown")
         × (words note.LineSilent
         ≡ codes "line silent: requests went out and nothing came, it is dialled anew")
         × (words (note.Opened None) ≡ codes "connection opened")

@@ -20,7 +20,7 @@ pub fn failures_are_logged_at_the_end()
         IsSecondAfter w.line.away.logged w.moment → (failed (Some failure.Line) w).1
         ≡ Some (record {
           moment = w.moment;
-          note = note.LineLost;
+          note = note.LineLost None;
           left_out = w.line.away.left_out;
         }) }
     ensures known { (w : Watching) (before : ℕ) → w.line.logged ≡ logged.Lost →

@@ -13,23 +13,20 @@
 //! from which event or action is one small function of what has passed, of what was seen of the
 //! port's ends ([`Watch`]), and of the gateway between two steps; an event, an action or a look
 //! has one line at most, and behind a step each command has its own; lines of any other kind are a
-//! second apart, and those left out are counted; of
-//! refusals, and of reports that are skipped, each is logged, or counted by a later line
-//! ([`what_is_gathered_is_logged_or_counted`]); by which rule a
-//! command is refused is the judgement's own (`command::Commands::refusal_at`), and each rule has
-//! its own words ([`refusals_are_logged_by_their_rules`]); a sink that takes no line any more ends
-//! the log, and nothing else; how severe each line is ([`Note::severity`],
-//! [`each_line_has_the_severity_of_its_row`]); the words of each line, and the name behind them
-//! ([`NamedLine`]). Of all this there are literal examples ([`stations_by_example`],
-//! [`standings_by_example`], [`commands_by_example`], [`moments_by_example`],
-//! [`late_answers_by_example`], [`log_lines_by_example`], [`each_word_by_example`]).
+//! second apart, and those left out are counted; of refusals, and of reports that are skipped, each
+//! is logged, or counted by a later line ([`what_is_gathered_is_logged_or_counted`]); by which rule
+//! a command is refused is the judgement's own (`command::Commands::refusal_at`); a sink that takes
+//! no line any more ends the log, and nothing else; how severe each line is ([`Note::severity`]);
+//! the words of each line, and the name behind them ([`NamedLine`]). Of all this there are literal
+//! examples ([`stations_by_example`], [`standings_by_example`], [`commands_by_example`],
+//! [`moments_by_example`], [`late_answers_by_example`], [`log_lines_by_example`],
+//! [`each_word_by_example`]).
 //!
 //! Which connection is open is known, whatever passes
-//! ([`connections_are_known_from_their_opening_to_their_end`]), and each step of one is logged, or
-//! counted by a later line ([`each_step_of_a_connection_is_logged_or_counted`]). No octets of one
-//! are read on the next ([`nothing_of_a_connection_is_read_on_the_next`]). Of a line it is known
-//! since when it stands so ([`a_line_stands_so_since_the_look_that_found_it_so`]). So is what has
-//! failed at the end ([`failures_are_logged_at_the_end`]). How a station stands is known by the
+//! ([`connections_are_known_from_their_opening_to_their_end`]). No octets of one are read on the
+//! next ([`nothing_of_a_connection_is_read_on_the_next`]). Of a line it is known since when it
+//! stands so ([`a_line_stands_so_since_the_look_that_found_it_so`]). So is what has failed at the
+//! end ([`failures_are_logged_at_the_end`]). How a station stands is known by the
 //! requests to it ([`a_station_stands_as_its_requests_say`]). What becomes of a command, and each
 //! mishap, is logged for the station that it befell ([`what_becomes_of_commands_is_logged`]), and
 //! nothing that may be logged waits ([`nothing_waits_that_may_be_logged`]). What a station answers
@@ -70,21 +67,18 @@ mod spoiling;
 mod station_laws;
 mod stations;
 mod syncs;
-mod system_laws;
 mod traffic;
 mod trail;
 mod waiting;
 mod watch;
 mod word_examples;
 
+pub use causes::{cause_words, line_cause_words};
 pub use befallen_laws::{
     answers_are_noted_of_the_station_that_was_asked, each_apdu_of_a_step_is_read,
     what_passes_is_known_and_logged,
 };
-pub use connection_laws::{
-    connections_are_known_from_their_opening_to_their_end,
-    each_step_of_a_connection_is_logged_or_counted,
-};
+pub use connection_laws::connections_are_known_from_their_opening_to_their_end;
 pub use content::Skip;
 pub use ends::OpenConnection;
 pub use ends_laws::{
@@ -102,10 +96,7 @@ pub use fate_laws::{
     commands_of_a_step_are_logged_one_by_one, nothing_waits_that_may_be_logged,
     what_becomes_of_commands_is_logged,
 };
-pub use laws::{
-    each_line_has_the_severity_of_its_row, refusals_are_logged_by_their_rules,
-    what_is_gathered_is_logged_or_counted,
-};
+pub use laws::what_is_gathered_is_logged_or_counted;
 pub use limit::LeftOut;
 pub use logger::{Logger, taken_places};
 pub use name_laws::lines_end_with_the_name_of_what_they_are_about;
@@ -120,8 +111,7 @@ pub use station_laws::{
     a_station_stands_as_its_requests_say, each_station_has_its_own_watch,
     requests_are_noted_of_their_own_station,
 };
-pub use stations::{StationStanding, StationWatch};
-pub use system_laws::what_the_system_answers_is_what_counts;
+pub use stations::{RequestCounts, StationStanding, StationWatch};
 pub use traffic::Traffic;
 pub use watch::Watch;
 pub use word_examples::each_word_by_example;

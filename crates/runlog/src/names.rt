@@ -36,7 +36,7 @@ pub(crate) fn subject_of(note: &Note) -> Subject
 {
     match note {
         Note::LineReached | Note::LineReachedAgain => Subject::Line,
-        Note::LineLost | Note::LineNotThere | Note::LineSilent => Subject::Line,
+        Note::LineLost(_) | Note::LineNotThere(_) | Note::LineSilent => Subject::Line,
         Note::Asked(address) | Note::Up(address) | Note::Silent(address) => {
             Subject::Station(*address)
         }

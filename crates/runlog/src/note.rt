@@ -2,13 +2,14 @@
 ghost use Rattle.std.specs.Prelude.{◌≡◌, Some};
 ghost use Rattle.std.specs.Fmt.{WritesOnOk};
 ghost use Rattle.runlog.specs.Notes.{close_words, counts_words, cut_words, late_words};
-ghost use Rattle.runlog.specs.Notes.{left_out_words, line_text, notice_words, of_station};
+ghost use Rattle.runlog.specs.Notes.{left_out_words, line_text, line_words, not_kept_words};
+ghost use Rattle.runlog.specs.Notes.{notice_words, of_station};
 ghost use Rattle.runlog.specs.Notes.{given_up_words, peer_words, refused_peers_words};
 ghost use Rattle.runlog.specs.Notes.{damaged_words, obstacle_words, remnant_words};
 ghost use Rattle.runlog.specs.Notes.{skip_words, skipped_words, spoilt_words, sync_words};
 ghost use Rattle.runlog.specs.Notes.{trouble_words, words};
 
-use crate::causes::cause_words;
+use crate::causes::{cause_words, line_cause_words};
 use crate::content::Skip;
 use crate::fate::{CommandFate, Reason};
 use crate::limit::LeftOut;
@@ -101,9 +102,10 @@ pub enum Note {
     LineReached,
     /// After it was lost.
     LineReachedAgain,
-    LineLost,
-    /// It hasn't been reached yet.
-    LineNotThere,
+    /// Why the latest try to reach it again failed, if one has ended.
+    LineLost(Option<ErrorKind>),
+    /// It hasn't been reached yet, or not again; why the latest try failed, if that is known.
+    LineNotThere(Option<ErrorKind>),
     /// Requests went out and nothing came, so it was closed and is reached anew.
     LineSilent,
     /// Control centres may connect there.
@@ -277,12 +279,43 @@ fn trouble_words(trouble: Trouble) -> &'static str
     }
 }
 
-fn notice_words(notice: Notice) -> &'static str
-    ensures { result.now ≡ notice_words notice }
+fn write_line<W: fmt::Write>(
+    what: &str,
+    cause: Option<ErrorKind>,
+    f: &mut fmt::Formatter<W>,
+) -> fmt::Result
+    ensures { WritesOnOk W.write_str_gives f.old result (line_words what.now cause) f.new }
+{
+    f.write_str(what)?;
+    match cause {
+        Some(cause) => {
+            f.write_str(": ")?;
+            f.write_str(line_cause_words(cause))
+        }
+        None => Ok(()),
+    }
+}
+
+fn write_not_kept<W: fmt::Write>(
+    cause: Option<ErrorKind>,
+    f: &mut fmt::Formatter<W>,
+) -> fmt::Result
+    ensures { WritesOnOk W.write_str_gives f.old result (not_kept_words cause) f.new }
+{
+    f.write_str("state isn't kept: ")?;
+    if let Some(cause) = cause {
+        f.write_str(cause_words(cause))?;
+        f.write_str(": ")?;
+    }
+    f.write_str("what is polled now is lost if the gateway stops")
+}
+
+fn write_notice<W: fmt::Write>(notice: Notice, f: &mut fmt::Formatter<W>) -> fmt::Result
+    ensures { WritesOnOk W.write_str_gives f.old result (notice_words notice) f.new }
 {
     match notice {
-        Notice::NotKept => "state isn't kept: what is polled now is lost if the gateway stops",
-        Notice::KeptAgain => "state is kept again",
+        Notice::NotKept(cause) => write_not_kept(cause, f),
+        Notice::KeptAgain => f.write_str("state is kept again"),
     }
 }
 
@@ -407,8 +440,8 @@ impl fmt::Display for Note {
         match self {
             Note::LineReached => f.write_str("line reached"),
             Note::LineReachedAgain => f.write_str("line reached again"),
-            Note::LineLost => f.write_str("line lost"),
-            Note::LineNotThere => f.write_str("line not there"),
+            Note::LineLost(cause) => write_line("line lost", *cause, f),
+            Note::LineNotThere(cause) => write_line("line not there", *cause, f),
             Note::LineSilent => f.write_str(SILENT_LINE),
             Note::Listening(address) => write!(f, "listening at {address}"),
             Note::Opened(peer) => {
@@ -455,7 +488,7 @@ impl fmt::Display for Note {
             Note::GivenUp(remnant, kind, ca, object) => {
                 write_given_up(*remnant, *kind, *ca, *object, f)
             }
-            Note::State(notice) => f.write_str(notice_words(*notice)),
+            Note::State(notice) => write_notice(*notice, f),
             Note::Trouble(trouble) => f.write_str(trouble_words(*trouble)),
             Note::Ordered(order, peer) => {
                 write_order(order, f)?;

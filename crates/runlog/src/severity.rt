@@ -37,7 +37,7 @@ fn notice_severity(notice: Notice) -> Severity
     ensures { result ≡ spec.notice_severity notice }
 {
     match notice {
-        Notice::NotKept => Severity::Error,
+        Notice::NotKept(_) => Severity::Error,
         Notice::KeptAgain => Severity::Notice,
     }
 }
@@ -57,9 +57,9 @@ impl Note {
         ensures { result ≡ spec.severity_of self.now }
     {
         match self {
-            Note::LineLost | Note::LineNotThere | Note::Gap(_) | Note::QueueFull => Severity::Error,
-            Note::LineSilent | Note::StatePutAside | Note::Trouble(_) => Severity::Error,
-            Note::StateRefused(_) | Note::StateUnkept(_) => Severity::Error,
+            Note::LineLost(_) | Note::LineNotThere(_) | Note::LineSilent => Severity::Error,
+            Note::Gap(_) | Note::QueueFull | Note::StatePutAside => Severity::Error,
+            Note::Trouble(_) | Note::StateRefused(_) | Note::StateUnkept(_) => Severity::Error,
             Note::Cut(_) | Note::Closed(_) | Note::RefusedPeers(_, _) => Severity::Warning,
             Note::Silent(_) | Note::Down(_) | Note::StateStale => Severity::Warning,
             Note::StillSilent(_) | Note::LeftOut(_) => Severity::Warning,

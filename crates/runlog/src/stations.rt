@@ -63,6 +63,17 @@ pub enum StationStanding {
     Down,
 }
 
+/// What was counted of the requests to a station, while the line was there.
+#[derive(Clone, Copy, Default, PartialEq, Eq)]
+pub struct RequestCounts {
+    /// How many went out.
+    pub sent: u64,
+    /// How many of them were the one before again.
+    pub repeats: u64,
+    /// How often it didn't answer one at any of its repeats.
+    pub unanswered: u64,
+}
+
 /// What is logged of a station.
 #[derive(Clone, Copy, PartialEq, Eq)]
 pub struct StationWatch {
@@ -81,6 +92,7 @@ pub struct StationWatch {
     since: u64,
     /// How often reports of it may have been lost.
     gaps: u64,
+    requests: RequestCounts,
     logged: StationLogged,
     asked: Limit,
     up: Limit,
@@ -161,6 +173,31 @@ fn is_same(before: StationStanding, after: StationStanding) -> bool
     }
 }
 
+/// So much once more, if that is so.
+fn more_if(is_so: bool, count: u64) -> u64
+    ensures { result ≡ spec.more_if is_so count }
+{
+    if is_so { count.saturating_add(1) } else { count }
+}
+
+/// What was counted of the requests to a station behind this one, of which this was known before,
+/// and which it doesn't answer now, or does.
+fn requests_after(asking: Asking, before: &StationWatch, is_unanswered: bool) -> RequestCounts
+    ensures { result ≡ spec.requests_after asking before.now is_unanswered }
+{
+    let RequestCounts {
+        sent,
+        repeats,
+        unanswered,
+    } = before.requests;
+    let is_request = !matches!(asking, Asking::Missed);
+    RequestCounts {
+        sent: more_if(is_request, sent),
+        repeats: more_if(before.is_repeat(asking), repeats),
+        unanswered: more_if(is_unanswered && !before.is_unanswered(), unanswered),
+    }
+}
+
 impl StationWatch {
     /// That of the station with this link address, to which a request goes out so often at first.
     pub(crate) fn new(tries: u64, address: u16) -> StationWatch
@@ -175,6 +212,11 @@ impl StationWatch {
             link: LinkKnown::Nothing,
             since: 0,
             gaps: 0,
+            requests: RequestCounts {
+                sent: 0,
+                repeats: 0,
+                unanswered: 0,
+            },
             logged: StationLogged::Nothing,
             asked: Limit::new(),
             up: Limit::new(),
@@ -221,6 +263,13 @@ impl StationWatch {
         ensures { result ≡ self.now.gaps }
     {
         self.gaps
+    }
+
+    /// What was counted of the requests to it.
+    pub fn requests(&self) -> RequestCounts
+        ensures { result ≡ self.now.requests }
+    {
+        self.requests
     }
 
     /// A request goes out to the station with this link address.
@@ -282,11 +331,12 @@ impl StationWatch {
     fn count_at(&mut self, asking: Asking, now: u64)
         ensures { self.new ≡ spec.counted asking now self.old }
     {
-        let before = self.standing();
+        let before = *self;
         self.count(asking);
-        if !is_same(before, self.standing()) {
+        if !is_same(before.standing(), self.standing()) {
             self.since = now;
         }
+        self.requests = requests_after(asking, &before, self.is_unanswered());
     }
 
     /// How often a request has gone out, which is the one before or another one.

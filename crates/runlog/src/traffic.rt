@@ -26,6 +26,9 @@ pub struct Traffic {
     commands: u64,
     /// The latest command that went out to it.
     order: Option<Order>,
+    /// How many of its answers were spoilt, and how many came late.
+    spoilings: u64,
+    late_answers: u64,
     skips: Gathered,
     mirrors: Gathered,
     spoilt: Gathered,
@@ -44,6 +47,8 @@ impl Traffic {
             skipped: 0,
             commands: 0,
             order: None,
+            spoilings: 0,
+            late_answers: 0,
             skips: Gathered::new(),
             mirrors: Gathered::new(),
             spoilt: Gathered::new(),
@@ -86,6 +91,20 @@ impl Traffic {
         self.commands
     }
 
+    /// How often something else than an answer came in answer to a request to it.
+    pub fn spoilings(&self) -> u64
+        ensures { result ≡ self.now.spoilings }
+    {
+        self.spoilings
+    }
+
+    /// How often octets came from it when its exchange was over.
+    pub fn late_answers(&self) -> u64
+        ensures { result ≡ self.now.late_answers }
+    {
+        self.late_answers
+    }
+
     /// This became of a command at the station.
     fn tell(&self, fate: Option<CommandFate>, order: Option<Order>, now: u64, trail: &mut Trail)
         ensures { trail.new ≡ fate_told fate order self.now.address now trail.old }
@@ -115,8 +134,14 @@ impl Traffic {
             // The latest command that went out is the one on its line.
             Mishap::GivenUp => self.tell(Some(CommandFate::GivenUp), self.order, now, trail),
             Mishap::MirrorDropped => self.mirrors.add(Note::MirrorDropped(address), now),
-            Mishap::Spoilt(spoiling) => self.spoilt.add(Note::Spoilt(address, spoiling), now),
-            Mishap::Late(ms) => self.late.add(Note::Late(address, ms), now),
+            Mishap::Spoilt(spoiling) => {
+                self.spoilings = self.spoilings.saturating_add(1);
+                self.spoilt.add(Note::Spoilt(address, spoiling), now);
+            }
+            Mishap::Late(ms) => {
+                self.late_answers = self.late_answers.saturating_add(1);
+                self.late.add(Note::Late(address, ms), now);
+            }
         }
     }
 

@@ -489,7 +489,7 @@ impl Watch {
         ensures { (self.new, result) ≡ spec.failed failure self.old }
     {
         match failure? {
-            Failure::Line => self.line.see(Presence::Away, self.moment),
+            Failure::Line => self.line.see(Presence::Away(None), self.moment),
             Failure::State => Some(self.line(Note::Trouble(Trouble::StateUnusable))),
         }
     }

@@ -1,5 +1,5 @@
 //! The words of lines, word by word (docs/TEXTS.md).
-ghost use Rattle.std.specs.Prelude.{◌≡◌, ◌++◌, [], ℕ, codes, Option, Some};
+ghost use Rattle.std.specs.Prelude.{◌≡◌, ◌++◌, [], ℕ, codes, Option, None, Some};
 ghost use Rattle.std.specs.Net.Text.{ip_text, socket_text};
 ghost use Rattle.std.specs.declared.io.ErrorKind.TheVariants.{PermissionDenied};
 ghost use Rattle.std.specs.declared.net.ip_addr.IpAddr.{IpAddr};
@@ -64,8 +64,11 @@ pub fn each_word_by_example()
         ≡ codes "state: a sync took 303 ms, the longest so far 305 ms")
         × (words (note.GivenUp remnant.Waiting 45 1 100)
         ≡ codes "waiting command of type 45 to 1/100, given up at a start")
-        × (words (note.State notices.NotKept)
+        × (words (note.State (notices.NotKept None))
         ≡ codes "state isn't kept: what is polled now is lost if the gateway stops")
+        × (words (note.State (notices.NotKept (Some PermissionDenied)))
+        ≡ codes "state isn't kept: permission denied: what is polled now is lost if the gateway "
+        ++ codes "stops")
         × (words (note.State notices.KeptAgain) ≡ codes "state is kept again") }
     ensures troubles { (words (note.Trouble trouble.StateInUse)
         ≡ codes "state in use by another process")

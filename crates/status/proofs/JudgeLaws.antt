@@ -5,10 +5,11 @@ use Rattle.std.proofs.Common.{◌∷◌, Option, Some, None, ap, refl, sym, ◌�
 use Rattle.std.proofs.lemmas.Bool.{ltb-false, le-ltb}
 use Rattle.std.proofs.Math.Nat.{div-mul-le_self}
 use Rattle.std.proofs.lemmas.Nat.{le-div}
-use Rattle.std.specs.List.{AllByRecursion, list_any}
+use Rattle.std.specs.List.{AllByRecursion, list_all, list_any}
 use Rattle.std.specs.Option.{is_none}
-use Rattle.std.specs.Prelude.{◌/◌, ◌&&◌, if◌then◌else◌, nat_le, nat_lt, not}
-use Rattle.status.specs.Judge.{cannot_keep, does_not_answer, is_critical, is_full, is_lost}
+use Rattle.std.specs.Prelude.{◌/◌, ◌==◌, ◌&&◌, if◌then◌else◌, length, nat_le, nat_lt, not}
+use Rattle.status.specs.Judge.{are_all_silent, cannot_keep, does_not_answer, is_critical, is_full}
+use Rattle.status.specs.Judge.{is_lost}
 use Rattle.status.specs.Judge.{is_silent, is_warning, judgement_of}
 use Rattle.status.specs.Law.{Answers, IsWell}
 use Rattle.status.specs.declared.judging.Judgement.TheVariants.{Ok, Warning, Critical}
@@ -61,8 +62,10 @@ all_answer (station ∷ stations) is =
 pub ok_is_well : (s : Snapshot) → judgement_of s ≡ Ok → IsWell s
 ok_is_well s is =
     let judged = judged_ok (is_critical s) (is_warning s) is in
+    let all = neither (is_lost s.line s.now_ms || is_none s.centre.peer || is_full s.queue
+    || cannot_keep s.keeping) (are_all_silent s.stations.now) judged.0 in
     let full = neither (is_lost s.line s.now_ms || is_none s.centre.peer || is_full s.queue)
-    (cannot_keep s.keeping) judged.0 in
+    (cannot_keep s.keeping) all.0 in
     let gone = neither (is_lost s.line s.now_ms || is_none s.centre.peer) (is_full s.queue)
     full.0 in
     let lost = neither (is_lost s.line s.now_ms) (is_none s.centre.peer) gone.0 in
@@ -114,6 +117,18 @@ none_silent (station ∷ stations) (here, all) =
     both_false (is_silent station) (list_any is_silent stations)
     (not_silent station.standing here.not_silent here.not_down) (none_silent stations all)
 
+and_false : (b : Bool) → (b && false) ≡ false
+and_false true = refl
+and_false false = refl
+
+not_all_silent : (stations : List StationView) → AllByRecursion Answers stations
+    → are_all_silent stations ≡ false
+not_all_silent [] all = refl
+not_all_silent (station ∷ stations) (here, all) =
+    ap (λ b. not (length (station ∷ stations) == 0) && (b && list_all is_silent stations))
+    (not_silent station.standing here.not_silent here.not_down)
+    ∙ and_false (not (length (station ∷ stations) == 0))
+
 pub well_is_ok : (s : Snapshot) → IsWell s → judgement_of s ≡ Ok
 well_is_ok s well =
     let free : 3 ≤ s.queue.places - s.queue.taken = let is = well.free in omega arith in
@@ -128,9 +143,14 @@ well_is_ok s well =
     let full : (is_lost s.line s.now_ms || is_none s.centre.peer || is_full s.queue) ≡ false =
     both_false (is_lost s.line s.now_ms || is_none s.centre.peer) (is_full s.queue) gone
     (le-ltb (s.queue.places - s.queue.taken) 3 free) in
-    let critical : is_critical s ≡ false =
+    let kept : (is_lost s.line s.now_ms || is_none s.centre.peer || is_full s.queue
+    || cannot_keep s.keeping) ≡ false =
     both_false (is_lost s.line s.now_ms || is_none s.centre.peer || is_full s.queue)
     (cannot_keep s.keeping) full (not_lost s.keeping well.kept) in
+    let critical : is_critical s ≡ false =
+    both_false (is_lost s.line s.now_ms || is_none s.centre.peer || is_full s.queue
+    || cannot_keep s.keeping) (are_all_silent s.stations.now) kept
+    (not_all_silent s.stations.now well.stations) in
     let away : (not s.line.is_there || nat_lt (s.queue.places / 2) s.queue.taken) ≡ false =
     both_false (not s.line.is_there) (nat_lt (s.queue.places / 2) s.queue.taken)
     (ap not well.line) (le-ltb (s.queue.places / 2) s.queue.taken most) in

@@ -1,11 +1,13 @@
 -- The snapshot as a page for a person (this gateway's own profile).
-use Rattle.std.specs.Prelude.{ℕ, ◌-◌, ◌*◌, ◌/◌, ◌==◌, min, List, [], ◌∷◌, codes, if◌then◌else◌}
+use Rattle.std.specs.Prelude.{ℕ, ◌-◌, ◌*◌, ◌/◌, ◌==◌, min, Bool, true, false, List, [], ◌∷◌, length}
+use Rattle.std.specs.Prelude.{codes, if◌then◌else◌}
+use Rattle.std.specs.Bool.{beq}
 use Rattle.std.specs.Fmt.{decimal}
-use Rattle.status.specs.Judge.{judgement_of}
+use Rattle.status.specs.Judge.{is_silent, judgement_of, unfilled}
 use Rattle.status.specs.Labels.{judgement_text, keeping_text, standing_text}
 use Rattle.status.specs.Texts.{age_or, age_text, comma_behind, summary, syncs_text}
 use Rattle.status.specs.Words.{escaped, escaped_or, joined, rows}
-use Rattle.status.specs.declared.html.TheConstants.{HEAD, SYNCS, STATIONS, SETTINGS, END}
+use Rattle.status.specs.declared.html.TheConstants.{HEAD, STYLE, SYNCS, STATIONS, SETTINGS, END}
 use Rattle.status.specs.declared.words.Marks.TheVariants.{Html}
 use Rattle.status.specs.declared.snapshot.Setting.{Setting}
 use Rattle.status.specs.declared.snapshot.StationView.{StationView}
@@ -39,6 +41,10 @@ row_parts now s =
 abbrev pub text_of_row : (now : ℕ) → StationView → List ℕ
 text_of_row now s = joined (row_parts now s)
 
+-- the same of a station that doesn't answer, or else of one that does
+abbrev pub row_if : (is_so : Bool) → (now : ℕ) → StationView → List ℕ
+row_if is_so now s = if beq (is_silent s) is_so then text_of_row now s else []
+
 abbrev pub text_of_setting : Setting → List ℕ
 text_of_setting s = joined (
     codes "<tr><th>" ∷ escaped Html s.key.now ∷ codes "</th><td>" ∷ escaped Html s.value.now
@@ -52,10 +58,15 @@ depth places taken = if places == 0 then 100 else 100 - min taken places * 100 /
 abbrev pub text_of_step : (places taken : ℕ) → List ℕ
 text_of_step places taken = joined (codes "V" ∷ decimal (depth places taken) ∷ codes "h1" ∷ [])
 
+-- what stands in place of a name, if there is none
+abbrev pub if_nameless : (name : List ℕ) → List ℕ
+if_nameless name = if length name == 0 then codes "telegate" else codes ""
+
 abbrev pub head_text : Snapshot → List ℕ
 head_text s = joined (
-    HEAD.now ∷ escaped Html s.version.now ∷ codes "</h1>\n<p class=\""
-    ∷ judgement_text (judgement_of s) ∷ codes "\">" ∷ [])
+    HEAD.now ∷ escaped Html s.name.now ∷ if_nameless s.name.now
+    ∷ STYLE.now ∷ escaped Html s.name.now ∷ if_nameless s.name.now
+    ∷ codes "</h1>\n<p class=\"" ∷ judgement_text (judgement_of s) ∷ codes "\">" ∷ [])
 
 abbrev pub line_text : Snapshot → List ℕ
 line_text s = joined (
@@ -75,12 +86,18 @@ state_text s = joined (
     codes "</td></tr>\n<tr><th>unacknowledged</th><td>" ∷ decimal s.centre.unacknowledged
     ∷ codes "</td></tr>\n<tr><th>state</th><td>" ∷ keeping_text s.keeping ∷ [])
 
+-- less than 80 % of the places
+abbrev pub good_queue : (places : ℕ) → ℕ
+good_queue places = places * 4 / 5 - 1
+
 -- the queue, with what stands before the last hour
 abbrev pub queue_parts : Snapshot → List (List ℕ)
 queue_parts s =
     codes "</td></tr>\n<tr><th>queue</th><td>" ∷ decimal s.queue.taken
     ∷ codes " of " ∷ decimal s.queue.places
-    ∷ codes " <meter min=\"0\" max=\"" ∷ decimal s.queue.places
+    ∷ codes " <meter min=\"0\" optimum=\"0\" low=\"" ∷ decimal (good_queue s.queue.places)
+    ∷ codes "\" high=\"" ∷ decimal (unfilled s.queue)
+    ∷ codes "\" max=\"" ∷ decimal s.queue.places
     ∷ codes "\" value=\"" ∷ decimal s.queue.taken
     ∷ codes "\"></meter></td></tr>\n</table>\n<h2>Queue in the last hour</h2>\n"
     ∷ codes "<svg viewBox=\"0 0 60 100\" preserveAspectRatio=\"none\">"
@@ -89,6 +106,21 @@ queue_parts s =
 abbrev pub queue_text : Snapshot → List ℕ
 queue_text s = joined (queue_parts s)
 
+-- the stations, those first that don't answer
+abbrev pub station_parts : Snapshot → List (List ℕ)
+station_parts s =
+    STATIONS.now ∷ rows (row_if true s.now_ms) s.stations.now
+    ∷ rows (row_if false s.now_ms) s.stations.now ∷ []
+
+abbrev pub stations_text : Snapshot → List ℕ
+stations_text s = joined (station_parts s)
+
+-- the version, as a row before the settings
+abbrev pub version_text : Snapshot → List ℕ
+version_text s = joined (
+    SETTINGS.now ∷ codes "<tr><th>telegate</th><td>" ∷ escaped Html s.version.now
+    ∷ codes "</td></tr>\n" ∷ [])
+
 abbrev pub html_parts : Snapshot → List (List ℕ)
 html_parts s =
     head_text s ∷ summary s ∷ codes "</p>\n<table>\n<tr><th>running for</th><td>"
@@ -96,8 +128,7 @@ html_parts s =
     ∷ centre_text s ∷ age_text 0 s.now_ms s.centre.since_ms ∷ state_text s
     ∷ syncs_text SYNCS.now s.syncs ∷ queue_text s
     ∷ rows (text_of_step s.queue.places) s.queue.hour.now ∷ codes "V100z\"/></svg>\n"
-    ∷ STATIONS.now ∷ rows (text_of_row s.now_ms) s.stations.now
-    ∷ SETTINGS.now ∷ rows text_of_setting s.settings.now ∷ END.now ∷ []
+    ∷ stations_text s ∷ version_text s ∷ rows text_of_setting s.settings.now ∷ END.now ∷ []
 
 abbrev pub html_of : Snapshot → List ℕ
 html_of s = joined (html_parts s)

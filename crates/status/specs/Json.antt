@@ -5,6 +5,7 @@ use Rattle.std.specs.Borrow.{Bor}
 use Rattle.status.specs.Words.{escaped, joined, number_or, listed}
 use Rattle.status.specs.Judge.{judgement_of}
 use Rattle.status.specs.Labels.{judgement_text, keeping_text, standing_text}
+use Rattle.status.specs.Texts.{summary}
 use Rattle.status.specs.declared.words.Marks.TheVariants.{Json}
 use Rattle.status.specs.declared.snapshot.StationView.{StationView}
 use Rattle.status.specs.declared.snapshot.Setting.{Setting}
@@ -13,10 +14,10 @@ use Rattle.status.specs.declared.snapshot.Snapshot.{Snapshot}
 abbrev pub flag : Bool → List ℕ
 flag b = if b then codes "true" else codes "false"
 
--- an address as a string, or null
-abbrev pub json_of_peer : Option (Bor (List ℕ)) → List ℕ
-json_of_peer (Some peer) = joined (codes "\"" ∷ escaped Json peer.now ∷ codes "\"" ∷ [])
-json_of_peer None = codes "null"
+-- a text as a string, or null
+abbrev pub json_of_text : Option (Bor (List ℕ)) → List ℕ
+json_of_text (Some text) = joined (codes "\"" ∷ escaped Json text.now ∷ codes "\"" ∷ [])
+json_of_text None = codes "null"
 
 abbrev pub station_parts : StationView → List (List ℕ)
 station_parts s =
@@ -27,6 +28,10 @@ station_parts s =
     ∷ codes ",\"last_report_ms\":" ∷ number_or s.last_report_ms (codes "null")
     ∷ codes ",\"reports\":" ∷ decimal s.reports ∷ codes ",\"skipped\":" ∷ decimal s.skipped
     ∷ codes ",\"gaps\":" ∷ decimal s.gaps ∷ codes ",\"commands\":" ∷ decimal s.commands
+    ∷ codes ",\"requests\":" ∷ decimal s.requests.sent
+    ∷ codes ",\"repeats\":" ∷ decimal s.requests.repeats
+    ∷ codes ",\"unanswered\":" ∷ decimal s.requests.unanswered
+    ∷ codes ",\"spoilt\":" ∷ decimal s.spoilt ∷ codes ",\"late\":" ∷ decimal s.late
     ∷ codes "}" ∷ []
 
 abbrev pub json_of_station : StationView → List ℕ
@@ -38,20 +43,24 @@ json_of_setting s = joined (
     codes "\"" ∷ escaped Json s.key.now ∷ codes "\":\"" ∷ escaped Json s.value.now
     ∷ codes "\"" ∷ [])
 
--- what stands before the address of the control centre
-abbrev pub parts_before_peer : Snapshot → List (List ℕ)
-parts_before_peer s =
+-- what stands before the summary, which has none of the octets that mean something else
+abbrev pub json_before_summary : Snapshot → List ℕ
+json_before_summary s = joined (
     codes "{\"version\":\"" ∷ escaped Json s.version.now
     ∷ codes "\",\"judgement\":\"" ∷ judgement_text (judgement_of s)
-    ∷ codes "\",\"now_ms\":" ∷ decimal s.now_ms ∷ codes ",\"started_ms\":" ∷ decimal s.started_ms
+    ∷ codes "\",\"summary\":\"" ∷ [])
+
+-- what stands between that and why the line is away
+abbrev pub parts_before_cause : Snapshot → List (List ℕ)
+parts_before_cause s =
+    codes "\",\"now_ms\":" ∷ decimal s.now_ms ∷ codes ",\"started_ms\":" ∷ decimal s.started_ms
     ∷ codes ",\"wall_ms\":" ∷ number_or s.wall_ms (codes "null")
     ∷ codes ",\"line\":{\"name\":\"" ∷ escaped Json s.name.now
     ∷ codes "\",\"there\":" ∷ flag s.line.is_there
-    ∷ codes ",\"since_ms\":" ∷ decimal s.line.since_ms
-    ∷ codes "},\"centre\":{\"peer\":" ∷ []
+    ∷ codes ",\"since_ms\":" ∷ decimal s.line.since_ms ∷ codes ",\"cause\":" ∷ []
 
-abbrev pub json_before_peer : Snapshot → List ℕ
-json_before_peer s = joined (parts_before_peer s)
+abbrev pub json_before_cause : Snapshot → List ℕ
+json_before_cause s = joined (parts_before_cause s)
 
 -- what stands between that and the numbers of the last hour
 abbrev pub parts_before_hour : Snapshot → List (List ℕ)
@@ -75,7 +84,8 @@ json_before_stations s = joined (
 
 abbrev pub json_parts : Snapshot → List (List ℕ)
 json_parts s =
-    json_before_peer s ∷ json_of_peer s.centre.peer
+    json_before_summary s ∷ summary s ∷ json_before_cause s ∷ json_of_text s.line.cause
+    ∷ codes "},\"centre\":{\"peer\":" ∷ json_of_text s.centre.peer
     ∷ json_before_hour s ∷ listed decimal s.queue.hour.now
     ∷ json_before_stations s ∷ listed json_of_station s.stations.now
     ∷ codes "],\"settings\":{" ∷ listed json_of_setting s.settings.now ∷ codes "}}\n" ∷ []

@@ -1,7 +1,7 @@
 -- What the state of the gateway calls for (this gateway's own profile).
 use Rattle.std.specs.Prelude.{ℕ, ◌-◌, ◌/◌, nat_lt, nat_le, Bool, true, false, not, ◌&&◌, ◌||◌}
-use Rattle.std.specs.Prelude.{if◌then◌else◌}
-use Rattle.std.specs.List.{list_any}
+use Rattle.std.specs.Prelude.{◌==◌, List, length, if◌then◌else◌}
+use Rattle.std.specs.List.{list_all, list_any}
 use Rattle.std.specs.Option.{is_none}
 use Rattle.status.specs.declared.judging.Judgement.{Judgement}
 use Rattle.status.specs.declared.judging.Judgement.TheVariants as judgement
@@ -22,6 +22,10 @@ is_lost line now = not line.is_there && nat_le 60000 (now - line.since_ms)
 -- fewer places are free than a report may take
 abbrev pub is_full : Queue → Bool
 is_full queue = nat_lt (queue.places - queue.taken) 3
+
+-- so many places may be taken while a report still finds room
+abbrev pub unfilled : Queue → ℕ
+unfilled queue = queue.places - 3
 
 abbrev pub does_not_answer : LinkState → Bool
 does_not_answer NotAsked = false
@@ -49,11 +53,21 @@ cannot_keep Off = false
 cannot_keep Kept = false
 cannot_keep NotKept = true
 
--- Critical: the line is away for a minute, no control centre is connected, the queue is full, or
--- the state can't be kept.
+abbrev pub keeps : Keeping → Bool
+keeps Off = false
+keeps Kept = true
+keeps NotKept = false
+
+-- there are stations, and none of them answers
+abbrev pub are_all_silent : List StationView → Bool
+are_all_silent stations = not (length stations == 0) && list_all is_silent stations
+
+-- Critical: the line is away for a minute, no control centre is connected, the queue is full, the
+-- state can't be kept, or no station answers.
 abbrev pub is_critical : Snapshot → Bool
 is_critical s =
     is_lost s.line s.now_ms || is_none s.centre.peer || is_full s.queue || cannot_keep s.keeping
+    || are_all_silent s.stations.now
 
 -- A warning: the line is away, more than half of the queue is taken, or a station doesn't answer.
 abbrev pub is_warning : Snapshot → Bool

@@ -1,5 +1,5 @@
 -- The words for how things stand (this gateway's own profile).
-use Rattle.std.specs.Prelude.{ℕ, List, codes, if◌then◌else◌}
+use Rattle.std.specs.Prelude.{ℕ, ◌/◌, List, Option, Some, None, codes, if◌then◌else◌}
 use Rattle.status.specs.Judge.{is_up}
 use Rattle.status.specs.declared.judging.Judgement.{Judgement}
 use Rattle.status.specs.declared.judging.Judgement.TheVariants as judgement
@@ -27,6 +27,11 @@ wide_text Up = codes "up           "
 wide_text Silent = codes "silent       "
 wide_text Down = codes "down         "
 
+-- a moment in whole seconds
+abbrev pub seconds_of : Option ℕ → ℕ
+seconds_of (Some ms) = ms / 1000
+seconds_of None = 0
+
 -- what is counted of a station
 abbrev pub value_of : Count → StationView → ℕ
 value_of count.Up s = if is_up s then 1 else 0
@@ -34,6 +39,12 @@ value_of count.Reports s = s.reports
 value_of count.Skipped s = s.skipped
 value_of count.Gaps s = s.gaps
 value_of count.Commands s = s.commands
+value_of count.LastReport s = seconds_of s.last_report_ms
+value_of count.Requests s = s.requests.sent
+value_of count.Repeats s = s.requests.repeats
+value_of count.Unanswered s = s.requests.unanswered
+value_of count.Spoilt s = s.spoilt
+value_of count.Late s = s.late
 
 abbrev pub keeping_text : Keeping → List ℕ
 keeping_text Off = codes "none"

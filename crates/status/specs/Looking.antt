@@ -9,8 +9,9 @@ use Rattle.gateway.specs.Config.{Settings}
 use Rattle.gateway.specs.State.{State}
 use Rattle.live.specs.declared.watched.Notice.{Notice}
 use Rattle.status.specs.Shown.{AreKnown, AreRows, IsCentre, in_force, chosen_as, is_there}
-use Rattle.status.specs.Shown.{keeping_after, text_or_none, viewed_as}
+use Rattle.status.specs.Shown.{keeping_after, lost_after, text_or_none, viewed_as, why_away}
 use Rattle.status.specs.declared.lookout.ShownRun.{ShownRun}
+use Rattle.runlog.specs.Causes.{cause_words}
 use Rattle.runlog.specs.Logging.{taken_in}
 use Rattle.runlog.specs.Watching.{Watching, wall_of}
 use Rattle.runlog.specs.declared.names.LogNames.{LogNames}
@@ -41,6 +42,7 @@ pub record IsFreshLookout (c : Settings) (names : LogNames) (keeps : Bool) (s : 
   pub places : s.places ≡ c.line.queue
   pub began : s.began ≡ None
   pub keeping : s.keeping ≡ keeping_at_first keeps
+  pub lost_by : s.lost_by ≡ None
   pub numbers : s.hour ≡ record { numbers = []; noted_ms = None }
   pub taken : s.taken ≡ 0
   pub counted : s.counted ≡ None
@@ -61,6 +63,7 @@ abbrev pub noted : Watching → Option Notice → ShownRun → ShownRun
 noted w notice s = let is_open = is_some w.connection.opening in record s {
   began = Some (first_of s.began w.moment);
   keeping = keeping_by notice s.keeping;
+  lost_by = lost_after notice s.lost_by;
   gone_since = gone_after s.began s.was_open is_open w.moment s.gone_since;
   was_open = is_open;
   opened = w.connection.count;
@@ -103,12 +106,14 @@ pub record IsSnapshotOf (shown : ShownRun) (w : Watching) (s : Snapshot) : Type 
   pub name : s.name.now ≡ string_bytes shown.name
   pub there : s.line.is_there ≡ is_there w.line.presence
   pub since : s.line.since_ms ≡ w.line.since
+  pub cause : option_map (λ c. c.now) s.line.cause ≡ why_away w.line.presence
   pub centre : IsCentre w.connection.opening (string_bytes shown.peer) shown.gone_since shown.taken
       s.centre
   pub taken : s.queue.taken ≡ shown.taken
   pub places : s.queue.places ≡ shown.places
   pub hour : s.queue.hour.now ≡ shown.hour.numbers
   pub keeping : s.keeping ≡ shown.keeping
+  pub lost_by : option_map (λ c. c.now) s.lost_by ≡ option_map cause_words shown.lost_by
   pub syncs : s.syncs ≡ w.syncs
 
 -- all that is shown: these numbers, a row for each station, and the settings in force

@@ -2,7 +2,7 @@
 use Rattle.std.specs.Prelude.{ℕ, List, [], ◌∷◌, ◌++◌, codes, if◌then◌else◌}
 use Rattle.std.specs.Option.{is_some}
 use Rattle.std.specs.Fmt.{decimal}
-use Rattle.status.specs.Judge.{cannot_keep}
+use Rattle.status.specs.Judge.{cannot_keep, keeps}
 use Rattle.status.specs.Labels.{value_of}
 use Rattle.status.specs.Texts.{seconds}
 use Rattle.status.specs.Words.{escaped, joined, rows, thousandths, word_text}
@@ -69,6 +69,8 @@ abbrev pub gauge_parts : Snapshot → List (List ℕ)
 gauge_parts s =
     gauge_text (codes "telegate_uptime_seconds") (codes "How long the process has been running.")
     (decimal (seconds s.now_ms s.started_ms))
+    ∷ gauge_text (codes "telegate_moment_seconds") (codes "The moment of the run.")
+    (decimal (seconds s.now_ms 0))
     ∷ gauge_text (codes "telegate_line_up") (codes "Whether the serial line can be reached.")
     (if s.line.is_there then codes "1" else codes "0")
     ∷ gauge_text (codes "telegate_centre_connected")
@@ -83,7 +85,16 @@ gauge_parts s =
     ∷ gauge_text (codes "telegate_queue_places") (codes "Places that the queue has.")
     (decimal s.queue.places)
     ∷ gauge_text (codes "telegate_queue_taken") (codes "Places of the queue that are taken.")
-    (decimal s.queue.taken)
+    (decimal s.queue.taken) ∷ []
+
+abbrev pub gauges_text : Snapshot → List ℕ
+gauges_text s = joined (gauge_parts s)
+
+-- how the state is kept
+abbrev pub keeping_parts : Snapshot → List (List ℕ)
+keeping_parts s =
+    gauge_text (codes "telegate_state_kept") (codes "Whether the state is kept on the disk.")
+    (if keeps s.keeping then codes "1" else codes "0")
     ∷ gauge_text (codes "telegate_state_lost")
     (codes "Whether the state is to be kept on the disk and can not be.")
     (if cannot_keep s.keeping then codes "1" else codes "0")
@@ -91,8 +102,8 @@ gauge_parts s =
     (codes "How long the longest slow sync of the state took.") (thousandths s.syncs.longest_ms)
     ∷ []
 
-abbrev pub gauges_text : Snapshot → List ℕ
-gauges_text s = joined (gauge_parts s)
+abbrev pub keeping_text : Snapshot → List ℕ
+keeping_text s = joined (keeping_parts s)
 
 -- how many syncs of the state were slow
 abbrev pub syncs_text : Snapshot → List ℕ
@@ -117,10 +128,30 @@ family_parts stations =
 abbrev pub families_text : List StationView → List ℕ
 families_text stations = joined (family_parts stations)
 
+-- when the stations reported, and how well they answer
+abbrev pub quality_parts : List StationView → List (List ℕ)
+quality_parts stations =
+    family_text stations (codes "telegate_station_last_report_seconds")
+    (codes "The moment of the last report, 0 before the first.") (codes "gauge") count.LastReport
+    ∷ family_text stations (codes "telegate_station_requests_total")
+    (codes "Requests to the outstation.") (codes "counter") count.Requests
+    ∷ family_text stations (codes "telegate_station_repeats_total")
+    (codes "Requests that were the one before again.") (codes "counter") count.Repeats
+    ∷ family_text stations (codes "telegate_station_unanswered_total")
+    (codes "Requests without an answer to any of their repeats.") (codes "counter")
+    count.Unanswered
+    ∷ family_text stations (codes "telegate_station_spoilt_total")
+    (codes "How often something else came than an answer.") (codes "counter") count.Spoilt
+    ∷ family_text stations (codes "telegate_station_late_total")
+    (codes "Answers that came when their exchange was over.") (codes "counter") count.Late ∷ []
+
+abbrev pub quality_text : List StationView → List ℕ
+quality_text stations = joined (quality_parts stations)
+
 abbrev pub metrics_parts : Snapshot → List (List ℕ)
 metrics_parts s =
-    build_text s ∷ rows text_of_info s.stations.now ∷ gauges_text s ∷ syncs_text s
-    ∷ families_text s.stations.now ∷ []
+    build_text s ∷ rows text_of_info s.stations.now ∷ gauges_text s ∷ keeping_text s
+    ∷ syncs_text s ∷ families_text s.stations.now ∷ quality_text s.stations.now ∷ []
 
 abbrev pub metrics_of : Snapshot → List ℕ
 metrics_of s = joined (metrics_parts s)

@@ -7,6 +7,8 @@ use Rattle.gateway.specs.Config.{Settings}
 use Rattle.gateway.specs.declared.settings.Silence.{Silence}
 use Rattle.gateway.specs.declared.settings.Silence.TheVariants as silence
 use Rattle.gateway.specs.declared.settings.StationSettings.{StationSettings as Setting}
+use Rattle.std.specs.declared.io.ErrorKind.{ErrorKind}
+use Rattle.runlog.specs.Causes.{line_cause_words}
 use Rattle.runlog.specs.Names.{name_in}
 use Rattle.runlog.specs.Stations as stations
 use Rattle.runlog.specs.declared.names.NamedStation.{NamedStation}
@@ -73,6 +75,9 @@ pub record IsStationRow (known : Known) (watch : StationWatch) (traffic : Traffi
   pub skipped : row.skipped ≡ traffic.skipped
   pub gaps : row.gaps ≡ watch.gaps
   pub commands : row.commands ≡ traffic.commands
+  pub requests : row.requests ≡ watch.requests
+  pub spoilt : row.spoilt ≡ traffic.spoilings
+  pub late : row.late ≡ traffic.late_answers
 
 -- The rows are those of the stations, one behind another, in the order of the settings: each that
 -- is known, watched and counted has one, up to so many.
@@ -139,12 +144,24 @@ pub record IsCentre (opening : Option OpenConnection) (address : List ℕ) (gone
 -- the line is there: octets may come from it
 abbrev pub is_there : Presence → Bool
 is_there Untried = false
-is_there Away = false
+is_there (Away cause) = false
 is_there Silent = false
 is_there There = true
 is_there Receiving = true
 
+-- why it is away, if that is known
+abbrev pub why_away : Presence → Option (List ℕ)
+why_away (Away (Some cause)) = Some (line_cause_words cause)
+why_away Silent = Some (codes "nothing comes from it")
+why_away presence = None
+
 -- what the latest notice says of the state on the disk
 abbrev pub keeping_after : Notice → Keeping
-keeping_after notices.NotKept = NotKept
+keeping_after (notices.NotKept cause) = NotKept
 keeping_after notices.KeptAgain = Kept
+
+-- and why it can't be kept, if that is known
+abbrev pub lost_after : Option Notice → (before : Option ErrorKind) → Option ErrorKind
+lost_after None before = before
+lost_after (Some (notices.NotKept cause)) before = cause
+lost_after (Some notices.KeptAgain) before = None

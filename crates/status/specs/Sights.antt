@@ -74,6 +74,9 @@ pub record TellsOf (names : LogNames) (setting : Setting) (watch : StationWatch)
   pub reports : row.reports ≡ traffic.reports
   pub skipped : row.skipped ≡ traffic.skipped
   pub commands : row.commands ≡ traffic.commands
+  pub requests : row.requests ≡ watch.requests
+  pub spoilt : row.spoilt ≡ traffic.spoilings
+  pub late : row.late ≡ traffic.late_answers
 
 -- among the settings that are shown, this one has that value
 abbrev pub HasSetting : List SettingView → (key value : List ℕ) → Type 0

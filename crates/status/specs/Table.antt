@@ -1,6 +1,7 @@
 -- The snapshot as a table for a terminal (this gateway's own profile).
-use Rattle.std.specs.Prelude.{ℕ, List, [], ◌∷◌, codes, if◌then◌else◌}
+use Rattle.std.specs.Prelude.{ℕ, ◌/◌, List, [], ◌∷◌, length, count_by, codes, if◌then◌else◌}
 use Rattle.std.specs.Fmt.{decimal}
+use Rattle.status.specs.Judge.{is_up, unfilled}
 use Rattle.status.specs.Labels.{keeping_text, wide_text}
 use Rattle.status.specs.Texts.{age_or, age_text, comma_behind, summary, syncs_text}
 use Rattle.status.specs.Words.{escaped, escaped_or, joined, right, rows}
@@ -32,6 +33,17 @@ row_parts now s =
 abbrev pub text_of_row : (now : ℕ) → StationView → List ℕ
 text_of_row now s = joined (row_parts now s)
 
+-- numbers for a monitor (Nagios, performance data)
+abbrev pub performance_parts : Snapshot → List (List ℕ)
+performance_parts s =
+    codes " | stations_up=" ∷ decimal (count_by is_up s.stations.now)
+    ∷ codes ";;;0;" ∷ decimal (length s.stations.now)
+    ∷ codes " queue=" ∷ decimal s.queue.taken ∷ codes ";" ∷ decimal (s.queue.places / 2)
+    ∷ codes ";" ∷ decimal (unfilled s.queue) ∷ codes ";0;" ∷ decimal s.queue.places ∷ []
+
+abbrev pub performance : Snapshot → List ℕ
+performance s = joined (performance_parts s)
+
 abbrev pub version_text : Snapshot → List ℕ
 version_text s = joined (
     codes "\n\nversion         " ∷ escaped Plain s.version.now ∷ codes "\nrunning for     " ∷ [])
@@ -58,7 +70,7 @@ queue_text s = joined (queue_parts s)
 
 abbrev pub table_parts : Snapshot → List (List ℕ)
 table_parts s =
-    summary s ∷ version_text s ∷ age_text 0 s.now_ms s.started_ms
+    summary s ∷ performance s ∷ version_text s ∷ age_text 0 s.now_ms s.started_ms
     ∷ line_text s ∷ age_text 0 s.now_ms s.line.since_ms
     ∷ centre_text s ∷ age_text 0 s.now_ms s.centre.since_ms
     ∷ queue_text s ∷ syncs_text SYNCS.now s.syncs ∷ STATIONS.now

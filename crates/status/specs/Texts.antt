@@ -1,23 +1,51 @@
 -- Texts that more than one page has (this gateway's own profile).
-use Rattle.std.specs.Prelude.{ℕ, ◌-◌, ◌/◌, ◌==◌, nat_lt, List, [], ◌∷◌, length, count_by, Option}
-use Rattle.std.specs.Prelude.{Some, None, codes, if◌then◌else◌}
-use Rattle.std.specs.Option.{is_some}
+use Rattle.std.specs.Prelude.{ℕ, ◌-◌, ◌/◌, ◌==◌, nat_lt, Bool, not, List, [], ◌∷◌, length, count_by}
+use Rattle.std.specs.Prelude.{Option, Some, None, codes, if◌then◌else◌}
+use Rattle.std.specs.Option.{is_none, is_some}
 use Rattle.std.specs.Fmt.{decimal}
 use Rattle.live.specs.declared.syncs.SlowSyncs.{SlowSyncs}
-use Rattle.status.specs.Words.{joined, right}
-use Rattle.status.specs.Judge.{judgement_of, is_up}
+use Rattle.status.specs.Words.{escaped_behind, joined, right}
+use Rattle.status.specs.Judge.{cannot_keep, is_full, judgement_of, is_up}
 use Rattle.status.specs.Labels.{judgement_text, keeping_text}
+use Rattle.status.specs.declared.words.Marks.TheVariants.{Plain}
 use Rattle.status.specs.declared.snapshot.Snapshot.{Snapshot}
 
--- one line in words
-abbrev pub summary : Snapshot → List ℕ
-summary s = joined (
-    judgement_text (judgement_of s) ∷ codes ": " ∷ decimal (count_by is_up s.stations.now)
+-- a text if that is so
+abbrev pub text_if : Bool → List ℕ → List ℕ
+text_if is_so text = if is_so then text else codes ""
+
+-- what the state calls for, and what is wrong, the cause of all else first
+abbrev pub trouble_parts : Snapshot → List (List ℕ)
+trouble_parts s =
+    judgement_text (judgement_of s) ∷ codes ": "
+    ∷ text_if (not s.line.is_there) (codes "line lost")
+    ∷ escaped_behind Plain (codes ": ") s.line.cause
+    ∷ text_if (not s.line.is_there) (codes "; ")
+    ∷ text_if (is_none s.centre.peer) (codes "control centre not connected; ")
+    ∷ text_if (is_full s.queue) (codes "queue full, nothing is polled; ")
+    ∷ text_if (cannot_keep s.keeping) (codes "state isn't kept")
+    ∷ escaped_behind Plain (codes ": ") s.lost_by
+    ∷ text_if (cannot_keep s.keeping) (codes "; ") ∷ []
+
+abbrev pub troubles : Snapshot → List ℕ
+troubles s = joined (trouble_parts s)
+
+-- how all stands
+abbrev pub standings : Snapshot → List ℕ
+standings s = joined (
+    decimal (count_by is_up s.stations.now)
     ∷ codes " of " ∷ decimal (length s.stations.now) ∷ codes " stations up, line "
     ∷ (if s.line.is_there then codes "there" else codes "away") ∷ codes ", control centre "
     ∷ (if is_some s.centre.peer then codes "connected" else codes "not connected")
     ∷ codes ", queue " ∷ decimal s.queue.taken ∷ codes " of " ∷ decimal s.queue.places
     ∷ codes ", state " ∷ keeping_text s.keeping ∷ [])
+
+-- one line in words
+abbrev pub summary_parts : Snapshot → List (List ℕ)
+summary_parts s = troubles s ∷ standings s ∷ []
+
+abbrev pub summary : Snapshot → List ℕ
+summary s = joined (summary_parts s)
 
 -- which syncs of the state were slow, behind this, if any was
 abbrev pub syncs_text : (before : List ℕ) → SlowSyncs → List ℕ

@@ -10,6 +10,7 @@ use Rattle.status.specs.declared.words.Word.{Word}
 use Rattle.status.specs.declared.words.Word.TheVariants.{Text, Escaped, Number, Address, NumberOr}
 use Rattle.status.specs.declared.words.Word.TheVariants.{Right, Either, EscapedOr, Stands, Wide}
 use Rattle.status.specs.declared.words.Word.TheVariants.{Counted, Keeps, Judged, Thousandths}
+use Rattle.status.specs.declared.words.Word.TheVariants.{EscapedBehind}
 use Rattle.status.specs.Labels.{judgement_text, keeping_text, standing_text, wide_text, value_of}
 
 -- a hexadecimal digit (RFC 8259, section 7)
@@ -59,6 +60,11 @@ abbrev pub escaped_or : Marks → Option (Bor (List ℕ)) → List ℕ → List 
 escaped_or marks (Some text) other = escaped marks text.now
 escaped_or marks None other = other
 
+-- a text with such words behind another one, or nothing
+abbrev pub escaped_behind : Marks → List ℕ → Option (Bor (List ℕ)) → List ℕ
+escaped_behind marks before (Some text) = before ++ escaped marks text.now
+escaped_behind marks before None = []
+
 -- texts joined
 abbrev pub joined : List (List ℕ) → List ℕ
 joined [] = []
@@ -83,6 +89,7 @@ word_text (NumberOr n other) = number_or n other.now
 word_text (Right width n) = right width n
 word_text (Either is_so one other) = if is_so then one.now else other.now
 word_text (EscapedOr marks text other) = escaped_or marks text other.now
+word_text (EscapedBehind marks before text) = escaped_behind marks before.now text
 word_text (Stands standing) = standing_text standing
 word_text (Wide standing) = wide_text standing
 word_text (Counted count station) = decimal (value_of count station.now)

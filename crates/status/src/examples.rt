@@ -3,7 +3,7 @@ ghost use Rattle.std.specs.Prelude.{◌≡◌, ◌∷◌, ◌++◌, [], codes, t
 ghost use Rattle.status.specs.Json.{json_before_hour, json_before_stations};
 ghost use Rattle.status.specs.Json.{json_of_station};
 ghost use Rattle.status.specs.Html as html;
-ghost use Rattle.status.specs.Metrics.{families_text, text_of_info};
+ghost use Rattle.status.specs.Metrics.{families_text, quality_text, text_of_info};
 ghost use Rattle.status.specs.Table as table;
 ghost use Rattle.status.specs.Texts.{syncs_text};
 ghost use Rattle.status.specs.Words.{thousandths};
@@ -29,10 +29,14 @@ pub fn pages_by_example()
           skipped = 6;
           gaps = 7;
           commands = 8;
+          requests = record { sent = 9; repeats = 10; unanswered = 11 };
+          spoilt = 12;
+          late = 13;
         })
         ≡ codes "{\"name\":\"A<\\\"B\\\\\",\"address\":1,\"common_address\":2,"
         ++ codes "\"standing\":\"silent\",\"since_ms\":3,\"last_report_ms\":4,\"reports\":5,"
-        ++ codes "\"skipped\":6,\"gaps\":7,\"commands\":8}" }
+        ++ codes "\"skipped\":6,\"gaps\":7,\"commands\":8,\"requests\":9,\"repeats\":10,"
+        ++ codes "\"unanswered\":11,\"spoilt\":12,\"late\":13}" }
     ensures centre { (s : Snapshot) →
         json_before_hour (record s {
           centre = record s.centre { is_started = true; since_ms = 1; unacknowledged = 2 };
@@ -77,6 +81,32 @@ pub fn pages_by_example()
         ++ codes "# HELP telegate_station_commands_total Commands that went to the outstation.\n"
         ++ codes "# TYPE telegate_station_commands_total counter\n"
         ++ codes "telegate_station_commands_total{station=\"1\"} 8\n" }
+    ensures quality { (s : StationView) →
+        quality_text (record s {
+          address = 1;
+          last_report_ms = Some 4500;
+          requests = record { sent = 9; repeats = 10; unanswered = 11 };
+          spoilt = 12;
+          late = 13;
+        } ∷ [])
+        ≡ codes "# HELP telegate_station_last_report_seconds The moment of the last report, 0 "
+        ++ codes "before the first.\n# TYPE telegate_station_last_report_seconds gauge\n"
+        ++ codes "telegate_station_last_report_seconds{station=\"1\"} 4\n"
+        ++ codes "# HELP telegate_station_requests_total Requests to the outstation.\n"
+        ++ codes "# TYPE telegate_station_requests_total counter\n"
+        ++ codes "telegate_station_requests_total{station=\"1\"} 9\n"
+        ++ codes "# HELP telegate_station_repeats_total Requests that were the one before again."
+        ++ codes "\n# TYPE telegate_station_repeats_total counter\n"
+        ++ codes "telegate_station_repeats_total{station=\"1\"} 10\n"
+        ++ codes "# HELP telegate_station_unanswered_total Requests without an answer to any of "
+        ++ codes "their repeats.\n# TYPE telegate_station_unanswered_total counter\n"
+        ++ codes "telegate_station_unanswered_total{station=\"1\"} 11\n"
+        ++ codes "# HELP telegate_station_spoilt_total How often something else came than an "
+        ++ codes "answer.\n# TYPE telegate_station_spoilt_total counter\n"
+        ++ codes "telegate_station_spoilt_total{station=\"1\"} 12\n"
+        ++ codes "# HELP telegate_station_late_total Answers that came when their exchange was "
+        ++ codes "over.\n# TYPE telegate_station_late_total counter\n"
+        ++ codes "telegate_station_late_total{station=\"1\"} 13\n" }
     ensures info { (s : StationView) → s.name.now ≡ codes "A\"\\" →
         text_of_info (record s { address = 1; common_address = 2 })
         ≡ codes "telegate_station_info{station=\"1\",common_address=\"2\",name=\"A\\\"\\\\\"} 1\n" }

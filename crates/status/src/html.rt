@@ -2,8 +2,9 @@
 ghost use Rattle.std.specs.Prelude.{◌≡◌};
 ghost use Rattle.status.specs.Html as spec;
 ghost use Rattle.status.specs.TextPage.{put};
+ghost use Rattle.status.specs.Words.{rows};
 
-use crate::judging::judge;
+use crate::judging::{is_silent, judge, unfilled};
 use crate::lists::{Form, put_rows};
 use crate::page::TextPage;
 use crate::snapshot::{Setting, Snapshot, StationView};
@@ -14,7 +15,10 @@ use crate::words::{Marks, Word, put_words};
 /// fetched anew every five seconds.
 const HEAD: &str = "<!doctype html>\n<html lang=\"en\">\n<head>\n<meta charset=\"utf-8\">\n\
 <meta name=\"viewport\" content=\"width=device-width, initial-scale=1\">\n\
-<meta http-equiv=\"refresh\" content=\"5\">\n<title>telegate</title>\n<style>\n\
+<meta http-equiv=\"refresh\" content=\"5\">\n<title>";
+
+/// What stands between the title and the heading.
+const STYLE: &str = "</title>\n<style>\n\
 :root { color-scheme: light dark; --line: #ccc; --good: #1a7f37; --bad: #c62828; --soft: #666 }\n\
 @media (prefers-color-scheme: dark) {\n\
 :root { --line: #444; --good: #4ac26b; --bad: #ff7b72; --soft: #aaa } }\n\
@@ -37,7 +41,7 @@ th, td { white-space: normal }\n\
 .scroll td:first-child { min-width: 8rem }\n\
 td.n { white-space: nowrap }\n\
 td.s, th:nth-child(4) { position: sticky; right: 0; background: Canvas } }\n\
-</style>\n</head>\n<body>\n<h1>telegate ";
+</style>\n</head>\n<body>\n<h1>";
 
 /// What stands before the slow syncs.
 const SYNCS: &str = "</td></tr>\n<tr><th>slow syncs</th><td>";
@@ -54,10 +58,11 @@ const SETTINGS: &str =
 /// What the page ends with.
 const END: &str = "</table></div>\n</body>\n</html>\n";
 
-/// A station as a row.
+/// A station as a row, if it doesn't answer, or else if it does.
 #[derive(Drop)]
 struct RowForm {
     now_ms: u64,
+    is_silent: bool,
 }
 
 /// Puts whose row it is, and how it stands.
@@ -103,15 +108,24 @@ fn put_row_counts(page: &mut TextPage, station: &StationView<'_>)
 }
 
 impl Form<StationView<'_>> for RowForm {
-    ghost text = { λ form station. spec.text_of_row form.now_ms station };
+    ghost text = { λ form station. spec.row_if form.is_silent form.now_ms station };
 
     fn put(&self, page: &mut TextPage, station: &StationView<'_>) {
-        put_row_head(page, station);
-        put_age(page, 0, self.now_ms, station.since_ms);
-        page.put(b"</td><td class=\"n\">");
-        put_age_or(page, 0, self.now_ms, station.last_report_ms, "none");
-        put_row_counts(page, station);
+        if is_silent(station) == self.is_silent {
+            put_row(page, self.now_ms, station);
+        }
     }
+}
+
+/// Puts a station as a row.
+fn put_row(page: &mut TextPage, now_ms: u64, station: &StationView<'_>)
+    ensures { page.new ≡ put (spec.text_of_row now_ms station.now) page.old }
+{
+    put_row_head(page, station);
+    put_age(page, 0, now_ms, station.since_ms);
+    page.put(b"</td><td class=\"n\">");
+    put_age_or(page, 0, now_ms, station.last_report_ms, "none");
+    put_row_counts(page, station);
 }
 
 /// A setting as a row.
@@ -171,11 +185,16 @@ impl Form<u64> for StepForm {
 fn put_head(page: &mut TextPage, snapshot: &Snapshot<'_>)
     ensures { page.new ≡ put (spec.head_text snapshot.now) page.old }
 {
+    let is_nameless = snapshot.name.is_empty();
     put_words(
         page,
         &[
             Word::Text(HEAD),
-            Word::Escaped(Marks::Html, snapshot.version),
+            Word::Escaped(Marks::Html, snapshot.name),
+            Word::Either(is_nameless, "telegate", ""),
+            Word::Text(STYLE),
+            Word::Escaped(Marks::Html, snapshot.name),
+            Word::Either(is_nameless, "telegate", ""),
             Word::Text("</h1>\n<p class=\""),
             Word::Judged(judge(snapshot)),
             Word::Text("\">"),
@@ -229,19 +248,32 @@ fn put_state(page: &mut TextPage, snapshot: &Snapshot<'_>)
     );
 }
 
+/// The most places that may be taken while the queue is shown as good: less than 80 %.
+fn good_queue(places: u64) -> u64
+    ensures { result ≡ spec.good_queue places }
+{
+    ((u128::from(places) * 4 / 5) as u64).saturating_sub(1)
+}
+
 /// Puts the queue, with what stands before the last hour.
 fn put_queue(page: &mut TextPage, snapshot: &Snapshot<'_>)
     ensures { page.new ≡ put (spec.queue_text snapshot.now) page.old }
 {
+    let places = snapshot.queue.places;
     put_words(
         page,
         &[
             Word::Text("</td></tr>\n<tr><th>queue</th><td>"),
             Word::Number(snapshot.queue.taken),
             Word::Text(" of "),
-            Word::Number(snapshot.queue.places),
-            Word::Text(" <meter min=\"0\" max=\""),
-            Word::Number(snapshot.queue.places),
+            Word::Number(places),
+            // Its reader has colours for three parts, of which the lowest is the best.
+            Word::Text(" <meter min=\"0\" optimum=\"0\" low=\""),
+            Word::Number(good_queue(places)),
+            Word::Text("\" high=\""),
+            Word::Number(unfilled(&snapshot.queue)),
+            Word::Text("\" max=\""),
+            Word::Number(places),
             Word::Text("\" value=\""),
             Word::Number(snapshot.queue.taken),
             Word::Text("\"></meter></td></tr>\n</table>\n<h2>Queue in the last hour</h2>\n"),
@@ -249,6 +281,43 @@ fn put_queue(page: &mut TextPage, snapshot: &Snapshot<'_>)
             Word::Text("<path d=\"M0 100"),
         ],
     );
+}
+
+/// Puts the version as a row before the settings.
+fn put_version(page: &mut TextPage, snapshot: &Snapshot<'_>)
+    ensures { page.new ≡ put (spec.version_text snapshot.now) page.old }
+{
+    put_words(
+        page,
+        &[
+            Word::Text(SETTINGS),
+            Word::Text("<tr><th>telegate</th><td>"),
+            Word::Escaped(Marks::Html, snapshot.version),
+            Word::Text("</td></tr>\n"),
+        ],
+    );
+}
+
+/// Puts the rows of the stations, those first that don't answer.
+fn put_stations(page: &mut TextPage, snapshot: &Snapshot<'_>)
+    ensures { page.new ≡ put (spec.stations_text snapshot.now) page.old }
+{
+    let now_ms = snapshot.now_ms;
+    page.put(STATIONS.as_bytes());
+    for_silence(page, now_ms, true, snapshot.stations);
+    for_silence(page, now_ms, false, snapshot.stations);
+}
+
+/// Puts the rows of those stations that don't answer, or of the others.
+fn for_silence(
+    page: &mut TextPage,
+    now_ms: u64,
+    is_silent: bool,
+    stations: &[StationView<'_>],
+)
+    ensures { page.new ≡ put (rows (spec.row_if is_silent now_ms) stations.now) page.old }
+{
+    put_rows(page, &RowForm { now_ms, is_silent }, stations);
 }
 
 /// Puts the snapshot as a page for a person.
@@ -270,9 +339,8 @@ pub(crate) fn put_html(page: &mut TextPage, snapshot: &Snapshot<'_>)
     let places = snapshot.queue.places;
     put_rows(page, &StepForm { places }, snapshot.queue.hour);
     page.put(b"V100z\"/></svg>\n");
-    page.put(STATIONS.as_bytes());
-    put_rows(page, &RowForm { now_ms }, snapshot.stations);
-    page.put(SETTINGS.as_bytes());
+    put_stations(page, snapshot);
+    put_version(page, snapshot);
     put_rows(page, &SettingForm, snapshot.settings);
     page.put(END.as_bytes());
 }

@@ -8,6 +8,7 @@ use crate::judging::judge;
 use crate::lists::{Form, put_listed};
 use crate::page::TextPage;
 use crate::snapshot::{Setting, Snapshot, StationView};
+use crate::texts::put_summary;
 use crate::words::{Marks, Word, put_words};
 
 /// Numbers as they are.
@@ -53,6 +54,16 @@ impl Form<StationView<'_>> for StationForm {
                 Word::Number(station.gaps),
                 Word::Text(",\"commands\":"),
                 Word::Number(station.commands),
+                Word::Text(",\"requests\":"),
+                Word::Number(station.requests.sent),
+                Word::Text(",\"repeats\":"),
+                Word::Number(station.requests.repeats),
+                Word::Text(",\"unanswered\":"),
+                Word::Number(station.requests.unanswered),
+                Word::Text(",\"spoilt\":"),
+                Word::Number(station.spoilt),
+                Word::Text(",\"late\":"),
+                Word::Number(station.late),
                 Word::Text("}"),
             ],
         );
@@ -80,16 +91,16 @@ impl Form<Setting<'_>> for SettingForm {
     }
 }
 
-/// Puts an address as a string, or null.
-fn put_peer(page: &mut TextPage, peer: Option<&str>)
-    ensures { page.new ≡ put (spec.json_of_peer peer.entry) page.old }
+/// Puts a text as a string, or null.
+fn put_text(page: &mut TextPage, text: Option<&str>)
+    ensures { page.new ≡ put (spec.json_of_text text.entry) page.old }
 {
-    match peer {
-        Some(peer) => put_words(
+    match text {
+        Some(text) => put_words(
             page,
             &[
                 Word::Text("\""),
-                Word::Escaped(Marks::Json, peer),
+                Word::Escaped(Marks::Json, text),
                 Word::Text("\""),
             ],
         ),
@@ -97,8 +108,8 @@ fn put_peer(page: &mut TextPage, peer: Option<&str>)
     }
 }
 
-fn put_before_peer(page: &mut TextPage, snapshot: &Snapshot<'_>)
-    ensures { page.new ≡ put (spec.json_before_peer snapshot.now) page.old }
+fn put_before_summary(page: &mut TextPage, snapshot: &Snapshot<'_>)
+    ensures { page.new ≡ put (spec.json_before_summary snapshot.now) page.old }
 {
     put_words(
         page,
@@ -107,6 +118,17 @@ fn put_before_peer(page: &mut TextPage, snapshot: &Snapshot<'_>)
             Word::Escaped(Marks::Json, snapshot.version),
             Word::Text("\",\"judgement\":\""),
             Word::Judged(judge(snapshot)),
+            Word::Text("\",\"summary\":\""),
+        ],
+    );
+}
+
+fn put_before_cause(page: &mut TextPage, snapshot: &Snapshot<'_>)
+    ensures { page.new ≡ put (spec.json_before_cause snapshot.now) page.old }
+{
+    put_words(
+        page,
+        &[
             Word::Text("\",\"now_ms\":"),
             Word::Number(snapshot.now_ms),
             Word::Text(",\"started_ms\":"),
@@ -119,7 +141,7 @@ fn put_before_peer(page: &mut TextPage, snapshot: &Snapshot<'_>)
             Word::Either(snapshot.line.is_there, "true", "false"),
             Word::Text(",\"since_ms\":"),
             Word::Number(snapshot.line.since_ms),
-            Word::Text("},\"centre\":{\"peer\":"),
+            Word::Text(",\"cause\":"),
         ],
     );
 }
@@ -168,8 +190,12 @@ fn put_before_stations(page: &mut TextPage, snapshot: &Snapshot<'_>)
 pub(crate) fn put_json(page: &mut TextPage, snapshot: &Snapshot<'_>)
     ensures { page.new ≡ put (spec.json_of snapshot.now) page.old }
 {
-    put_before_peer(page, snapshot);
-    put_peer(page, snapshot.centre.peer);
+    put_before_summary(page, snapshot);
+    put_summary(page, snapshot);
+    put_before_cause(page, snapshot);
+    put_text(page, snapshot.line.cause);
+    page.put(b"},\"centre\":{\"peer\":");
+    put_text(page, snapshot.centre.peer);
     put_before_hour(page, snapshot);
     put_listed(page, &NumberForm, snapshot.queue.hour);
     put_before_stations(page, snapshot);

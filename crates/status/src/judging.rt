@@ -28,15 +28,22 @@ fn is_lost(line: &LineView, now_ms: u64) -> bool
     !line.is_there && LINE_MS <= now_ms.saturating_sub(line.since_ms)
 }
 
+/// How many places may be taken while a report still finds room.
+pub(crate) fn unfilled(queue: &Queue<'_>) -> u64
+    ensures { result ≡ spec.unfilled queue.now }
+{
+    queue.places.saturating_sub(REPORT_PLACES)
+}
+
 /// Fewer places are free than a report may take, so nothing is polled.
-fn is_full(queue: &Queue<'_>) -> bool
+pub(crate) fn is_full(queue: &Queue<'_>) -> bool
     ensures { result ≡ spec.is_full queue.now }
 {
     queue.places.saturating_sub(queue.taken) < REPORT_PLACES
 }
 
 /// It doesn't answer.
-fn is_silent(station: &StationView<'_>) -> bool
+pub(crate) fn is_silent(station: &StationView<'_>) -> bool
     ensures { result ≡ spec.is_silent station.now }
 {
     matches!(station.standing, LinkState::Silent | LinkState::Down)
@@ -47,6 +54,13 @@ fn has_silent(stations: &[StationView<'_>]) -> bool
     ensures { result ≡ list_any spec.is_silent stations.now }
 {
     stations.iter().any(|station| is_silent(station))
+}
+
+/// There are some, and none of them answers.
+fn are_all_silent(stations: &[StationView<'_>]) -> bool
+    ensures { result ≡ spec.are_all_silent stations.now }
+{
+    !stations.is_empty() && stations.iter().all(|station| is_silent(station))
 }
 
 /// It is up.
@@ -63,6 +77,13 @@ pub(crate) fn cannot_keep(keeping: Keeping) -> bool
     matches!(keeping, Keeping::NotKept)
 }
 
+/// The state is kept on the disk.
+pub(crate) fn keeps(keeping: Keeping) -> bool
+    ensures { result ≡ spec.keeps keeping }
+{
+    matches!(keeping, Keeping::Kept)
+}
+
 /// Reports don't get through, or would be lost.
 fn is_critical(snapshot: &Snapshot<'_>) -> bool
     ensures { result ≡ spec.is_critical snapshot.now }
@@ -71,6 +92,7 @@ fn is_critical(snapshot: &Snapshot<'_>) -> bool
         || snapshot.centre.peer.is_none()
         || is_full(&snapshot.queue)
         || cannot_keep(snapshot.keeping)
+        || are_all_silent(snapshot.stations)
 }
 
 /// It may come to that.

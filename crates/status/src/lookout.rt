@@ -29,7 +29,7 @@ pub use self::sight_laws::{
 use crate::hour::Hour;
 use crate::lookout::known::{Known, known_of};
 use crate::lookout::setting::{ChosenSetting, chosen_of, settings_of};
-use crate::lookout::shown::{centre_of, keeping_after, line_of, rows_of};
+use crate::lookout::shown::{centre_of, keeping_after, line_of, lost_after, rows_of, said_by};
 use crate::snapshot::{Keeping, Queue, Snapshot};
 use crate::streams::StreamSource;
 use crate::visitors::Visitors;
@@ -37,6 +37,7 @@ use gateway::{Config, Gateway};
 use live::Notice;
 use runlog::{LogNames, Watch, taken_places};
 use std::alloc::{AllocError, Global};
+use std::io::ErrorKind;
 use std::net::IpAddr;
 
 /// How long after a turn of the visitors the next one follows, in ms of the run.
@@ -60,6 +61,8 @@ struct ShownRun {
     /// When the run began, in ms; none before its first event.
     began: Option<u64>,
     keeping: Keeping,
+    /// Why the state can't be kept, if that is known.
+    lost_by: Option<ErrorKind>,
     hour: Hour,
     /// How many places were taken when they were counted last.
     taken: u64,
@@ -202,6 +205,7 @@ impl ShownRun {
             places: u64::from(config.line().queue),
             began: None,
             keeping: keeping_at_first(keeps_state),
+            lost_by: None,
             hour: Hour::new(),
             taken: 0,
             counted: None,
@@ -228,6 +232,7 @@ impl ShownRun {
         }
         self.began = Some(self.began.unwrap_or(now));
         self.keeping = keeping_by(notice, self.keeping);
+        self.lost_by = lost_after(notice, self.lost_by);
         self.was_open = is_open;
         if self.opened != watch.connections() {
             self.opened = watch.connections();
@@ -278,6 +283,7 @@ fn snapshot_of<'a>(shown: &'a ShownRun, watch: &Watch) -> Snapshot<'a>
             hour: shown.hour.numbers(),
         },
         keeping: shown.keeping,
+        lost_by: said_by(shown.lost_by),
         syncs: watch.syncs(),
         stations: &[],
         settings: &[],

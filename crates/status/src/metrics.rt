@@ -3,7 +3,7 @@ ghost use Rattle.std.specs.Prelude.{◌≡◌};
 ghost use Rattle.status.specs.Metrics as spec;
 ghost use Rattle.status.specs.TextPage.{put};
 
-use crate::judging::cannot_keep;
+use crate::judging::{cannot_keep, keeps};
 use crate::lists::{Form, put_rows};
 use crate::page::TextPage;
 use crate::snapshot::{Snapshot, StationView};
@@ -176,6 +176,11 @@ fn put_gauges(page: &mut TextPage, snapshot: &Snapshot<'_>)
             value: Word::Number(seconds(snapshot.now_ms, snapshot.started_ms)),
         },
         Gauge {
+            name: "telegate_moment_seconds",
+            help: "The moment of the run.",
+            value: Word::Number(seconds(snapshot.now_ms, 0)),
+        },
+        Gauge {
             name: "telegate_line_up",
             help: "Whether the serial line can be reached.",
             value: Word::Either(snapshot.line.is_there, "1", "0"),
@@ -204,6 +209,20 @@ fn put_gauges(page: &mut TextPage, snapshot: &Snapshot<'_>)
             name: "telegate_queue_taken",
             help: "Places of the queue that are taken.",
             value: Word::Number(snapshot.queue.taken),
+        },
+    ];
+    put_rows(page, &GaugeForm, &gauges);
+}
+
+/// Puts how the state is kept.
+fn put_keeping(page: &mut TextPage, snapshot: &Snapshot<'_>)
+    ensures { page.new ≡ put (spec.keeping_text snapshot.now) page.old }
+{
+    let gauges = [
+        Gauge {
+            name: "telegate_state_kept",
+            help: "Whether the state is kept on the disk.",
+            value: Word::Either(keeps(snapshot.keeping), "1", "0"),
         },
         Gauge {
             name: "telegate_state_lost",
@@ -273,6 +292,51 @@ fn put_families(page: &mut TextPage, stations: &[StationView<'_>])
     put_rows(page, &FamilyForm { stations }, &families);
 }
 
+/// Puts when the stations reported, and how well they answer.
+fn put_quality(page: &mut TextPage, stations: &[StationView<'_>])
+    ensures { page.new ≡ put (spec.quality_text stations.now) page.old }
+{
+    let families = [
+        Family {
+            name: "telegate_station_last_report_seconds",
+            help: "The moment of the last report, 0 before the first.",
+            kind: "gauge",
+            count: Count::LastReport,
+        },
+        Family {
+            name: "telegate_station_requests_total",
+            help: "Requests to the outstation.",
+            kind: "counter",
+            count: Count::Requests,
+        },
+        Family {
+            name: "telegate_station_repeats_total",
+            help: "Requests that were the one before again.",
+            kind: "counter",
+            count: Count::Repeats,
+        },
+        Family {
+            name: "telegate_station_unanswered_total",
+            help: "Requests without an answer to any of their repeats.",
+            kind: "counter",
+            count: Count::Unanswered,
+        },
+        Family {
+            name: "telegate_station_spoilt_total",
+            help: "How often something else came than an answer.",
+            kind: "counter",
+            count: Count::Spoilt,
+        },
+        Family {
+            name: "telegate_station_late_total",
+            help: "Answers that came when their exchange was over.",
+            kind: "counter",
+            count: Count::Late,
+        },
+    ];
+    put_rows(page, &FamilyForm { stations }, &families);
+}
+
 /// Puts the snapshot in Prometheus' text format.
 pub(crate) fn put_metrics(page: &mut TextPage, snapshot: &Snapshot<'_>)
     ensures { page.new ≡ put (spec.metrics_of snapshot.now) page.old }
@@ -280,6 +344,8 @@ pub(crate) fn put_metrics(page: &mut TextPage, snapshot: &Snapshot<'_>)
     put_build(page, snapshot);
     put_rows(page, &InfoForm, snapshot.stations);
     put_gauges(page, snapshot);
+    put_keeping(page, snapshot);
     put_syncs(page, snapshot);
     put_families(page, snapshot.stations);
+    put_quality(page, snapshot.stations);
 }

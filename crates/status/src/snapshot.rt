@@ -1,6 +1,7 @@
 //! What a page shows: plain data that the caller fills in and lends.
 
 use live::SlowSyncs;
+use runlog::RequestCounts;
 
 /// How a station stands.
 #[derive(Clone, Copy, Default, PartialEq, Eq)]
@@ -38,6 +39,11 @@ pub struct StationView<'a> {
     pub gaps: u64,
     /// How many commands went to it.
     pub commands: u64,
+    /// What was counted of the requests to it.
+    pub requests: RequestCounts,
+    /// How often something else than an answer came, and how often an answer came late.
+    pub spoilt: u64,
+    pub late: u64,
 }
 
 /// The line.
@@ -46,6 +52,8 @@ pub struct LineView {
     pub is_there: bool,
     /// Since when it is there or away.
     pub since_ms: u64,
+    /// Why it is away, if that is known.
+    pub cause: Option<&'static str>,
 }
 
 /// The control centre.
@@ -105,6 +113,8 @@ pub struct Snapshot<'a> {
     pub centre: CentreView<'a>,
     pub queue: Queue<'a>,
     pub keeping: Keeping,
+    /// Why the state can't be kept, if that is known.
+    pub lost_by: Option<&'static str>,
     /// Which syncs of the state on the disk were slow since this process began.
     pub syncs: SlowSyncs,
     pub stations: &'a [StationView<'a>],

@@ -3,10 +3,11 @@ ghost use Rattle.std.specs.Prelude.{◌≡◌};
 ghost use Rattle.status.specs.TextPage.{put};
 ghost use Rattle.status.specs.Table as spec;
 
+use crate::judging::unfilled;
 use crate::lists::{Form, put_rows};
 use crate::page::TextPage;
 use crate::snapshot::{Snapshot, StationView};
-use crate::texts::{put_age, put_age_or, put_summary, put_syncs};
+use crate::texts::{count_up, put_age, put_age_or, put_summary, put_syncs};
 use crate::words::{Marks, Word, put_words};
 
 /// What stands before the slow syncs.
@@ -127,6 +128,30 @@ fn put_queue(page: &mut TextPage, snapshot: &Snapshot<'_>)
     );
 }
 
+/// Puts numbers for a monitor, as it wants them (Nagios, performance data): each with the range
+/// above which it calls for a warning and above which it is critical, and what it may be.
+fn put_performance(page: &mut TextPage, snapshot: &Snapshot<'_>)
+    ensures { page.new ≡ put (spec.performance snapshot.now) page.old }
+{
+    put_words(
+        page,
+        &[
+            Word::Text(" | stations_up="),
+            Word::Number(count_up(snapshot.stations)),
+            Word::Text(";;;0;"),
+            Word::Number(snapshot.stations.len() as u64),
+            Word::Text(" queue="),
+            Word::Number(snapshot.queue.taken),
+            Word::Text(";"),
+            Word::Number(snapshot.queue.places / 2),
+            Word::Text(";"),
+            Word::Number(unfilled(&snapshot.queue)),
+            Word::Text(";0;"),
+            Word::Number(snapshot.queue.places),
+        ],
+    );
+}
+
 /// Puts the version, with what stands before since when it runs.
 fn put_version(page: &mut TextPage, snapshot: &Snapshot<'_>)
     ensures { page.new ≡ put (spec.version_text snapshot.now) page.old }
@@ -146,6 +171,7 @@ pub(crate) fn put_table(page: &mut TextPage, snapshot: &Snapshot<'_>)
     ensures { page.new ≡ put (spec.table_of snapshot.now) page.old }
 {
     put_summary(page, snapshot);
+    put_performance(page, snapshot);
     put_version(page, snapshot);
     put_age(page, 0, snapshot.now_ms, snapshot.started_ms);
     put_line(page, snapshot);

@@ -5,10 +5,10 @@ ghost use Rattle.status.specs.Judge.{is_up as is_up_of};
 ghost use Rattle.status.specs.TextPage.{put};
 ghost use Rattle.status.specs.Texts as spec;
 
-use crate::judging::{is_up, judge};
+use crate::judging::{cannot_keep, is_full, is_up, judge};
 use crate::page::TextPage;
 use crate::snapshot::{Snapshot, StationView};
-use crate::words::{Word, put_words};
+use crate::words::{Marks, Word, put_words};
 use live::SlowSyncs;
 
 /// How many stations are up.
@@ -18,16 +18,46 @@ pub(crate) fn count_up(stations: &[StationView<'_>]) -> u64
     stations.iter().filter(|station| is_up(*station)).count() as u64
 }
 
-/// Puts one line in words.
-pub(crate) fn put_summary(page: &mut TextPage, snapshot: &Snapshot<'_>)
-    ensures { page.new ≡ put (spec.summary snapshot.now) page.old }
+/// Puts what the state calls for, and what is wrong, the cause of all else first.
+fn put_troubles(page: &mut TextPage, snapshot: &Snapshot<'_>)
+    ensures { page.new ≡ put (spec.troubles snapshot.now) page.old }
 {
-    let is_connected = snapshot.centre.peer.is_some();
+    let is_away = !snapshot.line.is_there;
+    let is_alone = snapshot.centre.peer.is_none();
+    let is_lost = cannot_keep(snapshot.keeping);
     put_words(
         page,
         &[
             Word::Judged(judge(snapshot)),
             Word::Text(": "),
+            Word::Either(is_away, "line lost", ""),
+            Word::EscapedBehind(Marks::Plain, ": ", snapshot.line.cause),
+            Word::Either(is_away, "; ", ""),
+            Word::Either(is_alone, "control centre not connected; ", ""),
+            Word::Either(is_full(&snapshot.queue), "queue full, nothing is polled; ", ""),
+            Word::Either(is_lost, "state isn't kept", ""),
+            Word::EscapedBehind(Marks::Plain, ": ", snapshot.lost_by),
+            Word::Either(is_lost, "; ", ""),
+        ],
+    );
+}
+
+/// Puts one line in words.
+pub(crate) fn put_summary(page: &mut TextPage, snapshot: &Snapshot<'_>)
+    ensures { page.new ≡ put (spec.summary snapshot.now) page.old }
+{
+    put_troubles(page, snapshot);
+    put_standings(page, snapshot);
+}
+
+/// Puts how all stands.
+fn put_standings(page: &mut TextPage, snapshot: &Snapshot<'_>)
+    ensures { page.new ≡ put (spec.standings snapshot.now) page.old }
+{
+    let is_connected = snapshot.centre.peer.is_some();
+    put_words(
+        page,
+        &[
             Word::Number(count_up(snapshot.stations)),
             Word::Text(" of "),
             Word::Number(snapshot.stations.len() as u64),

@@ -1,7 +1,7 @@
 //! The words that a text is put together of.
-ghost use Rattle.std.specs.Prelude.{◌≡◌, ◌<◌};
+ghost use Rattle.std.specs.Prelude.{◌≡◌, ◌<◌, ◌++◌};
 ghost use Rattle.std.specs.Fmt.{decimal};
-ghost use Rattle.status.specs.Labels.{value_of};
+ghost use Rattle.status.specs.Labels.{seconds_of, value_of};
 ghost use Rattle.status.specs.TextPage.{put};
 ghost use Rattle.status.specs.Words.{digit_of, escaped, mark_of, right, text_of, thousandths};
 ghost use Rattle.status.specs.Words.{word_text};
@@ -34,6 +34,13 @@ pub(crate) enum Count {
     Skipped,
     Gaps,
     Commands,
+    /// The moment of the last report in whole seconds, 0 before the first.
+    LastReport,
+    Requests,
+    Repeats,
+    Unanswered,
+    Spoilt,
+    Late,
 }
 
 /// A word of a text.
@@ -42,6 +49,8 @@ pub(crate) enum Word<'a> {
     Text(&'a str),
     /// A text, with other words for the octets that mean something else.
     Escaped(Marks, &'a str),
+    /// The same behind a plain text, or nothing where there is none.
+    EscapedBehind(Marks, &'a str, Option<&'a str>),
     /// The same, or another text where there is none.
     EscapedOr(Marks, Option<&'a str>, &'a str),
     /// A number in decimal.
@@ -135,6 +144,14 @@ fn put_escaped(page: &mut TextPage, marks: Marks, text: &str)
     }
 }
 
+/// Puts a text behind another one, with other words for the octets that mean something else.
+fn put_behind(page: &mut TextPage, marks: Marks, before: &str, text: &str)
+    ensures { page.new ≡ put (before.now ++ escaped marks text.now) page.old }
+{
+    page.put(before.as_bytes());
+    put_escaped(page, marks, text);
+}
+
 /// Puts a number in decimal.
 fn put_number(page: &mut TextPage, number: u64)
     ensures { page.new ≡ put (decimal number) page.old }
@@ -172,6 +189,16 @@ fn up_of(station: &StationView<'_>) -> u64
     if is_up(station) { 1 } else { 0 }
 }
 
+/// A moment in whole seconds, 0 where there is none.
+fn seconds_of(moment_ms: Option<u64>) -> u64
+    ensures { result ≡ seconds_of moment_ms }
+{
+    match moment_ms {
+        Some(ms) => ms / 1000,
+        None => 0,
+    }
+}
+
 /// Puts what is counted of a station.
 fn put_counted(page: &mut TextPage, count: Count, station: &StationView<'_>)
     ensures { page.new ≡ put (decimal (value_of count station.now)) page.old }
@@ -182,6 +209,12 @@ fn put_counted(page: &mut TextPage, count: Count, station: &StationView<'_>)
         Count::Skipped => put_number(page, station.skipped),
         Count::Gaps => put_number(page, station.gaps),
         Count::Commands => put_number(page, station.commands),
+        Count::LastReport => put_number(page, seconds_of(station.last_report_ms)),
+        Count::Requests => put_number(page, station.requests.sent),
+        Count::Repeats => put_number(page, station.requests.repeats),
+        Count::Unanswered => put_number(page, station.requests.unanswered),
+        Count::Spoilt => put_number(page, station.spoilt),
+        Count::Late => put_number(page, station.late),
     }
 }
 
@@ -192,6 +225,8 @@ fn put_word(page: &mut TextPage, word: &Word<'_>)
     match *word {
         Word::Text(text) => page.put(text.as_bytes()),
         Word::Escaped(marks, text) => put_escaped(page, marks, text),
+        Word::EscapedBehind(marks, before, Some(text)) => put_behind(page, marks, before, text),
+        Word::EscapedBehind(_, _, None) => {}
         Word::EscapedOr(marks, Some(text), _) => put_escaped(page, marks, text),
         Word::EscapedOr(_, None, text) => page.put(text.as_bytes()),
         Word::Number(number) => put_number(page, number),

@@ -4,7 +4,11 @@ use super::{Dialled, Dialler, Redialled};
 use crate::ends::{Got, OctetStream, Presence, Reached};
 use crate::memory::{MemoryClock, MemoryStream};
 use crate::timed::{Time, TimedClock};
+use std::io::ErrorKind;
 use std::process::Abort;
+
+/// Why a try of a dialler in memory fails.
+const REFUSED: Option<ErrorKind> = Some(ErrorKind::ConnectionRefused);
 
 /// A dialler in a time of its own.
 #[derive(Drop)]
@@ -67,7 +71,7 @@ fn it_is_tried_at_once_and_then_every_second(rt: HostRuntime) {
     let mut stream = Redialled::new(dialler, TimedClock(&time));
     assert_eq!(rt; stream.presence(), Presence::Untried);
     is_away(&rt, &mut stream, &time, 1000, 1);
-    assert_eq!(rt; stream.presence(), Presence::Away);
+    assert_eq!(rt; stream.presence(), Presence::Away(REFUSED));
     is_away(&rt, &mut stream, &time, 2000, 2);
     // The third try reaches it.
     assert_eq!(rt; look(&mut stream), Got::Quiet);
@@ -78,7 +82,7 @@ fn it_is_tried_at_once_and_then_every_second(rt: HostRuntime) {
     // It goes, and is tried again a second after the try before.
     time.pass(300);
     assert_eq!(rt; look(&mut stream), Got::Quiet);
-    assert_eq!(rt; stream.presence(), Presence::Away);
+    assert_eq!(rt; stream.presence(), Presence::Away(None));
     is_away(&rt, &mut stream, &time, 3000, 3);
     assert_eq!(rt; look(&mut stream), Got::Quiet);
     assert_eq!(rt; stream.dialler.dialler.tries, 4);
@@ -179,7 +183,7 @@ fn a_try_goes_on_between_the_looks(rt: HostRuntime) {
 #[test]
 fn the_first_look_begins_a_try(rt: HostRuntime) {
     let mut buf = [0; 1024];
-    for (failing_tries, presence) in [(0, Presence::There), (1, Presence::Away)] {
+    for (failing_tries, presence) in [(0, Presence::There), (1, Presence::Away(REFUSED))] {
         let dialler = MemoryDialler::new(failing_tries, 0, 0);
         let mut stream = Redialled::new(dialler, MemoryClock::new());
         assert_eq!(rt; stream.read(&mut buf), Got::Quiet);

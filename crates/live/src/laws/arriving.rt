@@ -7,7 +7,7 @@ ghost use Rattle.gateway.specs.declared.ports.Next.{Next};
 ghost use Rattle.live.specs.Ends.{LiveEnds, LogsTurn, LogsPut};
 ghost use Rattle.live.specs.Law.{KeepsOut, peer_of};
 ghost use Rattle.live.specs.Cuts.{shuts_nothing};
-ghost use Rattle.live.specs.AllowLists.{Allows, IsPlain, RefusesStrangers, counted, nobody};
+ghost use Rattle.live.specs.AllowLists.{Allows, IsPlain, counted, nobody};
 ghost use Rattle.live.specs.Arrivals.{AcceptsNewest, Arrival, Arrivals, Comer, GoesOn, IsPeerOf};
 ghost use Rattle.live.specs.Arrivals.{Sorts, TakesWaiting};
 ghost use Rattle.live.specs.declared.ends.RefusedPeers.{RefusedPeers};
@@ -25,7 +25,6 @@ ghost use Rattle.std.specs.declared.io.Error.{Error};
 ghost use Rattle.std.specs.declared.net.socket_addr.SocketAddr.{SocketAddr};
 ghost use Rattle.std.specs.declared.net.tcp.TcpStream.{TcpStream};
 ghost use Rattle.gateway.specs.Log.{Output};
-ghost use Rattle.live.specs.Passed.{LiveRun};
 
 /// Only allowed addresses connect: an event that opens a connection opens one of an address on the
 /// allow list, and who is refused leaves the open connection as it was. A connection stays open
@@ -37,18 +36,6 @@ pub fn only_allowed_addresses_connect()
     ensures put { (old new : LiveEnds) (moment : ℕ) (action : Output) →
         LogsPut old moment action new → shuts_nothing action ≡ true →
         peer_of new ≡ peer_of old }
-{}
-
-/// Nobody is refused but those who may not connect, and only looks at the listener refuse them. So
-/// it is at each event, and from the beginning of a run to any moment of it.
-pub fn only_strangers_are_refused()
-    ensures events { (old new : LiveEnds) (event : Next) (buf : List ℕ) →
-        LogsTurn old event buf new →
-        RefusesStrangers old.allow_list old.refusals new.refusals }
-    ensures put { (old new : LiveEnds) (moment : ℕ) (action : Output) →
-        LogsPut old moment action new → new.refusals ≡ old.refusals }
-    ensures run { (start end : LiveEnds) → LiveRun start end →
-        RefusesStrangers start.allow_list start.refusals end.refusals }
 {}
 
 /// Whoever comes and may not connect is refused, and whoever may is let in, by the answers of the

@@ -10,7 +10,8 @@ ghost use Rattle.live.specs.declared.silence.Silence.{Silence};
 ghost use Rattle.live.specs.declared.ends.Got.{Got};
 ghost use Rattle.live.specs.declared.ends.Got.TheVariants.{Octets, Quiet};
 ghost use Rattle.live.specs.declared.ends.Presence.TheVariants.{Silent};
-ghost use Rattle.live.specs.OctetStreams.{IsNew, StreamHistory, looked, noted, Dropped, WasQuiet, Wrote};
+ghost use Rattle.live.specs.OctetStreams.{IsNew, StreamHistory, looked, noted, Dropped, WasQuiet};
+ghost use Rattle.live.specs.OctetStreams.{Wrote};
 
 /// A stream that is away is tried at once, and then as soon as its wait has passed since the last
 /// try began, but never before. For each try the dialler is called once. At each look it is asked

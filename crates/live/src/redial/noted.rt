@@ -8,6 +8,7 @@ use super::{Dialled, Dialler};
 use crate::ends::OctetStream;
 use crate::memory::{MemoryStream, with_attempt};
 use gateway::{Action, History};
+use std::io::ErrorKind;
 
 /// Reaches a stream, but for the tries that fail first, each once it was asked so often.
 #[derive(Drop)]
@@ -81,7 +82,7 @@ impl MemoryDialler {
         }
         if self.tries <= self.failing_tries {
             self.log = with_attempt(&self.log, false);
-            return Dialled::Failed;
+            return Dialled::Failed(ErrorKind::ConnectionRefused);
         }
         self.log = with_attempt(&self.log, true);
         let mut stream = if self.is_silent {

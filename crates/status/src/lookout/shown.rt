@@ -1,12 +1,14 @@
 //! Stations, line and control centre as they are shown.
-ghost use Rattle.std.specs.Prelude.{◌≡◌};
+ghost use Rattle.std.specs.Prelude.{◌≡◌, option_map};
+ghost use Rattle.runlog.specs.Causes.{cause_words};
 ghost use Rattle.status.specs.Shown as spec;
 
 use crate::lookout::known::Known;
 use crate::snapshot::{CentreView, Keeping, LineView, LinkState, StationView};
 use arrayvec::ArrayVec;
 use live::{Notice, Presence};
-use runlog::{StationStanding, StationWatch, Traffic, Watch};
+use runlog::{StationStanding, StationWatch, Traffic, Watch, cause_words, line_cause_words};
+use std::io::ErrorKind;
 
 /// The most stations that a line has.
 const MOST_STATIONS: usize = 32;
@@ -42,6 +44,9 @@ fn station_of<'a>(known: &'a Known, watch: &StationWatch, traffic: &Traffic) -> 
         skipped: traffic.skipped(),
         gaps: watch.gaps(),
         commands: traffic.commands(),
+        requests: watch.requests(),
+        spoilt: traffic.spoilings(),
+        late: traffic.late_answers(),
     }
 }
 
@@ -74,9 +79,20 @@ fn is_there(presence: Presence) -> bool
     ensures { result ≡ spec.is_there presence }
 {
     match presence {
-        Presence::Untried | Presence::Away => false,
+        Presence::Untried | Presence::Away(_) => false,
         Presence::There | Presence::Receiving => true,
         Presence::Silent => false,
+    }
+}
+
+/// Why a line that is seen so is away, if that is known.
+fn why_away(presence: Presence) -> Option<&'static str>
+    ensures { option_map (λ c. c.now) result ≡ spec.why_away presence }
+{
+    match presence {
+        Presence::Away(Some(cause)) => Some(line_cause_words(cause)),
+        Presence::Silent => Some("nothing comes from it"),
+        _ => None,
     }
 }
 
@@ -84,10 +100,13 @@ fn is_there(presence: Presence) -> bool
 pub(crate) fn line_of(watch: &Watch) -> LineView
     ensures there { result.is_there ≡ spec.is_there watch.now.line.presence }
     ensures since { result.since_ms ≡ watch.now.line.since }
+    ensures cause { option_map (λ c. c.now) result.cause ≡ spec.why_away watch.now.line.presence }
 {
+    let presence = watch.line_presence();
     LineView {
-        is_there: is_there(watch.line_presence()),
+        is_there: is_there(presence),
         since_ms: watch.line_since(),
+        cause: why_away(presence),
     }
 }
 
@@ -122,7 +141,28 @@ pub(crate) fn keeping_after(notice: Notice) -> Keeping
     ensures { result ≡ spec.keeping_after notice }
 {
     match notice {
-        Notice::NotKept => Keeping::NotKept,
+        Notice::NotKept(_) => Keeping::NotKept,
         Notice::KeptAgain => Keeping::Kept,
+    }
+}
+
+/// Why the state can't be kept after a notice, if there is one.
+pub(crate) fn lost_after(notice: Option<Notice>, before: Option<ErrorKind>) -> Option<ErrorKind>
+    ensures { result ≡ spec.lost_after notice before }
+{
+    match notice {
+        Some(Notice::NotKept(cause)) => cause,
+        Some(Notice::KeptAgain) => None,
+        None => before,
+    }
+}
+
+/// What the system said, in words.
+pub(crate) fn said_by(cause: Option<ErrorKind>) -> Option<&'static str>
+    ensures { option_map (λ c. c.now) result ≡ option_map cause_words cause }
+{
+    match cause {
+        Some(cause) => Some(cause_words(cause)),
+        None => None,
     }
 }

@@ -2,7 +2,9 @@
 ghost use Rattle.std.specs.Borrow.{Bor};
 ghost use Rattle.std.specs.List.{AllByRecursion};
 ghost use Rattle.std.specs.Prelude.{◌≡◌, ◌≢◌, ◌<◌, ◌≤◌, Bool, true, false, List, [], ◌∷◌, ◌++◌};
-ghost use Rattle.std.specs.Prelude.{codes, length, Some, None, ℕ};
+ghost use Rattle.std.specs.Prelude.{codes, length, Option, Some, None, option_map, ℕ};
+ghost use Rattle.std.specs.declared.io.ErrorKind.{ErrorKind};
+ghost use Rattle.runlog.specs.Causes.{line_cause_words};
 ghost use Rattle.gateway.specs.Config.{Settings};
 ghost use Rattle.gateway.specs.declared.settings.StationSettings.{StationSettings};
 ghost use Rattle.live.specs.declared.ends.Presence.TheVariants as presence;
@@ -90,7 +92,7 @@ pub fn the_queue_is_shown_as_it_is()
 {}
 
 /// The line is shown as there just where it is there or receives, since when it is so, under the
-/// name that the site gives it. The moment is that of the look, and the run began at the first one.
+/// name that the site gives it, and if it is away with the cause. The moment is that of the look, and the run began at the first one.
 /// The state is shown as kept or not by the latest report of it. Before the first report it is
 /// shown as kept if it is to be. Its slow syncs are those of the latest sight. Each setting stands
 /// under its name. The version is the one that the run was begun with.
@@ -102,8 +104,13 @@ pub fn line_state_and_settings_are_shown_as_they_are()
         (last : Look) (s : Snapshot) → IsSight c names keeps looks last s →
         last.watch.line.presence ≡ presence.Receiving → s.line.is_there ≡ true }
     ensures away { (c : Settings) (names : LogNames) (keeps : Bool) (looks : List Look)
-        (last : Look) (s : Snapshot) → IsSight c names keeps looks last s →
-        last.watch.line.presence ≡ presence.Away → s.line.is_there ≡ false }
+        (last : Look) (s : Snapshot) (cause : Option ErrorKind) →
+        IsSight c names keeps looks last s → last.watch.line.presence ≡ presence.Away cause →
+        s.line.is_there ≡ false }
+    ensures cause { (c : Settings) (names : LogNames) (keeps : Bool) (looks : List Look)
+        (last : Look) (s : Snapshot) (cause : ErrorKind) → IsSight c names keeps looks last s →
+        last.watch.line.presence ≡ presence.Away (Some cause) →
+        option_map (λ c. c.now) s.line.cause ≡ Some (line_cause_words cause) }
     ensures untried { (c : Settings) (names : LogNames) (keeps : Bool) (looks : List Look)
         (last : Look) (s : Snapshot) → IsSight c names keeps looks last s →
         last.watch.line.presence ≡ presence.Untried → s.line.is_there ≡ false }
@@ -123,8 +130,8 @@ pub fn line_state_and_settings_are_shown_as_they_are()
     ensures lost { (c : Settings) (names : LogNames) (keeps : Bool) (looks : List Look)
         (last : Look) (s : Snapshot) → IsSight c names keeps looks last s →
         (before later : List Look) (l : Look) → looks ++ last ∷ [] ≡ before ++ l ∷ later →
-        l.notice ≡ Some notice.NotKept → AllByRecursion IsSilent later →
-        keeping_text s.keeping ≡ codes "not kept" }
+        (cause : Option ErrorKind) → l.notice ≡ Some (notice.NotKept cause) →
+        AllByRecursion IsSilent later → keeping_text s.keeping ≡ codes "not kept" }
     ensures kept { (c : Settings) (names : LogNames) (keeps : Bool) (looks : List Look)
         (last : Look) (s : Snapshot) → IsSight c names keeps looks last s →
         (before later : List Look) (l : Look) → looks ++ last ∷ [] ≡ before ++ l ∷ later →

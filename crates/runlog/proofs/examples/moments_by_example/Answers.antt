@@ -4,6 +4,9 @@ use Rattle.runlog.proofs.examples.moments_by_example.Goals as goal
 pub returns-clause-line : goal.returns-clause-line
 returns-clause-line c = refl
 
+pub returns-clause-causes : goal.returns-clause-causes
+returns-clause-causes c = refl
+
 pub returns-clause-flicker : goal.returns-clause-flicker
 returns-clause-flicker c = refl
 

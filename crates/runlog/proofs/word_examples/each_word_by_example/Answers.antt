@@ -24,4 +24,5 @@ returns-clause-states c = (
   refl,
   refl,
   refl,
+  refl,
 )

@@ -26,6 +26,10 @@ pub returns-clause-families : goal.returns-clause-families
 unfolding digits
 returns-clause-families c s = refl
 
+pub returns-clause-quality : goal.returns-clause-quality
+unfolding digits
+returns-clause-quality c s = refl
+
 pub returns-clause-info : goal.returns-clause-info
 unfolding digits
 returns-clause-info c s name = rw name

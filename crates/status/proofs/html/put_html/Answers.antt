@@ -5,14 +5,11 @@ use Rattle.status.proofs.html.put_html.Goals as goal
 pub returns : goal.returns
 returns c =
     rw (
-      c.put-5.ensures,
-      c.as_bytes-3.ensures.value,
-      c.put_rows-3.ensures,
-      c.put-4.ensures,
-      c.as_bytes-2.ensures.value,
-      c.put_rows-2.ensures,
       c.put-3.ensures,
       c.as_bytes.ensures.value,
+      c.put_rows-2.ensures,
+      c.put_version.ensures,
+      c.put_stations.ensures,
       c.put-2.ensures,
       c.put_rows.ensures,
       c.put_queue.ensures,

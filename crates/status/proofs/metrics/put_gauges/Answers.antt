@@ -1,5 +1,5 @@
 use Rattle.status.proofs.metrics.put_gauges.Goals as goal
 
 pub returns : goal.returns
-returns c = rw (← c.seconds.ensures, ← c.is_some.ensures, ← c.cannot_keep.ensures)
+returns c = rw (← c.seconds.ensures, ← c.seconds-2.ensures, ← c.is_some.ensures)
     c.put_rows.ensures

@@ -16,6 +16,7 @@ returns c =
       c.put_line.ensures,
       c.put_age.ensures,
       c.put_version.ensures,
+      c.put_performance.ensures,
       c.put_summary.ensures,
     )
     (puts_joined (table_parts c.args.snapshot.now) c.args.page.now)

@@ -1,5 +1,8 @@
+use Rattle.status.specs.Texts.{summary_parts}
+use Rattle.status.proofs.WordLemmas.{puts_joined}
 use Rattle.status.proofs.texts.put_summary.Goals as goal
 
 pub returns : goal.returns
-returns c = rw (← c.judge.ensures, ← c.is_some-is_connected.ensures, ← c.count_up.ensures)
-    c.put_words.ensures
+returns c =
+    rw (c.put_standings.ensures, c.put_troubles.ensures)
+    (puts_joined (summary_parts c.args.snapshot.now) c.args.page.now)

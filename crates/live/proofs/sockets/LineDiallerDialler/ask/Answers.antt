@@ -14,5 +14,6 @@ returns-in-UnderWay-clause-asks g c =
 
 pub returns-in-Broken-clause-asks : goal.returns-in-Broken-clause-asks
 returns-in-Broken-clause-asks g c =
-    broke_off _ _ _ c.in-Some.connecting _ _ _ _ _ (search rules) c.standing.ensures
+    broke_off _ _ _ c.in-Some.connecting _ c.in-Broken.cause _ _ _ _ (search rules)
+    c.standing.ensures
     c.in-Broken.is c.take.ensures.after c.connect_next.ensures.tries

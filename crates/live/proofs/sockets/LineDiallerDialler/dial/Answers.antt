@@ -11,5 +11,5 @@ returns-in-Some-clause-path g c path is = (
 
 pub returns-clause-host : goal.returns-clause-host
 returns-clause-host g c host is =
-    dialled_host host c.in-Some-strip_prefix.host.now _ _ _ _ _ _ _ (search rules)
-    c.look_up.ensures c.connect_next.ensures.tries
+    dialled_host host c.in-Some-strip_prefix.host.now _ _ _ _ _ _ _ _ (search rules)
+    c.look_up.ensures c.unfound-cause.ensures c.connect_next.ensures.tries

@@ -11,8 +11,9 @@ pub returns-clause-began : goal.returns-clause-began
 returns-clause-began c d names keeps looks last s k = began d names keeps looks last s k
 
 pub returns-clause-lost : goal.returns-clause-lost
-returns-clause-lost c d names keeps looks last s k before later l is at each =
-    ap keeping_text (reported d names keeps looks last s k before later l NotKept is at each)
+returns-clause-lost c d names keeps looks last s k before later l is cause at each =
+    ap keeping_text
+    (reported d names keeps looks last s k before later l (NotKept cause) is at each)
 
 pub returns-clause-kept : goal.returns-clause-kept
 returns-clause-kept c d names keeps looks last s k before later l is at each =

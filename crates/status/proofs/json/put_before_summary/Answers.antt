@@ -1,4 +1,4 @@
-use Rattle.status.proofs.json.put_before_peer.Goals as goal
+use Rattle.status.proofs.json.put_before_summary.Goals as goal
 
 pub returns : goal.returns
 returns c = rw (← c.judge.ensures) c.put_words.ensures

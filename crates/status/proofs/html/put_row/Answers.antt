@@ -1,6 +1,6 @@
 use Rattle.status.specs.Html.{row_parts}
 use Rattle.status.proofs.WordLemmas.{puts_joined}
-use Rattle.status.proofs.html.RowFormFormStationView.put.Goals as goal
+use Rattle.status.proofs.html.put_row.Goals as goal
 
 pub returns : goal.returns
 returns c =
@@ -11,4 +11,4 @@ returns c =
       c.put_age.ensures,
       c.put_row_head.ensures,
     )
-    (puts_joined (row_parts c.args.self.now.now_ms c.args.station.now) c.args.page.now)
+    (puts_joined (row_parts c.args.now_ms c.args.station.now) c.args.page.now)

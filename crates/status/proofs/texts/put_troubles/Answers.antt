@@ -1,0 +1,11 @@
+use Rattle.status.proofs.texts.put_troubles.Goals as goal
+
+pub returns : goal.returns
+returns c =
+    rw (
+      ← c.judge.ensures,
+      ← c.is_none-is_alone.ensures,
+      ← c.cannot_keep-is_lost.ensures,
+      ← c.is_full.ensures,
+    )
+    c.put_words.ensures
