@@ -19,7 +19,7 @@ ghost use Rattle.segments.specs.declared.start.FileFront.TheVariants.{Head};
 ghost use Rattle.statetext.specs.Sum.{sum_of};
 
 use crate::SegmentFault;
-use crate::gate::{BLOCK, HEAD};
+use crate::gate::{BLOCK, HEAD, SHUT};
 use crate::head::{SegmentHead, parse, print};
 use sqlite_disk::{Disk, Files};
 use statetext::{Sum, read_sealed};
@@ -89,7 +89,7 @@ pub(crate) fn front_at<D: Disk>(alloc: Global, file: &mut D) -> Result<FileFront
         if file.read_at(0, &mut first).is_err() {
             return Err(SegmentFault::Device);
         }
-        if first[0] == 0 {
+        if first[0] == SHUT {
             return Ok(FileFront::Shut);
         }
         return Ok(FileFront::Other);
@@ -98,8 +98,8 @@ pub(crate) fn front_at<D: Disk>(alloc: Global, file: &mut D) -> Result<FileFront
     if file.read_at(0, &mut row).is_err() {
         return Err(SegmentFault::Device);
     }
-    // This octet is written last: with 0 there the segment was never finished, or the file is shut.
-    if row[0] == 0 {
+    // This octet is written last: until then the segment isn't finished, and the file is shut.
+    if row[0] == SHUT {
         return Ok(FileFront::Shut);
     }
     match parse(alloc, &row) {

@@ -29,7 +29,7 @@ pub struct Failed<D: Disk> {
     pub fault: SegmentFault,
 }
 
-/// A segment that is begun. Until it is finished, the first octet of its file is 0 on the disk: no
+/// A segment that is begun. Until it is finished, the first octet of its file is `-` on the disk: no
 /// start takes it for a segment.
 #[derive(Drop)]
 pub struct Writer<D: Disk> {

@@ -14,7 +14,7 @@ returns-then-octets-lt-HEAD-clause-head g c clean =
     subst (λ (file : List ℕ). IsHeadIn file fronts.Other) (sym c.read_at.ensures.seen)
     (other_short _ c.read_at.new.buf first (let one : 0 < length c.read_at.new.buf =
     omega (arith, c.read_at.auto.buf) in one)
-    c.if-first-eq0.false
+    c.if-first-eq-SHUT.false
     (let long : 2 ≤ length (g.D.Disk.seen c.len.new.self) =
     subst (λ (file : List ℕ). 2 ≤ length file) (sym same) (omega (arith, n)) in long)
     (let short : length (g.D.Disk.seen c.len.new.self) < 87 =
@@ -42,7 +42,7 @@ returns-in-Ok-None-clause-head g c clean =
     subst (λ (file : List ℕ). IsHeadIn file fronts.Other) (sym c.read_at-2.ensures.seen)
     (other_line (g.D.Disk.seen c.len.new.self) c.read_at-2.new.buf c.read_at-2.new.buf row
     (let some : 0 < length c.read_at-2.new.buf = omega (arith, c.read_at-2.auto.buf) in some)
-    c.if-row-eq0.false
+    c.if-row-eq-SHUT.false
     (let long : 2 ≤ length (g.D.Disk.seen c.len.new.self)
     = subst (λ (file : List ℕ). 2 ≤ length file) (sym same) (omega (arith, n)) in long)
     row (let count : length c.read_at-2.new.buf ≡ 87 = c.read_at-2.auto.buf in count)
