@@ -102,11 +102,6 @@ head_line file row h line count is all = record {
       let same : h ≡ head = cc in ap fronts.Head same;
 }
 
--- what a call promises that has gone well
-pub gone_well : {T E P : Type 0} (r : Result T E) → false ≡ is_err r → OnOk r P → P
-gone_well (Ok x) well p = p
-gone_well (Err e) well p = cc
-
 -- A segment that is whole
 
 pub found_within : (file : List ℕ) (head : SegmentHead) (text : List ℕ) → IsFoundIn file head text

@@ -20,13 +20,13 @@ pub(crate) const SHUT: u8 = b'-';
 /// How many zeros are written at once.
 pub(crate) const BLOCK: usize = 4_096;
 
-/// What a call of the disk answered, without its error.
-fn done(answer: std::io::Result<()>) -> Result<(), SegmentFault>
+/// What a call of the disk answered: of its error the kind.
+pub(crate) fn done(answer: std::io::Result<()>) -> Result<(), SegmentFault>
     ensures { is_ok result ≡ is_ok answer }
 {
     match answer {
         Ok(()) => Ok(()),
-        Err(_) => Err(SegmentFault::Device),
+        Err(error) => Err(SegmentFault::Device(error.kind())),
     }
 }
 
