@@ -4,9 +4,10 @@ without a gap, nothing is operated twice, and the line is polled on.
 
     checks/disks.py [--program FILE] [--only NAME] [--part NAME] [--seed N]
 
-- In a state that a killed run left a bit is turned, a sector reads as zeros, the file ends early, or
-  two sectors are exchanged. Each start goes on without a loss, or says what is wrong with the state
-  and tells a gap of each station that lost a report.
+- In a state that a killed run left a bit is turned, a sector reads as zeros (the first one, too), the
+  file ends early, or two sectors are exchanged. Each start goes on without a loss, or says what is
+  wrong with the state and tells a gap of each station that lost a report. So does the start behind
+  one that was killed amid that.
 - A copy of the directory takes its place: it is stale by itself. Kills and power cuts, also amid a
   first start, never make it so.
 - A library in front of the C library's lets each call for a file of the state fail, from a moment
@@ -153,6 +154,14 @@ def zero_a_sector(life, chance, part):
     return f"sector at {place} of {size + TAIL}"
 
 
+def zero_the_beginning(life, chance, part):
+    """The first sector, or the first block, of a file of the state."""
+    path = life.newest()
+    size = chance.choice([SECTOR, 8 * SECTOR])
+    write_at(path, 0, bytes(size))
+    return f"the first {size} octets"
+
+
 def cut_short(life, chance, part):
     path = life.newest()
     size = len(used(path)) - TAIL
@@ -179,8 +188,8 @@ def exchange(life, chance, part):
     return f"sectors {one} and {other} of {sectors} exchanged"
 
 
-def damaged(count, program, damage, cases):
-    """Each case is a run that is killed, a damage, and a start."""
+def damaged(count, program, damage, cases, never=""):
+    """Each case is a run that is killed, a damage, and a start, which never says this."""
     seen, chance = {}, random.Random(count.options.seed)
     for case in range(cases):
         with tempfile.TemporaryDirectory() as folder:
@@ -188,8 +197,27 @@ def damaged(count, program, damage, cases):
             what = damage(life, chance, case * 10 // cases)
             faults, says = life.goes_on()
             seen[says] = seen.get(says, 0) + 1
-            count.judge(f"{what}", not faults, (faults, says))
+            count.judge(f"{what}", not faults and says != never, (faults, says))
     print(f"{damage.__name__.replace('_', ' ')}: {seen}", flush=True)
+
+
+def damaged_and_cut(count, program):
+    """The first line of a log is damaged, and the start over that is killed in front of each of its
+    first 12 calls that change a file of the state."""
+    for call in range(1, 13):
+        with tempfile.TemporaryDirectory() as folder:
+            life = Life(program, folder, lives=2)
+            path = life.newest()
+            write_at(path, 10, bytes([used(path)[10] ^ 1]))
+            gateway = life.gateway
+            usual = gateway.environment
+            gateway.environment = {**kept.shadowed(folder), "CUT_AT": str(call)}
+            gateway.start()
+            until(lambda: gateway.process.poll() is not None)
+            gateway.kill()
+            gateway.environment = usual
+            faults, says = life.goes_on()
+            count.judge(f"killed in front of call {call}", not faults and says == "stale", (faults, says))
 
 
 # How a copy of the directory is kept, and put in its place.
@@ -421,13 +449,15 @@ int fsync(int file) {
 
 # What the log calls each of these faults.
 FAULTS = {
-    "EIO": (errno.EIO, "uncategorized error"),
+    "EIO": (errno.EIO, "input or output error"),
     "read-only": (errno.EROFS, "read-only filesystem or storage medium"),
     "no permission": (errno.EACCES, "permission denied"),
     "no space": (errno.ENOSPC, "no storage space"),
 }
 WITHOUT = "its directory can't be used, the run goes on without it"
 UNKEPT = "state: can't be kept there"
+# The line with which a run ends has the words of the library.
+ENDS_BY = {"EIO": "uncategorized error"}
 
 
 class Failing:
@@ -535,7 +565,7 @@ def fails_at_a_start(count, program, name):
         until(lambda: gateway.process.poll() is not None, 20)
         count.compare(f"{name} at a start: without a second place it ends", gateway.process.poll(), 3)
         told = gateway.kill()
-        count.judge(f"{name} at a start: and says why", f"{UNKEPT}: {reason}" in told, told)
+        count.judge(f"{name} at a start: and says why", f"{UNKEPT}: {ENDS_BY.get(name, reason)}" in told, told)
         case.field.server.close()
 
 
@@ -572,7 +602,7 @@ def stops(count, program, name):
         until(lambda: case.gateway.process.poll() is not None, 20)
         count.compare(f"{name}, --state-or-stop: a start ends", case.gateway.process.poll(), 3)
         told = case.gateway.kill()
-        count.judge(f"{name}, --state-or-stop: it says why", f"{UNKEPT}: {reason}" in told, told)
+        count.judge(f"{name}, --state-or-stop: it says why", f"{UNKEPT}: {ENDS_BY.get(name, reason)}" in told, told)
         case.field.server.close()
 
 
@@ -649,13 +679,15 @@ def each_octet_once(count, program):
         case.field.server.close()
 
 
-def damage_part(name, damage, cases):
-    return name, lambda count, program, _folder: damaged(count, program, damage, cases)
+def damage_part(name, damage, cases, never=""):
+    return name, lambda count, program, _folder: damaged(count, program, damage, cases, never)
 
 
 PARTS = [
     damage_part("damaged bits", turn_a_bit, 12),
     damage_part("disk sectors", zero_a_sector, 8),
+    damage_part("first sectors", zero_the_beginning, 4, never="goes on"),
+    alone("damaged and cut", damaged_and_cut),
     damage_part("short files", cut_short, 8),
     damage_part("shortened behind its last line", cut_to_used, 2),
     damage_part("sectors exchanged", exchange, 6),

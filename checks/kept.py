@@ -378,16 +378,6 @@ def row_of(lines, address):
     return next((line for line in lines if line.startswith(f"station {address} ")), "")
 
 
-# Parts whose names begin so judge what the program doesn't do yet: they run if --only or --part names them.
-LATER = ("disk sectors", "disk reason")
-
-
-def due(parts):
-    """The parts that run: those that the program already does, or all of them where the call names some."""
-    is_named = any(word.startswith(("--only", "--part")) for word in sys.argv[1:])
-    return [part for part in parts if is_named or not frame.name_of(part).startswith(LATER)]
-
-
 def alone(name, part, *more):
     """The part of this name, which makes its folder itself."""
     return name, lambda count, program, _folder: part(count, program, *more)
@@ -421,7 +411,7 @@ def wanted_parts(parts):
     wanted = parser.parse_known_args(sys.argv[1:])[0].part
     if not wanted:
         # Most of the time they wait, so they run side by side.
-        return [apart(name) for name, _ in due(parts)]
+        return [apart(name) for name, _ in parts]
     chosen = [part for part in parts if part[0] == wanted]
     if not chosen:
         sys.exit(f"no part {wanted!r}: there are {', '.join(name for name, _ in parts)}")
@@ -430,8 +420,5 @@ def wanted_parts(parts):
 
 def play(parts, words=None):
     """Runs the parts side by side, each in a process of its own, and ends the script."""
-    if not any(due([part]) for part in parts):
-        print("skipped: what it judges isn't there yet")
-        sys.exit(0)
     words = {**(words or {}), "--part": {"default": "", "help": "this part alone, in this process"}}
     frame.main(*wanted_parts(parts), side_by_side=True, words=words)

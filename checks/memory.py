@@ -20,7 +20,6 @@ import tempfile
 
 import ends
 import frame
-import kept
 
 STATIONS = 32
 FIRST, LAST = 5, 3000
@@ -238,10 +237,6 @@ def requests(count, program, is_whole):
 
 if __name__ == "__main__":
     frame.main(
-        *kept.due(
-            [
-                ("plain run", lambda count, program, _folder: requests(count, program, False)),
-                ("disk run with a state, a log and visitors", lambda count, program, _folder: requests(count, program, True)),
-            ]
-        )
+        ("plain run", lambda count, program, _folder: requests(count, program, False)),
+        ("disk run with a state, a log and visitors", lambda count, program, _folder: requests(count, program, True)),
     )

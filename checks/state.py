@@ -124,8 +124,7 @@ class Lives:
         told = f"{self.count} lives, {made} reports, {self.taken()} commands, resets {resets}, {len(visitor.connections)} connections"
         print(f"{name}: {told}", flush=True)
         count.judge(name, not faults and made > 0 and self.taken() > 0, (faults, made, self.taken()))
-        if "restart" not in kept.LATER:
-            count.judge(f"{name}: no command goes out behind a restart", not self.late, self.late)
+        count.judge(f"{name}: no command goes out behind a restart", not self.late, self.late)
         told = gateway.said
         wrong = [text for text in ("put aside", "isn't kept", "each link is reset") if text in told]
         count.judge(f"{name}: what it tells", not wrong, (wrong, told[-2000:]))

@@ -103,7 +103,7 @@ fn segment_in<D: Disk + Drop>(
     let is_put = sheet.put(&[number_written]).is_ok() && sheet.put_octets(b"checkpoint").is_ok();
     let writer = sheet.into_octets();
     if !is_put {
-        return Err(writer.into_file());
+        return Err(writer.give_up().file);
     }
     match writer.finish(alloc, number, 1) {
         Ok(segment) => Ok(segment),

@@ -158,17 +158,17 @@ synced_no_other file new stored only le blank c left i some = elim (cases_lt i s
 
 -- A file that is shut
 
-pub shut_old : (old new : List ℕ → Type 0) → Follows (Mixed 0 (0 ∷ [])) old new
+pub shut_old : (old new : List ℕ → Type 0) → Follows (Mixed 0 (45 ∷ [])) old new
     → AreShutOr new old
 shut_old old new follows c is = elim (cases_lt 1 (length c)) [
   | inl long ↦ elim (w.2.each 0 (lit< tt) (some long)) [
     | inl kept ↦ inr (subst old (ext_get_or 0 w.0 c (len long) (same long (sym kept))) w.1)
-    | inr zero ↦ inl (inr zero)
+    | inr put ↦ inl (inr put)
   ]
   | inr short ↦ inl (inl (omega (arith, short)))
 ]
   where
-    w : (d : List ℕ) × old d × Mixed 0 (0 ∷ []) d c
+    w : (d : List ℕ) × old d × Mixed 0 (45 ∷ []) d c
     w = follows c is
 
     torn : Torn 0 1 w.0 c
@@ -204,12 +204,12 @@ cut_long n file old new only some up follows c is =
 
 pub cut_shut : (n : ℕ) (file : List ℕ) (old new : List ℕ → Type 0) → Only file old → 0 < length file
     → 0 < n
-    → slice_index file 0 ≡ 0 → Follows (Cut n) old new → IsShut new
-cut_shut n file old new only some up zero follows c is =
+    → slice_index file 0 ≡ 45 → Follows (Cut n) old new → IsShut new
+cut_shut n file old new only some up first follows c is =
     let w = follows c is in
     let e : length w.0 ≡ length file = ap length (only w.0 w.1) in
     w.2.below 0 (omega (arith, e, some)) up ∙ ap (λ (l : List ℕ). slice_index l 0) (only w.0 w.1)
-    ∙ zero
+    ∙ first
 
 pub held_first : (file bytes : List ℕ) → Holds file 0 bytes → 0 < length bytes → slice_index file 0
     ≡ slice_index bytes 0
@@ -219,7 +219,7 @@ pub held_some : (file bytes : List ℕ) → Holds file 0 bytes → 0 < length by
 held_some file bytes holds some = omega (arith, holds.within, some)
 
 pub shut_now : (file : List ℕ) (new : List ℕ → Type 0) → IsShut new → IsWholeIfOpen new file
-shut_now file new shut c is first = let never : 0 ≡ 116 = sym (shut c is) ∙ first in
+shut_now file new shut c is first = let never : 45 ≡ 116 = sym (shut c is) ∙ first in
     absurd (omega (arith, never))
 
 -- a write behind the first octet

@@ -41,7 +41,7 @@ head_letter file head holds = holds.each 0 (omega (arith, head_length head)) ∙
 
 pub not_shut : (file : List ℕ) (head : SegmentHead) → Holds file 0 (head_of head) → IsShut file → ⊥
 not_shut file head holds (inl short) = omega (arith, short, head_within file head holds)
-not_shut file head holds (inr zero) = let no : 0 ≡ 116 = sym zero ∙ head_letter file head holds in
+not_shut file head holds (inr is) = let no : 45 ≡ 116 = sym is ∙ head_letter file head holds in
     absurd (omega (arith, no))
 
 pub shut_short : (file : List ℕ) → length file < 2 → IsHeadIn file fronts.Shut
@@ -50,25 +50,25 @@ shut_short file short = record {
   heads = λ head fits holds. absurd (not_shut file head holds (inl short));
 }
 
-pub shut_zero : (file first : List ℕ) → Holds file 0 first → 0 < length first → slice_index first 0
-    ≡ 0
+pub shut_by_mark : (file first : List ℕ) → Holds file 0 first → 0 < length first
+    → slice_index first 0 ≡ 45
     → IsHeadIn file fronts.Shut
-shut_zero file first held one zero =
-    let is : slice_index file 0 ≡ 0 = held.each 0 (omega (arith, one)) ∙ zero in record {
+shut_by_mark file first held one mark =
+    let is : slice_index file 0 ≡ 45 = held.each 0 (omega (arith, one)) ∙ mark in record {
       begins = inr is;
       heads = λ head fits holds. absurd (not_shut file head holds (inr is));
     }
 
 -- a file that isn't shut
 open_file : (file first : List ℕ) → Holds file 0 first → 0 < length first
-    → (slice_index first 0 ≡ 0 → ⊥)
+    → (slice_index first 0 ≡ 45 → ⊥)
     → 2 ≤ length file → IsShut file → ⊥
 open_file file first held one some long (inl short) = omega (arith, short, long)
-open_file file first held one some long (inr zero) = some (sym (held.each 0 (omega (arith, one)))
-    ∙ zero)
+open_file file first held one some long (inr mark) = some (sym (held.each 0 (omega (arith, one)))
+    ∙ mark)
 
 pub other_short : (file first : List ℕ) → Holds file 0 first → 0 < length first
-    → (slice_index first 0 ≡ 0 → ⊥)
+    → (slice_index first 0 ≡ 45 → ⊥)
     → 2 ≤ length file → length file < 87 → IsHeadIn file fronts.Other
 other_short file first held one some long short = record {
   begins = open_file file first held one some long;
@@ -82,7 +82,7 @@ line_of file row head held long holds = same_octets file 0 row (head_of head) he
     ∙ sym (head_length head))
 
 pub other_line : (file first row : List ℕ) → Holds file 0 first → 0 < length first
-    → (slice_index first 0 ≡ 0 → ⊥)
+    → (slice_index first 0 ≡ 45 → ⊥)
     → 2 ≤ length file → Holds file 0 row → length row ≡ 87
     → ((head : SegmentHead) → Fits head → row ≡ head_of head → None ≡ Some head)
     → IsHeadIn file fronts.Other
@@ -101,11 +101,6 @@ head_line file row h line count is all = record {
   heads = λ head fits holds. let one = all head fits (line_of file row head line count holds) in
       let same : h ≡ head = cc in ap fronts.Head same;
 }
-
--- what a call promises that has gone well
-pub gone_well : {T E P : Type 0} (r : Result T E) → false ≡ is_err r → OnOk r P → P
-gone_well (Ok x) well p = p
-gone_well (Err e) well p = cc
 
 -- A segment that is whole
 

@@ -224,7 +224,7 @@ whole_blank end head seen count some blank i from =
 pub shut_text : (outcomes : List ℕ → Type 0) (text : List ℕ) → IsShut outcomes
     → IsTextIfOpen outcomes text
 shut_text outcomes text shut c left opened =
-    let never : 0 ≡ 116 = sym (shut c left) ∙ opened in absurd (omega (arith, never))
+    let never : 45 ≡ 116 = sym (shut c left) ∙ opened in absurd (omega (arith, never))
 
 pub text_or_shut : (outcomes : List ℕ → Type 0) (size : ℕ) (seen text : List ℕ)
     → IsTextTo size text seen → AreShutOr outcomes (λ c. c ≡ seen)

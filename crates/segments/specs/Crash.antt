@@ -29,9 +29,9 @@ HasAt at octets text =
 abbrev pub IsBlankFrom : ℕ → List ℕ → Type 0
 IsBlankFrom n file = (i : ℕ) → n ≤ i → slice_index file i ≡ 0
 
--- each outcome is shut: its first octet is 0
+-- each outcome is shut: its first octet is `-` (45)
 abbrev pub IsShut : (List ℕ → Type 0) → Type 0
-IsShut outcomes = (c : List ℕ) → outcomes c → slice_index c 0 ≡ 0
+IsShut outcomes = (c : List ℕ) → outcomes c → slice_index c 0 ≡ 45
 
 -- each outcome has at least one octet
 abbrev pub IsLong : (List ℕ → Type 0) → Type 0

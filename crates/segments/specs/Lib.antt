@@ -9,3 +9,4 @@ pub mod Room
 pub mod Starts
 pub mod Found
 pub mod Crashes
+pub mod Faults

@@ -15,9 +15,9 @@ abbrev pub other_side : Side → Side
 other_side sides.Log = sides.Db
 other_side sides.Db = sides.Log
 
--- the file was never written, or its first octet is 0
+-- the file was never written, or its first octet is `-` (45)
 abbrev pub IsShut : List ℕ → Type 0
-IsShut file = (length file < 2) ⊎ (slice_index file 0 ≡ 0)
+IsShut file = (length file < 2) ⊎ (slice_index file 0 ≡ 45)
 
 -- it is shut, or begins with this first line of a segment, or with something else
 abbrev pub BeginsSo : List ℕ → FileFront → Type 0

@@ -1,4 +1,5 @@
 //! Why a call isn't done.
+use std::io::ErrorKind;
 use thiserror::Error;
 
 /// Why a call isn't done.
@@ -7,9 +8,10 @@ pub enum SegmentFault {
     /// The segment has no room for the line. The next one must begin.
     #[error("the segment is full")]
     Full,
-    /// The disk failed, now or at an earlier call on this file. It must be opened anew.
-    #[error("the disk failed")]
-    Device,
+    /// The disk failed, and the system said this of it; or it failed at an earlier call on this
+    /// file. That must be opened anew.
+    #[error("the disk failed: {0}")]
+    Device(ErrorKind),
     /// Memory was refused.
     #[error("no memory")]
     NoMemory,

@@ -1,4 +1,5 @@
-//! A file counts as a segment only if its first octet is `t`, which is written last.
+//! A file counts as a segment only if its first octet is `t`, which is written last. Until then it
+//! is `-`.
 ghost use Rattle.std.specs.Prelude.{◌≡◌, ◌+◌, ◌*◌, ◌<◌, ◌≤◌, ◌^◌, ◌++◌, ℕ, List, [], drop, length};
 ghost use Rattle.std.specs.Prelude.{slice_index, IsTrue, OnOk, is_ok};
 ghost use Rattle.sqlite_disk.specs.Disk.{Only};
@@ -12,16 +13,20 @@ use sqlite_disk::Disk;
 /// How many octets the first line of a segment has.
 pub(crate) const HEAD: usize = 87;
 
+/// The first octet of a file that is shut. It isn't 0: a disk gives zeros for a block that it lost,
+/// and the segment whose beginning is lost isn't taken for none.
+pub(crate) const SHUT: u8 = b'-';
+
 /// How many zeros are written at once.
 pub(crate) const BLOCK: usize = 4_096;
 
-/// What a call of the disk answered, without its error.
-fn done(answer: std::io::Result<()>) -> Result<(), SegmentFault>
+/// What a call of the disk answered: of its error the kind.
+pub(crate) fn done(answer: std::io::Result<()>) -> Result<(), SegmentFault>
     ensures { is_ok result ≡ is_ok answer }
 {
     match answer {
         Ok(()) => Ok(()),
-        Err(_) => Err(SegmentFault::Device),
+        Err(error) => Err(SegmentFault::Device(error.kind())),
     }
 }
 
@@ -37,7 +42,7 @@ pub fn shut<D: Disk>(file: &mut D) -> Result<(), SegmentFault>
 {
     // The first octet goes first, and is synced: a crash behind it leaves nothing that a start
     // takes for a segment.
-    done(file.write_at(0, &[0]))?;
+    done(file.write_at(0, &[SHUT]))?;
     done(file.sync())?;
     done(file.set_len(HEAD))
 }

@@ -3,6 +3,9 @@ ghost use Rattle.std.specs.Prelude.{◌≡◌, ◌+◌, ◌-◌, ◌<◌, ◌≤
 ghost use Rattle.std.specs.Prelude.{length, drop, slice_index, take, IsTrue, OnOk, OnErr, IfOk, IfErr};
 ghost use Rattle.std.specs.Prelude.{Err, true, false};
 ghost use Rattle.std.specs.List.{concat};
+ghost use Rattle.std.specs.declared.io.ErrorKind.{ErrorKind};
+ghost use Rattle.std.specs.declared.io.ErrorKind.TheVariants.{Other};
+ghost use Rattle.segments.specs.Faults.{IsDevice};
 ghost use Rattle.segments.specs.declared.fault.SegmentFault.TheVariants.{Device, Full, NoMemory};
 ghost use Rattle.segments.specs.Crash.{AreMixing, HasLength, BeginsWith, HasAt, HasNoOther, IsBlankFrom};
 ghost use Rattle.segments.specs.Crashes.{StandsIn, StaysBacked, Survives, log_text};
@@ -21,6 +24,7 @@ use crate::written::Written;
 use sqlite_disk::Disk;
 use statetext::{SEAL, Sum, seal_of};
 use std::alloc::Global;
+use std::io::ErrorKind;
 
 /// How many octets are held at most before they are written.
 const PAGE: usize = 65_536;
@@ -28,6 +32,9 @@ const PAGE: usize = 65_536;
 /// How much room they have: a line of an event, which has fewer octets than 4,096, may be held
 /// behind them.
 const ROOM: usize = 69_632;
+
+/// A write or a sync has failed before.
+const CLOSED: SegmentFault = SegmentFault::Device(ErrorKind::Other);
 
 /// A segment whose lines are appended. Its file was zeroed to its full length and synced before.
 /// What is appended between two syncs is a write: the sync puts a seal behind its lines.
@@ -89,7 +96,7 @@ fn store<D: Disk>(file: &mut D, at: usize, octets: &[u8]) -> Result<usize, Segme
     ensures text { OnOk result (text_in (at + length octets.now) (D.Disk.seen file.new) []
         ≡ text_in at (D.Disk.seen file.old) octets.now) }
     ensures blank { OnOk result (IsBlankFrom (at + length octets.now) (D.Disk.seen file.new)) }
-    ensures fault { IfErr result (λ e. e ≡ Device) }
+    ensures fault { IfErr result IsDevice }
     ensures sized { length (D.Disk.seen file.new) ≡ length (D.Disk.seen file.old) }
     ensures usable { IsTrue (D.Disk.is_usable file.new) }
     ensures long { HasLength (D.Disk.may_leave file.old) (length (D.Disk.seen file.old))
@@ -107,7 +114,7 @@ fn store<D: Disk>(file: &mut D, at: usize, octets: &[u8]) -> Result<usize, Segme
 {
     match file.write_at(at, octets) {
         Ok(()) => Ok(at + octets.len()),
-        Err(_) => Err(SegmentFault::Device),
+        Err(error) => Err(SegmentFault::Device(error.kind())),
     }
 }
 
@@ -124,7 +131,7 @@ fn commit<D: Disk>(file: &mut D, at: usize, octets: &[u8]) -> Result<usize, Segm
     ensures blank { OnOk result (IsBlankFrom (at + length octets.now) (D.Disk.seen file.new)) }
     ensures durable { OnOk result (Only (D.Disk.seen file.new) (D.Disk.may_leave file.new)) }
     ensures usable { OnOk result (IsTrue (D.Disk.is_usable file.new)) }
-    ensures fault { IfErr result (λ e. e ≡ Device) }
+    ensures fault { IfErr result IsDevice }
     ensures sized { length (D.Disk.seen file.new) ≡ length (D.Disk.seen file.old) }
     ensures long { HasLength (D.Disk.may_leave file.old) (length (D.Disk.seen file.old))
         → HasLength (D.Disk.may_leave file.new) (length (D.Disk.seen file.old)) }
@@ -141,7 +148,7 @@ fn commit<D: Disk>(file: &mut D, at: usize, octets: &[u8]) -> Result<usize, Segm
     let end = store(file, at, octets)?;
     match file.sync() {
         Ok(()) => Ok(end),
-        Err(_) => Err(SegmentFault::Device),
+        Err(error) => Err(SegmentFault::Device(error.kind())),
     }
 }
 
@@ -268,17 +275,18 @@ impl<D: Disk> Segment<D> {
             (octets_of self.new ≡ octets_of self.old + length octets.now) }
         ensures writes { writes_of self.new ≡ writes_of self.old }
         ensures same { fixed_of self.new ≡ fixed_of self.old }
-        ensures shut { is_open self.old ≡ false → result ≡ Err Device }
+        ensures shut { is_open self.old ≡ false → result ≡ Err (Device Other) }
         // Octets are too many exactly where the file has no room for them and a seal. Lines that
         // fill it to its last octet are appended.
         ensures full { result ≡ Err Full →
             size_of self.old < octets_of self.old + length octets.now + 27 }
         ensures beyond { is_open self.old ≡ true →
             size_of self.old < octets_of self.old + length octets.now + 27 → result ≡ Err Full }
-        ensures device { result ≡ Err Device → is_open self.new ≡ false }
+        ensures device { (cause : ErrorKind) → result ≡ Err (Device cause) →
+            is_open self.new ≡ false }
     {
         if !self.is_open {
-            return Err(SegmentFault::Device);
+            return Err(CLOSED);
         }
         let room = self.size - self.octets();
         if octets.len() > room || room - octets.len() < SEAL {
@@ -321,7 +329,7 @@ impl<D: Disk> Segment<D> {
         ensures same { fixed_of self.new ≡ fixed_of self.old }
         ensures open { OnOk result (IsTrue (is_open self.new)) }
         ensures shut { OnErr result (is_open self.new ≡ false) }
-        ensures fault { IfErr result (λ e. e ≡ Device) }
+        ensures fault { IfErr result IsDevice }
         ensures held { OnOk result (self.new.page.items ≡ []) }
     {
         if self.page.is_empty() {
@@ -356,10 +364,10 @@ impl<D: Disk> Segment<D> {
             × (open_of self.new ≡ open_of self.old)) }
         ensures same { fixed_of self.new ≡ fixed_of self.old }
         ensures shut { OnErr result (is_open self.new ≡ false) }
-        ensures fault { IfErr result (λ e. e ≡ Device) }
+        ensures fault { IfErr result IsDevice }
     {
         if !self.is_open {
-            return Err(SegmentFault::Device);
+            return Err(CLOSED);
         }
         self.write()?;
         if self.stored == self.durable {
@@ -379,7 +387,7 @@ impl<D: Disk> Segment<D> {
         ensures octets { octets_of self.new ≡ octets_of self.old }
         ensures same { fixed_of self.new ≡ fixed_of self.old }
         ensures shut { OnErr result (is_open self.new ≡ false) }
-        ensures fault { IfErr result (λ e. e ≡ Device) }
+        ensures fault { IfErr result IsDevice }
     {
         // A file whose sync failed is used no more (docs/DECISIONS.md, "Two files, written in
         // turn").
@@ -389,7 +397,7 @@ impl<D: Disk> Segment<D> {
                 self.is_open = true;
                 Ok(())
             }
-            Err(_) => Err(SegmentFault::Device),
+            Err(error) => Err(SegmentFault::Device(error.kind())),
         }
     }
 
@@ -406,7 +414,7 @@ impl<D: Disk> Segment<D> {
             × (open_of self.new ≡ open_of self.old)) }
         ensures same { fixed_of self.new ≡ fixed_of self.old }
         ensures shut { OnErr result (is_open self.new ≡ false) }
-        ensures fault { IfErr result (λ e. e ≡ Device) }
+        ensures fault { IfErr result IsDevice }
     {
         let _size = self.size;
         let place = self.durable - self.begins;

@@ -19,11 +19,12 @@ ghost use Rattle.segments.specs.declared.start.FileFront.TheVariants.{Head};
 ghost use Rattle.statetext.specs.Sum.{sum_of};
 
 use crate::SegmentFault;
-use crate::gate::{BLOCK, HEAD};
+use crate::gate::{BLOCK, HEAD, SHUT, done};
 use crate::head::{SegmentHead, parse, print};
 use sqlite_disk::{Disk, Files};
 use statetext::{Sum, read_sealed};
 use std::alloc::Global;
+use std::io::ErrorKind;
 
 /// How many octets are read at once.
 const PIECE: usize = 65_536;
@@ -78,28 +79,25 @@ pub(crate) fn front_at<D: Disk>(alloc: Global, file: &mut D) -> Result<FileFront
     ensures seen { D.Disk.seen file.new ≡ D.Disk.seen file.old }
     ensures crash { (c : List ℕ) → D.Disk.may_leave file.new c → D.Disk.may_leave file.old c }
 {
-    let Ok(octets) = file.len() else {
-        return Err(SegmentFault::Device);
+    let octets = match file.len() {
+        Ok(octets) => octets,
+        Err(error) => return Err(SegmentFault::Device(error.kind())),
     };
     if octets < 2 {
         return Ok(FileFront::Shut);
     }
     if octets < HEAD {
         let mut first = [0];
-        if file.read_at(0, &mut first).is_err() {
-            return Err(SegmentFault::Device);
-        }
-        if first[0] == 0 {
+        done(file.read_at(0, &mut first))?;
+        if first[0] == SHUT {
             return Ok(FileFront::Shut);
         }
         return Ok(FileFront::Other);
     }
     let mut row = [0; HEAD];
-    if file.read_at(0, &mut row).is_err() {
-        return Err(SegmentFault::Device);
-    }
-    // This octet is written last: with 0 there the segment was never finished, or the file is shut.
-    if row[0] == 0 {
+    done(file.read_at(0, &mut row))?;
+    // This octet is written last: until then the segment isn't finished, and the file is shut.
+    if row[0] == SHUT {
         return Ok(FileFront::Shut);
     }
     match parse(alloc, &row) {
@@ -132,7 +130,7 @@ fn octets_at<D: Disk>(
     }
     match file.read_at(at, &mut text) {
         Ok(()) => Ok(text),
-        Err(_) => Err(SegmentFault::Device),
+        Err(error) => Err(SegmentFault::Device(error.kind())),
     }
 }
 
@@ -161,8 +159,9 @@ fn octets_behind<D: Disk>(file: &mut D, head: &SegmentHead) -> Result<Option<usi
     let Ok(octets) = usize::try_from(head.octets) else {
         return Ok(None);
     };
-    let Ok(all) = file.len() else {
-        return Err(SegmentFault::Device);
+    let all = match file.len() {
+        Ok(all) => all,
+        Err(error) => return Err(SegmentFault::Device(error.kind())),
     };
     if all < HEAD || all - HEAD < octets {
         return Ok(None);
@@ -233,8 +232,9 @@ fn rest_at<D: Disk>(alloc: Global, file: &mut D, at: usize) -> Result<Vec<u8>, S
     ensures clean { IsTrue (D.Disk.is_clean file.new) → IsTrue (D.Disk.is_clean file.old) }
     ensures seen { D.Disk.seen file.new ≡ D.Disk.seen file.old }
 {
-    let Ok(all) = file.len() else {
-        return Err(SegmentFault::Device);
+    let all = match file.len() {
+        Ok(all) => all,
+        Err(error) => return Err(SegmentFault::Device(error.kind())),
     };
     octets_at(alloc, file, at, all.saturating_sub(at))
 }
@@ -715,7 +715,7 @@ impl<D: Disk> Start<D> {
         ensures next { next_of self.new ≡ next_of self.old }
     {
         let FileFront::Head(head) = self.front else {
-            return Err(SegmentFault::Device);
+            return Err(SegmentFault::Device(ErrorKind::NotFound));
         };
         let text = rest_at(alloc, &mut self.newest, self.at)?;
         log_behind(alloc, &head, self.at, text)

@@ -29,7 +29,7 @@ pub struct Failed<D: Disk> {
     pub fault: SegmentFault,
 }
 
-/// A segment that is begun. Until it is finished, the first octet of its file is 0 on the disk: no
+/// A segment that is begun. Until it is finished, the first octet of its file is `-` on the disk: no
 /// start takes it for a segment.
 #[derive(Drop)]
 pub struct Writer<D: Disk> {
@@ -42,6 +42,8 @@ pub struct Writer<D: Disk> {
     sum: Sum,
     /// No write has failed.
     is_open: bool,
+    /// Why the octets that came last weren't appended.
+    fault: SegmentFault,
     ghost behind: { 87 ≤ stored },
     ghost sized: { IsTrue is_open → length (D.Disk.seen file) ≡ stored },
     ghost usable: { IsTrue is_open → IsTrue (D.Disk.is_usable file) },
@@ -75,17 +77,18 @@ impl<D: Disk> Writer<D> {
                 page: Vec::new(alloc),
                 sum: Sum::new(),
                 is_open: true,
+                fault: SegmentFault::NoMemory,
             }),
             Err(fault) => Err(Failed { file, fault }),
         }
     }
 
-    /// The file, with the segment given up. It stays shut.
-    pub fn into_file(self) -> D
-        ensures { IsShut (D.Disk.may_leave result) }
+    /// The file, with the segment given up, since octets weren't appended. It stays shut.
+    pub fn give_up(self) -> Failed<D>
+        ensures { IsShut (D.Disk.may_leave result.file) }
     {
-        let Writer { file, .. } = self;
-        file
+        let Writer { file, fault, .. } = self;
+        Failed { file, fault }
     }
 
     /// Finishes the segment: behind the text come so many blocks of 4,096 zeros, the room for the
@@ -112,9 +115,9 @@ impl<D: Disk> Writer<D> {
             page,
             sum,
             is_open,
+            fault,
         } = self;
         if !is_open {
-            let fault = SegmentFault::Device;
             return Err(Failed { file, fault });
         }
         let _sum = sum.value();
@@ -324,7 +327,10 @@ impl<D: Disk> Writer<D> {
                 self.is_open = true;
                 Ok(())
             }
-            Err(_) => Err(StateFault::Device),
+            Err(fault) => {
+                self.fault = fault;
+                Err(StateFault::Device)
+            }
         }
     }
 

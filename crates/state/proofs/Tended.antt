@@ -3,6 +3,7 @@ use Rattle.std.proofs.Common.{◌≡◌, ◌∙◌, ◌⊎◌, ◌<◌, ◌≤�
 use Rattle.std.proofs.Common.{Option}
 use Rattle.std.proofs.Common.{sym, ap, subst, inl, inr}
 use Rattle.std.proofs.lemmas.Bool.{le-ltb, lt-ltb}
+use Rattle.std.specs.declared.io.ErrorKind.{ErrorKind}
 use Rattle.gateway.specs.Log.{Log}
 use Rattle.gateway.specs.State.{State}
 use Rattle.live.specs.declared.watched.Notice.{Notice}
@@ -50,13 +51,14 @@ module _ {E : Type 0} (log : E → Option Log) (deeds : E → Deeds) (old new : 
 
 -- What is remembered behind a look
 
-asked_by : (l m : Bool) (p q after : Patience) (notice : Option Notice) → notice ≡ notice_of l p
-    → after ≡ after_notice notice p → l ≡ m → p ≡ q
-    → (notice ≡ notice_of m q) × (after ≡ after_notice (notice_of m q) q)
-asked_by l m p q after notice told then same is =
-    let so : notice ≡ notice_of m q =
-    told ∙ (ap (λ b. notice_of b p) same ∙ ap (λ r. notice_of m r) is) in
-    (so, then ∙ (ap (λ n. after_notice n p) so ∙ ap (λ r. after_notice (notice_of m q) r) is))
+asked_by : (l m : Bool) (cause : Option ErrorKind) (p q after : Patience) (notice : Option Notice)
+    → notice ≡ notice_of l cause p → after ≡ after_notice notice p → l ≡ m → p ≡ q
+    → (notice ≡ notice_of m cause q) × (after ≡ after_notice (notice_of m cause q) q)
+asked_by l m cause p q after notice told then same is =
+    let so : notice ≡ notice_of m cause q =
+    told ∙ (ap (λ b. notice_of b cause p) same ∙ ap (λ r. notice_of m cause r) is) in
+    (so, then ∙ (ap (λ n. after_notice n p) so
+    ∙ ap (λ r. after_notice (notice_of m cause q) r) is))
 
 module _ {E : Type 0} (log : E → Option Log) (deeds : E → Deeds) (old new : Keeping E)
     (state : State) (notice : Option Notice) (calls : List Call)
@@ -77,16 +79,16 @@ module _ {E : Type 0} (log : E → Option Log) (deeds : E → Deeds) (old new : 
     by_tries : (tended.looked ≡ old)
         ⊎ (tended.looked.patience ≡ after_try (is_lost tended.looked.standing) old.patience)
         → ((deeds new.ends ≡ deeds old.ends)
-        × (notice ≡ notice_of (is_lost new.standing) (patience_behind calls))
-        × (new.patience ≡ patience_behind (Asked (is_lost new.standing) ∷ calls)))
-        ⊎ ((notice ≡ notice_of (is_lost new.standing)
+        × (notice ≡ notice_of (is_lost new.standing) tended.cause (patience_behind calls))
+        × (new.patience ≡ patience_behind (Asked (is_lost new.standing) tended.cause ∷ calls)))
+        ⊎ ((notice ≡ notice_of (is_lost new.standing) tended.cause
         (patience_behind (Tried (is_lost new.standing) ∷ calls)))
-        × (new.patience ≡ patience_behind (Asked (is_lost new.standing)
+        × (new.patience ≡ patience_behind (Asked (is_lost new.standing) tended.cause
         ∷ (Tried (is_lost new.standing) ∷ calls))))
     by_tries (inl is) =
         let before : tended.looked.patience ≡ patience_behind calls =
         ap (λ (k : Keeping E). k.patience) is ∙ was in
-        let here = asked_by (is_lost tended.looked.standing) (is_lost new.standing)
+        let here = asked_by (is_lost tended.looked.standing) (is_lost new.standing) tended.cause
         tended.looked.patience (patience_behind calls) new.patience notice tended.logs left stands
         before in
         inl (untouched is, here.0, here.1)
@@ -95,15 +97,15 @@ module _ {E : Type 0} (log : E → Option Log) (deeds : E → Deeds) (old new : 
         ≡ patience_behind (Tried (is_lost new.standing) ∷ calls) =
         tried ∙ (ap (λ b. after_try b old.patience) stands
         ∙ ap (λ p. after_try (is_lost new.standing) p) was) in
-        inr (asked_by (is_lost tended.looked.standing) (is_lost new.standing)
+        inr (asked_by (is_lost tended.looked.standing) (is_lost new.standing) tended.cause
         tended.looked.patience (patience_behind (Tried (is_lost new.standing) ∷ calls))
         new.patience notice tended.logs left stands before)
 
-    pub remembered : ((deeds new.ends ≡ deeds old.ends)
-        × (notice ≡ notice_of (is_lost new.standing) (patience_behind calls))
-        × (new.patience ≡ patience_behind (Asked (is_lost new.standing) ∷ calls)))
-        ⊎ ((notice ≡ notice_of (is_lost new.standing)
+    pub remembered : (cause : Option ErrorKind) × (((deeds new.ends ≡ deeds old.ends)
+        × (notice ≡ notice_of (is_lost new.standing) cause (patience_behind calls))
+        × (new.patience ≡ patience_behind (Asked (is_lost new.standing) cause ∷ calls)))
+        ⊎ ((notice ≡ notice_of (is_lost new.standing) cause
         (patience_behind (Tried (is_lost new.standing) ∷ calls)))
-        × (new.patience ≡ patience_behind (Asked (is_lost new.standing)
-        ∷ (Tried (is_lost new.standing) ∷ calls))))
-    remembered = by_tries tended.looks.tried
+        × (new.patience ≡ patience_behind (Asked (is_lost new.standing) cause
+        ∷ (Tried (is_lost new.standing) ∷ calls)))))
+    remembered = (tended.cause, by_tries tended.looks.tried)

@@ -1,6 +1,7 @@
 -- What a keeper is to its callers (profile).
 use Rattle.std.specs.Prelude.{◌≡◌, ◌⊎◌, ℕ, ◌<◌, ◌^◌, Bool, true, false, List, Option, Some, nat_lt}
 use Rattle.std.specs.Prelude.{if◌then◌else◌}
+use Rattle.std.specs.declared.io.ErrorKind.{ErrorKind}
 use Rattle.gateway.specs.Log.{Log}
 use Rattle.gateway.specs.State.{State}
 use Rattle.live.specs.declared.watched.Failure.{Failure}
@@ -77,7 +78,8 @@ pub record HasTended {E : Type 0} (log : E → Option Log) (deeds : E → Deeds)
   pub passed : HasPassed (log old.ends) (deeds old.ends)
   pub looked : Keeping E
   pub looks : HasLooked deeds old state looked
-  pub logs : notice ≡ notice_of (is_lost looked.standing) looked.patience
+  pub cause : Option ErrorKind
+  pub logs : notice ≡ notice_of (is_lost looked.standing) cause looked.patience
   pub after : new ≡ record looked { patience = after_notice notice looked.patience }
 
 -- What has failed, if the run was stopped so often since its store had failed: the state, and else

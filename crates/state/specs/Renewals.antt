@@ -4,6 +4,7 @@ use Rattle.std.specs.Prelude.{Option}
 use Rattle.std.specs.Prelude.{Some, None, [], ◌∷◌}
 use Rattle.gateway.specs.Log.{Log}
 use Rattle.state.specs.Deeds.{moment_of}
+use Rattle.std.specs.declared.io.ErrorKind.{ErrorKind}
 use Rattle.live.specs.declared.watched.Notice.{Notice}
 use Rattle.live.specs.declared.watched.Notice.TheVariants.{NotKept, KeptAgain}
 use Rattle.state.specs.declared.renewal.Patience.{Patience}
@@ -33,12 +34,14 @@ abbrev pub again : Option ℕ → Option Notice
 again None = None
 again (Some logged) = Some KeptAgain
 
--- that the state isn't kept is reported at once and then each minute; that it is kept again, once
-abbrev pub notice_of : (is_given_up : Bool) → Patience → Option Notice
-notice_of true p = if has_passed 60000 p.logged p.moment then Some NotKept else None
-notice_of false p = again p.logged
+-- that the state isn't kept is reported at once and then each minute, with this cause; that it is
+-- kept again, once
+abbrev pub notice_of : (is_given_up : Bool) → (cause : Option ErrorKind) → Patience → Option Notice
+notice_of true cause p =
+    if has_passed 60000 p.logged p.moment then Some (NotKept cause) else None
+notice_of false cause p = again p.logged
 
 abbrev pub after_notice : Option Notice → Patience → Patience
 after_notice None p = p
-after_notice (Some NotKept) p = record p { logged = Some p.moment }
+after_notice (Some (NotKept cause)) p = record p { logged = Some p.moment }
 after_notice (Some KeptAgain) p = record p { logged = None }

@@ -1,6 +1,6 @@
 //! What a run begins with.
 ghost use Rattle.std.specs.Prelude.{◌≡◌, ◌⊎◌, ◌∷◌, ℕ, List, None, Ok, Option, Some, IfErr, IfOk};
-ghost use Rattle.std.specs.Prelude.{IfSome, IsTrue};
+ghost use Rattle.std.specs.Prelude.{IfSome, IsTrue, OnOk};
 ghost use Rattle.std.specs.Prelude.{true, false};
 ghost use Rattle.std.specs.Option.{is_some};
 ghost use Rattle.segments.specs.Found.{AreClean, begins_at, damage_of, events_in, newest_in};
@@ -119,7 +119,8 @@ impl From<StateFault> for FolderFault {
 impl From<SegmentFault> for FolderFault {
     fn from(fault: SegmentFault) -> FolderFault {
         match fault {
-            SegmentFault::Full | SegmentFault::Device => UNREAD,
+            SegmentFault::Full => UNREAD,
+            SegmentFault::Device(cause) => FolderFault::Unusable("segments", cause),
             SegmentFault::NoMemory => FolderFault::NoMemory,
         }
     }
@@ -207,7 +208,7 @@ pub(crate) fn lines_of<D: Disk + Drop>(
             damage,
         }),
         Err(SegmentFault::NoMemory) => Err(StateFault::NoMemory),
-        Err(SegmentFault::Full | SegmentFault::Device) => Err(StateFault::Device),
+        Err(SegmentFault::Full | SegmentFault::Device(_)) => Err(StateFault::Device),
     }
 }
 
@@ -518,6 +519,22 @@ fn resume<K: Lineage, D: Disk + Drop, F: Folder>(
     move_on(alloc, config, &wrote, resumed, true)
 }
 
+/// Marks a state as stale, unless it is. The next log goes into the file that is doubted: a start
+/// that is ended before it stands must leave what the next one needs to know.
+fn mark<F: Folder>(folder: &mut F, is_stale: bool) -> Result<(), FolderFault>
+    requires locked { F.is_locked folder.old ≡ true }
+    requires known { F.mark folder.old ≡ Some is_stale }
+    ensures mark { OnOk result (F.mark folder.new ≡ Some true) }
+    ensures stays { F.is_locked folder.new ≡ true }
+    ensures lineage { F.lineage folder.new ≡ F.lineage folder.old }
+{
+    if is_stale || folder.mark_stale() {
+        Ok(())
+    } else {
+        Err(UNMARKED)
+    }
+}
+
 /// Begins a run: with the state that the directory has, or anew. `text` is the file of settings
 /// that `config` was read from, and stands at the head of the next log. An `Err` says that the
 /// directory can't be used.
@@ -559,7 +576,10 @@ pub fn begin<F: Folder + Drop>(
             let (newest, other) = start.into_files();
             put_aside(alloc, config, settings, folder, newest, other)
         }
-        Beginning::LinksReset => carry_on(alloc, config, settings, folder, start, false),
+        Beginning::LinksReset => {
+            mark(&mut folder, is_stale)?;
+            carry_on(alloc, config, settings, folder, start, false)
+        }
         Beginning::GoesOn => carry_on(alloc, config, settings, folder, start, true),
     }
 }

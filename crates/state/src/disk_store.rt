@@ -17,7 +17,7 @@ ghost use Rattle.state.specs.Lines.{IsRefusedBy, longest_line, seal_octets};
 ghost use Rattle.state.specs.Logs.{AreAmid, AreFilesOf, HasFreshLog, IsOneOf, WasOpen};
 ghost use Rattle.statetext.specs.Text.{lines_in};
 
-use crate::folder::Folder;
+use crate::folder::{Folder, FolderFault};
 use crate::loss::{Loss, StoreFault};
 use crate::opened::{Current, Opened};
 use crate::store::Store;
@@ -29,6 +29,7 @@ use segments::{
 use sqlite_disk::{Disk, Files};
 use statetext::TextSheet;
 use std::alloc::Global;
+use std::io::ErrorKind;
 use std::mem;
 
 /// How many octets the seal of a write has.
@@ -50,6 +51,8 @@ pub struct DiskStore<F: Folder + Drop> {
     number: u64,
     /// It is known that no mark stands on the disk.
     is_unmarked: bool,
+    /// What the system said of the latest call that failed, since a segment was begun last.
+    cause: Option<ErrorKind>,
     ghost unmarked: { IsTrue is_unmarked → F.mark folder ≡ Some false },
     ghost locked: { F.is_locked folder ≡ true },
 }
@@ -78,6 +81,7 @@ impl<F: Folder + Drop> DiskStore<F> {
             opened: Opened::Neither,
             number,
             is_unmarked: false,
+            cause: None,
         }
     }
 
@@ -95,6 +99,7 @@ impl<F: Folder + Drop> DiskStore<F> {
             opened: _,
             number,
             is_unmarked,
+            cause,
         } = self;
         DiskStore {
             alloc,
@@ -103,6 +108,7 @@ impl<F: Folder + Drop> DiskStore<F> {
             opened: Opened::Both(newest, spare),
             number,
             is_unmarked,
+            cause,
         }
     }
 
@@ -130,7 +136,10 @@ impl<F: Folder + Drop> DiskStore<F> {
     {
         match self.folder.open() {
             Ok(Files { log, db }) => in_order(self.alloc, log, db, self.number),
-            Err(_) => None,
+            Err(fault) => {
+                self.cause = cause_of(fault);
+                None
+            }
         }
     }
 
@@ -214,7 +223,8 @@ impl<F: Folder + Drop> DiskStore<F> {
         );
         let segment = match segment {
             Ok(segment) => segment,
-            Err(spare) => {
+            Err(Failed { file: spare, fault }) => {
+                self.cause = cause_of(FolderFault::from(fault));
                 self.opened = Opened::Both(newest, spare);
                 return false;
             }
@@ -229,6 +239,7 @@ impl<F: Folder + Drop> DiskStore<F> {
             spare,
         };
         self.opened = Opened::Current(current);
+        self.cause = None;
         self.unmark()
     }
 
@@ -459,6 +470,15 @@ fn put_head<S: Sheet>(
     gateway.put_state(sheet, &mut line)
 }
 
+/// What the system said, where a directory can't be used, if it said anything.
+fn cause_of(fault: FolderFault) -> Option<ErrorKind> {
+    match fault {
+        FolderFault::InUse | FolderFault::Unusable(_, ErrorKind::Other) => None,
+        FolderFault::Unusable(_, cause) => Some(cause),
+        FolderFault::NoMemory => Some(ErrorKind::OutOfMemory),
+    }
+}
+
 /// A segment that is begun, with this head. An `Err` gives the file back, which is shut.
 #[tactic(auto, using(crate::proofs::LogLemmas::lines_put))]
 fn with_head<D: Disk + Drop>(
@@ -466,17 +486,17 @@ fn with_head<D: Disk + Drop>(
     writer: Writer<D>,
     settings: &[u8],
     gateway: &Gateway,
-) -> Result<Writer<D>, D>
+) -> Result<Writer<D>, Failed<D>>
     requires { appended_to writer ≡ [] }
     ensures head { IfOk result (λ w. lines_in (appended_to w)
         ≡ settings.now ∷ state_lines gateway.now) }
     ensures savable { IsBetweenSteps gateway.now → OnOk result (IsSavable gateway.now) }
-    ensures shut { IfErr result (λ file. IsShut (D.Disk.may_leave file)) }
+    ensures shut { IfErr result (λ failed. IsShut (D.Disk.may_leave failed.file)) }
 {
     let mut sheet = TextSheet::new(alloc, writer);
     match put_head(alloc, &mut sheet, settings, gateway) {
         Ok(()) => Ok(sheet.into_octets()),
-        Err(_) => Err(sheet.into_octets().into_file()),
+        Err(_) => Err(sheet.into_octets().give_up()),
     }
 }
 
@@ -490,7 +510,7 @@ fn write_segment<D: Disk + Drop>(
     blocks: usize,
     settings: &[u8],
     gateway: &Gateway,
-) -> Result<Segment<D>, D>
+) -> Result<Segment<D>, Failed<D>>
     requires usable { IsTrue (D.Disk.is_usable spare) }
     requires backed { IsTrue (D.Disk.is_clean newest.now) → IsTrue (D.Disk.is_clean spare) →
         StaysBacked (D.Disk.may_leave newest.now) (D.Disk.seen spare) }
@@ -504,25 +524,26 @@ fn write_segment<D: Disk + Drop>(
     ensures room { IfOk result (λ s. size_of s ≡ octets_of s + blocks * 4096) }
     ensures fresh { IfOk result (λ s. AreMixing D.Disk → (file : List ℕ) → outcomes_of s file →
         HasFreshLog number settings.now (state_lines gateway.now) file) }
-    ensures amid { IfErr result (λ file. AreMixing D.Disk → AreAmid (D.Disk.may_leave spare)
-        number settings.now (state_lines gateway.now) (D.Disk.may_leave file)) }
+    ensures amid { IfErr result (λ failed. AreMixing D.Disk → AreAmid (D.Disk.may_leave spare)
+        number settings.now (state_lines gateway.now) (D.Disk.may_leave failed.file)) }
 {
-    let writer = match Writer::begin(alloc, spare, newest) {
-        Ok(writer) => writer,
-        Err(Failed { file, fault: _ }) => return Err(file),
-    };
+    let writer = Writer::begin(alloc, spare, newest)?;
     let writer = with_head(alloc, writer, settings, gateway)?;
     match writer.finish(alloc, number, blocks) {
         Ok(segment) => {
             segment.survives();
             Ok(segment)
         }
-        Err(Failed { file, fault: _ }) => Err(file),
+        Err(failed) => Err(failed),
     }
 }
 
-/// Appends a line to a log.
-fn append_to<D: Disk + Drop>(current: &mut Current<D>, lines: &[u8]) -> Result<(), StoreFault>
+/// Appends a line to a log. If that fails, the cause is noted.
+fn append_to<D: Disk + Drop>(
+    current: &mut Current<D>,
+    lines: &[u8],
+    cause: &mut Option<ErrorKind>,
+) -> Result<(), StoreFault>
     requires { length lines.now ≤ longest_line }
     ensures held { OnOk result (open_of current.new.segment
         ≡ open_of current.old.segment ++ lines.now) }
@@ -539,12 +560,15 @@ fn append_to<D: Disk + Drop>(current: &mut Current<D>, lines: &[u8]) -> Result<(
     current.segment.survives();
     match current.segment.append(lines) {
         Ok(()) => Ok(()),
-        Err(fault) => Err(refusal(fault)),
+        Err(fault) => {
+            *cause = cause_of(FolderFault::from(fault));
+            Err(refusal(fault))
+        }
     }
 }
 
-/// Seals and syncs what was appended to a log. `false` says that it failed.
-fn sync_to<D: Disk + Drop>(current: &mut Current<D>) -> bool
+/// Seals and syncs what was appended to a log. `false` says that it failed: the cause is noted.
+fn sync_to<D: Disk + Drop>(current: &mut Current<D>, cause: &mut Option<ErrorKind>) -> bool
     ensures synced { result ≡ true → concat (writes_of current.new.segment)
         ≡ concat (writes_of current.old.segment) ++ open_of current.old.segment }
     ensures held { result ≡ true → open_of current.new.segment ≡ [] }
@@ -555,7 +579,13 @@ fn sync_to<D: Disk + Drop>(current: &mut Current<D>) -> bool
         return false;
     };
     current.octets = octets;
-    current.segment.sync().is_ok()
+    match current.segment.sync() {
+        Ok(()) => true,
+        Err(fault) => {
+            *cause = cause_of(FolderFault::from(fault));
+            false
+        }
+    }
 }
 
 /// Why a line isn't appended.
@@ -565,7 +595,7 @@ fn refusal(fault: SegmentFault) -> StoreFault
 {
     match fault {
         SegmentFault::Full => StoreFault::Full,
-        SegmentFault::Device | SegmentFault::NoMemory => StoreFault::Failed,
+        SegmentFault::Device(_) | SegmentFault::NoMemory => StoreFault::Failed,
     }
 }
 
@@ -587,14 +617,14 @@ impl<F: Folder + Drop> Store for DiskStore<F> {
 
     fn append(&mut self, lines: &[u8]) -> Result<(), StoreFault> {
         match &mut self.opened {
-            Opened::Current(current) => append_to(current, lines),
+            Opened::Current(current) => append_to(current, lines, &mut self.cause),
             Opened::Neither | Opened::Both(..) => Err(StoreFault::Failed),
         }
     }
 
     fn sync(&mut self) -> bool {
         match &mut self.opened {
-            Opened::Current(current) => sync_to(current),
+            Opened::Current(current) => sync_to(current, &mut self.cause),
             Opened::Neither | Opened::Both(..) => false,
         }
     }
@@ -651,5 +681,9 @@ impl<F: Folder + Drop> Store for DiskStore<F> {
         } else {
             Loss::Unmarked
         }
+    }
+
+    fn cause(&self) -> Option<ErrorKind> {
+        self.cause
     }
 }

@@ -3,6 +3,7 @@
 use crate::loss::{Loss, StoreFault};
 use gateway::{Action, Gateway, Next};
 use live::EndsSight;
+use std::io::ErrorKind;
 
 /// A port and a store, with one history of what is done at both.
 pub trait Ends {
@@ -108,4 +109,7 @@ pub trait Ends {
             (λ loss. deeds self.new ≡ GivenUp StoreFault.Failed loss ∷ deeds self.old) }
         ensures savable { IsBetweenSteps gateway.now → OnOk result (IsSavable gateway.now) }
         ensures port { IsPortLeft log failed ended script self.old self.new };
+
+    /// Why the store has failed, as far as the system said it.
+    fn cause(&self) -> Option<ErrorKind>;
 }

@@ -89,6 +89,7 @@ pub trait Folder {
         requires { is_locked self.old ≡ true }
         ensures mark { result ≡ true → mark self.new ≡ Some true }
         ensures refused { result ≡ false → refused self.new }
+        ensures lineage { lineage self.new ≡ lineage self.old }
         ensures stays { is_locked self.new ≡ true };
 
     /// Takes the mark away, on the disk, when a log stands whole that isn't stale. `false`: it

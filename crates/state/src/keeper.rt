@@ -1,7 +1,8 @@
 //! A port whose events are kept on a disk before anything goes out on them.
 ghost use Rattle.std.specs.Prelude.{◌≡◌, ◌+◌, ◌<◌, ◌≤◌, ◌∷◌, [], ◌++◌, ◌⊎◌, true, false};
-ghost use Rattle.std.specs.Prelude.{IfSome, None, if◌then◌else◌, nat_lt};
+ghost use Rattle.std.specs.Prelude.{IfSome, None, Option, if◌then◌else◌, nat_lt};
 ghost use Rattle.std.specs.Option.{is_some};
+ghost use Rattle.std.specs.declared.io.ErrorKind.{ErrorKind};
 ghost use Rattle.gateway.specs.Log.{Went, with_news};
 ghost use Rattle.gateway.specs.Ports.{FitsBuffer, faults_of, output_of, logged_by};
 ghost use Rattle.gateway.specs.declared.ports.Next.TheVariants.{Done, Fault};
@@ -150,12 +151,14 @@ impl<E: Ends + Drop> Keeper<E> {
     /// What is to be reported of the state now, if anything: that it isn't kept, at once and each
     /// minute, and that it is kept again.
     pub fn notice(&mut self) -> Option<Notice>
-        ensures notice { result ≡ notice_of (is_lost self.old.standing) self.old.patience }
+        ensures notice { (cause : Option ErrorKind) ×
+            (result ≡ notice_of (is_lost self.old.standing) cause self.old.patience) }
         ensures after { self.new
             ≡ record self.old { patience = after_notice result self.old.patience } }
     {
+        let cause = self.ends.cause();
         self.patience
-            .notice(matches!(self.standing, Standing::Lost(_)))
+            .notice(matches!(self.standing, Standing::Lost(_)), cause)
     }
 
     /// How far the received events are on the disk.

@@ -27,6 +27,7 @@ ghost use Rattle.state.specs.Beginnings.{IsReadWhole, has_past};
 ghost use Rattle.state.specs.Crashed.{AreLeft, HasLog, IsKeptIn};
 ghost use Rattle.live.specs.declared.watched.Failure.{Failure};
 ghost use Rattle.live.specs.declared.watched.Notice.{Notice};
+ghost use Rattle.std.specs.declared.io.ErrorKind.{ErrorKind};
 ghost use Rattle.live.specs.declared.watched.Notice.TheVariants.{NotKept, KeptAgain};
 ghost use Rattle.state.specs.Deeds.{AreRight, Deeds, GivenUp, IsAllOnDisk, IsSafe, PutOut};
 ghost use Rattle.state.specs.Deeds.{Appended, Begun, Received, Synced, appended, arrived, is_kept};
@@ -141,28 +142,30 @@ pub fn a_log_that_could_not_be_begun_is_tried_each_ten_seconds()
 {}
 
 /// That the state isn't kept is reported at once, then as soon as a minute has passed, and never
-/// within one. That it is kept again is reported once, if the other was: nothing else is reported.
-/// It is said by what was reported before, over all calls on a keeper.
+/// within one, each time with the cause of then. That it is kept again is reported once, if the
+/// other was: nothing else is reported. It is said by what was reported before, over all calls on a
+/// keeper.
 pub fn a_loss_is_reported_each_minute_until_it_is_over()
-    ensures first { (calls : List Call) → told calls ≡ [] →
-        notice_of true (patience_behind calls) ≡ Some NotKept }
-    ensures anew { (calls : List Call) (since : ℕ) (earlier : List (ℕ × Notice)) →
-        told calls ≡ (since, KeptAgain) ∷ earlier →
-        notice_of true (patience_behind calls) ≡ Some NotKept }
-    ensures later { (calls : List Call) (since : ℕ) (earlier : List (ℕ × Notice)) →
-        told calls ≡ (since, NotKept) ∷ earlier → since + 60000 ≤ latest calls →
-        notice_of true (patience_behind calls) ≡ Some NotKept }
-    ensures within { (calls : List Call) (since : ℕ) (earlier : List (ℕ × Notice)) →
-        told calls ≡ (since, NotKept) ∷ earlier → latest calls < since + 60000 →
-        notice_of true (patience_behind calls) ≡ None }
-    ensures over { (calls : List Call) (since : ℕ) (earlier : List (ℕ × Notice)) →
-        told calls ≡ (since, NotKept) ∷ earlier →
-        notice_of false (patience_behind calls) ≡ Some KeptAgain }
-    ensures silent { (calls : List Call) → told calls ≡ [] →
-        notice_of false (patience_behind calls) ≡ None }
-    ensures once { (calls : List Call) (since : ℕ) (earlier : List (ℕ × Notice)) →
-        told calls ≡ (since, KeptAgain) ∷ earlier →
-        notice_of false (patience_behind calls) ≡ None }
+    ensures first { (calls : List Call) (why : Option ErrorKind) → told calls ≡ [] →
+        notice_of true why (patience_behind calls) ≡ Some (NotKept why) }
+    ensures anew { (calls : List Call) (why : Option ErrorKind) (since : ℕ)
+        (earlier : List (ℕ × Notice)) → told calls ≡ (since, KeptAgain) ∷ earlier →
+        notice_of true why (patience_behind calls) ≡ Some (NotKept why) }
+    ensures later { (calls : List Call) (why cause : Option ErrorKind) (since : ℕ)
+        (earlier : List (ℕ × Notice)) → told calls ≡ (since, NotKept cause) ∷ earlier →
+        since + 60000 ≤ latest calls →
+        notice_of true why (patience_behind calls) ≡ Some (NotKept why) }
+    ensures within { (calls : List Call) (why cause : Option ErrorKind) (since : ℕ)
+        (earlier : List (ℕ × Notice)) → told calls ≡ (since, NotKept cause) ∷ earlier →
+        latest calls < since + 60000 → notice_of true why (patience_behind calls) ≡ None }
+    ensures over { (calls : List Call) (why cause : Option ErrorKind) (since : ℕ)
+        (earlier : List (ℕ × Notice)) → told calls ≡ (since, NotKept cause) ∷ earlier →
+        notice_of false why (patience_behind calls) ≡ Some KeptAgain }
+    ensures silent { (calls : List Call) (why : Option ErrorKind) → told calls ≡ [] →
+        notice_of false why (patience_behind calls) ≡ None }
+    ensures once { (calls : List Call) (why : Option ErrorKind) (since : ℕ)
+        (earlier : List (ℕ × Notice)) → told calls ≡ (since, KeptAgain) ∷ earlier →
+        notice_of false why (patience_behind calls) ≡ None }
 {}
 
 /// What a keeper remembers is that of the calls on it, over which the two laws above say when a new
@@ -172,13 +175,13 @@ pub fn a_keeper_remembers_what_it_tried_and_reported<E: Ends + Drop>()
     ensures { (old new : Keeping E) (state : State) (notice : Option Notice)
         (calls : List Call) → HasTended E.log E.deeds old state new notice →
         old.patience ≡ patience_behind calls →
-        ((E.deeds new.ends ≡ E.deeds old.ends)
-        × (notice ≡ notice_of (is_lost new.standing) (patience_behind calls))
-        × (new.patience ≡ patience_behind (Asked (is_lost new.standing) ∷ calls)))
-        ⊎ ((notice ≡ notice_of (is_lost new.standing)
+        (cause : Option ErrorKind) × (((E.deeds new.ends ≡ E.deeds old.ends)
+        × (notice ≡ notice_of (is_lost new.standing) cause (patience_behind calls))
+        × (new.patience ≡ patience_behind (Asked (is_lost new.standing) cause ∷ calls)))
+        ⊎ ((notice ≡ notice_of (is_lost new.standing) cause
         (patience_behind (Tried (is_lost new.standing) ∷ calls)))
-        × (new.patience ≡ patience_behind (Asked (is_lost new.standing)
-        ∷ (Tried (is_lost new.standing) ∷ calls)))) }
+        × (new.patience ≡ patience_behind (Asked (is_lost new.standing) cause
+        ∷ (Tried (is_lost new.standing) ∷ calls))))) }
 {}
 
 /// What becomes of a run whose store has failed, case by case. It goes on if the loss is borne and
@@ -329,7 +332,7 @@ pub fn what_stands_is_not_passed_over<D: Disk + Drop>()
     ensures anew { (c : Settings) (log : Log) (mark : Option Bool)
         (newest other : D) (o : Origin) → BeginsOver D.Disk c log mark newest other o →
         o.beginning ≡ Beginning.Anew → (file : D) → (file ≡ newest) ⊎ (file ≡ other) →
-        (length (D.Disk.seen file) < 2) ⊎ (slice_index (D.Disk.seen file) 0 ≡ 0) }
+        (length (D.Disk.seen file) < 2) ⊎ (slice_index (D.Disk.seen file) 0 ≡ 45) }
     ensures links { (c : Settings) (log : Log) (newest other : D) (o : Origin) →
         BeginsOver D.Disk c log (Some false) newest other o →
         IsShut (D.Disk.seen other) ⊎ ((own head : SegmentHead) × Fits own × Fits head ×

@@ -109,7 +109,7 @@ fn failed(fault: SegmentFault) -> StateFault
 {
     match fault {
         SegmentFault::NoMemory => StateFault::NoMemory,
-        SegmentFault::Full | SegmentFault::Device => StateFault::Device,
+        SegmentFault::Full | SegmentFault::Device(_) => StateFault::Device,
     }
 }
 

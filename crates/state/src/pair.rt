@@ -18,6 +18,7 @@ use gateway::{Action, Gateway, LAST_MOMENT, Next};
 use live::{EndsSight, SlowSyncs, Timed, Watched};
 use segments::row_with_room;
 use std::alloc::{AllocError, Global};
+use std::io::ErrorKind;
 use std::marker::Model;
 use traces::{Moment, Page, print_event};
 
@@ -276,5 +277,9 @@ impl<P: Watched + Timed + Drop, S: Store + Drop> Ends for Pair<P, S> {
         let loss = self.store.give_up();
         self.trail = self.trail.with(&Done::GivenUp(StoreFault::Failed, loss));
         Err(loss)
+    }
+
+    fn cause(&self) -> Option<ErrorKind> {
+        self.store.cause()
     }
 }

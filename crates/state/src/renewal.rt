@@ -7,6 +7,7 @@ ghost use Rattle.gateway.specs.Ports.{logged_by};
 
 use gateway::Next;
 use live::Notice;
+use std::io::ErrorKind;
 
 /// How many octets of events a log has at most before a new one is begun. Two logs stay below twice
 /// a checkpoint and 8,000,000 octets by that.
@@ -74,9 +75,10 @@ impl Patience {
         has_passed(RETRY_MS, self.tried, self.moment)
     }
 
-    /// What is to be reported now, if anything.
-    pub fn notice(&mut self, is_given_up: bool) -> Option<Notice>
-        ensures notice { result ≡ notice_of is_given_up self.old }
+    /// What is to be reported now, if anything: that the state isn't kept, for this cause, or that it
+    /// is kept again.
+    pub fn notice(&mut self, is_given_up: bool, cause: Option<ErrorKind>) -> Option<Notice>
+        ensures notice { result ≡ notice_of is_given_up cause self.old }
         ensures after { self.new ≡ after_notice result self.old }
     {
         if is_given_up {
@@ -84,7 +86,7 @@ impl Patience {
                 return None;
             }
             self.logged = Some(self.moment);
-            return Some(Notice::NotKept);
+            return Some(Notice::NotKept(cause));
         }
         match self.logged {
             None => None,

@@ -2,6 +2,7 @@
 
 use crate::loss::{Loss, StoreFault};
 use gateway::Gateway;
+use std::io::ErrorKind;
 
 /// A log of lines behind the state of a gateway. It says what it has, and what of it is on the
 /// disk.
@@ -88,4 +89,8 @@ pub trait Store {
         ensures refused { result ≡ Loss.Unmarked → refused self.new }
         ensures next { next self.new ≡ next self.old }
         ensures settings { settings self.new ≡ settings self.old };
+
+    /// What the system said of the latest call that failed, since a log was begun last, if it said
+    /// anything.
+    fn cause(&self) -> Option<ErrorKind>;
 }

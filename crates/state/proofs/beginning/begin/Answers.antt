@@ -4,15 +4,6 @@ use Rattle.state.specs.Origins.{IsBegun, IsNumbered}
 use Rattle.state.proofs.BegunLemmas.{anew_begun, numbered_from, of_four, of_two}
 use Rattle.state.proofs.beginning.begin.Goals as goal
 
-pub carry_on-requires-clause-reset : goal.carry_on-requires-clause-reset
-carry_on-requires-clause-reset g c _ =
-    elim (c.found_in.ensures.reset (sym c.in-LinksReset.ensures)) [
-      | inl stale ↦ inl (c.in_ok-is_stale.ensures.mark ∙ ap Some stale)
-      | inr doubt ↦ inr (λ clean older. let no : true ≡ false = sym doubt
-          ∙ c.in_ok-start.ensures.only clean
-          (c.found_in.ensures.past (sym c.in-LinksReset.ensures)) older in cc)
-    ]
-
 pub returns-in-Anew-clause-begun : goal.returns-in-Anew-clause-begun
 returns-in-Anew-clause-begun g c =
     let empty = c.found_in.ensures.empty (sym c.in-Anew.ensures) in
