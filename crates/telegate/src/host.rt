@@ -3,7 +3,7 @@ ghost use Rattle.std.specs.Prelude.{◌≡◌, ◌⊎◌, ℕ, Bool, List, Resul
 ghost use Rattle.sim.specs.Scenarios.{FitsScenario};
 ghost use Rattle.telegate.specs.Controlled.{HasPrinted};
 ghost use Rattle.telegate.specs.Playing.{ArePlayed};
-ghost use Rattle.telegate.specs.Ran.{HasNotBegun, IsOver};
+ghost use Rattle.telegate.specs.Ran.{HasComeAt};
 ghost use Rattle.state_files.specs.declared.looking.Stood.{Stood};
 ghost use Rattle.telegate.specs.Source.{Gives};
 ghost use Rattle.telegate.specs.Starts.{StartsIn};
@@ -12,7 +12,7 @@ ghost use Rattle.telegate.specs.declared.host.Unread.TheVariants as unread;
 ghost use Rattle.telegate.specs.declared.host.Wishes.{Wishes};
 
 use crate::controlling::{Errands, Uncontrolled, control_at};
-use crate::fault::Fault;
+use crate::fault::{Fault, RunFault};
 use crate::inquiry::ask_at;
 use crate::living::{read_live, run_out};
 use crate::playing::{play_behind, scenario_of};
@@ -25,9 +25,9 @@ use runlog::{LogNames, NamedStation};
 use settings::{LiveSettings, Names as SiteNames};
 use sim::{LineListener, Scenario};
 use sqlite_disk::Disk;
-use sqlite_std_file::File as DiskFile;
+use sqlite_std_file::FileFrom;
 use state::Folder;
-use state_files::{Directory, Stood, stood_in};
+use state_files::{Directory, Starts, Stood, stood_in};
 use std::alloc::{AllocError, Global};
 use std::fs::File;
 use std::io;
@@ -153,20 +153,22 @@ pub(crate) trait Host {
         ensures none { IfErr result (λ why. why ≡ unread.Unreadable → silent self.now place.now) };
 }
 
-/// The system of a process. Of what its files hold nothing is known, but what led to the state that
-/// a run may find, which only proofs know.
+/// The system of a process, in whose directory this stands. What led to the state that a run may
+/// find there only proofs know.
 #[derive(Drop)]
-pub(crate) struct System<'r> {
+pub(crate) struct System<'r, S: Starts> {
     pub(crate) rt: &'r HostRuntime,
     /// Whether its standard error is a terminal, and its standard output isn't.
     pub(crate) is_watched: bool,
     /// Whether standard output shows colours of itself.
     pub(crate) has_colours: bool,
-    /// What led to the state at the head of the newest log, in the directory that a run is told.
+    /// What stands in the files of the directory that a run is told.
+    pub(crate) starts: S,
+    /// What led to the state at the head of the newest log there.
     pub(crate) lineage: History,
 }
 
-impl Host for System<'_> {
+impl<S: Starts> Host for System<'_, S> {
     ghost has = { λ _ _ _. Unit {0} };
 
     ghost lacks = { λ _ _. Unit {0} };
@@ -174,7 +176,7 @@ impl Host for System<'_> {
     ghost use Rattle.telegate.specs.Ran.{HasRunBy};
 
     ghost ran = { λ old _ text wishes ended. HasRunBy (λ settings. StartsIn
-        ⟦<DiskFile as Disk>⟧ wishes settings old.lineage.entries) text wishes ended };
+        ⟦<FileFrom<S::Found> as Disk>⟧ wishes settings old.lineage.entries) text wishes ended };
 
     ghost use Rattle.telegate.specs.Playing.{ArePlayedBy};
 
@@ -223,7 +225,8 @@ impl Host for System<'_> {
 
     fn run(&mut self, config: &[u8], wishes: Wishes<'_>) -> Result<(), Fault> {
         let (settings, places) = read_live(self.rt.alloc(), config)?;
-        run_process(self, &settings, &places, config, wishes)
+        run_process(self, &settings, &places, config, wishes)?;
+        Ok(())
     }
 
     fn play(&self, config: &[u8], script: &[u8]) -> Result<(), Fault> {
@@ -284,25 +287,23 @@ fn play_at(
 
 /// Runs the gateway live with these settings and places, which were read from this text, in a
 /// process of this system.
-// A process isn't generic over what stands in its files: beside a fault that borrows for the whole
-// life of a process the borrow checker covers no call with such a site.
-fn run_process(
-    system: &System<'_>,
+fn run_process<S: Starts>(
+    system: &System<'_, S>,
     settings: &Config,
     places: &LiveSettings,
     text: &[u8],
     wishes: Wishes<'_>,
-) -> Result<(), Fault>
-    ensures { HasNotBegun result ⊎ IsOver (StartsIn ⟦<DiskFile as Disk>⟧ wishes.entry settings.now
+) -> Result<(), RunFault>
+    ensures { HasComeAt (StartsIn ⟦<FileFrom<S::Found> as Disk>⟧ wishes.entry settings.now
         system.now.lineage.entries) settings.now places.now wishes.entry result }
 {
     let rt = system.rt;
     let Ok(stations) = names_of(rt.alloc(), wishes.names) else {
-        return Err(Fault::NoMemory);
+        return Err(RunFault::NoMemory);
     };
     // Held until the run is over.
     let Ok(_held) = standard_descriptors(rt) else {
-        return Err(Fault::EndUnusable);
+        return Err(RunFault::EndUnusable);
     };
     let names = named_by(wishes.names, stations.as_slice());
     let mut site = process_of(system, places, names, wishes.log_severity);
@@ -310,12 +311,12 @@ fn run_process(
 }
 
 /// A process of this system with these settings, names and form of its log.
-fn process_of<'a>(
-    system: &System<'a>,
+fn process_of<'a, S: Starts>(
+    system: &System<'a, S>,
     places: &'a LiveSettings,
     names: LogNames<'a>,
     has_severity: bool,
-) -> Process<'a>
+) -> Process<'a, S>
     ensures severity { result.has_severity ≡ has_severity }
     ensures places { result.places.now ≡ places.now }
     ensures lineage { result.lineage.entries ≡ system.now.lineage.entries }
@@ -325,6 +326,7 @@ fn process_of<'a>(
         places,
         names,
         has_severity,
+        starts: system.starts,
         lineage: system.lineage.again(),
     }
 }

@@ -5,7 +5,7 @@ ghost use Rattle.live.specs.OctetStreams.{IsNew};
 ghost use Rattle.telegate.specs.Lines.{is_again, of_line};
 ghost use Rattle.telegate.specs.Logged.{fault_of};
 
-use crate::fault::Fault;
+use crate::fault::RunFault;
 use crate::mounts::is_on_btrfs;
 use gateway::History;
 use live::{
@@ -15,7 +15,6 @@ use live::{
 use record::{RecordSheet, StandardOutput};
 use runlog::{LogNames, LogSink, StandardError, Trouble};
 use settings::LiveSettings;
-use sqlite_std_file::Unknown;
 use state::Folder;
 use state_files::{Directory, Starts, mark_beside};
 use status::VisitorListener;
@@ -33,14 +32,14 @@ pub(crate) struct EndRefusal {
     pub(crate) is_memory: bool,
 }
 
-impl From<EndRefusal> for Fault {
+impl From<EndRefusal> for RunFault {
     ghost from_gives = { λ refusal fault. fault ≡ fault_of refusal.is_memory };
 
-    fn from(refusal: EndRefusal) -> Fault {
+    fn from(refusal: EndRefusal) -> RunFault {
         if refusal.is_memory {
-            Fault::NoMemory
+            RunFault::NoMemory
         } else {
-            Fault::EndUnusable
+            RunFault::EndUnusable
         }
     }
 }
@@ -142,28 +141,18 @@ pub(crate) trait RunSite {
         ensures asked { asked self.new ≡ asked self.old };
 }
 
-/// What stands in the files of a state, of which nothing is supposed.
-#[derive(Clone, Copy)]
-pub(crate) struct AsTheyStand;
-
-impl Starts for AsTheyStand {
-    type Found = Unknown;
-
-    fn found(self) -> Unknown {
-        Unknown
-    }
-}
-
 /// The ends that a process has at these places.
 #[derive(Drop)]
-pub(crate) struct Process<'r> {
+pub(crate) struct Process<'r, S: Starts> {
     pub(crate) rt: &'r HostRuntime,
     pub(crate) places: &'r LiveSettings,
     /// What the line and the stations are called.
     pub(crate) names: LogNames<'r>,
     /// Each line of the log begins with how severe it is.
     pub(crate) has_severity: bool,
-    /// What led to the state at the head of the newest log in its directory.
+    /// What stands in the files of its directory.
+    pub(crate) starts: S,
+    /// What led to the state at the head of the newest log there.
     pub(crate) lineage: History,
 }
 
@@ -220,14 +209,14 @@ impl<L: Reached, A: Reached> Reached for ProcessLine<L, A> {
     }
 }
 
-impl<'r> RunSite for Process<'r> {
+impl<'r, S: Starts> RunSite for Process<'r, S> {
     type Line = SystemLine<'r, HostRuntime>;
 
     type Listener = CentreListener<'r, HostRuntime>;
 
     type Clock = SystemClock<'r, HostRuntime>;
 
-    type Folder = Directory<AsTheyStand>;
+    type Folder = Directory<S>;
 
     type Sink = StandardError<'r, 'r, HostRuntime>;
 
@@ -310,9 +299,9 @@ impl<'r> RunSite for Process<'r> {
         }
     }
 
-    fn folder(&mut self, name: &str) -> Result<Directory<AsTheyStand>, AllocError> {
+    fn folder(&mut self, name: &str) -> Result<Directory<S>, AllocError> {
         let path = String::from_str(self.rt.alloc(), name)?;
-        Ok(Directory::new(*self.rt, path, AsTheyStand, self.lineage.again()))
+        Ok(Directory::new(*self.rt, path, self.starts, self.lineage.again()))
     }
 
     fn is_on_btrfs(&self, name: &str) -> bool {
