@@ -1,5 +1,6 @@
 //! What the program needs of the system that it runs on.
-ghost use Rattle.std.specs.Prelude.{◌≡◌, ◌⊎◌, ℕ, Bool, List, Result, IfOk, IfErr};
+ghost use Rattle.std.specs.Prelude.{◌≡◌, ℕ, Bool, List, Result, IfOk, IfErr, map, option_map};
+ghost use Rattle.std.specs.Prelude.{string_bytes};
 ghost use Rattle.sim.specs.Scenarios.{FitsScenario};
 ghost use Rattle.telegate.specs.Controlled.{HasPrinted};
 ghost use Rattle.telegate.specs.Playing.{ArePlayed};
@@ -16,7 +17,7 @@ use crate::fault::{Fault, RunFault};
 use crate::inquiry::ask_at;
 use crate::living::{read_live, run_out};
 use crate::playing::{play_behind, scenario_of};
-use crate::site::Process;
+use crate::site::{Process, tell_refused};
 use crate::source::Source;
 use centre::Outcome;
 use gateway::{Config, History};
@@ -281,7 +282,10 @@ fn play_at(
     match LineListener::listen(rt, place) {
         Ok(listener) => play_behind(rt, rt.alloc(), settings, scenario, &mut clock, listener),
         Err(fault) if fault.kind() == io::ErrorKind::OutOfMemory => Err(Fault::NoMemory),
-        Err(_) => Err(Fault::Device),
+        Err(fault) => {
+            tell_refused(rt, "line", place, &fault);
+            Err(Fault::Device)
+        }
     }
 }
 
@@ -306,18 +310,18 @@ fn run_process<S: Starts>(
         return Err(RunFault::EndUnusable);
     };
     let names = named_by(wishes.names, stations.as_slice());
-    let mut site = process_of(system, places, names, wishes.log_severity);
+    let mut site = process_of(system, places, names, &wishes);
     run_out(&mut site, settings, text, wishes)
 }
 
-/// A process of this system with these settings, names and form of its log.
+/// A process of this system with these settings and names, and a log as it is wished.
 fn process_of<'a, S: Starts>(
     system: &System<'a, S>,
     places: &'a LiveSettings,
     names: LogNames<'a>,
-    has_severity: bool,
+    wishes: &Wishes<'_>,
 ) -> Process<'a, S>
-    ensures severity { result.has_severity ≡ has_severity }
+    ensures severity { result.has_severity ≡ wishes.now.log_severity }
     ensures places { result.places.now ≡ places.now }
     ensures lineage { result.lineage.entries ≡ system.now.lineage.entries }
 {
@@ -325,14 +329,18 @@ fn process_of<'a, S: Starts>(
         rt: system.rt,
         places,
         names,
-        has_severity,
+        has_severity: wishes.log_severity,
+        is_logged: wishes.log,
         starts: system.starts,
         lineage: system.lineage.again(),
     }
 }
 
 /// What the line and these stations are called.
-fn named_by<'a>(names: &'a SiteNames, stations: &'a [NamedStation<'a>]) -> LogNames<'a> {
+fn named_by<'a>(names: &'a SiteNames, stations: &'a [NamedStation<'a>]) -> LogNames<'a>
+    ensures line { option_map (λ s. s.now) result.line ≡ option_map string_bytes names.now.line }
+    ensures stations { result.stations ≡ stations }
+{
     let line = match &names.line {
         Some(line) => Some(line.as_str()),
         None => None,
@@ -340,10 +348,14 @@ fn named_by<'a>(names: &'a SiteNames, stations: &'a [NamedStation<'a>]) -> LogNa
     LogNames { line, stations }
 }
 
-/// What stations are called, for the log and for who looks.
-fn names_of<'a>(alloc: Global, names: &'a SiteNames) -> Result<Vec<NamedStation<'a>>, AllocError> {
+/// What stations are called, for the log and for who looks: each by its own name, in their order.
+fn names_of<'a>(alloc: Global, names: &'a SiteNames) -> Result<Vec<NamedStation<'a>>, AllocError>
+    ensures { IfOk result (λ called. map (λ s. (s.link, s.name.now)) called.items
+        ≡ map (λ s. (s.link, string_bytes s.name)) names.now.stations.items) }
+{
     let mut called = Vec::new(alloc);
-    for station in &names.stations {
+    let stations = names.stations.as_slice();
+    for station in stations {
         called.push(NamedStation {
             link: station.link,
             name: station.name.as_str(),

@@ -150,6 +150,8 @@ pub(crate) struct Process<'r, S: Starts> {
     pub(crate) names: LogNames<'r>,
     /// Each line of the log begins with how severe it is.
     pub(crate) has_severity: bool,
+    /// The log says why an end can't be had.
+    pub(crate) is_logged: bool,
     /// What stands in the files of its directory.
     pub(crate) starts: S,
     /// What led to the state at the head of the newest log there.
@@ -274,21 +276,25 @@ impl<'r, S: Starts> RunSite for Process<'r, S> {
                 let address = listener.address().ok();
                 Ok((listener, address))
             }
-            Err(fault) => Err(refusal_by(port_trouble(&fault), &fault)),
+            Err(fault) => {
+                let place = self.places.listen.as_str();
+                Err(self.refusal(port_trouble(&fault), "listener", place, &fault))
+            }
         }
     }
 
     fn status_listener(&mut self, place: &str) -> Result<VisitorListener, EndRefusal> {
         match VisitorListener::listen(self.rt, place) {
             Ok(listener) => Ok(listener),
-            Err(fault) => Err(refusal_by(Trouble::StatusUnusable, &fault)),
+            Err(fault) => Err(self.refusal(Trouble::StatusUnusable, "status", place, &fault)),
         }
     }
 
     fn line(&mut self, redial: bool) -> Result<SystemLine<'r, HostRuntime>, EndRefusal> {
-        match reached(self.rt, self.places.line.as_str(), redial) {
+        let place = self.places.line.as_str();
+        match reached(self.rt, place, redial) {
             Ok(line) => Ok(line),
-            Err(fault) => Err(refusal_by(line_trouble(&fault), &fault)),
+            Err(fault) => Err(self.refusal(line_trouble(&fault), "line", place, &fault)),
         }
     }
 
@@ -328,6 +334,22 @@ fn reached<'r, R: Net<Stream = TcpStream> + Clock>(
     }
     let tries = SystemClock::start(rt)?;
     Ok(ProcessLine::Again(Redialled::new(LineDialler::new(rt, place), tries)))
+}
+
+impl<S: Starts> Process<'_, S> {
+    /// Why an end can't be had at this place. It is told, unless the log says it.
+    fn refusal(&self, trouble: Trouble, end: &str, place: &str, fault: &io::Error) -> EndRefusal {
+        let refusal = refusal_by(trouble, fault);
+        if !refusal.is_memory && !self.is_logged {
+            tell_refused(self.rt, end, place, fault);
+        }
+        refusal
+    }
+}
+
+/// Tells on standard error why an end can't be had at this place.
+pub(crate) fn tell_refused(rt: &HostRuntime, end: &str, place: &str, fault: &io::Error) {
+    let _ = eprintln!(rt; "error: {end} {place}: {fault}");
 }
 
 fn refusal_by(trouble: Trouble, fault: &io::Error) -> EndRefusal {
