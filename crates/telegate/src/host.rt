@@ -196,16 +196,14 @@ impl<S: Starts> Host for System<'_, S> {
     fn read(&self, name: &str) -> Result<Vec<u8>, Unread> {
         match std::fs::read(self.rt, path_of(name)) {
             Ok(octets) => Ok(octets),
-            Err(fault) if fault.kind() == io::ErrorKind::OutOfMemory => Err(Unread::NoMemory),
-            Err(_) => Err(Unread::Unreadable),
+            Err(fault) => Err(unread(self.rt, "file", name, &fault)),
         }
     }
 
     fn open(&self, name: &str) -> Result<File, Unread> {
         match File::open(self.rt, path_of(name)) {
             Ok(file) => Ok(file),
-            Err(fault) if fault.kind() == io::ErrorKind::OutOfMemory => Err(Unread::NoMemory),
-            Err(_) => Err(Unread::Unreadable),
+            Err(fault) => Err(unread(self.rt, "file", name, &fault)),
         }
     }
 
@@ -248,18 +246,25 @@ impl<S: Starts> Host for System<'_, S> {
     fn look(&self, directory: &str) -> Result<Stood, Unread> {
         match stood_in(self.rt, directory) {
             Ok(stood) => Ok(stood),
-            Err(fault) if fault.kind() == io::ErrorKind::OutOfMemory => Err(Unread::NoMemory),
-            Err(_) => Err(Unread::Unreadable),
+            Err(fault) => Err(unread(self.rt, "directory", directory, &fault)),
         }
     }
 
     fn ask(&self, place: &str, request: &[u8]) -> Result<Vec<u8>, Unread> {
         match ask_at(self.rt, self.rt.alloc(), place, request) {
             Ok(answer) => Ok(answer),
-            Err(fault) if fault.kind() == io::ErrorKind::OutOfMemory => Err(Unread::NoMemory),
-            Err(_) => Err(Unread::Unreadable),
+            Err(fault) => Err(unread(self.rt, "status", place, &fault)),
         }
     }
+}
+
+/// Why a file, a directory or an answer isn't had. What the system says of it is told.
+fn unread(rt: &HostRuntime, what: &str, place: &str, fault: &io::Error) -> Unread {
+    if fault.kind() == io::ErrorKind::OutOfMemory {
+        return Unread::NoMemory;
+    }
+    tell_refused(rt, what, place, fault);
+    Unread::Unreadable
 }
 
 /// Plays the outstations of a script at a place: `tcp:HOST:PORT` or `unix:PATH`.

@@ -347,9 +347,10 @@ impl<S: Starts> Process<'_, S> {
     }
 }
 
-/// Tells on standard error why an end can't be had at this place.
-pub(crate) fn tell_refused(rt: &HostRuntime, end: &str, place: &str, fault: &io::Error) {
-    let _ = eprintln!(rt; "error: {end} {place}: {fault}");
+/// Tells on standard error why this can't be had at this place, in the system's words. The line of
+/// the fault follows.
+pub(crate) fn tell_refused(rt: &HostRuntime, what: &str, place: &str, fault: &io::Error) {
+    let _ = eprintln!(rt; "error: {what} {place}: {fault}");
 }
 
 fn refusal_by(trouble: Trouble, fault: &io::Error) -> EndRefusal {
