@@ -23,7 +23,7 @@ import socket
 import subprocess
 
 import frame
-from frame import unanswered, unread
+from frame import reason, unanswered, unread
 
 TOP = frame.TOP
 SECONDS = 20
@@ -43,6 +43,8 @@ RECORD = (
 )
 STATION = "station 1 reports 0 given 0 accepted 0\n"
 ALLOW = "error: --allow takes the address of a host, as 192.0.2.7\n"
+NO_LINE = reason("line", "unix:nowhere", errno.ENOENT) + "device failed\n"
+NO_PORT = reason("line", "tcp:192.0.2.7:4001", errno.EADDRNOTAVAIL) + "device failed\n"
 FAR = "warning: live.line is on another machine: a network that holds requests back brings stale answers\n"
 COMMANDS = ("show101", "show104", "check", "replay", "sim", "audit", "run", "status", "capture", "stations", "centre")
 # The run over TRACE in words, put together by hand from the standard's tables and docs/TEXTS.md.
@@ -205,7 +207,7 @@ ROWS = [
     ("sim --words good.toml one.trace", "", "script: line 1\n", 1),
     ("status 127.0.0.1:1", "", unanswered("status", "127.0.0.1:1"), 3),
     ("status --json 127.0.0.1:1", "", unanswered("status", "127.0.0.1:1"), 3),
-    ("status nowhere", "", "no answer from nowhere\n", 3),
+    ("status nowhere", "", "error: status nowhere: invalid socket address\nno answer from nowhere\n", 3),
     ("replay one.trace good.toml", "", "config: not TOML\n", 1),
     ("replay good.toml none.script", "", "trace: line 1\n", 1),
     ("replay empty one.trace", "", "config: line.link\n", 1),
@@ -238,7 +240,7 @@ ROWS = [
     ("capture nowhere elsewhere", "", unread("nowhere"), 3),
     ("stations good.toml none.script", "", "config: live.line\n", 1),
     ("stations no-line.toml one.trace", "", "script: line 1\n", 1),
-    ("stations far.toml none.script", "", "device failed\n", 3),
+    ("stations far.toml none.script", "", NO_PORT, 3),
     ("stations no-line.toml nowhere", "", unread("nowhere"), 3),
     ("stations nowhere elsewhere", "", unread("nowhere"), 3),
     ("run good.toml", "", "config: live.line\n", 1),
@@ -251,10 +253,10 @@ ROWS = [
     ("run --allow 192.0.2.7 good.toml --allow ::1", "", "config: live.line\n", 1),
     ("run --allow 192.0.2.7 --allow 192.0.2.256 nowhere", "", ALLOW, 2),
     ("run --record good.toml", "", "config: live.line\n", 1),
-    ("run --record no-line.toml", "", "device failed\n", 3),
+    ("run --record no-line.toml", "", NO_LINE, 3),
     ("run --state kept good.toml", "", "config: live.line\n", 1),
     ("run nowhere --state kept", "", unread("nowhere"), 3),
-    ("run --state kept no-line.toml", "", "device failed\n", 3),
+    ("run --state kept no-line.toml", "", NO_LINE, 3),
     ("run --state empty no-line.toml", "", "state: can't be kept there: entity already exists\n", 3),
     ("run --state-or-stop nowhere", "", "error: --state-or-stop needs --state with a directory\n", 2),
     ("run --state-or-stop good.toml --state kept", "", "config: live.line\n", 1),
@@ -275,7 +277,7 @@ ROWS = [
     ("run --site good.site --state-or-stop nowhere", "", unread("nowhere"), 3),
     ("run --log --log-severity good.toml", "", "config: live.line\n", 1),
     ("run nowhere", "", unread("nowhere"), 3),
-    ("run no-line.toml", "", "device failed\n", 3),
+    ("run no-line.toml", "", NO_LINE, 3),
     ("run good.toml --allow", "", None, 2),
     ("run good.toml --state", "", None, 2),
     ("run good.toml --site", "", None, 2),
@@ -652,14 +654,15 @@ def live_runs(count, program, folder):
     with open(os.path.join(folder, "far.toml"), "w") as file:
         file.write(f'{CONFIG}[live]\nline = "unix:nowhere"\nlisten = "{free_place()}"\n')
     done = ran([program, "run", "far.toml"], folder)
-    is_right = done.returncode == 3 and text(done.stderr) == "device failed\n"
+    is_right = done.returncode == 3 and text(done.stderr) == NO_LINE
     count.judge("a live run without its line", is_right, done)
     with socket.create_server(("127.0.0.1", 0)) as line:
         place = "127.0.0.1:%d" % line.getsockname()[1]
         with open(os.path.join(folder, "taken.toml"), "w") as file:
             file.write(f'{CONFIG}[live]\nline = "tcp:{place}"\nlisten = "{place}"\n')
         done = ran([program, "run", "taken.toml"], folder)
-    is_right = done.returncode == 3 and text(done.stderr) == "device failed\n"
+    taken = f"error: listener {place}: Address already in use (os error 98)\ndevice failed\n"
+    is_right = done.returncode == 3 and text(done.stderr) == taken
     count.judge("a live run that can't listen", is_right, done)
 
 

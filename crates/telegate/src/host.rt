@@ -224,8 +224,7 @@ impl<S: Starts> Host for System<'_, S> {
 
     fn run(&mut self, config: &[u8], wishes: Wishes<'_>) -> Result<(), Fault> {
         let (settings, places) = read_live(self.rt.alloc(), config)?;
-        run_process(self, &settings, &places, config, wishes)?;
-        Ok(())
+        Ok(run_process(self, &settings, &places, config, wishes)?)
     }
 
     fn play(&self, config: &[u8], script: &[u8]) -> Result<(), Fault> {
@@ -296,6 +295,7 @@ fn play_at(
 
 /// Runs the gateway live with these settings and places, which were read from this text, in a
 /// process of this system.
+#[tactic(auto, using(crate::proofs::RanLemmas::never_at))]
 fn run_process<S: Starts>(
     system: &System<'_, S>,
     settings: &Config,
