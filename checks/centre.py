@@ -179,7 +179,7 @@ def watched(count, program, folder):
             count.compare("watch: the gateway dies", (out[-1:], watch.wait(ends.PATIENCE)), (["connection lost: the gateway ended it"], 3))
         place = f"127.0.0.1:{substation.listener}"
         seen = substation.centre("interrogate", "1")
-        count.compare("no gateway", seen, ([], f"no answer from {place}\n", 3))
+        count.compare("no gateway", seen, ([], frame.unanswered("gateway", place), 3))
 
 
 WRONG = [
@@ -197,7 +197,7 @@ def wrong_words(count, program, folder):
         count.judge(f"wrong: {' '.join(words)}", out == [] and err.startswith("error: ") and status == 2, (out, err, status))
     name = os.path.join(folder, "none.toml")
     seen = called([program, "centre", "127.0.0.1:1", name])
-    count.compare("no such file", seen, ([], f"cannot read {name}\n", 3))
+    count.compare("no such file", seen, ([], frame.unread(name), 3))
     with open(name, "w") as file:
         file.write("[line]\n")
     out, err, status = called([program, "centre", "127.0.0.1:1", name])

@@ -14,6 +14,7 @@ line is `N passed, M failed`, or `skipped: WHY` if nothing could be judged. The 
 nothing failed and something was judged or skipped. Otherwise it is 1.
 """
 import argparse
+import errno
 import os
 import sys
 import tempfile
@@ -74,6 +75,21 @@ class Count:
             with self.lock:
                 self.passed += passed
                 self.failed += failed
+
+
+def reason(what, place, number):
+    """The line that says why the system refused something, by the number of its error."""
+    return f"error: {what} {place}: {os.strerror(number)} (os error {number})\n"
+
+
+def unread(name, number=errno.ENOENT, what="file"):
+    """What is told of a file or a directory that can't be read."""
+    return reason(what, name, number) + f"cannot read {name}\n"
+
+
+def unanswered(what, place, number=errno.ECONNREFUSED):
+    """What is told of a place at which nobody answers."""
+    return reason(what, place, number) + f"no answer from {place}\n"
 
 
 def listed():

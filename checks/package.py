@@ -95,7 +95,7 @@ def judge_install_script(count, program, folder):
     count.case(first.returncode == 0, f"install.sh: {said(first)}")
     count.case(read(os.path.join(root, "etc/telegate/gateway.toml")) == read(os.path.join(TOP, "examples/full.toml")), "install.sh: no settings to begin with")
     tried = run([program, "run", "--site", os.path.join(root, "etc/telegate/site.toml"), "nowhere"])
-    count.case(said(tried) == "cannot read nowhere", f"install.sh: the site's file to begin with: {said(tried)}")
+    count.case(said(tried) == frame.unread("nowhere").strip(), f"install.sh: the site's file to begin with: {said(tried)}")
     count.case("--site /etc/telegate/site.toml" in (read(os.path.join(root, "etc/telegate/telegate.env")) or ""), "install.sh: the words don't name the site's file")
     write_own(root)
     unit = os.path.join(root, "usr/local/lib/systemd/system/telegate.service")

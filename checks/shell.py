@@ -14,6 +14,7 @@
 
 Sockets are on the loopback, the system chooses their ports, and each process has 20 seconds.
 """
+import errno
 import os
 import pty
 import re
@@ -22,6 +23,7 @@ import socket
 import subprocess
 
 import frame
+from frame import reason, unanswered, unread
 
 TOP = frame.TOP
 SECONDS = 20
@@ -41,6 +43,8 @@ RECORD = (
 )
 STATION = "station 1 reports 0 given 0 accepted 0\n"
 ALLOW = "error: --allow takes the address of a host, as 192.0.2.7\n"
+NO_LINE = reason("line", "unix:nowhere", errno.ENOENT) + "device failed\n"
+NO_PORT = reason("line", "tcp:192.0.2.7:4001", errno.EADDRNOTAVAIL) + "device failed\n"
 FAR = "warning: live.line is on another machine: a network that holds requests back brings stale answers\n"
 COMMANDS = ("show101", "show104", "check", "replay", "sim", "audit", "run", "status", "capture", "stations", "centre")
 # The run over TRACE in words, put together by hand from the standard's tables and docs/TEXTS.md.
@@ -143,8 +147,8 @@ ROWS = [
     ("check good.toml", "ok\n", "", 0),
     ("check empty", "", "config: line.link\n", 1),
     ("check none.script", "", "config: not TOML\n", 1),
-    ("check nowhere", "", "cannot read nowhere\n", 3),
-    ("check .", "", "cannot read .\n", 3),
+    ("check nowhere", "", unread("nowhere"), 3),
+    ("check .", "", unread(".", errno.EISDIR), 3),
     ("check --live no-line.toml", "ok\n", "", 0),
     ("check --live good.toml", "", "config: live.line\n", 1),
     ("check --live no-listener.toml", "", "config: live.listen\n", 1),
@@ -155,7 +159,7 @@ ROWS = [
     ("check --explain wrong.toml", "line 2, column 8: 3\nwanted: 1 to 2\n", "config: line.link\n", 1),
     ("check wrong.toml --live --explain", "line 2, column 8: 3\nwanted: 1 to 2\n", "config: line.link\n", 1),
     ("check --explain --live good.toml", "wanted: tcp:HOST:PORT or unix:PATH\n", "config: live.line\n", 1),
-    ("check --explain nowhere", "", "cannot read nowhere\n", 3),
+    ("check --explain nowhere", "", unread("nowhere"), 3),
     # With --site the file of a site is judged first (checks/site.py has all of its faults).
     ("check --site good.site good.toml", "ok\n", "", 0),
     ("check good.toml --site good.site", "ok\n", "", 0),
@@ -164,8 +168,8 @@ ROWS = [
     ("check --site wrong.site wrong.toml", "", "site: status\n", 1),
     ("check --site list.site nowhere", "", "site: allow\n", 1),
     ("check --site stop.site nowhere", "", "site: state_or_stop\n", 1),
-    ("check --site elsewhere nowhere", "", "cannot read elsewhere\n", 3),
-    ("check --site good.site nowhere", "", "cannot read nowhere\n", 3),
+    ("check --site elsewhere nowhere", "", unread("elsewhere"), 3),
+    ("check --site good.site nowhere", "", unread("nowhere"), 3),
     ("replay good.toml one.trace", LINES, "", 0),
     ("replay --left good.toml one.trace", LINES + LEFT, "", 0),
     ("replay good.toml --left one.trace", LINES + LEFT, "", 0),
@@ -198,47 +202,47 @@ ROWS = [
     ("replay good.toml whole.record", "", "trace: line 2\n", 1),
     ("replay --left good.toml whole.record", "", "trace: line 2\n", 1),
     ("replay --words empty one.trace", "", "config: line.link\n", 1),
-    ("replay --words good.toml elsewhere", "", "cannot read elsewhere\n", 3),
+    ("replay --words good.toml elsewhere", "", unread("elsewhere"), 3),
     ("sim --words good.toml none.script", STATION, "", 0),
     ("sim --words good.toml one.trace", "", "script: line 1\n", 1),
-    ("status 127.0.0.1:1", "", "no answer from 127.0.0.1:1\n", 3),
-    ("status --json 127.0.0.1:1", "", "no answer from 127.0.0.1:1\n", 3),
-    ("status nowhere", "", "no answer from nowhere\n", 3),
+    ("status 127.0.0.1:1", "", unanswered("status", "127.0.0.1:1"), 3),
+    ("status --json 127.0.0.1:1", "", unanswered("status", "127.0.0.1:1"), 3),
+    ("status nowhere", "", "error: status nowhere: invalid socket address\nno answer from nowhere\n", 3),
     ("replay one.trace good.toml", "", "config: not TOML\n", 1),
     ("replay good.toml none.script", "", "trace: line 1\n", 1),
     ("replay empty one.trace", "", "config: line.link\n", 1),
     # Files are read, and a trace is opened, in the order of the words, before anything is judged.
-    ("replay empty nowhere", "", "cannot read nowhere\n", 3),
-    ("sim empty nowhere", "", "cannot read nowhere\n", 3),
-    ("audit empty nowhere", "", "cannot read nowhere\n", 3),
-    ("capture empty nowhere", "", "cannot read nowhere\n", 3),
-    ("stations empty nowhere", "", "cannot read nowhere\n", 3),
-    ("sim nowhere elsewhere", "", "cannot read nowhere\n", 3),
-    ("audit nowhere elsewhere", "", "cannot read nowhere\n", 3),
-    ("replay nowhere elsewhere", "", "cannot read nowhere\n", 3),
-    ("replay good.toml elsewhere", "", "cannot read elsewhere\n", 3),
+    ("replay empty nowhere", "", unread("nowhere"), 3),
+    ("sim empty nowhere", "", unread("nowhere"), 3),
+    ("audit empty nowhere", "", unread("nowhere"), 3),
+    ("capture empty nowhere", "", unread("nowhere"), 3),
+    ("stations empty nowhere", "", unread("nowhere"), 3),
+    ("sim nowhere elsewhere", "", unread("nowhere"), 3),
+    ("audit nowhere elsewhere", "", unread("nowhere"), 3),
+    ("replay nowhere elsewhere", "", unread("nowhere"), 3),
+    ("replay good.toml elsewhere", "", unread("elsewhere"), 3),
     ("sim good.toml none.script", STATION, "", 0),
     ("sim none.script good.toml", "", "config: not TOML\n", 1),
     ("sim good.toml one.trace", "", "script: line 1\n", 1),
-    ("sim good.toml nowhere", "", "cannot read nowhere\n", 3),
+    ("sim good.toml nowhere", "", unread("nowhere"), 3),
     ("run empty", "", "config: line.link\n", 1),
     ("audit good.toml whole.record", "same, 6 events, 6 actions\n", "", 0),
     ("audit good.toml cut.record", "same, 6 events, 5 actions\n", "", 0),
     ("audit good.toml other.record", "line 2 differs\n", "", 1),
     ("audit good.toml none.script", "", "record: line 1\n", 1),
     ("audit empty whole.record", "", "config: line.link\n", 1),
-    ("audit good.toml nowhere", "", "cannot read nowhere\n", 3),
+    ("audit good.toml nowhere", "", unread("nowhere"), 3),
     ("capture good.toml whole.record", None, "", 0),
     ("capture good.toml cut.record", None, "", 0),
     ("capture good.toml none.script", None, "record: line 1\n", 1),
     ("capture empty whole.record", "", "config: line.link\n", 1),
-    ("capture good.toml nowhere", "", "cannot read nowhere\n", 3),
-    ("capture nowhere elsewhere", "", "cannot read nowhere\n", 3),
+    ("capture good.toml nowhere", "", unread("nowhere"), 3),
+    ("capture nowhere elsewhere", "", unread("nowhere"), 3),
     ("stations good.toml none.script", "", "config: live.line\n", 1),
     ("stations no-line.toml one.trace", "", "script: line 1\n", 1),
-    ("stations far.toml none.script", "", "device failed\n", 3),
-    ("stations no-line.toml nowhere", "", "cannot read nowhere\n", 3),
-    ("stations nowhere elsewhere", "", "cannot read nowhere\n", 3),
+    ("stations far.toml none.script", "", NO_PORT, 3),
+    ("stations no-line.toml nowhere", "", unread("nowhere"), 3),
+    ("stations nowhere elsewhere", "", unread("nowhere"), 3),
     ("run good.toml", "", "config: live.line\n", 1),
     ("run no-listener.toml", "", "config: live.listen\n", 1),
     # Each flag of a live run, in front of its file and behind it.
@@ -249,31 +253,31 @@ ROWS = [
     ("run --allow 192.0.2.7 good.toml --allow ::1", "", "config: live.line\n", 1),
     ("run --allow 192.0.2.7 --allow 192.0.2.256 nowhere", "", ALLOW, 2),
     ("run --record good.toml", "", "config: live.line\n", 1),
-    ("run --record no-line.toml", "", "device failed\n", 3),
+    ("run --record no-line.toml", "", NO_LINE, 3),
     ("run --state kept good.toml", "", "config: live.line\n", 1),
-    ("run nowhere --state kept", "", "cannot read nowhere\n", 3),
-    ("run --state kept no-line.toml", "", "device failed\n", 3),
+    ("run nowhere --state kept", "", unread("nowhere"), 3),
+    ("run --state kept no-line.toml", "", NO_LINE, 3),
     ("run --state empty no-line.toml", "", "state: can't be kept there: entity already exists\n", 3),
     ("run --state-or-stop nowhere", "", "error: --state-or-stop needs --state with a directory\n", 2),
     ("run --state-or-stop good.toml --state kept", "", "config: live.line\n", 1),
     # The file of a site is read and judged before the settings are read; what words say wins.
     ("run --site good.site good.toml", "", "config: live.line\n", 1),
     ("run good.toml --site good.site", "", "config: live.line\n", 1),
-    ("run --site elsewhere nowhere", "", "cannot read elsewhere\n", 3),
-    ("run --site good.site nowhere", "", "cannot read nowhere\n", 3),
+    ("run --site elsewhere nowhere", "", unread("elsewhere"), 3),
+    ("run --site good.site nowhere", "", unread("nowhere"), 3),
     ("run --site none.script nowhere", "", "site: not TOML\n", 1),
     ("run --site wrong.site nowhere", "", "site: status\n", 1),
     ("run --site unknown.site nowhere", "", "site: unknown line.colour\n", 1),
     ("run --site list.site nowhere", "", "site: allow\n", 1),
-    ("run --site list.site --allow 192.0.2.7 nowhere", "", "cannot read nowhere\n", 3),
+    ("run --site list.site --allow 192.0.2.7 nowhere", "", unread("nowhere"), 3),
     ("run --site list.site --allow 192.0.2.256 nowhere", "", ALLOW, 2),
     ("run --site stop.site nowhere", "", "site: state_or_stop\n", 1),
-    ("run --site stop.site --state kept nowhere", "", "cannot read nowhere\n", 3),
+    ("run --site stop.site --state kept nowhere", "", unread("nowhere"), 3),
     ("run --site stop.site --state-or-stop nowhere", "", "error: --state-or-stop needs --state with a directory\n", 2),
-    ("run --site good.site --state-or-stop nowhere", "", "cannot read nowhere\n", 3),
+    ("run --site good.site --state-or-stop nowhere", "", unread("nowhere"), 3),
     ("run --log --log-severity good.toml", "", "config: live.line\n", 1),
-    ("run nowhere", "", "cannot read nowhere\n", 3),
-    ("run no-line.toml", "", "device failed\n", 3),
+    ("run nowhere", "", unread("nowhere"), 3),
+    ("run no-line.toml", "", NO_LINE, 3),
     ("run good.toml --allow", "", None, 2),
     ("run good.toml --state", "", None, 2),
     ("run good.toml --site", "", None, 2),
@@ -650,14 +654,15 @@ def live_runs(count, program, folder):
     with open(os.path.join(folder, "far.toml"), "w") as file:
         file.write(f'{CONFIG}[live]\nline = "unix:nowhere"\nlisten = "{free_place()}"\n')
     done = ran([program, "run", "far.toml"], folder)
-    is_right = done.returncode == 3 and text(done.stderr) == "device failed\n"
+    is_right = done.returncode == 3 and text(done.stderr) == NO_LINE
     count.judge("a live run without its line", is_right, done)
     with socket.create_server(("127.0.0.1", 0)) as line:
         place = "127.0.0.1:%d" % line.getsockname()[1]
         with open(os.path.join(folder, "taken.toml"), "w") as file:
             file.write(f'{CONFIG}[live]\nline = "tcp:{place}"\nlisten = "{place}"\n')
         done = ran([program, "run", "taken.toml"], folder)
-    is_right = done.returncode == 3 and text(done.stderr) == "device failed\n"
+    taken = f"error: listener {place}: Address already in use (os error 98)\ndevice failed\n"
+    is_right = done.returncode == 3 and text(done.stderr) == taken
     count.judge("a live run that can't listen", is_right, done)
 
 
@@ -805,7 +810,7 @@ def unproved_scripts(count, program, folder):
     shutil.copy(os.path.join(folder, "good.toml"), os.path.join(folder, "good  one.toml"))
     rows = [
         ("check good.toml", "ok\n", "", 0),
-        ("check nowhere", "", "cannot read nowhere\n", 3),
+        ("check nowhere", "", unread("nowhere"), 3),
         ("run good.toml", "", RUN_NEEDS, 2),
         ("run good.toml --unproved", "", RUN_NEEDS, 2),
         ("run --unproved good.toml", "", UNPROVED_RUNS + "config: live.line\n", 1),

@@ -325,7 +325,7 @@ def both_judged(count, program, folder):
                 count.judge(f"{words} {site!r} {settings!r:.100}", got == bare, f"wanted {bare}, got {got}")
         count.judge(f"good: {site!r}", (got := Files(program, folder, site).ends("check", "--site", "site.toml", "gateway.toml")) == ("ok\n", "", 0), got)
     files = Files(program, folder, "")
-    for words, told in ((["--site", "elsewhere", "nowhere"], "cannot read elsewhere\n"), (["--site", "site.toml", "nowhere"], "cannot read nowhere\n")):
+    for words, told in ((["--site", "elsewhere", "nowhere"], frame.unread("elsewhere")), (["--site", "site.toml", "nowhere"], frame.unread("nowhere"))):
         for explain in ([], ["--explain"]):
             count.judge(f"{explain} {words}", (got := files.ends("check", *explain, *words)) == ("", told, 3), got)
 

@@ -620,7 +620,7 @@ def a_look(count, program):
     with tempfile.TemporaryDirectory() as folder:
         gateway = quiet(program, folder)
         lines, status, told = looked(gateway, gateway.state)
-        count.judge("no directory", status == 3 and not lines and told == f"cannot read {gateway.state}\n", (status, lines, told))
+        count.judge("no directory", status == 3 and not lines and told == frame.unread(gateway.state, what="directory"), (status, lines, told))
         os.mkdir(gateway.state)
         lines, status, _ = looked(gateway, gateway.state)
         count.judge("an empty directory", (lines, status) == (["state: begins anew"], 0), (lines, status))

@@ -15,6 +15,7 @@ In time: a report of `at` comes once, and not before its moment; one of `every` 
 connection. A station that confirms or refuses gives what docs/STATIONS.md says to each kind of command. Wrong lines are told by their
 numbers, of either kind, and `sim` refuses these lines.
 """
+import errno
 import os
 import socket
 import subprocess
@@ -512,7 +513,8 @@ def taken(count, program, folder):
         place = "tcp:{}:{}".format(*server.getsockname())
         with Played(program, folder, place, "turns 1\n") as played:
             out, err = played.process.communicate(timeout=ends.PATIENCE)
-            count.compare("a port that is taken", (out, err, played.process.returncode), (b"", b"device failed\n", 3))
+            told = frame.reason("line", place, errno.EADDRINUSE) + "device failed\n"
+            count.compare("a port that is taken", (out, err.decode(), played.process.returncode), (b"", told, 3))
 
 
 if __name__ == "__main__":

@@ -171,7 +171,7 @@ def changed(program, folder, library):
 
     yield "the same again", come("long.trace"), (0, LINES, "")
     yield "another trace", come("other.trace"), (0, "0 > S 1049014A16\n5 > T 680483000000\n", "")
-    yield "no trace any more", come("nowhere.trace"), (3, "", cannot)
+    yield "no trace any more", come("nowhere.trace"), (3, "", frame.unread("long.trace"))
     for name, more in (("wrong.trace", {}), ("long.trace", {"LEFT": "0"}), ("long.trace", {"LEFT": str(len(TRACE) // 2)})):
         status, lines, told = come(name, **more)
         least = len(LINES) // 3 if more.get("LEFT") != "0" else 0

@@ -15,32 +15,34 @@ use Rattle.telegate.specs.Kept.{IsEndFault, IsKeptFault}
 use Rattle.telegate.specs.Logged.{IsUnkept, LogsBeginning, LogsFound, LogsStart, LogsUnused}
 use Rattle.telegate.specs.Logged.{LogsWithout, fault_of}
 use Rattle.telegate.specs.Starts.{Found, IsWithout, StartsIn, Without}
-use Rattle.telegate.specs.declared.fault.Fault.{Fault}
-use Rattle.telegate.specs.declared.fault.Fault.TheVariants.{NoMemory, StateInUse, StateUnusable}
+use Rattle.telegate.specs.declared.fault.RunFault.{RunFault}
+use Rattle.telegate.specs.declared.fault.RunFault.TheVariants.{NoMemory, StateInUse, StateUnusable}
 use Rattle.telegate.specs.declared.host.Wishes.{Wishes}
 
-pub end_is_kept : (fault : Fault) → IsEndFault fault → IsKeptFault fault
+pub end_is_kept : (fault : RunFault) → IsEndFault fault → IsKeptFault fault
 end_is_kept StateInUse is = tt
 end_is_kept (StateUnusable cause) is = tt
 end_is_kept fault is = is
 
-pub unkept_is_kept : (fault : Fault) (old new : Book) → IsUnkept fault old new → IsKeptFault fault
+pub unkept_is_kept : (fault : RunFault) (old new : Book) → IsUnkept fault old new
+    → IsKeptFault fault
 unkept_is_kept StateInUse old new is = tt
 unkept_is_kept (StateUnusable cause) old new is = tt
 unkept_is_kept NoMemory old new is = tt
 unkept_is_kept fault old new is = absurd is
 
-pub memory_is_end : (fault : Fault) → fault ≡ NoMemory → IsEndFault fault
+pub memory_is_end : (fault : RunFault) → fault ≡ NoMemory → IsEndFault fault
 memory_is_end fault is = subst IsEndFault (sym is) tt
 
-pub memory_is_unkept : (fault : Fault) (book : Book) → fault ≡ NoMemory → IsUnkept fault book book
-memory_is_unkept fault book is = subst (λ (f : Fault). IsUnkept f book book) (sym is) refl
+pub memory_is_unkept : (fault : RunFault) (book : Book) → fault ≡ NoMemory
+    → IsUnkept fault book book
+memory_is_unkept fault book is = subst (λ (f : RunFault). IsUnkept f book book) (sym is) refl
 
 by_memory : (is_memory : Bool) → IsEndFault (fault_of is_memory)
 by_memory true = tt
 by_memory false = tt
 
-pub refused_is_end : (fault : Fault) (is_memory : Bool) → fault ≡ fault_of is_memory
+pub refused_is_end : (fault : RunFault) (is_memory : Bool) → fault ≡ fault_of is_memory
     → IsEndFault fault
 refused_is_end fault is_memory is = subst IsEndFault (sym is) (by_memory is_memory)
 

@@ -38,3 +38,4 @@ pub mod StartLaw
 pub mod RunLaw
 pub mod PlayLaw
 pub mod Controlled
+pub mod Called

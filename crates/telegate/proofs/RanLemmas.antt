@@ -1,6 +1,6 @@
 -- What came of a live run as it was wished.
 use Rattle.std.proofs.Common.{◌≡◌, ℕ, Bool, List, [], ◌∷◌, ◌++◌, false, true, Option, Some, None}
-use Rattle.std.proofs.Common.{Result, refl, sym, subst, ap, ◌∙◌, ◌⊎◌, inl, inr, is_some}
+use Rattle.std.proofs.Common.{Result, Err, refl, sym, subst, ap, ◌∙◌, ◌⊎◌, ◌+◌, inl, inr, is_some}
 use Rattle.std.specs.Borrow.{Bor}
 use Rattle.std.specs.Prelude.{MatchOption}
 use Rattle.clap.specs.Words.{Text}
@@ -15,12 +15,13 @@ use Rattle.telegate.specs.AsWished.{IsAsWished}
 use Rattle.telegate.specs.Asked.{Asked, StateIn, asked_for, call_if, ends_asked, run_asked}
 use Rattle.telegate.specs.Asked.{LineAt, ListenAt, LogAt, RecordAt, SiteCall, StatusAt}
 use Rattle.telegate.specs.Asked.{scribes_asked}
-use Rattle.telegate.specs.Kept.{HasLivedFrom, first_moment}
+use Rattle.telegate.specs.Kept.{HasLivedFrom, IsKeptFault, first_moment}
 use Rattle.telegate.specs.Living.{HasLived}
 use Rattle.telegate.specs.Ran.{HasCome, HasLivedAnew, HasLivedAs, HasLivedKept, HasNotBegun}
-use Rattle.telegate.specs.Ran.{IfOver, IsOver, RunLeft}
+use Rattle.telegate.specs.Ran.{HasComeAt, IfOver, RunLeft}
+use Rattle.telegate.specs.Running.{HasRun}
 use Rattle.telegate.specs.Starts.{StartsIn}
-use Rattle.telegate.specs.declared.fault.Fault.{Fault}
+use Rattle.telegate.specs.declared.fault.RunFault.{RunFault}
 use Rattle.telegate.specs.declared.host.Wishes.{Wishes}
 use Rattle.telegate.specs.declared.living.Over.{Over}
 use Rattle.telegate.specs.declared.living.Over.TheVariants.{Anew, Kept}
@@ -29,9 +30,10 @@ pub lived_anew : {E : Type 0} (begins : Origin → Type 0) (settings : Settings)
     (old new : Asked) (left : RunLeft) (ended : Result (Unit {0}) E) → wishes.state ≡ None
     → new ≡ ends_asked wishes.redial 0 (scribes_asked wishes.status old) → left.before ≡ []
     → HasLived settings wishes.allow_list false [] left.port left.pen ended
+    → HasRun 0 left.port.failed ended
     → IsAsWished wishes left.book left.pen left.is_shown
     → HasLivedAs begins settings wishes old new left ended
-lived_anew begins settings wishes old new left ended none asked anew lived wished =
+lived_anew begins settings wishes old new left ended none asked anew lived device wished =
     let P : Option (Bor Text) → Type 0 = λ state.
     MatchOption state (HasLivedAnew settings wishes old new left ended)
     (λ _. HasLivedKept begins settings wishes old new left ended) in
@@ -39,7 +41,13 @@ lived_anew begins settings wishes old new left ended none asked anew lived wishe
     new ≡ ends_asked wishes.redial 0 (asked_for (call_if StateIn state)
     (scribes_asked wishes.status old)) in
     subst P (sym none)
-    (record { asked = subst A (sym none) asked; anew = anew; lived = lived; wished = wished })
+    (record {
+      asked = subst A (sym none) asked;
+      anew = anew;
+      lived = lived;
+      device = device;
+      wished = wished;
+    })
 
 pub lived_kept : {E : Type 0} (begins : Origin → Type 0) (settings : Settings) (wishes : Wishes)
     (old new : Asked) (directory : Bor Text) (left : RunLeft) (ended : Result (Unit {0}) E)
@@ -47,10 +55,11 @@ pub lived_kept : {E : Type 0} (begins : Origin → Type 0) (settings : Settings)
     → HasLivedFrom begins settings wishes.allow_list
     (λ moment. new ≡ ends_asked wishes.redial moment (asked_for (StateIn directory.now true ∷ [])
     (scribes_asked wishes.status old))) left.before left.port left.pen ended
+    → HasRun 0 (left.port.failed + left.stops) ended
     → IsAsWished wishes left.book left.pen left.is_shown
     → left.bears_loss ≡ Some wishes.bears_loss
     → HasLivedAs begins settings wishes old new left ended
-lived_kept begins settings wishes old new directory left ended named lived wished bears =
+lived_kept begins settings wishes old new directory left ended named lived device wished bears =
     let P : Option (Bor Text) → Type 0 = λ state.
     MatchOption state (HasLivedAnew settings wishes old new left ended)
     (λ _. HasLivedKept begins settings wishes old new left ended) in
@@ -58,7 +67,12 @@ lived_kept begins settings wishes old new directory left ended named lived wishe
     (λ moment. new ≡ ends_asked wishes.redial moment (asked_for (call_if StateIn state)
     (scribes_asked wishes.status old))) left.before left.port left.pen ended in
     subst P (sym named)
-    (record { lived = subst F (sym named) lived; wished = wished; bears = bears })
+    (record {
+      lived = subst F (sym named) lived;
+      device = device;
+      wished = wished;
+      bears = bears;
+    })
 
 pub by_state : {P A K : Type 0} (state : Option (Bor Text)) → (A → P) → (K → P)
     → MatchOption state A (λ _. K) → P
@@ -97,30 +111,44 @@ begins_weaker {E} strong weak settings wishes old new left ended h implies = by 
         clock = kept.lived.clock;
         on = kept.lived.on;
       };
+      device = kept.device;
       wished = kept.wished;
       bears = kept.bears;
     }
 
 -- a run at a site with these places
-pub over_at : (strong weak : Origin → Type 0) (settings : Settings) (places : LiveSettings)
-    (wishes : Wishes) (old new : Asked) (answer : Result (Unit {0}) Fault)
-    → HasNotBegun answer ⊎ HasCome strong settings wishes old new answer
+pub come_at : (strong weak : Origin → Type 0) (settings : Settings) (places : LiveSettings)
+    (wishes : Wishes) (old new : Asked) (answer : Result (Unit {0}) RunFault)
+    → HasNotBegun old new answer ⊎ HasCome strong settings wishes old new answer
     → old.places ≡ places_of places → ((o : Origin) → strong o → weak o)
-    → HasNotBegun answer ⊎ IsOver weak settings places wishes answer
-over_at strong weak settings places wishes old new answer (inl none) at implies = inl none
-over_at strong weak settings places wishes old new answer (inr come) at implies =
-    inr (record {
-      old = old;
-      at = at;
-      new = new;
-      come = record {
-        left = come.left;
-        ended = come.ended;
-        lived = begins_weaker strong weak settings wishes old new come.left come.ended come.lived
-            implies;
-        answered = come.answered;
-      };
-    })
+    → HasComeAt weak settings places wishes answer
+come_at strong weak settings places wishes old new answer (inl none) at implies =
+    record { old = old; at = at; new = new; came = inl none }
+come_at strong weak settings places wishes old new answer (inr come) at implies = record {
+  old = old;
+  at = at;
+  new = new;
+  came = inr (record {
+    left = come.left;
+    ended = come.ended;
+    lived = begins_weaker strong weak settings wishes old new come.left come.ended come.lived
+        implies;
+    answered = come.answered;
+  });
+}
+
+-- one that had no memory, or no end, before it asked a site for anything
+pub never_at : (begins : Origin → Type 0) (settings : Settings) (places : LiveSettings)
+    (wishes : Wishes) (fault : RunFault) → IsKeptFault fault
+    → HasComeAt begins settings places wishes (Err fault)
+never_at begins settings places wishes fault is =
+    let none : Asked = record {
+      places = places_of places;
+      lineage = [];
+      calls = None;
+      clocks = None;
+    } in
+    record { old = none; at = refl; new = none; came = inl (is, refl) }
 
 -- what is left of it is as it was wished
 pub as_wished : {E : Type 0} (begins : Origin → Type 0) (settings : Settings) (wishes : Wishes)

@@ -6,6 +6,8 @@ use Rattle.telegate.specs.declared.fault.Fault.TheVariants.{Unfit}
 use Rattle.telegate.specs.declared.fault.Fault.TheVariants.{Sizes, Octets, Address, NoState}
 use Rattle.telegate.specs.declared.fault.Fault.TheVariants.{StateInUse, StateUnusable, Device}
 use Rattle.telegate.specs.declared.fault.Fault.TheVariants.{EndUnusable, Unread, NoMemory}
+use Rattle.telegate.specs.declared.fault.RunFault.{RunFault}
+use Rattle.telegate.specs.declared.fault.RunFault.TheVariants as run
 
 -- 1 wrong content, 2 a wrong word, 3 a device that failed, 4 no memory
 abbrev pub status_of : Fault → ℕ
@@ -25,6 +27,14 @@ status_of EndUnusable = 3
 status_of Device = 3
 status_of Unread = 3
 status_of NoMemory = 4
+
+-- that of a live run, as that of its command
+abbrev pub fault_of_run : RunFault → Fault
+fault_of_run run.StateInUse = StateInUse
+fault_of_run (run.StateUnusable cause) = StateUnusable cause
+fault_of_run run.EndUnusable = EndUnusable
+fault_of_run run.Device = Device
+fault_of_run run.NoMemory = NoMemory
 
 -- that of a command that has ended, or stopped at a fault
 abbrev pub status_of_end : Result (Unit {0}) Fault → ℕ

@@ -12,9 +12,9 @@ use Rattle.state.specs.declared.beginning.Origin.{Origin}
 use Rattle.telegate.specs.Lives.{all_passed}
 use Rattle.telegate.specs.Living.{HasLived, IsPortOfRun}
 use Rattle.telegate.specs.Running.{HasEnded}
-use Rattle.telegate.specs.declared.fault.Fault.{Fault}
-use Rattle.telegate.specs.declared.fault.Fault.TheVariants.{EndUnusable, NoMemory, StateInUse}
-use Rattle.telegate.specs.declared.fault.Fault.TheVariants.{StateUnusable}
+use Rattle.telegate.specs.declared.fault.RunFault.{RunFault}
+use Rattle.telegate.specs.declared.fault.RunFault.TheVariants.{EndUnusable, NoMemory, StateInUse}
+use Rattle.telegate.specs.declared.fault.RunFault.TheVariants.{StateUnusable}
 
 -- the moment at which the clock begins, in ms
 abbrev pub first_moment : Option ℕ → ℕ
@@ -22,13 +22,13 @@ first_moment None = 0
 first_moment (Some moment) = moment
 
 -- an end of a run can't be had, which isn't that its device failed
-abbrev pub IsEndFault : Fault → Type 0
+abbrev pub IsEndFault : RunFault → Type 0
 IsEndFault EndUnusable = Unit {0}
 IsEndFault NoMemory = Unit {0}
 IsEndFault _ = ⊥
 
 -- or its state
-abbrev pub IsKeptFault : Fault → Type 0
+abbrev pub IsKeptFault : RunFault → Type 0
 IsKeptFault StateInUse = Unit {0}
 IsKeptFault (StateUnusable cause) = Unit {0}
 IsKeptFault fault = IsEndFault fault

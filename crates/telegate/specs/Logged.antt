@@ -13,9 +13,9 @@ use Rattle.state.specs.declared.beginning.Origin.{Origin}
 use Rattle.state_words.specs.Notes.{note_of, note_of_damage, note_of_given_up, note_of_queue}
 use Rattle.state_words.specs.Notes.{note_of_settings}
 use Rattle.telegate.specs.Law.{LogsAll}
-use Rattle.telegate.specs.declared.fault.Fault.{Fault}
-use Rattle.telegate.specs.declared.fault.Fault.TheVariants.{EndUnusable, NoMemory, StateInUse}
-use Rattle.telegate.specs.declared.fault.Fault.TheVariants.{StateUnusable}
+use Rattle.telegate.specs.declared.fault.RunFault.{RunFault}
+use Rattle.telegate.specs.declared.fault.RunFault.TheVariants.{EndUnusable, NoMemory, StateInUse}
+use Rattle.telegate.specs.declared.fault.RunFault.TheVariants.{StateUnusable}
 use Rattle.telegate.specs.declared.site.EndRefusal.{EndRefusal}
 
 -- a note is logged, if there is one
@@ -67,19 +67,19 @@ LogsCause cause old new =
     (why : Obstacle) × (why.cause ≡ cause) × LogsNote old (note.StateUnkept why) new
 
 -- The state can't be had, which is logged, unless memory is refused.
-abbrev pub IsUnkept : Fault → (old new : Book) → Type 0
+abbrev pub IsUnkept : RunFault → (old new : Book) → Type 0
 IsUnkept StateInUse old new = LogsNote old (note.Trouble trouble.StateInUse) new
 IsUnkept (StateUnusable cause) old new = LogsCause cause old new
 IsUnkept NoMemory old new = new ≡ old
 IsUnkept _ old new = ⊥
 
 -- memory or an end is refused
-abbrev pub fault_of : (is_memory : Bool) → Fault
+abbrev pub fault_of : (is_memory : Bool) → RunFault
 fault_of true = NoMemory
 fault_of false = EndUnusable
 
 -- an end can't be had, which is logged, and the run doesn't begin
-pub record IsRefused (fault : Fault) (old new : Book) : Type 0 where
+pub record IsRefused (fault : RunFault) (old new : Book) : Type 0 where
   pub refusal : EndRefusal
   pub written : LogsNote old (note.Trouble refusal.trouble) new
   pub is : fault ≡ fault_of refusal.is_memory

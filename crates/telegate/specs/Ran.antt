@@ -1,6 +1,6 @@
 -- What came of a live run that was wished (this gateway's own profile).
-use Rattle.std.specs.Prelude.{◌≡◌, ◌⊎◌, ℕ, List, [], Bool, false, Option, Some, MatchOption}
-use Rattle.std.specs.Prelude.{Result, Ok, Err}
+use Rattle.std.specs.Prelude.{◌≡◌, ◌⊎◌, ◌+◌, ℕ, List, [], Bool, false, Option, Some}
+use Rattle.std.specs.Prelude.{MatchOption, Result, Ok, Err}
 use Rattle.gateway.specs.Config.{Settings}
 use Rattle.gateway.specs.Log.{Log}
 use Rattle.live.specs.Ends.{LiveEnds}
@@ -12,18 +12,21 @@ use Rattle.settings.specs.declared.live.LiveSettings.{LiveSettings}
 use Rattle.state.specs.declared.beginning.Origin.{Origin}
 use Rattle.telegate.specs.AsWished.{IsAsWished}
 use Rattle.telegate.specs.Asked.{Asked, run_asked}
+use Rattle.telegate.specs.Faults.{fault_of_run}
 use Rattle.telegate.specs.Kept.{HasLivedFrom, IsKeptFault}
 use Rattle.telegate.specs.Living.{HasLived}
-use Rattle.telegate.specs.Running.{IsLiveConfigFault}
+use Rattle.telegate.specs.Running.{HasRun, IsLiveConfigFault}
 use Rattle.telegate.specs.declared.fault.Fault.{Fault}
-use Rattle.telegate.specs.declared.fault.Fault.TheVariants.{Device}
+use Rattle.telegate.specs.declared.fault.RunFault.{RunFault}
+use Rattle.telegate.specs.declared.fault.RunFault.TheVariants.{Device}
 use Rattle.telegate.specs.declared.host.Wishes.{Wishes}
 use Rattle.telegate.specs.declared.living.Over.{Over}
 use Rattle.telegate.specs.declared.living.Over.TheVariants.{Anew, Kept}
 use Rattle.telegate.specs.declared.running.DeviceFailed.{DeviceFailed}
 
 -- What is left of a run that is over: what passed before it, its port, its record and its log,
--- whether it was shown, and, where its state was kept, whether it bore the loss of that.
+-- whether it was shown, and, where its state was kept, whether it bore the loss of that, and how
+-- often it stopped for it.
 pub record RunLeft : Type 0 where
   pub before : Log
   pub port : LiveEnds
@@ -31,23 +34,28 @@ pub record RunLeft : Type 0 where
   pub book : Book
   pub is_shown : Bool
   pub bears_loss : Option Bool
+  pub stops : ℕ
 
 -- A run without a state is over. It began anew, and was as it was wished. It asked its site for
--- what it is to ask for, with a clock that begins at 0.
+-- what it is to ask for, with a clock that begins at 0. It stopped only because its device failed,
+-- and that once.
 pub record HasLivedAnew {E : Type 0} (settings : Settings) (wishes : Wishes) (old new : Asked)
     (left : RunLeft) (ended : Result (Unit {0}) E) : Type 0 where
   pub asked : new ≡ run_asked wishes 0 old
   pub anew : left.before ≡ []
   pub lived : HasLived settings wishes.allow_list false [] left.port left.pen ended
+  pub device : HasRun 0 left.port.failed ended
   pub wished : IsAsWished wishes left.book left.pen left.is_shown
 
 -- A run whose state is kept is over: it began so, went on from there, and was as it was wished. It
--- bore the loss of its state where that was wished. Its clock began where it went on.
+-- bore the loss of its state where that was wished. Its clock began where it went on. It stopped
+-- only because its device failed, or because its state couldn't be kept.
 pub record HasLivedKept {E : Type 0} (begins : Origin → Type 0) (settings : Settings)
     (wishes : Wishes) (old new : Asked) (left : RunLeft) (ended : Result (Unit {0}) E)
     : Type 0 where
   pub lived : HasLivedFrom begins settings wishes.allow_list
       (λ moment. new ≡ run_asked wishes moment old) left.before left.port left.pen ended
+  pub device : HasRun 0 (left.port.failed + left.stops) ended
   pub wished : IsAsWished wishes left.book left.pen left.is_shown
   pub bears : left.bears_loss ≡ Some wishes.bears_loss
 
@@ -65,30 +73,36 @@ IfOver (Anew run) anew kept = anew run
 IfOver (Kept run) anew kept = kept run
 
 -- what is answered of a run that has ended so: a device that failed is a fault
-abbrev pub answer_to : Result (Unit {0}) DeviceFailed → Result (Unit {0}) Fault
+abbrev pub answer_to : Result (Unit {0}) DeviceFailed → Result (Unit {0}) RunFault
 answer_to (Ok done) = Ok done
 answer_to (Err failed) = Err Device
 
 -- a run with these settings is over, as it was wished, and this is answered of it
 pub record HasCome (begins : Origin → Type 0) (settings : Settings) (wishes : Wishes)
-    (old new : Asked) (answer : Result (Unit {0}) Fault) : Type 0 where
+    (old new : Asked) (answer : Result (Unit {0}) RunFault) : Type 0 where
   pub left : RunLeft
   pub ended : Result (Unit {0}) DeviceFailed
   pub lived : HasLivedAs begins settings wishes old new left ended
   pub answered : answer ≡ answer_to ended
 
--- and it was at a site with the places of these settings
-pub record IsOver (begins : Origin → Type 0) (settings : Settings) (places : LiveSettings)
-    (wishes : Wishes) (answer : Result (Unit {0}) Fault) : Type 0 where
+-- It didn't begin: an end of it, or its state, can't be had. No clock was given for it, without
+-- which nothing runs.
+abbrev pub HasNotBegun : (old new : Asked) → Result (Unit {0}) RunFault → Type 0
+HasNotBegun old new (Ok done) = ⊥
+HasNotBegun old new (Err fault) = IsKeptFault fault × (new.clocks ≡ old.clocks)
+
+-- either was so at a site with the places of these settings
+pub record HasComeAt (begins : Origin → Type 0) (settings : Settings) (places : LiveSettings)
+    (wishes : Wishes) (answer : Result (Unit {0}) RunFault) : Type 0 where
   pub old : Asked
   pub at : old.places ≡ places_of places
   pub new : Asked
-  pub come : HasCome begins settings wishes old new answer
+  pub came : HasNotBegun old new answer ⊎ HasCome begins settings wishes old new answer
 
--- it didn't begin: an end of it, or its state, can't be had
-abbrev pub HasNotBegun : Result (Unit {0}) Fault → Type 0
-HasNotBegun (Ok done) = ⊥
-HasNotBegun (Err fault) = IsKeptFault fault
+-- as the answer of a command
+abbrev pub told : Result (Unit {0}) RunFault → Result (Unit {0}) Fault
+told (Ok done) = Ok done
+told (Err fault) = Err (fault_of_run fault)
 
 -- the settings of a live run are those of its file, and this is answered of it
 pub record HasRunWith (begins : Settings → Origin → Type 0) (text : List ℕ)
@@ -96,8 +110,9 @@ pub record HasRunWith (begins : Settings → Origin → Type 0) (text : List ℕ
   pub settings : Settings
   pub places : LiveSettings
   pub are : IsLiveReadOfText text (Ok (settings, places))
-  pub came : HasNotBegun answer
-      ⊎ IsOver (begins settings) settings places wishes answer
+  pub run : Result (Unit {0}) RunFault
+  pub came : HasComeAt (begins settings) settings places wishes run
+  pub answered : answer ≡ told run
 
 -- or the file is refused by the first fault, and nothing is run
 abbrev pub IsRefused : List ℕ → Result (Unit {0}) Fault → Type 0

@@ -7,6 +7,7 @@ use crate::fault::{Fault, USAGE};
 use crate::host::Host;
 use crate::performing::write_fault;
 use crate::shell::read_file;
+use crate::site::tell_refused;
 use centre::{
     Centre, Desk, Outcome, Style, Terms, Untold, Wish, converse, end_line, errand_of, is_wish_word,
     read_wish, tag_of,
@@ -198,7 +199,10 @@ pub(crate) fn control_at<W: Write>(
         Err(fault) if fault.kind() == io::ErrorKind::OutOfMemory => {
             return Err(Uncontrolled::Failed(Fault::NoMemory));
         }
-        Err(_) => return Err(Uncontrolled::Unreached),
+        Err(fault) => {
+            tell_refused(rt, "gateway", errands.place, &fault);
+            return Err(Uncontrolled::Unreached);
+        }
     };
     let Ok(mut clock) = SystemClock::start(rt) else {
         return Err(Uncontrolled::Failed(Fault::Device));

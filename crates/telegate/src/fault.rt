@@ -1,7 +1,8 @@
 //! Why a command stops, and the exit statuses.
 ghost use Rattle.std.specs.Prelude.{◌≡◌};
-ghost use Rattle.telegate.specs.Faults.{status_of};
+ghost use Rattle.telegate.specs.Faults.{fault_of_run, status_of};
 ghost use Rattle.telegate.specs.declared.fault.Fault.TheVariants as fault;
+ghost use Rattle.telegate.specs.declared.fault.RunFault.TheVariants as run_fault;
 
 use settings::{ConfigFault, SiteFault};
 use std::alloc::AllocError;
@@ -73,6 +74,53 @@ pub(crate) enum Fault {
     Unread,
     #[error("no memory")]
     NoMemory,
+}
+
+/// Why a live run didn't begin, or that its device failed. What is generic over a site answers
+/// this.
+// It borrows nothing: the borrow checker covers no call that is generic over a site of a lifetime
+// and of a type beside a fault that borrows for the whole life of a process.
+#[derive(Clone, Copy)]
+pub(crate) enum RunFault {
+    /// Another process keeps its state there.
+    StateInUse,
+    /// The state can't be kept there, for this cause.
+    StateUnusable(ErrorKind),
+    /// An end of the run can't be had.
+    EndUnusable,
+    /// The device of the run failed.
+    Device,
+    NoMemory,
+}
+
+impl From<AllocError> for RunFault {
+    ghost from_gives = { λ _ e. e ≡ run_fault.NoMemory };
+
+    fn from(_error: AllocError) -> RunFault {
+        RunFault::NoMemory
+    }
+}
+
+impl From<gateway::NoMemory> for RunFault {
+    ghost from_gives = { λ _ e. e ≡ run_fault.NoMemory };
+
+    fn from(_error: gateway::NoMemory) -> RunFault {
+        RunFault::NoMemory
+    }
+}
+
+impl From<RunFault> for Fault {
+    ghost from_gives = { λ why fault. fault ≡ fault_of_run why };
+
+    fn from(fault: RunFault) -> Fault {
+        match fault {
+            RunFault::StateInUse => Fault::StateInUse,
+            RunFault::StateUnusable(cause) => Fault::StateUnusable(cause),
+            RunFault::EndUnusable => Fault::EndUnusable,
+            RunFault::Device => Fault::Device,
+            RunFault::NoMemory => Fault::NoMemory,
+        }
+    }
 }
 
 impl From<AllocError> for Fault {

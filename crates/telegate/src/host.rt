@@ -1,9 +1,10 @@
 //! What the program needs of the system that it runs on.
-ghost use Rattle.std.specs.Prelude.{◌≡◌, ◌⊎◌, ℕ, Bool, List, Result, IfOk, IfErr};
+ghost use Rattle.std.specs.Prelude.{◌≡◌, ℕ, Bool, List, Result, IfOk, IfErr, map, option_map};
+ghost use Rattle.std.specs.Prelude.{string_bytes};
 ghost use Rattle.sim.specs.Scenarios.{FitsScenario};
 ghost use Rattle.telegate.specs.Controlled.{HasPrinted};
 ghost use Rattle.telegate.specs.Playing.{ArePlayed};
-ghost use Rattle.telegate.specs.Ran.{HasNotBegun, IsOver};
+ghost use Rattle.telegate.specs.Ran.{HasComeAt};
 ghost use Rattle.state_files.specs.declared.looking.Stood.{Stood};
 ghost use Rattle.telegate.specs.Source.{Gives};
 ghost use Rattle.telegate.specs.Starts.{StartsIn};
@@ -12,11 +13,11 @@ ghost use Rattle.telegate.specs.declared.host.Unread.TheVariants as unread;
 ghost use Rattle.telegate.specs.declared.host.Wishes.{Wishes};
 
 use crate::controlling::{Errands, Uncontrolled, control_at};
-use crate::fault::Fault;
+use crate::fault::{Fault, RunFault};
 use crate::inquiry::ask_at;
 use crate::living::{read_live, run_out};
 use crate::playing::{play_behind, scenario_of};
-use crate::site::Process;
+use crate::site::{Process, tell_refused};
 use crate::source::Source;
 use centre::Outcome;
 use gateway::{Config, History};
@@ -25,9 +26,9 @@ use runlog::{LogNames, NamedStation};
 use settings::{LiveSettings, Names as SiteNames};
 use sim::{LineListener, Scenario};
 use sqlite_disk::Disk;
-use sqlite_std_file::File as DiskFile;
+use sqlite_std_file::FileFrom;
 use state::Folder;
-use state_files::{Directory, Stood, stood_in};
+use state_files::{Directory, Starts, Stood, stood_in};
 use std::alloc::{AllocError, Global};
 use std::fs::File;
 use std::io;
@@ -153,20 +154,22 @@ pub(crate) trait Host {
         ensures none { IfErr result (λ why. why ≡ unread.Unreadable → silent self.now place.now) };
 }
 
-/// The system of a process. Of what its files hold nothing is known, but what led to the state that
-/// a run may find, which only proofs know.
+/// The system of a process, in whose directory this stands. What led to the state that a run may
+/// find there only proofs know.
 #[derive(Drop)]
-pub(crate) struct System<'r> {
+pub(crate) struct System<'r, S: Starts> {
     pub(crate) rt: &'r HostRuntime,
     /// Whether its standard error is a terminal, and its standard output isn't.
     pub(crate) is_watched: bool,
     /// Whether standard output shows colours of itself.
     pub(crate) has_colours: bool,
-    /// What led to the state at the head of the newest log, in the directory that a run is told.
+    /// What stands in the files of the directory that a run is told.
+    pub(crate) starts: S,
+    /// What led to the state at the head of the newest log there.
     pub(crate) lineage: History,
 }
 
-impl Host for System<'_> {
+impl<S: Starts> Host for System<'_, S> {
     ghost has = { λ _ _ _. Unit {0} };
 
     ghost lacks = { λ _ _. Unit {0} };
@@ -174,7 +177,7 @@ impl Host for System<'_> {
     ghost use Rattle.telegate.specs.Ran.{HasRunBy};
 
     ghost ran = { λ old _ text wishes ended. HasRunBy (λ settings. StartsIn
-        ⟦<DiskFile as Disk>⟧ wishes settings old.lineage.entries) text wishes ended };
+        ⟦<FileFrom<S::Found> as Disk>⟧ wishes settings old.lineage.entries) text wishes ended };
 
     ghost use Rattle.telegate.specs.Playing.{ArePlayedBy};
 
@@ -193,16 +196,14 @@ impl Host for System<'_> {
     fn read(&self, name: &str) -> Result<Vec<u8>, Unread> {
         match std::fs::read(self.rt, path_of(name)) {
             Ok(octets) => Ok(octets),
-            Err(fault) if fault.kind() == io::ErrorKind::OutOfMemory => Err(Unread::NoMemory),
-            Err(_) => Err(Unread::Unreadable),
+            Err(fault) => Err(unread(self.rt, "file", name, &fault)),
         }
     }
 
     fn open(&self, name: &str) -> Result<File, Unread> {
         match File::open(self.rt, path_of(name)) {
             Ok(file) => Ok(file),
-            Err(fault) if fault.kind() == io::ErrorKind::OutOfMemory => Err(Unread::NoMemory),
-            Err(_) => Err(Unread::Unreadable),
+            Err(fault) => Err(unread(self.rt, "file", name, &fault)),
         }
     }
 
@@ -223,7 +224,7 @@ impl Host for System<'_> {
 
     fn run(&mut self, config: &[u8], wishes: Wishes<'_>) -> Result<(), Fault> {
         let (settings, places) = read_live(self.rt.alloc(), config)?;
-        run_process(self, &settings, &places, config, wishes)
+        Ok(run_process(self, &settings, &places, config, wishes)?)
     }
 
     fn play(&self, config: &[u8], script: &[u8]) -> Result<(), Fault> {
@@ -244,18 +245,25 @@ impl Host for System<'_> {
     fn look(&self, directory: &str) -> Result<Stood, Unread> {
         match stood_in(self.rt, directory) {
             Ok(stood) => Ok(stood),
-            Err(fault) if fault.kind() == io::ErrorKind::OutOfMemory => Err(Unread::NoMemory),
-            Err(_) => Err(Unread::Unreadable),
+            Err(fault) => Err(unread(self.rt, "directory", directory, &fault)),
         }
     }
 
     fn ask(&self, place: &str, request: &[u8]) -> Result<Vec<u8>, Unread> {
         match ask_at(self.rt, self.rt.alloc(), place, request) {
             Ok(answer) => Ok(answer),
-            Err(fault) if fault.kind() == io::ErrorKind::OutOfMemory => Err(Unread::NoMemory),
-            Err(_) => Err(Unread::Unreadable),
+            Err(fault) => Err(unread(self.rt, "status", place, &fault)),
         }
     }
+}
+
+/// Why a file, a directory or an answer isn't had. What the system says of it is told.
+fn unread(rt: &HostRuntime, what: &str, place: &str, fault: &io::Error) -> Unread {
+    if fault.kind() == io::ErrorKind::OutOfMemory {
+        return Unread::NoMemory;
+    }
+    tell_refused(rt, what, place, fault);
+    Unread::Unreadable
 }
 
 /// Plays the outstations of a script at a place: `tcp:HOST:PORT` or `unix:PATH`.
@@ -278,45 +286,47 @@ fn play_at(
     match LineListener::listen(rt, place) {
         Ok(listener) => play_behind(rt, rt.alloc(), settings, scenario, &mut clock, listener),
         Err(fault) if fault.kind() == io::ErrorKind::OutOfMemory => Err(Fault::NoMemory),
-        Err(_) => Err(Fault::Device),
+        Err(fault) => {
+            tell_refused(rt, "line", place, &fault);
+            Err(Fault::Device)
+        }
     }
 }
 
 /// Runs the gateway live with these settings and places, which were read from this text, in a
 /// process of this system.
-// A process isn't generic over what stands in its files: beside a fault that borrows for the whole
-// life of a process the borrow checker covers no call with such a site.
-fn run_process(
-    system: &System<'_>,
+#[tactic(auto, using(crate::proofs::RanLemmas::never_at))]
+fn run_process<S: Starts>(
+    system: &System<'_, S>,
     settings: &Config,
     places: &LiveSettings,
     text: &[u8],
     wishes: Wishes<'_>,
-) -> Result<(), Fault>
-    ensures { HasNotBegun result ⊎ IsOver (StartsIn ⟦<DiskFile as Disk>⟧ wishes.entry settings.now
+) -> Result<(), RunFault>
+    ensures { HasComeAt (StartsIn ⟦<FileFrom<S::Found> as Disk>⟧ wishes.entry settings.now
         system.now.lineage.entries) settings.now places.now wishes.entry result }
 {
     let rt = system.rt;
     let Ok(stations) = names_of(rt.alloc(), wishes.names) else {
-        return Err(Fault::NoMemory);
+        return Err(RunFault::NoMemory);
     };
     // Held until the run is over.
     let Ok(_held) = standard_descriptors(rt) else {
-        return Err(Fault::EndUnusable);
+        return Err(RunFault::EndUnusable);
     };
     let names = named_by(wishes.names, stations.as_slice());
-    let mut site = process_of(system, places, names, wishes.log_severity);
+    let mut site = process_of(system, places, names, &wishes);
     run_out(&mut site, settings, text, wishes)
 }
 
-/// A process of this system with these settings, names and form of its log.
-fn process_of<'a>(
-    system: &System<'a>,
+/// A process of this system with these settings and names, and a log as it is wished.
+fn process_of<'a, S: Starts>(
+    system: &System<'a, S>,
     places: &'a LiveSettings,
     names: LogNames<'a>,
-    has_severity: bool,
-) -> Process<'a>
-    ensures severity { result.has_severity ≡ has_severity }
+    wishes: &Wishes<'_>,
+) -> Process<'a, S>
+    ensures severity { result.has_severity ≡ wishes.now.log_severity }
     ensures places { result.places.now ≡ places.now }
     ensures lineage { result.lineage.entries ≡ system.now.lineage.entries }
 {
@@ -324,13 +334,18 @@ fn process_of<'a>(
         rt: system.rt,
         places,
         names,
-        has_severity,
+        has_severity: wishes.log_severity,
+        is_logged: wishes.log,
+        starts: system.starts,
         lineage: system.lineage.again(),
     }
 }
 
 /// What the line and these stations are called.
-fn named_by<'a>(names: &'a SiteNames, stations: &'a [NamedStation<'a>]) -> LogNames<'a> {
+fn named_by<'a>(names: &'a SiteNames, stations: &'a [NamedStation<'a>]) -> LogNames<'a>
+    ensures line { option_map (λ s. s.now) result.line ≡ option_map string_bytes names.now.line }
+    ensures stations { result.stations ≡ stations }
+{
     let line = match &names.line {
         Some(line) => Some(line.as_str()),
         None => None,
@@ -338,10 +353,14 @@ fn named_by<'a>(names: &'a SiteNames, stations: &'a [NamedStation<'a>]) -> LogNa
     LogNames { line, stations }
 }
 
-/// What stations are called, for the log and for who looks.
-fn names_of<'a>(alloc: Global, names: &'a SiteNames) -> Result<Vec<NamedStation<'a>>, AllocError> {
+/// What stations are called, for the log and for who looks: each by its own name, in their order.
+fn names_of<'a>(alloc: Global, names: &'a SiteNames) -> Result<Vec<NamedStation<'a>>, AllocError>
+    ensures { IfOk result (λ called. map (λ s. (s.link, s.name.now)) called.items
+        ≡ map (λ s. (s.link, string_bytes s.name)) names.now.stations.items) }
+{
     let mut called = Vec::new(alloc);
-    for station in &names.stations {
+    let stations = names.stations.as_slice();
+    for station in stations {
         called.push(NamedStation {
             link: station.link,
             name: station.name.as_str(),

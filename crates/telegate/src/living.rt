@@ -21,15 +21,15 @@ ghost use Rattle.telegate.specs.Kept.{first_moment};
 ghost use Rattle.telegate.specs.Law.{LogsAll};
 ghost use Rattle.telegate.specs.Living.{HasLived, IsPortOf};
 ghost use Rattle.telegate.specs.Ran.{HasCome, HasLivedAs, HasNotBegun, IfOver, answer_to};
-ghost use Rattle.telegate.specs.Running.{IsReadLiveConfig};
+ghost use Rattle.telegate.specs.Running.{HasRun, IsReadLiveConfig};
 ghost use Rattle.telegate.specs.Served.{HasServedAnew, HasServedOn};
 ghost use Rattle.telegate.specs.Starts.{IsWithout, StartsIn};
 ghost use Rattle.telegate.specs.Turns.{in_life, shown_to};
-ghost use Rattle.telegate.specs.declared.fault.Fault.TheVariants as fault;
+ghost use Rattle.telegate.specs.declared.fault.RunFault.TheVariants as run_fault;
 ghost use Rattle.telegate.specs.Logged.{IsRefused, IsUnkept, LogsNoteIf, LogsBeginning, LogsGap};
 ghost use Rattle.telegate.specs.Logged.{LogsStart, LogsWithout, note_if_on, note_of_address};
 
-use crate::fault::Fault;
+use crate::fault::{Fault, RunFault};
 use crate::help::VERSION;
 use crate::host::Wishes;
 use crate::place::Place;
@@ -67,7 +67,7 @@ fn scribes_of<T: RunSite>(
     site: &mut T,
     config: &Config,
     wishes: &Wishes<'_>,
-) -> Result<Scribes<T::Sink, T::Sheet, T::Glass>, Fault>
+) -> Result<Scribes<T::Sink, T::Sheet, T::Glass>, RunFault>
     ensures new { IfOk result (λ scribes.
         logged_first (log_of scribes.pen) (Some []) ≡ Some []) }
     ensures logs { IfOk result (λ scribes. scribes.logger.is_over ≡ not wishes.now.log) }
@@ -99,7 +99,7 @@ fn lookout_of<T: RunSite>(
     config: &Config,
     wishes: &Wishes<'_>,
     logger: &mut Logger<T::Sink>,
-) -> Result<Option<Lookout<T::Glass>>, Fault>
+) -> Result<Option<Lookout<T::Glass>>, RunFault>
     ensures shows { IfOk result (λ lookout. is_some lookout ≡ is_some wishes.now.status) }
     ensures quiet { IfOk result (λ _. logger.new ≡ logger.old) }
     ensures asked { IfOk result (λ _. T.asked site.new
@@ -152,7 +152,7 @@ fn opened<T: RunSite>(
     wishes: &Wishes<'_>,
     moment: u64,
     logger: &mut Logger<T::Sink>,
-) -> Result<RunEnds<T::Line, T::Listener, T::Clock>, Fault>
+) -> Result<RunEnds<T::Line, T::Listener, T::Clock>, RunFault>
     ensures clock { IfOk result (λ ends. T.begins_at ends.clock moment) }
     ensures new { IfOk result (λ ends. IsNew (T.Line.history ends.line)) }
     ensures unasked { IfOk result (λ ends. HasNoAttempts (T.Listener.attempts ends.listener)) }
@@ -180,7 +180,10 @@ fn opened<T: RunSite>(
 }
 
 /// The listener, opened. Its address is logged, if that is known.
-fn listener_of<T: RunSite>(site: &mut T, logger: &mut Logger<T::Sink>) -> Result<T::Listener, Fault>
+fn listener_of<T: RunSite>(
+    site: &mut T,
+    logger: &mut Logger<T::Sink>,
+) -> Result<T::Listener, RunFault>
     ensures logged { IfOk result (λ _. (address : Option SocketAddr)
         × LogsNoteIf (note_of_address address) logger.old logger.new) }
     ensures unasked { IfOk result (λ listener. HasNoAttempts (T.Listener.attempts listener)) }
@@ -221,13 +224,13 @@ fn log<S: LogSink + Drop>(note: Option<Note>, logger: &mut Logger<S>)
 
 /// An end can't be had, which is logged.
 #[tactic(auto, using(crate::proofs::KeptLemmas::refused_is_end))]
-fn refused<S: LogSink + Drop>(refusal: EndRefusal, logger: &mut Logger<S>) -> Fault
+fn refused<S: LogSink + Drop>(refusal: EndRefusal, logger: &mut Logger<S>) -> RunFault
     ensures refused { IsRefused result logger.old logger.new }
     ensures fixed { book_fixture logger.new ≡ book_fixture logger.old }
     ensures fault { IsEndFault result }
 {
     logger.note(Note::Trouble(refusal.trouble));
-    Fault::from(refusal)
+    RunFault::from(refusal)
 }
 
 /// The port of a run between these ends. In one that goes on after a restart the connection of then
@@ -278,7 +281,7 @@ pub(crate) fn run_at<T: RunSite>(
     config: &Config,
     text: &[u8],
     wishes: Wishes<'_>,
-) -> Result<RunOver<T>, Fault>
+) -> Result<RunOver<T>, RunFault>
     requires severity { T.severe site.old ≡ wishes.log_severity }
     // A run as wished lived, and so it ended. If its state is kept, all looked behind each event
     // before the next one came.
@@ -292,6 +295,7 @@ pub(crate) fn run_at<T: RunSite>(
           book = anew.run_log.logger;
           is_shown = is_some anew.lookout;
           bears_loss = None;
+          stops = 0;
         }) anew.ended)
         (λ kept. HasLivedAs (λ origin.
         StartsIn T.Folder.File.Disk wishes.entry config.now (T.asked site.old).lineage origin
@@ -304,6 +308,7 @@ pub(crate) fn run_at<T: RunSite>(
           book = kept.run_log.logger;
           is_shown = is_some kept.lookout;
           bears_loss = Some kept.run_log.port.port.port.bears_loss;
+          stops = kept.run_log.port.port.port.stops;
         }) kept.ended)) }
     // So did those of a run that began anew.
     ensures served { IfOk result (λ over. IfOver over
@@ -331,12 +336,12 @@ fn ended_of<T: RunSite>(over: &RunOver<T>) -> Result<(), DeviceFailed>
 }
 
 /// What is answered of a run that has ended so.
-fn answer_to(ended: Result<(), DeviceFailed>) -> Result<(), Fault>
+fn answer_to(ended: Result<(), DeviceFailed>) -> Result<(), RunFault>
     ensures { result ≡ answer_to ended }
 {
     match ended {
         Ok(()) => Ok(()),
-        Err(DeviceFailed) => Err(Fault::Device),
+        Err(DeviceFailed) => Err(RunFault::Device),
     }
 }
 
@@ -347,9 +352,10 @@ pub(crate) fn run_out<T: RunSite>(
     config: &Config,
     text: &[u8],
     wishes: Wishes<'_>,
-) -> Result<(), Fault>
+) -> Result<(), RunFault>
     requires severity { T.severe site.old ≡ wishes.log_severity }
-    ensures { HasNotBegun result ⊎ HasCome (StartsIn T.Folder.File.Disk wishes.entry config.now
+    ensures { HasNotBegun (T.asked site.old) (T.asked site.new) result
+        ⊎ HasCome (StartsIn T.Folder.File.Disk wishes.entry config.now
         (T.asked site.old).lineage) config.now wishes.entry (T.asked site.old)
         (T.asked site.new) result }
 {
@@ -365,9 +371,11 @@ fn run_anew<T: RunSite>(
     site: &mut T,
     config: &Config,
     wishes: Wishes<'_>,
-) -> Result<Lived<RunPort<T::Line, T::Listener, T::Clock>, T::Sheet, T::Sink, T::Glass>, Fault>
+) -> Result<Lived<RunPort<T::Line, T::Listener, T::Clock>, T::Sheet, T::Sink, T::Glass>, RunFault>
     ensures lived { IfOk result (λ lived. HasLived config.now wishes.entry.allow_list false []
         lived.run_log.port.port.port lived.run_log.port.port.pen lived.ended) }
+    ensures device { IfOk result (λ lived. HasRun 0 lived.run_log.port.port.port.failed
+        lived.ended) }
     ensures before { IfOk result (λ lived. lived.run_log.port.before.entries ≡ []) }
     ensures served { IfOk result (λ lived. HasServedAnew config.now
         (in_life lived.run_log.port.before.entries lived.run_log.port.port.pen
@@ -386,7 +394,7 @@ fn run_anew<T: RunSite>(
 }
 
 /// Runs a new gateway between these ends, whose clock begins at 0.
-#[tactic(auto, using(crate::proofs::RunPorts::port_of_run))]
+#[tactic(auto, using(crate::proofs::RunPorts::port_of_run, crate::proofs::RunLemmas::ran_whole))]
 fn run_new<T: RunSite>(
     _site: &T,
     config: &Config,
@@ -402,6 +410,7 @@ fn run_new<T: RunSite>(
     requires listener { HasNoAttempts (T.Listener.attempts ends.listener) }
     ensures lived { HasLived config.now allow_list false [] result.run_log.port.port.port
         result.run_log.port.port.pen result.ended }
+    ensures device { HasRun 0 result.run_log.port.port.port.failed result.ended }
     ensures before { result.run_log.port.before.entries ≡ [] }
     ensures served { HasServedAnew config.now (in_life result.run_log.port.before.entries
         result.run_log.port.port.pen result.run_log.port.port.port) result.run_log.logger
@@ -458,7 +467,7 @@ fn run_kept<T: RunSite>(
     text: &[u8],
     directory: &str,
     wishes: Wishes<'_>,
-) -> Result<Lived<Kept<T>, T::Sheet, T::Sink, T::Glass>, Fault>
+) -> Result<Lived<Kept<T>, T::Sheet, T::Sink, T::Glass>, RunFault>
     // It began so, went on from there, and all looked behind each of its events.
     ensures lived { IfOk result (λ lived. HasLivedFrom (λ origin.
         StartsIn T.Folder.File.Disk wishes.entry config.now (T.asked site.old).lineage origin
@@ -472,6 +481,9 @@ fn run_kept<T: RunSite>(
         lived.run_log.port.port.pen lived.ended) }
     ensures wished { IfOk result (λ lived. IsAsWished wishes.entry lived.run_log.logger
         lived.run_log.port.port.pen (is_some lived.lookout)) }
+    ensures device { IfOk result (λ lived. HasRun 0
+        (lived.run_log.port.port.port.ends.port.failed + lived.run_log.port.port.port.stops)
+        lived.ended) }
     // It bore the loss of its state where that was wished.
     ensures bears { IfOk result (λ lived.
         lived.run_log.port.port.port.bears_loss ≡ wishes.entry.bears_loss) }
@@ -514,7 +526,7 @@ fn first_moment(moment: Option<u64>) -> u64
 
 /// Runs the gateway between these ends from where a run begins, and keeps its state. Their clock
 /// goes on where the gateway does.
-#[tactic(auto, using(crate::proofs::RunPorts::port_of_run))]
+#[tactic(auto, using(crate::proofs::RunPorts::port_of_run, crate::proofs::RunLemmas::ran_whole))]
 fn run_from<T: RunSite>(
     site: &T,
     config: &Config,
@@ -530,6 +542,8 @@ fn run_from<T: RunSite>(
     ensures lived { HasLivedOn config.now wishes.entry.allow_list begun.origin
         result.run_log.port.before.entries result.run_log.port.port.port.ends.port
         result.run_log.port.port.pen result.ended }
+    ensures device { HasRun 0 (result.run_log.port.port.port.ends.port.failed
+        + result.run_log.port.port.port.stops) result.ended }
     ensures logged { book_fixture result.run_log.logger ≡ book_fixture scribes.logger }
     ensures recorded { result.run_log.port.port.pen.is_wished ≡ scribes.pen.is_wished }
     ensures looked { is_some result.lookout ≡ is_some scribes.lookout }
@@ -559,7 +573,7 @@ fn begun_in<T: RunSite>(
     directory: &str,
     wishes: &Wishes<'_>,
     logger: &mut Logger<T::Sink>,
-) -> Result<Begun<Place<T::Folder>>, Fault>
+) -> Result<Begun<Place<T::Folder>>, RunFault>
     ensures starts { IfOk result (λ b. StartsIn T.Folder.File.Disk wishes.now config.now
         (T.asked site.old).lineage b.origin) }
     ensures settings { IfOk result (λ b. b.store.settings.items ≡ text.now) }
@@ -594,7 +608,7 @@ fn begun_without<T: RunSite>(
     fault: FolderFault,
     wishes: &Wishes<'_>,
     logger: &mut Logger<T::Sink>,
-) -> Result<Begun<Place<T::Folder>>, Fault>
+) -> Result<Begun<Place<T::Folder>>, RunFault>
     ensures without { IfOk result (λ b. IsWithout wishes.now config.now b.origin) }
     ensures settings { IfOk result (λ b. b.store.settings.items ≡ text.now) }
     ensures marked { IfOk result (λ _. T.is_marked site.new) }
@@ -623,7 +637,7 @@ fn origin_without<T: RunSite>(
     fault: FolderFault,
     wishes: &Wishes<'_>,
     logger: &mut Logger<T::Sink>,
-) -> Result<Origin, Fault>
+) -> Result<Origin, RunFault>
     ensures without { IfOk result (IsWithout wishes.now config.now) }
     ensures marked { IfOk result (λ _. T.is_marked site.new) }
     ensures logged { IfOk result (λ _. LogsWithout logger.old logger.new) }
@@ -635,9 +649,9 @@ fn origin_without<T: RunSite>(
         FolderFault::Unusable(place, cause) => Obstacle { place, cause },
         FolderFault::InUse => {
             logger.note(Note::Trouble(Trouble::StateInUse));
-            return Err(Fault::StateInUse);
+            return Err(RunFault::StateInUse);
         }
-        FolderFault::NoMemory => return Err(Fault::NoMemory),
+        FolderFault::NoMemory => return Err(RunFault::NoMemory),
     };
     // Else a later start would take what stands there for what came last (docs/DECISIONS.md, "A
     // disk that fails").
@@ -650,12 +664,12 @@ fn origin_without<T: RunSite>(
 }
 
 /// The state can't be kept, and the run doesn't begin without it, which is logged.
-fn refuse<S: LogSink + Drop>(obstacle: Obstacle, logger: &mut Logger<S>) -> Fault
+fn refuse<S: LogSink + Drop>(obstacle: Obstacle, logger: &mut Logger<S>) -> RunFault
     ensures unkept { IsUnkept result logger.old logger.new }
-    ensures cause { result ≡ fault.StateUnusable obstacle.cause }
+    ensures cause { result ≡ run_fault.StateUnusable obstacle.cause }
 {
     logger.note(Note::StateUnkept(obstacle));
-    Fault::StateUnusable(obstacle.cause)
+    RunFault::StateUnusable(obstacle.cause)
 }
 
 /// With what a run begins that has no state.

@@ -69,10 +69,24 @@ use host::{Host, System};
 use manner::shows_colours;
 use performing::write_fault;
 use shell::obey;
+use sqlite_std_file::Unknown;
+use state_files::Starts;
 use std::io::{IsTerminal, Write};
 use std::process::ExitCode;
 use std::rt::Env;
 use std::{env, io};
+
+/// What stands in the files of a state, of which nothing is supposed.
+#[derive(Clone, Copy)]
+struct AsTheyStand;
+
+impl Starts for AsTheyStand {
+    type Found = Unknown;
+
+    fn found(self) -> Unknown {
+        Unknown
+    }
+}
 
 fn main(rt: HostRuntime) -> ExitCode {
     let mut out = rt.stdout();
@@ -85,6 +99,7 @@ fn main(rt: HostRuntime) -> ExitCode {
         rt: &rt,
         is_watched,
         has_colours,
+        starts: AsTheyStand,
         lineage: History::new(),
     };
     ExitCode::from(run(&rt, &mut system, &mut out, &mut err))

@@ -26,8 +26,8 @@ ghost use Rattle.telegate.specs.Logged.{IsRefused, IsUnkept, LogsBeginning, Logs
 ghost use Rattle.telegate.specs.Ran.{HasLivedAs, RunLeft};
 ghost use Rattle.telegate.specs.Running.{HasRun};
 ghost use Rattle.telegate.specs.Starts.{StartsIn};
-ghost use Rattle.telegate.specs.declared.fault.Fault.{Fault};
-ghost use Rattle.telegate.specs.declared.fault.Fault.TheVariants as fault;
+ghost use Rattle.telegate.specs.declared.fault.RunFault.{RunFault};
+ghost use Rattle.telegate.specs.declared.fault.RunFault.TheVariants as fault;
 ghost use Rattle.telegate.specs.declared.host.Wishes.{Wishes};
 ghost use Rattle.telegate.specs.declared.running.DeviceFailed.{DeviceFailed};
 ghost use Rattle.telegate.specs.declared.site.EndRefusal.{EndRefusal};
@@ -147,7 +147,7 @@ pub fn a_start_logs_why_it_ends()
     ensures unusable { (cause : ErrorKind) (old new : Book) →
         IsUnkept (fault.StateUnusable cause) old new → (why : Obstacle) × (why.cause ≡ cause)
         × LogsAll (note.StateUnkept why ∷ []) old new }
-    ensures ends { (why : Fault) (old new : Book) → IsRefused why old new →
+    ensures ends { (why : RunFault) (old new : Book) → IsRefused why old new →
         (refusal : EndRefusal) × LogsAll (note.Trouble refusal.trouble ∷ []) old new
         × (refusal.is_memory ≡ true → why ≡ fault.NoMemory)
         × (refusal.is_memory ≡ false → why ≡ fault.EndUnusable) }

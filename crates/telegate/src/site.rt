@@ -5,7 +5,7 @@ ghost use Rattle.live.specs.OctetStreams.{IsNew};
 ghost use Rattle.telegate.specs.Lines.{is_again, of_line};
 ghost use Rattle.telegate.specs.Logged.{fault_of};
 
-use crate::fault::Fault;
+use crate::fault::RunFault;
 use crate::mounts::is_on_btrfs;
 use gateway::History;
 use live::{
@@ -15,7 +15,6 @@ use live::{
 use record::{RecordSheet, StandardOutput};
 use runlog::{LogNames, LogSink, StandardError, Trouble};
 use settings::LiveSettings;
-use sqlite_std_file::Unknown;
 use state::Folder;
 use state_files::{Directory, Starts, mark_beside};
 use status::VisitorListener;
@@ -33,14 +32,14 @@ pub(crate) struct EndRefusal {
     pub(crate) is_memory: bool,
 }
 
-impl From<EndRefusal> for Fault {
+impl From<EndRefusal> for RunFault {
     ghost from_gives = { λ refusal fault. fault ≡ fault_of refusal.is_memory };
 
-    fn from(refusal: EndRefusal) -> Fault {
+    fn from(refusal: EndRefusal) -> RunFault {
         if refusal.is_memory {
-            Fault::NoMemory
+            RunFault::NoMemory
         } else {
-            Fault::EndUnusable
+            RunFault::EndUnusable
         }
     }
 }
@@ -142,28 +141,20 @@ pub(crate) trait RunSite {
         ensures asked { asked self.new ≡ asked self.old };
 }
 
-/// What stands in the files of a state, of which nothing is supposed.
-#[derive(Clone, Copy)]
-pub(crate) struct AsTheyStand;
-
-impl Starts for AsTheyStand {
-    type Found = Unknown;
-
-    fn found(self) -> Unknown {
-        Unknown
-    }
-}
-
 /// The ends that a process has at these places.
 #[derive(Drop)]
-pub(crate) struct Process<'r> {
+pub(crate) struct Process<'r, S: Starts> {
     pub(crate) rt: &'r HostRuntime,
     pub(crate) places: &'r LiveSettings,
     /// What the line and the stations are called.
     pub(crate) names: LogNames<'r>,
     /// Each line of the log begins with how severe it is.
     pub(crate) has_severity: bool,
-    /// What led to the state at the head of the newest log in its directory.
+    /// The log says why an end can't be had.
+    pub(crate) is_logged: bool,
+    /// What stands in the files of its directory.
+    pub(crate) starts: S,
+    /// What led to the state at the head of the newest log there.
     pub(crate) lineage: History,
 }
 
@@ -220,14 +211,14 @@ impl<L: Reached, A: Reached> Reached for ProcessLine<L, A> {
     }
 }
 
-impl<'r> RunSite for Process<'r> {
+impl<'r, S: Starts> RunSite for Process<'r, S> {
     type Line = SystemLine<'r, HostRuntime>;
 
     type Listener = CentreListener<'r, HostRuntime>;
 
     type Clock = SystemClock<'r, HostRuntime>;
 
-    type Folder = Directory<AsTheyStand>;
+    type Folder = Directory<S>;
 
     type Sink = StandardError<'r, 'r, HostRuntime>;
 
@@ -285,21 +276,25 @@ impl<'r> RunSite for Process<'r> {
                 let address = listener.address().ok();
                 Ok((listener, address))
             }
-            Err(fault) => Err(refusal_by(port_trouble(&fault), &fault)),
+            Err(fault) => {
+                let place = self.places.listen.as_str();
+                Err(self.refusal(port_trouble(&fault), "listener", place, &fault))
+            }
         }
     }
 
     fn status_listener(&mut self, place: &str) -> Result<VisitorListener, EndRefusal> {
         match VisitorListener::listen(self.rt, place) {
             Ok(listener) => Ok(listener),
-            Err(fault) => Err(refusal_by(Trouble::StatusUnusable, &fault)),
+            Err(fault) => Err(self.refusal(Trouble::StatusUnusable, "status", place, &fault)),
         }
     }
 
     fn line(&mut self, redial: bool) -> Result<SystemLine<'r, HostRuntime>, EndRefusal> {
-        match reached(self.rt, self.places.line.as_str(), redial) {
+        let place = self.places.line.as_str();
+        match reached(self.rt, place, redial) {
             Ok(line) => Ok(line),
-            Err(fault) => Err(refusal_by(line_trouble(&fault), &fault)),
+            Err(fault) => Err(self.refusal(line_trouble(&fault), "line", place, &fault)),
         }
     }
 
@@ -310,9 +305,9 @@ impl<'r> RunSite for Process<'r> {
         }
     }
 
-    fn folder(&mut self, name: &str) -> Result<Directory<AsTheyStand>, AllocError> {
+    fn folder(&mut self, name: &str) -> Result<Directory<S>, AllocError> {
         let path = String::from_str(self.rt.alloc(), name)?;
-        Ok(Directory::new(*self.rt, path, AsTheyStand, self.lineage.again()))
+        Ok(Directory::new(*self.rt, path, self.starts, self.lineage.again()))
     }
 
     fn is_on_btrfs(&self, name: &str) -> bool {
@@ -339,6 +334,23 @@ fn reached<'r, R: Net<Stream = TcpStream> + Clock>(
     }
     let tries = SystemClock::start(rt)?;
     Ok(ProcessLine::Again(Redialled::new(LineDialler::new(rt, place), tries)))
+}
+
+impl<S: Starts> Process<'_, S> {
+    /// Why an end can't be had at this place. It is told, unless the log says it.
+    fn refusal(&self, trouble: Trouble, end: &str, place: &str, fault: &io::Error) -> EndRefusal {
+        let refusal = refusal_by(trouble, fault);
+        if !refusal.is_memory && !self.is_logged {
+            tell_refused(self.rt, end, place, fault);
+        }
+        refusal
+    }
+}
+
+/// Tells on standard error why this can't be had at this place, in the system's words. The line of
+/// the fault follows.
+pub(crate) fn tell_refused(rt: &HostRuntime, what: &str, place: &str, fault: &io::Error) {
+    let _ = eprintln!(rt; "error: {what} {place}: {fault}");
 }
 
 fn refusal_by(trouble: Trouble, fault: &io::Error) -> EndRefusal {

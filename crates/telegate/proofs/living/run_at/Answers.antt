@@ -12,9 +12,11 @@ returns-in_ok-run_anew-in-None-clause-lived g c =
       book = run.run_log.logger;
       is_shown = is_some run.lookout;
       bears_loss = None;
+      stops = 0;
     }) run.ended c.in-None.is c.in_ok-run_anew-in-None.ensures.asked
     c.in_ok-run_anew-in-None.ensures.before
-    c.in_ok-run_anew-in-None.ensures.lived c.in_ok-run_anew-in-None.ensures.wished
+    c.in_ok-run_anew-in-None.ensures.lived c.in_ok-run_anew-in-None.ensures.device
+    c.in_ok-run_anew-in-None.ensures.wished
 
 pub returns-in_ok-run_kept-in-Some-clause-lived : goal.returns-in_ok-run_kept-in-Some-clause-lived
 returns-in_ok-run_kept-in-Some-clause-lived g c =
@@ -26,6 +28,7 @@ returns-in_ok-run_kept-in-Some-clause-lived g c =
       book = run.run_log.logger;
       is_shown = is_some run.lookout;
       bears_loss = Some run.run_log.port.port.port.bears_loss;
+      stops = run.run_log.port.port.port.stops;
     }) run.ended c.in-Some.is c.in_ok-run_kept-in-Some.ensures.lived
-    c.in_ok-run_kept-in-Some.ensures.wished
+    c.in_ok-run_kept-in-Some.ensures.device c.in_ok-run_kept-in-Some.ensures.wished
     (ap Some c.in_ok-run_kept-in-Some.ensures.bears)

@@ -14,6 +14,7 @@ returns-in-Ok g c =
         book = run.run_log.logger;
         is_shown = is_some run.lookout;
         bears_loss = None;
+        stops = 0;
       };
       ended = run.ended;
       lived = lived;
@@ -27,6 +28,7 @@ returns-in-Ok g c =
         book = run.run_log.logger;
         is_shown = is_some run.lookout;
         bears_loss = Some run.run_log.port.port.port.bears_loss;
+        stops = run.run_log.port.port.port.stops;
       };
       ended = run.ended;
       lived = begins_weaker _ _ _ _ _ _ _ _ lived (λ o begun. begun.0);
@@ -34,4 +36,4 @@ returns-in-Ok g c =
     }))
 
 pub returns-in-Err : goal.returns-in-Err
-returns-in-Err g c = inl c.in-Err.ensures.fault
+returns-in-Err g c = inl (c.in-Err.ensures.fault, c.in-Err.ensures.none)

@@ -5,14 +5,14 @@ use Rattle.telegate.proofs.RunLemmas.{as_err}
 use Rattle.telegate.proofs.host.SystemHost.play.Goals as goal
 
 pub returns-in_err-settings : goal.returns-in_err-settings
-returns-in_err-settings c =
+returns-in_err-settings g c =
     as_err (ArePlayedBy c.args.config.now c.args.script.now) c.from_residual.result
     c.in_err-settings.field-0.0 c.from_residual.ensures.1
     (unset c.args.config.now c.args.script.now c.in_err-settings.field-0.0
     c.in_err-settings.ensures)
 
 pub returns-in_err-scenario : goal.returns-in_err-scenario
-returns-in_err-scenario c =
+returns-in_err-scenario g c =
     as_err (ArePlayedBy c.args.config.now c.args.script.now)
     c.from_residual-in_err-scenario.result c.in_err-scenario.field-0.0
     c.from_residual-in_err-scenario.ensures.1
@@ -21,7 +21,7 @@ returns-in_err-scenario c =
     c.in_err-scenario.ensures.scenario)
 
 pub returns : goal.returns
-returns c =
+returns g c =
     inl (record {
       settings = c.in_ok-settings.settings;
       places = c.in_ok-settings.places;
