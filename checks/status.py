@@ -152,10 +152,22 @@ def pages(count, listener):
         label = '{station="%d"}' % station["address"]
         right = samples.get("telegate_station_up" + label) == (station["standing"] == "up")
         count.judge(f"metrics: station {station['address']} up", right, samples)
+    # Names as `TelegateLineAway` are those of alerts.
+    named = {name for text in examples() for name in re.findall(r"\btelegate_\w+", text)}
+    there = {name.split("{")[0] for name in samples}
+    count.judge("metrics: those of examples/prometheus", len(named) > 10 and named <= there, named - there)
     table = get(listener, "/status.txt").body.decode()
     count.judge("table: its first word", table.split(":")[0] in ("OK", "WARNING", "CRITICAL"), table[:80])
     rows = [line for line in table.splitlines() if re.match(r" *\d+ +\d+  ", line)]
     count.judge("table: a row a station", len(rows) == len(stations), table)
+
+
+def examples():
+    """The texts of the rules and of the dashboard for Prometheus."""
+    folder = os.path.join(frame.TOP, "examples", "prometheus")
+    for name in ("alerts.yml", "dashboard.json"):
+        with open(os.path.join(folder, name), encoding="utf-8") as file:
+            yield file.read()
 
 
 def dead_first(stations):
