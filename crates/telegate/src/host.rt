@@ -274,7 +274,7 @@ fn play_at(
     place: &str,
 ) -> Result<(), Fault>
     requires { FitsScenario settings.now scenario }
-    ensures { ArePlayed settings.now scenario result }
+    ensures { ArePlayed result }
 {
     // Held until the play is over.
     let Ok(_held) = standard_descriptors(rt) else {
