@@ -56,9 +56,11 @@ asked_by : (l m : Bool) (cause : Option ErrorKind) (p q after : Patience) (notic
     → (notice ≡ notice_of m cause q) × (after ≡ after_notice (notice_of m cause q) q)
 asked_by l m cause p q after notice told then same is =
     let so : notice ≡ notice_of m cause q =
-    told ∙ (ap (λ b. notice_of b cause p) same ∙ ap (λ r. notice_of m cause r) is) in
-    (so, then ∙ (ap (λ n. after_notice n p) so
-    ∙ ap (λ r. after_notice (notice_of m cause q) r) is))
+    told ∙ (ap (λ b. notice_of b cause p) same ∙ ap (λ r. notice_of m cause r) is) in (
+      so,
+      then ∙ (ap (λ n. after_notice n p) so
+          ∙ ap (λ r. after_notice (notice_of m cause q) r) is),
+    )
 
 module _ {E : Type 0} (log : E → Option Log) (deeds : E → Deeds) (old new : Keeping E)
     (state : State) (notice : Option Notice) (calls : List Call)

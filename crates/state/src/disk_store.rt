@@ -527,7 +527,10 @@ fn write_segment<D: Disk + Drop>(
     ensures amid { IfErr result (λ failed. AreMixing D.Disk → AreAmid (D.Disk.may_leave spare)
         number settings.now (state_lines gateway.now) (D.Disk.may_leave failed.file)) }
 {
-    let writer = Writer::begin(alloc, spare, newest)?;
+    let writer = match Writer::begin(alloc, spare, newest) {
+        Ok(writer) => writer,
+        Err(failed) => return Err(failed),
+    };
     let writer = with_head(alloc, writer, settings, gateway)?;
     match writer.finish(alloc, number, blocks) {
         Ok(segment) => {
