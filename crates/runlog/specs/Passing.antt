@@ -1,6 +1,6 @@
 -- What passes a run that is watched, the newest first; and what an operator knows by it of the
 -- connections, of their lines and of the wall clock (docs/TEXTS.md, docs/STATUS.md).
-use Rattle.std.specs.Prelude.{◌≡◌, ◌≢◌, ℕ, ◌+◌, ◌<◌, ◌≤◌, Bool, true, false, List, [], ◌∷◌}
+use Rattle.std.specs.Prelude.{◌≢◌, ℕ, ◌+◌, Bool, true, false, List, [], ◌∷◌}
 use Rattle.std.specs.Prelude.{Option, bytes_eq, if◌then◌else◌}
 use Rattle.std.specs.declared.net.ip_addr.IpAddr.{IpAddr}
 use Rattle.session.specs.declared.kinds.Close.{Close}
@@ -15,7 +15,6 @@ use Rattle.runlog.specs.Logging.{looked}
 use Rattle.runlog.specs.Watching.{Watching, event_noted, put}
 use Rattle.runlog.specs.declared.ends.OpenConnection.{OpenConnection}
 use Rattle.runlog.specs.declared.note.LogLine.{LogLine}
-use Rattle.runlog.specs.declared.note.Note.TheVariants as note
 
 -- an event whose octets are the front of these, with a sight of the ends; an action that goes out
 -- at this moment; or a look at the gateway between two steps

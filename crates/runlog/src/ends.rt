@@ -170,11 +170,7 @@ fn seen_as(was_receiving: bool, presence: Presence) -> Presence
 
 /// What is to be logged next of a line of which this was logged last. That it isn't there is due
 /// again a minute after it was logged, or for another cause.
-fn line_change(
-    logged: LineLogged,
-    presence: Presence,
-    is_due: bool,
-) -> Option<(LineLogged, Note)>
+fn line_change(logged: LineLogged, presence: Presence, is_due: bool) -> Option<(LineLogged, Note)>
     ensures { result ≡ spec.line_change logged presence is_due }
 {
     match (logged, presence) {
@@ -185,10 +181,8 @@ fn line_change(
         (LineLogged::There, Presence::Away(cause)) => {
             Some((LineLogged::Lost, Note::LineLost(cause)))
         }
-        (LineLogged::NotThere, Presence::Away(cause))
-        | (LineLogged::Lost, Presence::Away(cause)) => {
-            is_due.then_some((logged, Note::LineNotThere(cause)))
-        }
+        (LineLogged::NotThere, Presence::Away(cause)) | (LineLogged::Lost, Presence::Away(cause)) =>
+            { is_due.then_some((logged, Note::LineNotThere(cause))) }
         (LineLogged::Lost, Presence::Silent) if !is_due => None,
         (_, Presence::Silent) => Some((LineLogged::Lost, Note::LineSilent)),
         (LineLogged::There, _) => None,

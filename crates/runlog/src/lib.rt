@@ -73,11 +73,11 @@ mod waiting;
 mod watch;
 mod word_examples;
 
-pub use causes::{cause_words, line_cause_words};
 pub use befallen_laws::{
     answers_are_noted_of_the_station_that_was_asked, each_apdu_of_a_step_is_read,
     what_passes_is_known_and_logged,
 };
+pub use causes::{cause_words, line_cause_words};
 pub use connection_laws::connections_are_known_from_their_opening_to_their_end;
 pub use content::Skip;
 pub use ends::OpenConnection;

@@ -296,10 +296,7 @@ fn write_line<W: fmt::Write>(
     }
 }
 
-fn write_not_kept<W: fmt::Write>(
-    cause: Option<ErrorKind>,
-    f: &mut fmt::Formatter<W>,
-) -> fmt::Result
+fn write_not_kept<W: fmt::Write>(cause: Option<ErrorKind>, f: &mut fmt::Formatter<W>) -> fmt::Result
     ensures { WritesOnOk W.write_str_gives f.old result (not_kept_words cause) f.new }
 {
     f.write_str("state isn't kept: ")?;

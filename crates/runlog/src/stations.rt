@@ -177,7 +177,11 @@ fn is_same(before: StationStanding, after: StationStanding) -> bool
 fn more_if(is_so: bool, count: u64) -> u64
     ensures { result ≡ spec.more_if is_so count }
 {
-    if is_so { count.saturating_add(1) } else { count }
+    if is_so {
+        count.saturating_add(1)
+    } else {
+        count
+    }
 }
 
 /// What was counted of the requests to a station behind this one, of which this was known before,

@@ -309,12 +309,7 @@ fn put_stations(page: &mut TextPage, snapshot: &Snapshot<'_>)
 }
 
 /// Puts the rows of those stations that don't answer, or of the others.
-fn for_silence(
-    page: &mut TextPage,
-    now_ms: u64,
-    is_silent: bool,
-    stations: &[StationView<'_>],
-)
+fn for_silence(page: &mut TextPage, now_ms: u64, is_silent: bool, stations: &[StationView<'_>])
     ensures { page.new ≡ put (rows (spec.row_if is_silent now_ms) stations.now) page.old }
 {
     put_rows(page, &RowForm { now_ms, is_silent }, stations);

@@ -23,9 +23,9 @@ pub fn a_text_stands_whole_or_not_at_all()
 
 /// What a monitor reads in a judgement, of every snapshot. It is critical exactly if the line has
 /// been away for a minute, no control centre is connected, fewer than three places are free, the
-/// state is to be kept and can't be, or none of the stations answers. All is well exactly if the line is there, a control centre is
-/// connected, at most half of the queue is taken and three places are free, each station that was
-/// asked answers, and the state is kept if it is to be.
+/// state is to be kept and can't be, or none of the stations answers. All is well exactly if the
+/// line is there, a control centre is connected, at most half of the queue is taken and three
+/// places are free, each station that was asked answers, and the state is kept if it is to be.
 pub fn judgements_mean_what_they_say()
     ensures critical { (s : Snapshot) → judgement_of s ≡ Critical → IsTrouble s }
     ensures trouble { (s : Snapshot) → IsTrouble s → judgement_of s ≡ Critical }

@@ -34,7 +34,11 @@ fn put_troubles(page: &mut TextPage, snapshot: &Snapshot<'_>)
             Word::EscapedBehind(Marks::Plain, ": ", snapshot.line.cause),
             Word::Either(is_away, "; ", ""),
             Word::Either(is_alone, "control centre not connected; ", ""),
-            Word::Either(is_full(&snapshot.queue), "queue full, nothing is polled; ", ""),
+            Word::Either(
+                is_full(&snapshot.queue),
+                "queue full, nothing is polled; ",
+                "",
+            ),
             Word::Either(is_lost, "state isn't kept", ""),
             Word::EscapedBehind(Marks::Plain, ": ", snapshot.lost_by),
             Word::Either(is_lost, "; ", ""),

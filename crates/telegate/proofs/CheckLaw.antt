@@ -28,19 +28,18 @@ module _ (old new : Option (List ℕ)) where
   fault_printed lines exit done (inl all) = omega (arith, done, all.1)
   fault_printed lines exit done (inr begun) = omega (arith, done, begun.1)
 
-  file_refused : (explain : Bool) (Explain : List ℕ → Type 0)
-      → IsFileRefused explain Explain old new 0 → ⊥
-  file_refused true Explain (inl h) = fault_printed h.lines 0 refl h.printed
-  file_refused true Explain (inr h) = omega (arith, h.1)
-  file_refused false Explain h = omega (arith, h.1)
+  file_refused : (explain : Bool) → IsFileRefused explain old new 0 → ⊥
+  file_refused true (inl h) = fault_printed h.lines 0 refl h.printed
+  file_refused true (inr h) = omega (arith, h.1)
+  file_refused false h = omega (arith, h.1)
 
   never_0 : (why : Fault) → 0 ≡ status_of why → ⊥
   never_0 why is = omega (arith, is, above_0 why)
 
   not_refused : (explain : Bool) (text : List ℕ) (why : Fault)
       → IsRefusalAnswered explain text why old new 0 → ⊥
-  not_refused explain text (fault.Config why) h = file_refused explain _ h
-  not_refused explain text (fault.Site why) h = file_refused explain _ h
+  not_refused explain text (fault.Config why) h = file_refused explain h
+  not_refused explain text (fault.Site why) h = file_refused explain h
   not_refused explain text (fault.Trace line) h = never_0 (fault.Trace line) h.1
   not_refused explain text (fault.Script line) h = never_0 (fault.Script line) h.1
   not_refused explain text (fault.Record line) h = never_0 (fault.Record line) h.1

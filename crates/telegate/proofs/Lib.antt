@@ -28,7 +28,6 @@ pub mod RanLemmas
 pub mod CaptureLemmas
 pub mod PlayLemmas
 pub mod StoodLemmas
-pub mod AuditLaw
 pub mod FileLaw
 pub mod PipeLaw
 pub mod ClockLaw
@@ -36,6 +35,5 @@ pub mod AllowLaw
 pub mod CheckLaw
 pub mod StartLaw
 pub mod RunLaw
-pub mod PlayLaw
 pub mod Controlled
 pub mod Called

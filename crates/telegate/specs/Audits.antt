@@ -2,9 +2,7 @@
 use Rattle.std.specs.Prelude.{◌≡◌, ◌⊎◌, ℕ, codes, List, [], ◌∷◌, ◌++◌, Result, Ok, Err, MatchResult}
 use Rattle.std.specs.Fmt.{decimal}
 use Rattle.gateway.specs.Log.{Log}
-use Rattle.record.specs.Audit.{IsAudit, IsUnfit, IsWrongLine, LeavesOut}
-use Rattle.record.specs.Law.{IsOtherRun, IsSameRun}
-use Rattle.record.specs.Lines.{record_lines}
+use Rattle.record.specs.Audit.{IsAudit, IsUnfit, IsWrongLine}
 use Rattle.record.specs.declared.audit.RecordFault.{RecordFault}
 use Rattle.record.specs.declared.audit.RecordFault.TheVariants as faults
 use Rattle.record.specs.declared.audit.Comparison.{Comparison}
@@ -48,28 +46,6 @@ pub record IsAuditAnswer (config : List ℕ) (past : Log) (has : List ℕ → Ty
   pub is : has text
   pub audited : IsAudit settings past text comparison
   pub answered : IsComparisonAnswer comparison answer
-
--- The answer tells that the run begins with the lines of this text, and its counts.
-pub record TellsSame (config : List ℕ) (past : Log) (text : List ℕ) (answer : CommandAnswer)
-    : Type 0 where
-  pub settings : Settings
-  pub events : ℕ
-  pub actions : ℕ
-  pub read : IsReadOfText config (Ok settings)
-  pub same : IsSameRun settings past text events actions
-  pub told : answer.text.items ≡ comparison_line (Same events actions)
-
--- It tells at which line the run differs first from those of this text, and whether that line says
--- that others are left out there.
-pub record TellsOther (config : List ℕ) (past : Log) (text : List ℕ) (answer : CommandAnswer)
-    : Type 0 where
-  pub settings : Settings
-  pub number : ℕ
-  pub read : IsReadOfText config (Ok settings)
-  pub other : IsOtherRun settings past text number
-  pub told : (answer.text.items ≡ comparison_line (Differs number))
-      ⊎ ((answer.text.items ≡ comparison_line (LeftOut number))
-      × LeavesOut (record_lines text) number)
 
 -- why a command stops whose record has no comparison
 abbrev pub fault_of_lem : RecordFault → Fault

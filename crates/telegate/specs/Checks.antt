@@ -4,7 +4,6 @@ use Rattle.std.specs.declared.alloc.AllocError.{AllocError}
 use Rattle.std.specs.declared.alloc.Global.{Global}
 use Rattle.std.specs.Io.KnownBytes.{Appends, Keeps}
 use Rattle.gateway.specs.Config.{Settings}
-use Rattle.settings.specs.Explained.{IsExplained, IsSiteExplained}
 use Rattle.settings.specs.Settings.{IsLiveReadOfText, IsReadOfText}
 use Rattle.settings.specs.declared.live.LiveSettings.{LiveSettings}
 use Rattle.sim.specs.Runs.{IsBegun}
@@ -35,26 +34,20 @@ AreLinesGiven (Ok lines) status old new exit =
 AreLinesGiven (Err refused) status old new exit = Keeps old new × (exit ≡ 4)
 
 -- the same of lines that say what is wrong and where
-pub record HasExplained (Explain : List ℕ → Type 0) (old new : Option (List ℕ)) (exit : ℕ)
-    : Type 0 where
+pub record HasExplained (old new : Option (List ℕ)) (exit : ℕ) : Type 0 where
   pub lines : List ℕ
-  pub explained : Explain lines
   pub printed : (Appends old new lines × (exit ≡ 1)) ⊎ (IsBegun old new lines × (exit ≡ 3))
 
 -- what is answered of a file with a fault, by whether an explanation is asked for
-abbrev pub IsFileRefused : (explain : Bool) → (Explain : List ℕ → Type 0)
-    → (old new : Option (List ℕ)) → (exit : ℕ) → Type 0
-IsFileRefused true Explain old new exit =
-    HasExplained Explain old new exit ⊎ (Keeps old new × (exit ≡ 4))
-IsFileRefused false Explain old new exit = Keeps old new × (exit ≡ 1)
+abbrev pub IsFileRefused : (explain : Bool) → (old new : Option (List ℕ)) → (exit : ℕ) → Type 0
+IsFileRefused true old new exit = HasExplained old new exit ⊎ (Keeps old new × (exit ≡ 4))
+IsFileRefused false old new exit = Keeps old new × (exit ≡ 1)
 
 -- what is answered of a fault in these octets
 abbrev pub IsRefusalAnswered : (explain : Bool) → List ℕ → Fault → (old new : Option (List ℕ))
     → (exit : ℕ) → Type 0
-IsRefusalAnswered explain text (Config why) old new exit =
-    IsFileRefused explain (IsExplained text why) old new exit
-IsRefusalAnswered explain text (Site why) old new exit =
-    IsFileRefused explain (IsSiteExplained text why) old new exit
+IsRefusalAnswered explain text (Config why) old new exit = IsFileRefused explain old new exit
+IsRefusalAnswered explain text (Site why) old new exit = IsFileRefused explain old new exit
 IsRefusalAnswered explain text fault old new exit = Keeps old new × (exit ≡ status_of fault)
 
 pub record IsRefused (config : List ℕ) (how : Checking) (old new : Option (List ℕ)) (exit : ℕ)

@@ -9,23 +9,19 @@ ghost use Rattle.clap.specs.declared.error.kind.ErrorKind.{ErrorKind};
 ghost use Rattle.clap.specs.declared.error.kind.ErrorKind.TheVariants as kind;
 ghost use Rattle.std.specs.declared.io.ErrorKind.{ErrorKind as Cause};
 ghost use Rattle.record.specs.declared.capture.whole.CaptureFault.{CaptureFault};
-ghost use Rattle.gateway.specs.Log.{Log};
 ghost use Rattle.record.specs.declared.capture.whole.CaptureFault.TheVariants as captures;
-ghost use Rattle.record.specs.Law.{IsFirstUnknown};
-ghost use Rattle.record.specs.Lines.{record_lines};
 ghost use Rattle.record.specs.declared.audit.RecordFault.{RecordFault};
 ghost use Rattle.record.specs.declared.audit.RecordFault.TheVariants as records;
 ghost use Rattle.settings.specs.declared.fault.ConfigFault.{ConfigFault};
 ghost use Rattle.settings.specs.declared.site.fault.SiteFault.{SiteFault};
 ghost use Rattle.traces.specs.Trace.{lines_of};
-ghost use Rattle.telegate.specs.Audits.{IsAuditedBy, TellsOther, TellsSame, fault_of_lem};
+ghost use Rattle.telegate.specs.Audits.{fault_of_lem};
 ghost use Rattle.telegate.specs.Captures.{fault_of_capture};
 ghost use Rattle.telegate.specs.CommandLine.{text_of};
 ghost use Rattle.telegate.specs.Checks.{IsCheckDone, IsCheckFault, IsGoodFor};
 ghost use Rattle.telegate.specs.Faults.{status_of_end};
 ghost use Rattle.telegate.specs.Piping.{HasPiped, IsFaultyLine, IsGoodLine};
 ghost use Rattle.telegate.specs.Shell.{IsNotRead, files_of, status_of_kind};
-ghost use Rattle.telegate.specs.declared.answer.CommandAnswer.{CommandAnswer};
 ghost use Rattle.telegate.specs.declared.command_line.CommandRequest.TheVariants.{Check, Run};
 ghost use Rattle.telegate.specs.declared.check.Checking.{Checking};
 ghost use Rattle.telegate.specs.declared.fault.Fault.{Fault};
@@ -70,22 +66,6 @@ pub fn a_stop_over_a_record_keeps_its_reason()
         × ((fault_of_capture why ≡ fault.Unread) ↔ (why ≡ captures.Unread))
         × ((fault_of_capture why ≡ fault.Device) ↔ (why ≡ captures.Unwritten))
         × ((fault_of_capture why ≡ fault.NoMemory) ↔ (why ≡ captures.NoMemory)) }
-{}
-
-/// What `audit` answers of a record, behind each log that leads to the state that it begins with.
-/// It ends with 0 if the run begins with the record's lines, and tells how many events and actions
-/// these are. It ends with 1 if the run differs, and tells at which line, and whether lines are
-/// left out there. A wrong line is told by its number, counted from 1.
-pub fn an_audit_tells_what_the_record_has()
-    ensures same { (config : List ℕ) (past : Log) (text : List ℕ) (answer : CommandAnswer) →
-        IsAuditedBy config past (λ octets. octets ≡ text) (Ok answer) → answer.status ≡ 0 →
-        TellsSame config past text answer }
-    ensures differs { (config : List ℕ) (past : Log) (text : List ℕ) (answer : CommandAnswer) →
-        IsAuditedBy config past (λ octets. octets ≡ text) (Ok answer) → answer.status ≡ 1 →
-        TellsOther config past text answer }
-    ensures wrong { (config : List ℕ) (past : Log) (text : List ℕ) (number : ℕ) →
-        IsAuditedBy config past (λ octets. octets ≡ text) (Err (fault.Record number)) →
-        IsFirstUnknown (record_lines text) number }
 {}
 
 /// If a site's file is named, it is read first. So a `check` that ends with 3 before it has judged

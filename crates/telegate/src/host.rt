@@ -274,7 +274,7 @@ fn play_at(
     place: &str,
 ) -> Result<(), Fault>
     requires { FitsScenario settings.now scenario }
-    ensures { ArePlayed settings.now scenario result }
+    ensures { ArePlayed result }
 {
     // Held until the play is over.
     let Ok(_held) = standard_descriptors(rt) else {
@@ -344,7 +344,7 @@ fn process_of<'a, S: Starts>(
 /// What the line and these stations are called.
 fn named_by<'a>(names: &'a SiteNames, stations: &'a [NamedStation<'a>]) -> LogNames<'a>
     ensures line { option_map (λ s. s.now) result.line ≡ option_map string_bytes names.now.line }
-    ensures stations { result.stations ≡ stations }
+    ensures stations { result.stations ≡ stations.entry }
 {
     let line = match &names.line {
         Some(line) => Some(line.as_str()),
@@ -355,7 +355,7 @@ fn named_by<'a>(names: &'a SiteNames, stations: &'a [NamedStation<'a>]) -> LogNa
 
 /// What stations are called, for the log and for who looks: each by its own name, in their order.
 fn names_of<'a>(alloc: Global, names: &'a SiteNames) -> Result<Vec<NamedStation<'a>>, AllocError>
-    ensures { IfOk result (λ called. map (λ s. (s.link, s.name.now)) called.items
+    ensures { IfOk result (λ called. map {B = ℕ × List ℕ} (λ s. (s.link, s.name.now)) called.items
         ≡ map (λ s. (s.link, string_bytes s.name)) names.now.stations.items) }
 {
     let mut called = Vec::new(alloc);

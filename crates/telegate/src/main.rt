@@ -44,7 +44,6 @@ mod mounts;
 mod performing;
 mod piping;
 mod place;
-mod play_laws;
 mod playing;
 mod printed;
 mod recorded;

@@ -13,7 +13,7 @@ use std::alloc::Global;
 
 /// What a text says to stations of these settings.
 pub(crate) fn scenario_of(alloc: Global, config: &Config, text: &[u8]) -> Result<Scenario, Fault>
-    ensures scenario { IsRead config.now text.now result }
+    ensures scenario { IsRead result }
     ensures fits { IfOk result (FitsScenario config.now) }
 {
     match read_scenario(alloc, config, text) {
@@ -33,7 +33,7 @@ pub(crate) fn play_behind<R: std::rt::Clock, C: RunClock, L: Listener + Drop>(
     listener: L,
 ) -> Result<(), Fault>
     requires { FitsScenario config.now scenario }
-    ensures { ArePlayed config.now scenario result }
+    ensures { ArePlayed result }
 {
     let Ok(_ended) = serve(rt, alloc, config, scenario, clock, listener, u64::MAX) else {
         return Err(Fault::NoMemory);

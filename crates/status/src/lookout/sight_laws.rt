@@ -92,10 +92,11 @@ pub fn the_queue_is_shown_as_it_is()
 {}
 
 /// The line is shown as there just where it is there or receives, since when it is so, under the
-/// name that the site gives it, and if it is away with the cause. The moment is that of the look, and the run began at the first one.
-/// The state is shown as kept or not by the latest report of it. Before the first report it is
-/// shown as kept if it is to be. Its slow syncs are those of the latest sight. Each setting stands
-/// under its name. The version is the one that the run was begun with.
+/// name that the site gives it, and if it is away with the cause. The moment is that of the look,
+/// and the run began at the first one. The state is shown as kept or not by the latest report of
+/// it. Before the first report it is shown as kept if it is to be. Its slow syncs are those of the
+/// latest sight. Each setting stands under its name. The version is the one that the run was begun
+/// with.
 pub fn line_state_and_settings_are_shown_as_they_are()
     ensures there { (c : Settings) (names : LogNames) (keeps : Bool) (looks : List Look)
         (last : Look) (s : Snapshot) → IsSight c names keeps looks last s →

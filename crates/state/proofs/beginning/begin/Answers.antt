@@ -1,4 +1,4 @@
-use Rattle.std.proofs.Common.{refl, ◌≡◌, ◌∙◌, inl, inr, IsTrue, Some, true, false, ap, sym, subst}
+use Rattle.std.proofs.Common.{refl, ◌∙◌, IsTrue, sym, subst}
 use Rattle.segments.specs.Starts.{IsShut}
 use Rattle.state.specs.Origins.{IsBegun, IsNumbered}
 use Rattle.state.proofs.BegunLemmas.{anew_begun, numbered_from, of_four, of_two}

@@ -16,17 +16,13 @@ returns-in_err-scenario g c =
     as_err (ArePlayedBy c.args.config.now c.args.script.now)
     c.from_residual-in_err-scenario.result c.in_err-scenario.field-0.0
     c.from_residual-in_err-scenario.ensures.1
-    (unscripted c.args.config.now c.args.script.now c.in_ok-settings.settings
-    c.in_ok-settings.places c.in_err-scenario.field-0.0 c.in_ok-settings.ensures
+    (unscripted c.args.config.now c.args.script.now c.in_err-scenario.field-0.0
+    (c.in_ok-settings.settings, c.in_ok-settings.places, c.in_ok-settings.ensures)
     c.in_err-scenario.ensures.scenario)
 
 pub returns : goal.returns
 returns g c =
     inl (record {
-      settings = c.in_ok-settings.settings;
-      places = c.in_ok-settings.places;
-      scenario = c.in_ok-scenario.scenario;
-      read_config = c.in_ok-settings.ensures;
-      read_script = c.in_ok-scenario.ensures.scenario;
+      set = (c.in_ok-settings.settings, c.in_ok-settings.places, c.in_ok-settings.ensures);
       played = c.play_at.ensures;
     })
