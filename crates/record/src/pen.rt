@@ -56,7 +56,6 @@ impl<W: RecordSheet + Drop> Model for Pen<W> {
 struct StateText(Vec<u8>);
 
 impl Octets for StateText {
-
     ghost appended = { λ text. text.0.items };
 
     fn append(&mut self, octets: &[u8]) -> Result<(), StateFault> {

@@ -124,8 +124,7 @@ fn read_known_live(alloc: Global, root: &Table) -> Result<(Config, LiveSettings)
 
 /// Which station of a file is the first that is wrong, counted from 0, if one is; none, if the line
 /// is wrong.
-pub fn wrong_station(alloc: Global, root: &Table) -> Result<Option<usize>, AllocError>
-{
+pub fn wrong_station(alloc: Global, root: &Table) -> Result<Option<usize>, AllocError> {
     match line_in(root) {
         Ok(line) => first_wrong(
             alloc,
@@ -138,8 +137,7 @@ pub fn wrong_station(alloc: Global, root: &Table) -> Result<Option<usize>, Alloc
 }
 
 /// The settings of the line.
-fn line_in(root: &Table) -> Result<LineSettings, WrongKey>
-{
+fn line_in(root: &Table) -> Result<LineSettings, WrongKey> {
     read_line(section(root, "line", "line.link")?)
 }
 

@@ -103,8 +103,7 @@ pub(crate) fn first_wrong(
     value: Option<&Value>,
     link: LinkSize,
     ca: CaSize,
-) -> Result<Option<usize>, AllocError>
-{
+) -> Result<Option<usize>, AllocError> {
     let Some(value) = value else {
         return Ok(None);
     };
@@ -120,8 +119,7 @@ fn first_of(
     tables: &[Value],
     link: LinkSize,
     ca: CaSize,
-) -> Result<Option<usize>, AllocError>
-{
+) -> Result<Option<usize>, AllocError> {
     let mut stations = Vec::new(alloc);
     for (item, table) in tables.iter().enumerate() {
         match read_station(table, link, ca, stations.as_slice()) {

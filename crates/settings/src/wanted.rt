@@ -2,8 +2,7 @@
 
 /// What is wanted of the value of the key with this dotted path, in words; none, if there is no
 /// such key.
-pub fn wanted_values(path: &str) -> Option<&'static str>
-{
+pub fn wanted_values(path: &str) -> Option<&'static str> {
     match line_values(path) {
         Some(values) => Some(values),
         None => match tcp_values(path) {
@@ -14,8 +13,7 @@ pub fn wanted_values(path: &str) -> Option<&'static str>
 }
 
 /// What is wanted of a key of the line.
-fn line_values(path: &str) -> Option<&'static str>
-{
+fn line_values(path: &str) -> Option<&'static str> {
     match path {
         "line.link" | "line.cause" | "line.ca" => Some("1 to 2"),
         "line.ioa" => Some("1 to 3"),
@@ -29,8 +27,7 @@ fn line_values(path: &str) -> Option<&'static str>
 }
 
 /// What is wanted of a key of the connection.
-fn tcp_values(path: &str) -> Option<&'static str>
-{
+fn tcp_values(path: &str) -> Option<&'static str> {
     match path {
         "tcp.k" | "tcp.w" => Some("1 to 32767"),
         "tcp.t1_ms" => Some("2 to 255000"),
@@ -43,8 +40,7 @@ fn tcp_values(path: &str) -> Option<&'static str>
 }
 
 /// What is wanted of a key of a station, or of the ends of a live run.
-fn other_values(path: &str) -> Option<&'static str>
-{
+fn other_values(path: &str) -> Option<&'static str> {
     match path {
         "station" => Some("1 to 32 tables"),
         "station.address" => Some("1 to 254, or to 65534 where line.link is 2"),

@@ -24,13 +24,8 @@ pub mod TextLemmas
 pub mod RunLemmas
 pub mod Bare
 pub mod SimulationLemmas
-pub mod Commenting
-pub mod CueLines
-pub mod CueReading
 pub mod Delays
 pub mod RequestsReceived
-pub mod Placing
-pub mod Rounds
 pub mod BothReadings
 pub mod Replying
 pub mod Sizes

@@ -14,15 +14,12 @@ pub mod Outstations
 pub mod Runs
 pub mod Simulations
 pub mod Examples
-pub mod CueLines
 pub mod Cues
 pub mod Exchanges
 pub mod Late
-pub mod Places
 pub mod Progress
 pub mod Replies
 pub mod Replying
 pub mod Scenarios
-pub mod TimedServers
 pub mod Reporting
 pub mod Listeners

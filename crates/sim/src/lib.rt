@@ -69,8 +69,8 @@ pub use script::Script;
 pub use sim::Sim;
 pub use simulating::{simulate, simulate_watched};
 pub use stations::{
-    Cue, GatewaySocket, LineListener, OutstationServer, Outstations, Scenario, TimedServer, Timer, play,
-    read_scenario, serve,
+    Cue, GatewaySocket, LineListener, OutstationServer, Outstations, Scenario, TimedServer, Timer,
+    play, read_scenario, serve,
 };
 pub use tally::StationTally;
 pub use traces::TextFault;

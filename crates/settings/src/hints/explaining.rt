@@ -17,8 +17,7 @@ use toml::{Table, Value};
 /// or the key belongs, what is wanted, and where another station has the number. Of octets that are
 /// no document they say where reading stopped, and why. There are none if memory was refused to the
 /// reader.
-pub fn explain(alloc: Global, text: &[u8], fault: &ConfigFault) -> Result<Vec<u8>, AllocError>
-{
+pub fn explain(alloc: Global, text: &[u8], fault: &ConfigFault) -> Result<Vec<u8>, AllocError> {
     match fault {
         ConfigFault::NotToml => explain_text(alloc, text),
         ConfigFault::Key(path) => explain_key(alloc, File::Settings, text, *path),
@@ -28,8 +27,7 @@ pub fn explain(alloc: Global, text: &[u8], fault: &ConfigFault) -> Result<Vec<u8
 }
 
 /// The same lines behind a fault of the site's file that these octets are.
-pub fn explain_site(alloc: Global, text: &[u8], fault: &SiteFault) -> Result<Vec<u8>, AllocError>
-{
+pub fn explain_site(alloc: Global, text: &[u8], fault: &SiteFault) -> Result<Vec<u8>, AllocError> {
     match fault {
         SiteFault::NotToml => explain_text(alloc, text),
         SiteFault::Key(path) => explain_key(alloc, File::Site, text, *path),
@@ -39,8 +37,7 @@ pub fn explain_site(alloc: Global, text: &[u8], fault: &SiteFault) -> Result<Vec
 }
 
 /// Where octets are no document, and why.
-fn explain_text(alloc: Global, text: &[u8]) -> Result<Vec<u8>, AllocError>
-{
+fn explain_text(alloc: Global, text: &[u8]) -> Result<Vec<u8>, AllocError> {
     let Err(fault) = toml::table_from_slice(alloc, text) else {
         return Ok(Vec::new(alloc));
     };
@@ -55,8 +52,7 @@ fn explain_text(alloc: Global, text: &[u8]) -> Result<Vec<u8>, AllocError>
 }
 
 /// Where the value of a key stands, or the key belongs, and what is wanted.
-fn explain_key(alloc: Global, file: File, text: &[u8], path: &str) -> Result<Vec<u8>, AllocError>
-{
+fn explain_key(alloc: Global, file: File, text: &[u8], path: &str) -> Result<Vec<u8>, AllocError> {
     match toml::table_from_slice(alloc, text) {
         Ok(root) => explain_under(alloc, file, text, &root, path),
         Err(fault) if fault.is_memory() => Err(AllocError),
@@ -70,8 +66,7 @@ fn explain_under(
     text: &[u8],
     root: &Table,
     path: &str,
-) -> Result<Vec<u8>, AllocError>
-{
+) -> Result<Vec<u8>, AllocError> {
     let item = item_of(alloc, file, root, path)?;
     let spot = spot_of(root, path, item);
     let found = find(alloc, text, &spot)?;
@@ -85,8 +80,12 @@ fn explain_under(
 }
 
 /// Which station is meant, counted from 0, if one is.
-fn item_of(alloc: Global, file: File, root: &Table, path: &str) -> Result<Option<usize>, AllocError>
-{
+fn item_of(
+    alloc: Global,
+    file: File,
+    root: &Table,
+    path: &str,
+) -> Result<Option<usize>, AllocError> {
     match file {
         File::Settings => match path {
             "station.address" | "station.ca" | "station.select" => {
@@ -102,8 +101,7 @@ fn item_of(alloc: Global, file: File, root: &Table, path: &str) -> Result<Option
 }
 
 /// The key of a dotted path, of this station. If its table is none, the key of that.
-fn spot_of<'a>(root: &Table, path: &'a str, item: Option<usize>) -> Spot<'a>
-{
+fn spot_of<'a>(root: &Table, path: &'a str, item: Option<usize>) -> Spot<'a> {
     let Some((table, key)) = path.split_once('.') else {
         return Spot {
             table: None,
@@ -126,16 +124,14 @@ fn spot_of<'a>(root: &Table, path: &'a str, item: Option<usize>) -> Spot<'a>
 }
 
 /// Whether there is such a key, whose value is neither a table nor an array.
-fn is_scalar(root: &Table, key: &str) -> bool
-{
+fn is_scalar(root: &Table, key: &str) -> bool {
     match given(Some(root), key) {
         Some(value) => is_single(value),
         None => false,
     }
 }
 
-fn is_single(value: &Value) -> bool
-{
+fn is_single(value: &Value) -> bool {
     !value.is_table() && !value.is_array()
 }
 

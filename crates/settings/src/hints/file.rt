@@ -14,8 +14,7 @@ pub(crate) enum File {
 
 impl File {
     /// What is wanted of the key with this dotted path, in words, if there is such a key.
-    pub(crate) fn values(self, path: &str) -> Option<&'static str>
-    {
+    pub(crate) fn values(self, path: &str) -> Option<&'static str> {
         match self {
             File::Settings => wanted_values(path),
             File::Site => site_values(path),
@@ -23,8 +22,7 @@ impl File {
     }
 
     /// The page that has the table of its keys.
-    pub(crate) fn page(self) -> &'static str
-    {
+    pub(crate) fn page(self) -> &'static str {
         match self {
             File::Settings => "docs/SETTINGS.md",
             File::Site => "docs/SITE.md",

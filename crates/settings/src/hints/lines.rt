@@ -47,8 +47,7 @@ fn gap_line(alloc: Global, text: &[u8], at: usize) -> Result<Vec<u8>, AllocError
 }
 
 /// What is wanted of a key, or, if there is no such key, the page that lists the keys.
-pub(crate) fn wanted_line(alloc: Global, file: File, path: &str) -> Result<String, AllocError>
-{
+pub(crate) fn wanted_line(alloc: Global, file: File, path: &str) -> Result<String, AllocError> {
     match file.values(path) {
         Some(values) => format!(in alloc; "wanted: {values}\n"),
         None => {

@@ -8,15 +8,13 @@ use toml::{Table, Value};
 const STATION: &str = "station.";
 
 /// The first station that has the key with this path, counted from 0.
-pub(crate) fn station_with(root: &Table, path: &str) -> Option<usize>
-{
+pub(crate) fn station_with(root: &Table, path: &str) -> Option<usize> {
     let key = path.strip_prefix(STATION)?;
     first_with(stations(root), key)
 }
 
 /// The first station before this one with the same number under this key.
-pub(crate) fn twin_station(root: &Table, item: usize, key: &str) -> Option<usize>
-{
+pub(crate) fn twin_station(root: &Table, item: usize, key: &str) -> Option<usize> {
     let stations = stations(root);
     if item < stations.len() {
         twin(stations, item, key)
@@ -25,8 +23,7 @@ pub(crate) fn twin_station(root: &Table, item: usize, key: &str) -> Option<usize
     }
 }
 
-fn stations(root: &Table) -> &[Value]
-{
+fn stations(root: &Table) -> &[Value] {
     let Some(value) = given(Some(root), "station") else {
         return &[];
     };
@@ -37,8 +34,7 @@ fn stations(root: &Table) -> &[Value]
 }
 
 /// The first of these stations that has this key.
-fn first_with(stations: &[Value], key: &str) -> Option<usize>
-{
+fn first_with(stations: &[Value], key: &str) -> Option<usize> {
     for place in 0..stations.len() {
         if has_key(&stations[place], key) {
             return Some(place);
@@ -47,13 +43,11 @@ fn first_with(stations: &[Value], key: &str) -> Option<usize>
     None
 }
 
-fn has_key(station: &Value, key: &str) -> bool
-{
+fn has_key(station: &Value, key: &str) -> bool {
     station.get(key).is_some()
 }
 
-fn number(table: &Value, key: &str) -> Option<i64>
-{
+fn number(table: &Value, key: &str) -> Option<i64> {
     match table.get(key) {
         Some(value) => value.as_integer(),
         None => None,
@@ -73,8 +67,7 @@ fn twin(stations: &[Value], item: usize, key: &str) -> Option<usize>
 }
 
 /// Whether both stations have the same number under this key.
-fn are_same(one: &Value, other: &Value, key: &str) -> bool
-{
+fn are_same(one: &Value, other: &Value, key: &str) -> bool {
     match (number(one, key), number(other, key)) {
         (Some(own), Some(number)) => own == number,
         _ => false,

@@ -112,8 +112,7 @@ fn edited(
 }
 
 /// Whether the text is a document with the mark's value under a key.
-fn is_marked(alloc: Global, text: &[u8], spot: &Spot<'_>) -> Result<bool, AllocError>
-{
+fn is_marked(alloc: Global, text: &[u8], spot: &Spot<'_>) -> Result<bool, AllocError> {
     match toml::table_from_slice(alloc, text) {
         Ok(root) => match value_under(&root, spot) {
             Some(value) => Ok(value.as_str() == Some("\u{1}")),
@@ -125,14 +124,12 @@ fn is_marked(alloc: Global, text: &[u8], spot: &Spot<'_>) -> Result<bool, AllocE
 }
 
 /// The value at a key of a table.
-fn member<'a>(table: &'a Table, key: &str) -> Option<&'a Value>
-{
+fn member<'a>(table: &'a Table, key: &str) -> Option<&'a Value> {
     table.get(key)
 }
 
 /// The value under a key.
-fn value_under<'a>(root: &'a Table, spot: &Spot<'_>) -> Option<&'a Value>
-{
+fn value_under<'a>(root: &'a Table, spot: &Spot<'_>) -> Option<&'a Value> {
     match spot.table {
         None => member(root, spot.key),
         Some(name) => match member(root, name) {
@@ -143,8 +140,7 @@ fn value_under<'a>(root: &'a Table, spot: &Spot<'_>) -> Option<&'a Value>
 }
 
 /// The value under a key of a table, or of an item of an array of tables.
-fn value_in<'a>(table: &'a Value, item: Option<usize>, key: &str) -> Option<&'a Value>
-{
+fn value_in<'a>(table: &'a Value, item: Option<usize>, key: &str) -> Option<&'a Value> {
     match item {
         None => table.get(key),
         Some(item) => match table.get(item) {

@@ -21,8 +21,7 @@ pub fn place_at(text: &[u8], at: usize) -> Place
 }
 
 /// The place behind one more octet.
-fn behind(place: Place, octet: u8) -> Place
-{
+fn behind(place: Place, octet: u8) -> Place {
     if octet == b'\n' {
         Place {
             line: place.line.saturating_add(1),

@@ -93,20 +93,17 @@ fn blanks_of(text: &[u8]) -> usize
     text.iter().take_while(|octet| is_blank(**octet)).count()
 }
 
-fn is_blank(octet: u8) -> bool
-{
+fn is_blank(octet: u8) -> bool {
     octet == b' ' || octet == b'\t'
 }
 
 /// Whether the octet belongs to a value that no quotation marks or brackets enclose.
-fn is_plain(octet: u8) -> bool
-{
+fn is_plain(octet: u8) -> bool {
     !is_blank(octet) && !matches!(octet, b'\n' | b'\r' | b',' | b'#' | b']' | b'}')
 }
 
 /// What ends a value that begins so, if it is enclosed.
-fn closing(octet: u8) -> Option<u8>
-{
+fn closing(octet: u8) -> Option<u8> {
     match octet {
         b'"' => Some(b'"'),
         b'\'' => Some(b'\''),

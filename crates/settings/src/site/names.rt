@@ -67,8 +67,7 @@ pub(crate) fn read_stations(
 }
 
 /// Which station of a file is the first that is wrong, counted from 0, if one is.
-pub fn wrong_station(alloc: Global, root: &Table) -> Result<Option<usize>, AllocError>
-{
+pub fn wrong_station(alloc: Global, root: &Table) -> Result<Option<usize>, AllocError> {
     let Some(value) = given(Some(root), "station") else {
         return Ok(None);
     };
@@ -79,8 +78,7 @@ pub fn wrong_station(alloc: Global, root: &Table) -> Result<Option<usize>, Alloc
 }
 
 /// Which of these is the first that is wrong.
-fn first_wrong(alloc: Global, tables: &[Value]) -> Result<Option<usize>, AllocError>
-{
+fn first_wrong(alloc: Global, tables: &[Value]) -> Result<Option<usize>, AllocError> {
     let mut stations = Vec::new(alloc);
     for (item, table) in tables.iter().enumerate() {
         match read_station(alloc, table, stations.as_slice()) {

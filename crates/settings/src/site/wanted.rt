@@ -2,8 +2,7 @@
 
 /// What is wanted of the value of the key with this dotted path, in words; none, if there is no
 /// such key.
-pub fn site_values(path: &str) -> Option<&'static str>
-{
+pub fn site_values(path: &str) -> Option<&'static str> {
     match run_values(path) {
         Some(values) => Some(values),
         None => name_values(path),
@@ -11,8 +10,7 @@ pub fn site_values(path: &str) -> Option<&'static str>
 }
 
 /// What is wanted of a key that says what a run is to do.
-fn run_values(path: &str) -> Option<&'static str>
-{
+fn run_values(path: &str) -> Option<&'static str> {
     match path {
         "allow" => Some("a list of IPv4 and IPv6 addresses"),
         "status" => Some("HOST:PORT"),
@@ -24,8 +22,7 @@ fn run_values(path: &str) -> Option<&'static str>
 }
 
 /// What is wanted of a key that names the line or a station.
-fn name_values(path: &str) -> Option<&'static str>
-{
+fn name_values(path: &str) -> Option<&'static str> {
     match path {
         "line.name" | "station.name" => Some("1 to 40 printable characters"),
         "station" => Some("any number of tables"),

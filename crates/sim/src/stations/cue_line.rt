@@ -1,11 +1,8 @@
 //! One line that speaks to the outstations here alone.
-ghost use Rattle.std.specs.Prelude.{◌≡◌, ◌==◌, IfOk, IfSome};
-ghost use Rattle.std.specs.List.{slice_split};
+ghost use Rattle.std.specs.Prelude.{IfOk, IfSome};
 ghost use Rattle.ft12.specs.declared.frame.LinkSize.{LinkSize};
-ghost use Rattle.sim.specs.Directives.{FitsStations, number_of};
+ghost use Rattle.sim.specs.Directives.{FitsStations};
 ghost use Rattle.sim.specs.Cues.{FitsLine, IsPeriod};
-ghost use Rattle.sim.specs.CueLines.{cue_in, habit_by, index_of, is_cue_line, time_of};
-ghost use Rattle.sim.specs.CueLines.{delayed_by, delayed_from, timed_by};
 
 use crate::directive::Directive;
 use crate::line::read_line;
@@ -26,9 +23,7 @@ const SHORTEST_MS: u64 = 10;
 const LONGEST_MS: u64 = 86_400_000;
 
 /// Whether a line is one that a script of `sim` doesn't have.
-pub(crate) fn is_cue_line(line: &[u8]) -> bool
-    ensures { result ≡ is_cue_line line.now }
-{
+pub(crate) fn is_cue_line(line: &[u8]) -> bool {
     let (word, _) = cut(line, SPACE);
     match word {
         b"at" => true,
@@ -41,9 +36,7 @@ pub(crate) fn is_cue_line(line: &[u8]) -> bool
 }
 
 /// A number of 1 to 9 decimal digits.
-fn number(digits: &[u8]) -> Option<u64>
-    ensures { result ≡ number_of digits.now }
-{
+fn number(digits: &[u8]) -> Option<u64> {
     if digits.len() <= MOST_DIGITS {
         read_decimal(digits)
     } else {
@@ -53,8 +46,7 @@ fn number(digits: &[u8]) -> Option<u64>
 
 /// A time in ms, 10 to 86,400,000.
 fn time(digits: &[u8]) -> Option<u64>
-    ensures time { result ≡ time_of digits.now }
-    ensures period { IfSome result IsPeriod }
+    ensures { IfSome result IsPeriod }
 {
     let ms = number(digits)?;
     if SHORTEST_MS <= ms && ms <= LONGEST_MS {
@@ -65,9 +57,7 @@ fn time(digits: &[u8]) -> Option<u64>
 }
 
 /// The index of a station, from 0, by its number, from 1.
-fn index(stations: usize, digits: &[u8]) -> Option<usize>
-    ensures { result ≡ index_of stations digits.now }
-{
+fn index(stations: usize, digits: &[u8]) -> Option<usize> {
     let number = number(digits)?;
     if 1 <= number && number <= stations as u64 {
         Some(number as usize - 1)
@@ -78,8 +68,7 @@ fn index(stations: usize, digits: &[u8]) -> Option<usize>
 
 /// `confirm S` and `refuse S`.
 fn habit(word: &[u8], station: Option<usize>) -> Option<Cue>
-    ensures said { result ≡ habit_by word.now station }
-    ensures fits { (size : LinkSize) → IfSome result (FitsLine size) }
+    ensures { (size : LinkSize) → IfSome result (FitsLine size) }
 {
     let station = station?;
     match word {
@@ -91,8 +80,7 @@ fn habit(word: &[u8], station: Option<usize>) -> Option<Cue>
 
 /// An answer, by the number of its request, and how late it goes out.
 fn delay(what: &[u8], request: Option<u64>, ms: Option<u64>) -> Option<Cue>
-    ensures said { result ≡ delayed_by what.now request ms }
-    ensures fits { (size : LinkSize) → IfSome result (FitsLine size) }
+    ensures { (size : LinkSize) → IfSome result (FitsLine size) }
 {
     let request = request?;
     let ms = ms?;
@@ -105,8 +93,7 @@ fn delay(what: &[u8], request: Option<u64>, ms: Option<u64>) -> Option<Cue>
 
 /// `delay answer N MS`, of which the first word was read.
 fn delayed(what: &[u8], rest: &[u8]) -> Option<Cue>
-    ensures said { result ≡ delayed_from what.now (slice_split (λ b. b == 32) rest.now) }
-    ensures fits { (size : LinkSize) → IfSome result (FitsLine size) }
+    ensures { (size : LinkSize) → IfSome result (FitsLine size) }
 {
     let (request, rest) = cut(rest, SPACE);
     let rest = rest?;
@@ -127,8 +114,7 @@ fn timed(
 ) -> Option<Cue>
     requires period { IfSome ms IsPeriod }
     requires fits { IfSome directive (FitsStations size stations) }
-    ensures said { result ≡ timed_by word.now ms directive }
-    ensures fits { IfSome result (FitsLine size) }
+    ensures { IfSome result (FitsLine size) }
 {
     let ms = ms?;
     let Some(Directive::Report(station, class, report)) = directive else {
@@ -158,8 +144,7 @@ pub(crate) fn read_cue(
     stations: usize,
     line: &[u8],
 ) -> Result<Option<Cue>, AllocError>
-    ensures said { IfOk result (λ said. said ≡ cue_in size stations line.now) }
-    ensures fits { IfOk result (λ said. IfSome said (FitsLine size)) }
+    ensures { IfOk result (λ said. IfSome said (FitsLine size)) }
 {
     let (word, rest) = cut(line, SPACE);
     let Some(rest) = rest else {

