@@ -17,7 +17,8 @@ ArePlayed (Err _) = ⊥
 -- the settings of a live run are free of faults
 abbrev pub AreSet : (config : List ℕ) → Type 0
 AreSet config =
-    (settings : Settings) × ((places : LiveSettings) × IsLiveReadOfText config (Ok (settings, places)))
+    (settings : Settings) × (places : LiveSettings)
+    × IsLiveReadOfText config (Ok (settings, places))
 
 -- settings and script are free of faults, and this is answered
 pub record AreStaged (config : List ℕ) (answer : Result (Unit {0}) Fault) : Type 0 where
