@@ -402,7 +402,7 @@ AROUND = [
     (360, 100, "Its state on the disk", ["state state_files state_words", "segments statetext"],
      ["nothing_goes_out_before_it_is_on_disk", "Segment::survives"]),
     (25, 196, "Settings", ["settings"],
-     ["other_keys_are_refused", "words_are_those_of_the_rows"]),
+     ["read_config", "read_site"]),
     (360, 196, "Texts and tries", ["traces record sim", "words centre"],
      ["texts_are_read_line_by_line"]),
 ]
