@@ -8,9 +8,9 @@
 //! - A start looks at both files ([`Start`]): the segment of the higher number counts, if it is
 //!   whole. It isn't appended to: behind a torn line older ones may stand.
 //! - The next segment goes into the other file ([`Writer`]). That file is shut first: its first
-//!   octet is `-`, and that is synced. Then come the checkpoint, the zeros and the first line without
-//!   its first octet; that is synced; then the first octet, and a sync again. So a crash leaves no
-//!   segment there, or the whole one, and the segment of the other file as it is.
+//!   octet is `-`, and that is synced. Then come the checkpoint, the zeros and the first line
+//!   without its first octet; that is synced; then the first octet, and a sync again. So a crash
+//!   leaves no segment there, or the whole one, and the segment of the other file as it is.
 //! - Lines are appended, sealed and synced ([`Segment`]). Whatever a crash leaves begins with what
 //!   was synced ([`Segment::survives`]).
 //! - A start reads the writes that are whole ([`Start::log`]), and tells what a crash left of the

@@ -75,8 +75,8 @@ impl Patience {
         has_passed(RETRY_MS, self.tried, self.moment)
     }
 
-    /// What is to be reported now, if anything: that the state isn't kept, for this cause, or that it
-    /// is kept again.
+    /// What is to be reported now, if anything: that the state isn't kept, for this cause, or that
+    /// it is kept again.
     pub fn notice(&mut self, is_given_up: bool, cause: Option<ErrorKind>) -> Option<Notice>
         ensures notice { result ≡ notice_of is_given_up cause self.old }
         ensures after { self.new ≡ after_notice result self.old }
