@@ -5,11 +5,11 @@ use Rattle.std.proofs.Common.{◌∷◌, Option, Some, None, ap, refl, sym, ◌�
 use Rattle.std.proofs.lemmas.Bool.{ltb-false, le-ltb}
 use Rattle.std.proofs.Math.Nat.{div-mul-le_self}
 use Rattle.std.proofs.lemmas.Nat.{le-div}
-use Rattle.std.specs.List.{AllByRecursion, list_all, list_any}
+use Rattle.std.specs.List.{AllByRecursion, list_any}
 use Rattle.std.specs.Option.{is_none}
 use Rattle.std.specs.Prelude.{◌/◌, ◌==◌, ◌&&◌, if◌then◌else◌, length, nat_le, nat_lt, not}
 use Rattle.status.specs.Judge.{are_all_silent, cannot_keep, does_not_answer, is_critical, is_full}
-use Rattle.status.specs.Judge.{is_lost}
+use Rattle.status.specs.Judge.{is_lost, may_answer}
 use Rattle.status.specs.Judge.{is_silent, is_warning, judgement_of}
 use Rattle.status.specs.Law.{Answers, IsWell}
 use Rattle.status.specs.declared.judging.Judgement.TheVariants.{Ok, Warning, Critical}
@@ -125,7 +125,7 @@ not_all_silent : (stations : List StationView) → AllByRecursion Answers statio
     → are_all_silent stations ≡ false
 not_all_silent [] all = refl
 not_all_silent (station ∷ stations) (here, all) =
-    ap (λ b. not (length (station ∷ stations) == 0) && (b && list_all is_silent stations))
+    ap (λ b. not (length (station ∷ stations) == 0) && not (not b || list_any may_answer stations))
     (not_silent station.standing here.not_silent here.not_down)
     ∙ and_false (not (length (station ∷ stations) == 0))
 

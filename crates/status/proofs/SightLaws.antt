@@ -382,6 +382,9 @@ module _ (c : Settings) (names : LogNames) (keeps : Bool) (looks : List Look) (l
     reports = is.reports;
     skipped = is.skipped;
     commands = is.commands;
+    requests = is.requests;
+    spoilt = is.spoilt;
+    late = is.late;
   }
 
   pub row_of : (before after : List Setting) (setting : Setting)

@@ -1,7 +1,7 @@
 -- What the state of the gateway calls for (this gateway's own profile).
 use Rattle.std.specs.Prelude.{ℕ, ◌-◌, ◌/◌, nat_lt, nat_le, Bool, true, false, not, ◌&&◌, ◌||◌}
 use Rattle.std.specs.Prelude.{◌==◌, List, length, if◌then◌else◌}
-use Rattle.std.specs.List.{list_all, list_any}
+use Rattle.std.specs.List.{list_any}
 use Rattle.std.specs.Option.{is_none}
 use Rattle.status.specs.declared.judging.Judgement.{Judgement}
 use Rattle.status.specs.declared.judging.Judgement.TheVariants as judgement
@@ -58,9 +58,12 @@ keeps Off = false
 keeps Kept = true
 keeps NotKept = false
 
+abbrev pub may_answer : StationView → Bool
+may_answer station = not (is_silent station)
+
 -- there are stations, and none of them answers
 abbrev pub are_all_silent : List StationView → Bool
-are_all_silent stations = not (length stations == 0) && list_all is_silent stations
+are_all_silent stations = not (length stations == 0) && not (list_any may_answer stations)
 
 -- Critical: the line is away for a minute, no control centre is connected, the queue is full, the
 -- state can't be kept, or no station answers.

@@ -1,7 +1,7 @@
 -- Words of the laws of a judgement (this gateway's own profile).
 use Rattle.std.specs.Prelude.{◌≡◌, ◌≢◌, ◌+◌, ◌*◌, ◌<◌, ◌≤◌, true, false, None, length}
-use Rattle.std.specs.List.{AllByRecursion, list_all}
-use Rattle.status.specs.Judge.{is_silent}
+use Rattle.std.specs.List.{AllByRecursion, list_any}
+use Rattle.status.specs.Judge.{may_answer}
 use Rattle.status.specs.declared.snapshot.Keeping.TheVariants.{NotKept}
 use Rattle.status.specs.declared.snapshot.LinkState.TheVariants.{Silent, Down}
 use Rattle.status.specs.declared.snapshot.StationView.{StationView}
@@ -13,7 +13,7 @@ pub data IsTrouble (s : Snapshot) : Type 0 where
   NoCentre : s.centre.peer ≡ None → IsTrouble s
   QueueFull : s.queue.places < s.queue.taken + 3 → IsTrouble s
   NotOnDisk : s.keeping ≡ NotKept → IsTrouble s
-  NoneAnswers : 0 < length s.stations.now → list_all is_silent s.stations.now ≡ true
+  NoneAnswers : 0 < length s.stations.now → list_any may_answer s.stations.now ≡ false
       → IsTrouble s
 
 -- it isn't said that the station doesn't answer

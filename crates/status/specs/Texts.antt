@@ -1,7 +1,7 @@
 -- Texts that more than one page has (this gateway's own profile).
 use Rattle.std.specs.Prelude.{ℕ, ◌-◌, ◌/◌, ◌==◌, nat_lt, Bool, not, List, [], ◌∷◌, length, count_by}
 use Rattle.std.specs.Prelude.{Option, Some, None, codes, if◌then◌else◌}
-use Rattle.std.specs.Option.{is_none, is_some}
+use Rattle.std.specs.Option.{is_some}
 use Rattle.std.specs.Fmt.{decimal}
 use Rattle.live.specs.declared.syncs.SlowSyncs.{SlowSyncs}
 use Rattle.status.specs.Words.{escaped_behind, joined, right}
@@ -21,7 +21,7 @@ trouble_parts s =
     ∷ text_if (not s.line.is_there) (codes "line lost")
     ∷ escaped_behind Plain (codes ": ") s.line.cause
     ∷ text_if (not s.line.is_there) (codes "; ")
-    ∷ text_if (is_none s.centre.peer) (codes "control centre not connected; ")
+    ∷ (if is_some s.centre.peer then codes "" else codes "control centre not connected; ")
     ∷ text_if (is_full s.queue) (codes "queue full, nothing is polled; ")
     ∷ text_if (cannot_keep s.keeping) (codes "state isn't kept")
     ∷ escaped_behind Plain (codes ": ") s.lost_by

@@ -56,11 +56,25 @@ fn has_silent(stations: &[StationView<'_>]) -> bool
     stations.iter().any(|station| is_silent(station))
 }
 
+/// It isn't known that it doesn't answer.
+fn may_answer(station: &StationView<'_>) -> bool
+    ensures { result ≡ spec.may_answer station.now }
+{
+    !is_silent(station)
+}
+
+/// One of them may answer.
+fn has_answering(stations: &[StationView<'_>]) -> bool
+    ensures { result ≡ list_any spec.may_answer stations.now }
+{
+    stations.iter().any(|station| may_answer(station))
+}
+
 /// There are some, and none of them answers.
 fn are_all_silent(stations: &[StationView<'_>]) -> bool
     ensures { result ≡ spec.are_all_silent stations.now }
 {
-    !stations.is_empty() && stations.iter().all(|station| is_silent(station))
+    !stations.is_empty() && !has_answering(stations)
 }
 
 /// It is up.

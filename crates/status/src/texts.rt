@@ -23,7 +23,7 @@ fn put_troubles(page: &mut TextPage, snapshot: &Snapshot<'_>)
     ensures { page.new ≡ put (spec.troubles snapshot.now) page.old }
 {
     let is_away = !snapshot.line.is_there;
-    let is_alone = snapshot.centre.peer.is_none();
+    let is_connected = snapshot.centre.peer.is_some();
     let is_lost = cannot_keep(snapshot.keeping);
     put_words(
         page,
@@ -33,7 +33,7 @@ fn put_troubles(page: &mut TextPage, snapshot: &Snapshot<'_>)
             Word::Either(is_away, "line lost", ""),
             Word::EscapedBehind(Marks::Plain, ": ", snapshot.line.cause),
             Word::Either(is_away, "; ", ""),
-            Word::Either(is_alone, "control centre not connected; ", ""),
+            Word::Either(is_connected, "", "control centre not connected; "),
             Word::Either(
                 is_full(&snapshot.queue),
                 "queue full, nothing is polled; ",

@@ -18,11 +18,13 @@ returns g c = (
       name = c.snapshot_of.ensures.name;
       there = c.snapshot_of.ensures.there;
       since = c.snapshot_of.ensures.since;
+      cause = c.snapshot_of.ensures.cause;
       centre = c.snapshot_of.ensures.centre;
       taken = c.snapshot_of.ensures.taken;
       places = c.snapshot_of.ensures.places;
       hour = c.snapshot_of.ensures.hour;
       keeping = c.snapshot_of.ensures.keeping;
+      lost_by = c.snapshot_of.ensures.lost_by;
       syncs = c.snapshot_of.ensures.syncs;
     };
     rows = subst

@@ -4,7 +4,7 @@ pub returns : goal.returns
 returns c =
     rw (
       ← c.judge.ensures,
-      ← c.is_none-is_alone.ensures,
+      ← c.is_some-is_connected.ensures,
       ← c.cannot_keep-is_lost.ensures,
       ← c.is_full.ensures,
     )
