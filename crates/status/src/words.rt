@@ -226,7 +226,7 @@ fn put_word(page: &mut TextPage, word: &Word<'_>)
         Word::Text(text) => page.put(text.as_bytes()),
         Word::Escaped(marks, text) => put_escaped(page, marks, text),
         Word::EscapedBehind(marks, before, Some(text)) => put_behind(page, marks, before, text),
-        Word::EscapedBehind(_, _, None) => {}
+        Word::EscapedBehind(_, _, None) => page.put(&[]),
         Word::EscapedOr(marks, Some(text), _) => put_escaped(page, marks, text),
         Word::EscapedOr(_, None, text) => page.put(text.as_bytes()),
         Word::Number(number) => put_number(page, number),
