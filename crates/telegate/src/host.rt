@@ -196,14 +196,14 @@ impl<S: Starts> Host for System<'_, S> {
     fn read(&self, name: &str) -> Result<Vec<u8>, Unread> {
         match std::fs::read(self.rt, path_of(name)) {
             Ok(octets) => Ok(octets),
-            Err(fault) => Err(unread(self.rt, "file", name, &fault)),
+            Err(fault) => Err(told_unread(self.rt, "file", name, &fault)),
         }
     }
 
     fn open(&self, name: &str) -> Result<File, Unread> {
         match File::open(self.rt, path_of(name)) {
             Ok(file) => Ok(file),
-            Err(fault) => Err(unread(self.rt, "file", name, &fault)),
+            Err(fault) => Err(told_unread(self.rt, "file", name, &fault)),
         }
     }
 
@@ -245,20 +245,20 @@ impl<S: Starts> Host for System<'_, S> {
     fn look(&self, directory: &str) -> Result<Stood, Unread> {
         match stood_in(self.rt, directory) {
             Ok(stood) => Ok(stood),
-            Err(fault) => Err(unread(self.rt, "directory", directory, &fault)),
+            Err(fault) => Err(told_unread(self.rt, "directory", directory, &fault)),
         }
     }
 
     fn ask(&self, place: &str, request: &[u8]) -> Result<Vec<u8>, Unread> {
         match ask_at(self.rt, self.rt.alloc(), place, request) {
             Ok(answer) => Ok(answer),
-            Err(fault) => Err(unread(self.rt, "status", place, &fault)),
+            Err(fault) => Err(told_unread(self.rt, "status", place, &fault)),
         }
     }
 }
 
 /// Why a file, a directory or an answer isn't had. What the system says of it is told.
-fn unread(rt: &HostRuntime, what: &str, place: &str, fault: &io::Error) -> Unread {
+fn told_unread(rt: &HostRuntime, what: &str, place: &str, fault: &io::Error) -> Unread {
     if fault.kind() == io::ErrorKind::OutOfMemory {
         return Unread::NoMemory;
     }
