@@ -1,14 +1,12 @@
 -- What is answered to whom, and what rows and lines begin with.
 use Rattle.std.proofs.Common.{◌≡◌, ◌≢◌, ℕ, List, ◌++◌, Bool, true, false, None, Some}
 use Rattle.std.proofs.Common.{refl, append_assoc, codes}
-use Rattle.std.proofs.Common.{◌/◌, arith, if◌then◌else◌}
-use Rattle.std.specs.Prelude.{◌+◌}
+use Rattle.std.proofs.Common.{arith, if◌then◌else◌}
 use Rattle.std.proofs.lemmas.Slice.Eq.{bytes_eq-Decides}
 use Rattle.std.specs.Prelude.{bytes_eq}
 use Rattle.status.specs.Request.{asked_by, view_of}
 use Rattle.status.specs.declared.request.Inquiry.TheVariants.{Forbidden}
 use Rattle.status.specs.declared.request.View.TheVariants as view
-use Rattle.status.specs.declared.words.Marks.TheVariants.{Json}
 
 -- What is asked
 
