@@ -17,12 +17,12 @@ returns-in_err-scenario g c =
     c.from_residual-in_err-scenario.result c.in_err-scenario.field-0.0
     c.from_residual-in_err-scenario.ensures.1
     (unscripted c.args.config.now c.args.script.now c.in_err-scenario.field-0.0
-    (c.in_ok-settings.settings, (c.in_ok-settings.places, c.in_ok-settings.ensures))
+    (c.in_ok-settings.settings, c.in_ok-settings.places, c.in_ok-settings.ensures)
     c.in_err-scenario.ensures.scenario)
 
 pub returns : goal.returns
 returns g c =
     inl (record {
-      set = (c.in_ok-settings.settings, (c.in_ok-settings.places, c.in_ok-settings.ensures));
+      set = (c.in_ok-settings.settings, c.in_ok-settings.places, c.in_ok-settings.ensures);
       played = c.play_at.ensures;
     })
