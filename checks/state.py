@@ -36,6 +36,7 @@ import time
 import zlib
 
 import ends
+import frame
 import kept
 from kept import (
     PATIENCE,

@@ -29,8 +29,8 @@ pub struct Failed<D: Disk> {
     pub fault: SegmentFault,
 }
 
-/// A segment that is begun. Until it is finished, the first octet of its file is `-` on the disk: no
-/// start takes it for a segment.
+/// A segment that is begun. Until it is finished, the first octet of its file is `-` on the disk:
+/// no start takes it for a segment.
 #[derive(Drop)]
 pub struct Writer<D: Disk> {
     file: D,
