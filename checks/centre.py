@@ -154,7 +154,9 @@ def watched(count, program, folder):
     """A watch sees each station answer, and what others do, until it is ended."""
     with Substation(program, folder) as substation:
         words = substation.words(substation.config)
-        with subprocess.Popen(words, stdin=subprocess.DEVNULL, stdout=subprocess.PIPE, stderr=subprocess.PIPE) as watch:
+        pipes = {"stdin": subprocess.DEVNULL, "stdout": subprocess.PIPE, "stderr": subprocess.PIPE}
+        # A shell that starts this script in the background has SIGINT ignored.
+        with subprocess.Popen(words, **pipes, preexec_fn=lambda: signal.signal(signal.SIGINT, signal.SIG_DFL)) as watch:
             wanted = {
                 (DOWN, "STARTDT act"),
                 (UP, "STARTDT con"),
@@ -171,7 +173,7 @@ def watched(count, program, folder):
             watch.send_signal(signal.SIGINT)
             count.compare("watch: ended", watch.wait(ends.PATIENCE), -signal.SIGINT)
         # A gateway that dies.
-        with subprocess.Popen(words, stdin=subprocess.DEVNULL, stdout=subprocess.PIPE, stderr=subprocess.PIPE) as watch:
+        with subprocess.Popen(words, **pipes) as watch:
             while b"STARTDT con" not in watch.stdout.readline():
                 pass
             substation.processes[1].kill()
