@@ -11,7 +11,7 @@ import sys
 TOP = os.path.dirname(os.path.dirname(os.path.abspath(__file__)))
 PROGRAM = os.path.join(TOP, "crates", "telegate")
 # What of it is called here, in ./build and in tools/unproved.py.
-CALLED = ("in_lanes", "need", "share_work")
+CALLED = ("in_lanes", "need")
 CALLED_BELOW = ("Crate", "KIT", "guarded", "kit_sources", "lock", "stop_on_links")
 
 sys.dont_write_bytecode = True
