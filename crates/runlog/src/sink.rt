@@ -26,8 +26,8 @@ pub trait LogSink {
         ensures handed { handed self.new ≡ kept true line.now (handed self.old) };
 }
 
-/// Standard error: each line has its UTC time (RFC 3339) before it. A line for which there is no
-/// room is left out, and how many were is told once there is.
+/// Standard error: each line has its UTC time (RFC 3339) before it, or how severe it is. A line for
+/// which there is no room is left out, and how many were is told once there is.
 #[derive(Drop)]
 pub struct StandardError<'a, 'n, R> {
     rt: &'a R,
@@ -51,8 +51,8 @@ impl<'a, 'n, R> StandardError<'a, 'n, R> {
         }
     }
 
-    /// The same, but each line begins with how severe it is, as `<4>`: so systemd's journal takes
-    /// it, which leaves that out of the text.
+    /// The same, but each line begins with how severe it is, as `<4>`, in place of its time: so
+    /// systemd's journal takes it, which has a time for each line.
     pub fn with_severity(self) -> StandardError<'a, 'n, R>
         ensures names { result.names ≡ self.entry.names }
         ensures severity { result.has_severity ≡ true }
@@ -67,13 +67,17 @@ impl<'a, 'n, R> StandardError<'a, 'n, R> {
 }
 
 impl<R: Eprint + std::rt::Clock> StandardError<'_, '_, R> {
-    /// Writes how severe a line is, if that is wanted.
-    fn write_severity(&self, line: &LogLine) -> bool {
-        if !self.has_severity {
-            return true;
+    /// Writes what stands before a line: how severe it is, if that is wanted, or else the time.
+    fn write_head(&self, line: &LogLine) -> bool {
+        if self.has_severity {
+            let number = line.note.severity().number();
+            return eprint!(self.rt; "<{number}>").is_ok();
         }
-        let number = line.note.severity().number();
-        eprint!(self.rt; "<{number}>").is_ok()
+        match Timestamp::now(self.rt) {
+            Ok(now) => eprint!(self.rt; "{now:.3} ").is_ok(),
+            // No time is better than no line.
+            Err(_) => eprint!(self.rt; "- ").is_ok(),
+        }
     }
 
     /// Tells how many lines were left out, at the moment of the line behind, if any were.
@@ -92,18 +96,11 @@ impl<R: Eprint + std::rt::Clock> StandardError<'_, '_, R> {
 
     /// Writes a line, for which there is room.
     fn write_line(&self, line: &LogLine) -> bool {
-        if !self.write_severity(line) {
-            return false;
-        }
-        let line = NamedLine {
+        let named = NamedLine {
             line,
             names: self.names,
         };
-        match Timestamp::now(self.rt) {
-            Ok(now) => eprintln!(self.rt; "{now:.3} {line}").is_ok(),
-            // No time is better than no line.
-            Err(_) => eprintln!(self.rt; "- {line}").is_ok(),
-        }
+        self.write_head(line) && eprintln!(self.rt; "{named}").is_ok()
     }
 }
 
