@@ -162,7 +162,7 @@ impl<S: OctetStream, L: Listener + Drop, C: RunClock + Drop> Port for Live<S, L,
 
     /// Gives the wall clock if it is due. Else it looks at the ends round by round, until one has
     /// something or a tick is due.
-    #[tactic(auto, using(crate::proofs::Logs::turn_noted, crate::proofs::Runs::turned_fixed, crate::proofs::Runs::turned_on))]
+    #[tactic(auto, using(crate::proofs::Logs::turn_noted))]
     fn next(&mut self, buf: &mut [u8; 1024]) -> Next
         requires { self.old.failed < u64.MAX }
         ensures logged { Some self.new.log

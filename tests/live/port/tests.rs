@@ -103,7 +103,8 @@ fn is_right(port: &mut MemoryPort, step: PortCall) -> bool {
             true
         }
         PortCall::Waits => port.ends.listener.centre.is_some(),
-        PortCall::Line(reads, writes) => (port.ends.line.reads, port.ends.line.writes) == (reads, writes),
+        PortCall::Line(reads, writes) => (port.ends.line.reads, port.ends.line.writes)
+            == (reads, writes),
         PortCall::Connection(writes) => match &port.ends.connection {
             Some(centre) => Some(centre.stream.writes) == writes,
             None => writes.is_none(),
