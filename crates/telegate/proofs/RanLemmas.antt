@@ -28,8 +28,9 @@ use Rattle.telegate.specs.declared.living.Over.TheVariants.{Anew, Kept}
 
 pub lived_anew : {E : Type 0} (begins : Origin → Type 0) (settings : Settings) (wishes : Wishes)
     (old new : Asked) (left : RunLeft) (ended : Result (Unit {0}) E) → wishes.state ≡ None
-    → new ≡ ends_asked wishes.redial 0 (scribes_asked wishes.status old) → left.before ≡ []
-    → HasLived settings wishes.allow_list false [] left.port left.pen ended
+    → new ≡ ends_asked wishes.redial 0 (scribes_asked wishes.status old)
+    → left.pen.before ≡ []
+    → HasLived settings wishes.allow_list false left.port left.pen ended
     → HasRun 0 left.port.failed ended
     → IsAsWished wishes left.book left.pen left.is_shown
     → HasLivedAs begins settings wishes old new left ended
@@ -54,7 +55,7 @@ pub lived_kept : {E : Type 0} (begins : Origin → Type 0) (settings : Settings)
     → wishes.state ≡ Some directory
     → HasLivedFrom begins settings wishes.allow_list
     (λ moment. new ≡ ends_asked wishes.redial moment (asked_for (StateIn directory.now true ∷ [])
-    (scribes_asked wishes.status old))) left.before left.port left.pen ended
+    (scribes_asked wishes.status old))) left.port left.pen ended
     → HasRun 0 (left.port.failed + left.stops) ended
     → IsAsWished wishes left.book left.pen left.is_shown
     → left.bears_loss ≡ Some wishes.bears_loss
@@ -65,7 +66,7 @@ lived_kept begins settings wishes old new directory left ended named lived devic
     (λ _. HasLivedKept begins settings wishes old new left ended) in
     let F : Option (Bor Text) → Type 0 = λ state. HasLivedFrom begins settings wishes.allow_list
     (λ moment. new ≡ ends_asked wishes.redial moment (asked_for (call_if StateIn state)
-    (scribes_asked wishes.status old))) left.before left.port left.pen ended in
+    (scribes_asked wishes.status old))) left.port left.pen ended in
     subst P (sym named)
     (record {
       lived = subst F (sym named) lived;

@@ -2,7 +2,6 @@
 use Rattle.std.specs.Prelude.{◌≡◌, ◌⊎◌, ◌+◌, ℕ, List, [], Bool, false, Option, Some}
 use Rattle.std.specs.Prelude.{MatchOption, Result, Ok, Err}
 use Rattle.gateway.specs.Config.{Settings}
-use Rattle.gateway.specs.Log.{Log}
 use Rattle.live.specs.Ends.{LiveEnds}
 use Rattle.record.specs.Recording.{Recording}
 use Rattle.runlog.specs.Logging.{Book}
@@ -24,11 +23,10 @@ use Rattle.telegate.specs.declared.living.Over.{Over}
 use Rattle.telegate.specs.declared.living.Over.TheVariants.{Anew, Kept}
 use Rattle.telegate.specs.declared.running.DeviceFailed.{DeviceFailed}
 
--- What is left of a run that is over: what passed before it, its port, its record and its log,
--- whether it was shown, and, where its state was kept, whether it bore the loss of that, and how
--- often it stopped for it.
+-- What is left of a run that is over: its port, its record, which says what passed before it, and
+-- its log; whether it was shown; and, if its state was kept, whether it bore the loss of that, and
+-- how often it stopped for it.
 pub record RunLeft : Type 0 where
-  pub before : Log
   pub port : LiveEnds
   pub pen : Recording
   pub book : Book
@@ -42,8 +40,8 @@ pub record RunLeft : Type 0 where
 pub record HasLivedAnew {E : Type 0} (settings : Settings) (wishes : Wishes) (old new : Asked)
     (left : RunLeft) (ended : Result (Unit {0}) E) : Type 0 where
   pub asked : new ≡ run_asked wishes 0 old
-  pub anew : left.before ≡ []
-  pub lived : HasLived settings wishes.allow_list false [] left.port left.pen ended
+  pub anew : left.pen.before ≡ []
+  pub lived : HasLived settings wishes.allow_list false left.port left.pen ended
   pub device : HasRun 0 left.port.failed ended
   pub wished : IsAsWished wishes left.book left.pen left.is_shown
 
@@ -54,7 +52,7 @@ pub record HasLivedKept {E : Type 0} (begins : Origin → Type 0) (settings : Se
     (wishes : Wishes) (old new : Asked) (left : RunLeft) (ended : Result (Unit {0}) E)
     : Type 0 where
   pub lived : HasLivedFrom begins settings wishes.allow_list
-      (λ moment. new ≡ run_asked wishes moment old) left.before left.port left.pen ended
+      (λ moment. new ≡ run_asked wishes moment old) left.port left.pen ended
   pub device : HasRun 0 (left.port.failed + left.stops) ended
   pub wished : IsAsWished wishes left.book left.pen left.is_shown
   pub bears : left.bears_loss ≡ Some wishes.bears_loss

@@ -37,7 +37,6 @@ mod in_words;
 mod inquiry;
 mod job;
 mod laws;
-mod life;
 mod living;
 mod manner;
 mod mounts;

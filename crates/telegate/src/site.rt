@@ -330,7 +330,7 @@ fn reached<'r, R: Net<Stream = TcpStream> + Clock>(
     ensures new { IfOk result (λ line. IsNew (of_line (λ _. None) (λ _. None) line)) }
 {
     if !redial {
-        return Ok(ProcessLine::Once(LineSocket::reach(rt, place)?));
+        return Ok(ProcessLine::Once(LineDialler::new(rt, place).reach()?));
     }
     let tries = SystemClock::start(rt)?;
     Ok(ProcessLine::Again(Redialled::new(LineDialler::new(rt, place), tries)))
