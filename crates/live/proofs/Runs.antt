@@ -193,7 +193,8 @@ pub turned_fixed : (old new : LiveEnds) (event : Next) (buf : List ℕ) → Logs
 turned_fixed old new event buf l =
     next_fixed old (as_logged old.log new) new event buf new.log l.turns refl
 
-pub placed_fixed : (old new : LiveEnds) (moment : ℕ) (action : Output) → LogsPut old moment action new
+pub placed_fixed : (old new : LiveEnds) (moment : ℕ) (action : Output)
+    → LogsPut old moment action new
     → fixed_of new ≡ fixed_of old
 placed_fixed old new moment action l =
     put_fixed old (as_logged old.log new) new moment action new.log l.puts refl

@@ -12,8 +12,8 @@ abbrev pub added : Option (List ℕ) → List ℕ → Option (List ℕ)
 added None more = None
 added (Some text) more = Some (text ++ more)
 
--- what passed in the lives before, in which the gateway came to be as it is; what the sheet took, if
--- it says that; the lines that are held back until the next event is asked for; whether a record
+-- what passed in the lives before, in which the gateway came to be as it is; what the sheet took,
+-- if it says that; the lines that are held back until the next event is asked for; whether a record
 -- was wished at all, which never changes; whether the record is over, since none was wished, the
 -- sheet took no more, or memory ran out; and what passed unwritten, if the sheet says that
 pub record Recording : Type 0 where

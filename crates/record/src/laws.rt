@@ -16,8 +16,8 @@ ghost use Rattle.traces.specs.Printed.{lines_of_log};
 /// then, when an event is passed on, the sheet has taken the text of all that passed before, and
 /// the event's line. An action that goes out is written down, whichever it is, and one that doesn't
 /// changes nothing. What a sheet says that it took and missed is the log of the port, behind the
-/// lives before: what the text logs, and behind that what was missed. If it says neither, the log of
-/// the port inside takes that place.
+/// lives before: what the text logs, and behind that what was missed. If it says neither, the log
+/// of the port inside takes that place.
 pub fn a_record_is_the_text_of_what_passed()
     ensures notes { (old new : Recording) (news : Log) → Notes old news new →
         grows_by new.is_over old (lines_of_log news) new }

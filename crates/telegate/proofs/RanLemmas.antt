@@ -124,7 +124,7 @@ pub come_at : (strong weak : Origin → Type 0) (settings : Settings) (places : 
     → old.places ≡ places_of places → ((o : Origin) → strong o → weak o)
     → HasComeAt weak settings places wishes answer
 come_at strong weak settings places wishes old new answer (inl none) at implies =
-    record { old = old; at = at; new = new; came = inl none }
+    record { old = old; at = at; new = new; came = inl none.0 }
 come_at strong weak settings places wishes old new answer (inr come) at implies = record {
   old = old;
   at = at;
@@ -149,7 +149,7 @@ never_at begins settings places wishes fault is =
       calls = None;
       clocks = None;
     } in
-    record { old = none; at = refl; new = none; came = inl (is, refl) }
+    record { old = none; at = refl; new = none; came = inl is }
 
 -- what is left of it is as it was wished
 pub as_wished : {E : Type 0} (begins : Origin → Type 0) (settings : Settings) (wishes : Wishes)

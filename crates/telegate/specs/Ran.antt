@@ -83,19 +83,23 @@ pub record HasCome (begins : Origin → Type 0) (settings : Settings) (wishes : 
   pub lived : HasLivedAs begins settings wishes old new left ended
   pub answered : answer ≡ answer_to ended
 
--- It didn't begin: an end of it, or its state, can't be had. No clock was given for it, without
--- which nothing runs.
-abbrev pub HasNotBegun : (old new : Asked) → Result (Unit {0}) RunFault → Type 0
-HasNotBegun old new (Ok done) = ⊥
-HasNotBegun old new (Err fault) = IsKeptFault fault × (new.clocks ≡ old.clocks)
+-- an end of it, or its state, can't be had
+abbrev pub IsNoStart : Result (Unit {0}) RunFault → Type 0
+IsNoStart (Ok done) = ⊥
+IsNoStart (Err fault) = IsKeptFault fault
 
--- either was so at a site with the places of these settings
+-- So it didn't begin. No clock was given for it, without which nothing runs.
+abbrev pub HasNotBegun : (old new : Asked) → Result (Unit {0}) RunFault → Type 0
+HasNotBegun old new answer = IsNoStart answer × (new.clocks ≡ old.clocks)
+
+-- Either was so at a site with the places of these settings. A process notes no clock, so of one
+-- that didn't begin nothing more is said.
 pub record HasComeAt (begins : Origin → Type 0) (settings : Settings) (places : LiveSettings)
     (wishes : Wishes) (answer : Result (Unit {0}) RunFault) : Type 0 where
   pub old : Asked
   pub at : old.places ≡ places_of places
   pub new : Asked
-  pub came : HasNotBegun old new answer ⊎ HasCome begins settings wishes old new answer
+  pub came : IsNoStart answer ⊎ HasCome begins settings wishes old new answer
 
 -- as the answer of a command
 abbrev pub told : Result (Unit {0}) RunFault → Result (Unit {0}) Fault

@@ -1,10 +1,12 @@
 //! What the program needs of the system that it runs on.
-ghost use Rattle.std.specs.Prelude.{◌≡◌, ℕ, Bool, List, Result, IfOk, IfErr, map, option_map};
+ghost use Rattle.std.specs.IoError.{error_kind};
+ghost use Rattle.std.specs.declared.io.ErrorKind.TheVariants.{OutOfMemory};
+ghost use Rattle.std.specs.Prelude.{◌≡◌, ◌↔◌, ℕ, Bool, List, Result, IfOk, IfErr, map, option_map};
 ghost use Rattle.std.specs.Prelude.{string_bytes};
 ghost use Rattle.sim.specs.Scenarios.{FitsScenario};
 ghost use Rattle.telegate.specs.Controlled.{HasPrinted};
-ghost use Rattle.telegate.specs.Playing.{ArePlayed};
-ghost use Rattle.telegate.specs.Ran.{HasComeAt};
+ghost use Rattle.telegate.specs.Playing.{ArePlayed, ArePlayedBy};
+ghost use Rattle.telegate.specs.Ran.{HasComeAt, HasRunBy};
 ghost use Rattle.state_files.specs.declared.looking.Stood.{Stood};
 ghost use Rattle.telegate.specs.Source.{Gives};
 ghost use Rattle.telegate.specs.Starts.{StartsIn};
@@ -214,20 +216,29 @@ impl<S: Starts> Host for System<'_, S> {
         }
     }
 
-    fn is_watched(&self) -> bool {
+    fn is_watched(&self) -> bool
+        ensures { result ≡ self.now.is_watched }
+    {
         self.is_watched
     }
 
-    fn shows_colours(&self) -> bool {
+    fn shows_colours(&self) -> bool
+        ensures { result ≡ self.now.has_colours }
+    {
         self.has_colours
     }
 
-    fn run(&mut self, config: &[u8], wishes: Wishes<'_>) -> Result<(), Fault> {
+    fn run(&mut self, config: &[u8], wishes: Wishes<'_>) -> Result<(), Fault>
+        ensures { HasRunBy (λ settings. StartsIn ⟦<FileFrom<S::Found> as Disk>⟧ wishes.entry
+            settings self.old.lineage.entries) config.now wishes.entry result }
+    {
         let (settings, places) = read_live(self.rt.alloc(), config)?;
         Ok(run_process(self, &settings, &places, config, wishes)?)
     }
 
-    fn play(&self, config: &[u8], script: &[u8]) -> Result<(), Fault> {
+    fn play(&self, config: &[u8], script: &[u8]) -> Result<(), Fault>
+        ensures { ArePlayedBy config.now script.now result }
+    {
         let (settings, places) = read_live(self.rt.alloc(), config)?;
         let scenario = scenario_of(self.rt.alloc(), &settings, script)?;
         play_at(self.rt, &settings, scenario, places.line.as_str())
@@ -238,7 +249,9 @@ impl<S: Starts> Host for System<'_, S> {
         errands: &Errands<'_>,
         addresses: &[u16],
         out: &mut W,
-    ) -> Result<Outcome, Uncontrolled> {
+    ) -> Result<Outcome, Uncontrolled>
+        ensures { IfOk result (λ _. HasPrinted (W.contents out.old) (W.contents out.new)) }
+    {
         control_at(self.rt, errands, addresses, out)
     }
 
@@ -258,7 +271,9 @@ impl<S: Starts> Host for System<'_, S> {
 }
 
 /// Why a file, a directory or an answer isn't had. What the system says of it is told.
-fn told_unread(rt: &HostRuntime, what: &str, place: &str, fault: &io::Error) -> Unread {
+fn told_unread(rt: &HostRuntime, what: &str, place: &str, fault: &io::Error) -> Unread
+    ensures { (result ≡ unread.NoMemory) ↔ (error_kind fault.now ≡ OutOfMemory) }
+{
     if fault.kind() == io::ErrorKind::OutOfMemory {
         return Unread::NoMemory;
     }

@@ -555,7 +555,9 @@ fn run_from<T: RunSite>(
 {
     let Begun { origin, store } = begun;
     let Origin {
-        gateway, moment, ..
+        gateway,
+        moment,
+        ..
     } = origin;
     let goes_on = moment.is_some();
     let keeper = keeper_between(site, config, ends, goes_on, store, &gateway, wishes);

@@ -8,4 +8,5 @@ returns-clause-served g c =
     let shown = shown_to c.args.scribes.lookout in
     let first = ap (λ l. stands c.args.gateway l.port l.logger shown) c.new-run_log.ensures
     ∙ ap (λ r. stands c.args.gateway r c.args.scribes.logger shown) c.new.ensures in
-    (c.serve-ended.ensures.served.0, served_from _ _ _ _ _ _ _ _ first c.serve-ended.ensures.served.1)
+    (c.serve-ended.ensures.served.0, served_from _ _ _ _ _ _ _ _ first
+    c.serve-ended.ensures.served.1)
