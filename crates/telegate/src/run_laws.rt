@@ -67,7 +67,8 @@ pub fn a_live_run_keeps_the_promises_of_its_settings<T: RunSite>()
         HasLivedAs (StartsIn T.Folder.File.Disk w c old.lineage) c w old new left ended →
         w.state ≡ Some directory →
         (o : Origin) × StartsIn T.Folder.File.Disk w c old.lineage o
-        × (left.pen.before ≡ o.before.entries) × (Follows (setup_of c) o.gateway (Some left.pen.before) →
+        × (left.pen.before ≡ o.before.entries)
+        × (Follows (setup_of c) o.gateway (Some left.pen.before) →
         Rests (setup_of c) (Some left.pen.before) → (log : Log) →
         all_passed left.pen (Some left.port.log) ≡ Some log →
         IsFaithful (setup_of c) log) }

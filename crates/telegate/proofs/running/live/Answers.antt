@@ -7,6 +7,8 @@ pub returns-clause-served : goal.returns-clause-served
 returns-clause-served g c =
     let shown = shown_to c.args.scribes.lookout in
     let first = ap (λ l. stands c.args.gateway l.port l.logger shown) c.new-run_log.ensures
-    ∙ ap (λ r. stands c.args.gateway r c.args.scribes.logger shown) c.new.ensures in
-    (c.serve-ended.ensures.served.0, served_from _ _ _ _ _ _ _ _ first
-    c.serve-ended.ensures.served.1)
+    ∙ ap (λ r. stands c.args.gateway r c.args.scribes.logger shown) c.new.ensures in (
+      c.serve-ended.ensures.served.0,
+      served_from _ _ _ _ _ _ _ _ first
+          c.serve-ended.ensures.served.1,
+    )
