@@ -5,7 +5,7 @@ use Rattle.gateway.specs.Config.{Settings}
 use Rattle.live.specs.Ends.{LiveEnds}
 use Rattle.record.specs.Recording.{Recording}
 use Rattle.runlog.specs.Logging.{Book}
-use Rattle.settings.specs.Live.{places_of}
+use Rattle.settings.specs.Live.{Places, places_of}
 use Rattle.settings.specs.Settings.{IsLiveReadOfText}
 use Rattle.settings.specs.declared.live.LiveSettings.{LiveSettings}
 use Rattle.state.specs.declared.beginning.Origin.{Origin}
@@ -83,37 +83,33 @@ pub record HasCome (begins : Origin → Type 0) (settings : Settings) (wishes : 
   pub lived : HasLivedAs begins settings wishes old new left ended
   pub answered : answer ≡ answer_to ended
 
--- an end of it, or its state, can't be had
-abbrev pub IsNoStart : Result (Unit {0}) RunFault → Type 0
-IsNoStart (Ok done) = ⊥
-IsNoStart (Err fault) = IsKeptFault fault
-
--- So it didn't begin. No clock was given for it, without which nothing runs.
+-- It didn't begin: an end of it, or its state, can't be had. No clock was given for it, without
+-- which nothing runs.
 abbrev pub HasNotBegun : (old new : Asked) → Result (Unit {0}) RunFault → Type 0
-HasNotBegun old new answer = IsNoStart answer × (new.clocks ≡ old.clocks)
+HasNotBegun old new (Ok done) = ⊥
+HasNotBegun old new (Err fault) = IsKeptFault fault × (new.clocks ≡ old.clocks)
 
--- Either was so at a site with the places of these settings. A process notes no clock, so of one
--- that didn't begin nothing more is said.
-pub record HasComeAt (begins : Origin → Type 0) (settings : Settings) (places : LiveSettings)
-    (wishes : Wishes) (answer : Result (Unit {0}) RunFault) : Type 0 where
-  pub old : Asked
-  pub at : old.places ≡ places_of places
-  pub new : Asked
-  pub came : IsNoStart answer ⊎ HasCome begins settings wishes old new answer
+-- it didn't begin, or it is over
+abbrev pub HasComeAt : (begins : Origin → Type 0) → Settings → Wishes → (old new : Asked)
+    → Result (Unit {0}) RunFault → Type 0
+HasComeAt begins settings wishes old new answer =
+    HasNotBegun old new answer ⊎ HasCome begins settings wishes old new answer
 
 -- as the answer of a command
 abbrev pub told : Result (Unit {0}) RunFault → Result (Unit {0}) Fault
 told (Ok done) = Ok done
 told (Err fault) = Err (fault_of_run fault)
 
--- the settings of a live run are those of its file, and this is answered of it
-pub record HasRunWith (begins : Settings → Origin → Type 0) (text : List ℕ)
-    (wishes : Wishes) (answer : Result (Unit {0}) Fault) : Type 0 where
+-- The settings of a live run are those of its file, and this is answered of it. This was asked for
+-- before and after it, at a site with its places.
+pub record HasRunWith (begins : Settings → Origin → Type 0) (old new : Places → Asked)
+    (text : List ℕ) (wishes : Wishes) (answer : Result (Unit {0}) Fault) : Type 0 where
   pub settings : Settings
   pub places : LiveSettings
   pub are : IsLiveReadOfText text (Ok (settings, places))
   pub run : Result (Unit {0}) RunFault
-  pub came : HasComeAt (begins settings) settings places wishes run
+  pub came : HasComeAt (begins settings) settings wishes (old (places_of places))
+      (new (places_of places)) run
   pub answered : answer ≡ told run
 
 -- or the file is refused by the first fault, and nothing is run
@@ -121,6 +117,7 @@ abbrev pub IsRefused : List ℕ → Result (Unit {0}) Fault → Type 0
 IsRefused text (Ok done) = ⊥
 IsRefused text (Err fault) = IsLiveConfigFault text fault
 
-abbrev pub HasRunBy : (begins : Settings → Origin → Type 0) → List ℕ → Wishes
-    → Result (Unit {0}) Fault → Type 0
-HasRunBy begins text wishes answer = HasRunWith begins text wishes answer ⊎ IsRefused text answer
+abbrev pub HasRunBy : (begins : Settings → Origin → Type 0) → (old new : Places → Asked) → List ℕ
+    → Wishes → Result (Unit {0}) Fault → Type 0
+HasRunBy begins old new text wishes answer =
+    HasRunWith begins old new text wishes answer ⊎ (IsRefused text answer × (new ≡ old))

@@ -20,7 +20,7 @@ ghost use Rattle.telegate.specs.Kept.{HasLivedFrom, HasLivedOn, IsEndFault, IsKe
 ghost use Rattle.telegate.specs.Kept.{first_moment};
 ghost use Rattle.telegate.specs.Law.{LogsAll};
 ghost use Rattle.telegate.specs.Living.{HasLived, IsPortOf};
-ghost use Rattle.telegate.specs.Ran.{HasCome, HasLivedAs, HasNotBegun, IfOver, answer_to};
+ghost use Rattle.telegate.specs.Ran.{HasComeAt, HasLivedAs, IfOver, answer_to};
 ghost use Rattle.telegate.specs.Running.{HasRun, IsReadLiveConfig};
 ghost use Rattle.telegate.specs.Served.{HasServedAnew, HasServedOn};
 ghost use Rattle.telegate.specs.Starts.{IsWithout, StartsIn};
@@ -353,8 +353,7 @@ pub(crate) fn run_out<T: RunSite>(
     wishes: Wishes<'_>,
 ) -> Result<(), RunFault>
     requires severity { T.severe site.old ≡ wishes.log_severity }
-    ensures { HasNotBegun (T.asked site.old) (T.asked site.new) result
-        ⊎ HasCome (StartsIn T.Folder.File.Disk wishes.entry config.now
+    ensures { HasComeAt (StartsIn T.Folder.File.Disk wishes.entry config.now
         (T.asked site.old).lineage) config.now wishes.entry (T.asked site.old)
         (T.asked site.new) result }
 {
