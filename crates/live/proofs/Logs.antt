@@ -21,13 +21,6 @@ puts_same old new moment action p =
     p.written p.taken p.late old
 
 -- the event of a turn, once it is logged
-pub next_noted : (old mid new : LiveEnds) (event : Next) (buf : List ℕ) → Turns old event buf mid
-    → new ≡ as_logged (logged_by event buf ++ mid.log) mid → Some new.log
-    ≡ with_news (Some old.log) (logged_by event buf)
-next_noted old mid new event buf t done =
-    ap (λ (e : LiveEnds). Some e.log) done
-    ∙ ap (λ l. Some (logged_by event buf ++ l)) (turns_same old mid event buf t)
-
 pub next_logged : (old mid new : LiveEnds) (event : Next) (buf : List ℕ) → Turns old event buf mid
     → new ≡ as_logged (logged_by event buf ++ mid.log) mid → LogsTurn old event buf new
 next_logged old mid new event buf t done =
@@ -39,14 +32,6 @@ next_logged old mid new event buf t done =
     }
 
 -- an action, once it is logged
-pub put_noted : (old mid new : LiveEnds) (moment : ℕ) (action : Output)
-    → PutsOut old moment action mid
-    → new ≡ as_logged (Went moment action ∷ mid.log) mid → Some new.log
-    ≡ with_news (Some old.log) (Went moment action ∷ [])
-put_noted old mid new moment action p done =
-    ap (λ (e : LiveEnds). Some e.log) done
-    ∙ ap (λ l. Some (Went moment action ∷ l)) (puts_same old mid moment action p)
-
 pub put_logged : (old mid new : LiveEnds) (moment : ℕ) (action : Output)
     → PutsOut old moment action mid
     → new ≡ as_logged (Went moment action ∷ mid.log) mid → LogsPut old moment action new
@@ -57,3 +42,13 @@ put_logged old mid new moment action p done =
       puts = subst P (sym (ap (as_logged old.log) done ∙ ap (λ l. as_logged l mid) (sym same))) p;
       logged = ap (λ (e : LiveEnds). e.log) done ∙ ap (λ l. Went moment action ∷ l) same;
     }
+
+-- what is logged so is news
+pub turn_noted : (old new : LiveEnds) (event : Next) (buf : List ℕ) → LogsTurn old event buf new
+    → Some new.log ≡ with_news (Some old.log) (logged_by event buf)
+turn_noted old new event buf l = ap Some l.logged
+
+pub put_noted : (old new : LiveEnds) (moment : ℕ) (action : Output)
+    → LogsPut old moment action new
+    → Some new.log ≡ with_news (Some old.log) (Went moment action ∷ [])
+put_noted old new moment action l = ap Some l.logged

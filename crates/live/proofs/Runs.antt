@@ -9,12 +9,19 @@ use Rattle.gateway.specs.Log.{Ticked, WallIs, Output}
 use Rattle.gateway.specs.Ports.{logged_by}
 use Rattle.gateway.specs.declared.ports.Next.{Next}
 use Rattle.gateway.specs.declared.ports.Next.TheVariants as next
-use Rattle.live.specs.Ends.{Fixture, LiveEnds, LogsPut, LogsTurn, Turns, as_logged, fixed_of}
-use Rattle.live.specs.Passed.{LiveRun, Begun, Turned, Put}
+use Rattle.live.specs.AllowLists.{Refusals}
+use Rattle.live.specs.Ends.{Fixture, LiveEnds, LogsPut, LogsTurn, Turns, as_logged, begun_with}
+use Rattle.live.specs.Ends.{fixed_of}
+use Rattle.live.specs.OctetStreams.{Attempts, IsNew, StreamHistory}
+use Rattle.live.specs.Passed.{HasNoAttempts, LiveRun, Begun, Turned, Put}
 use Rattle.live.specs.Runs.{BeginsSo, HasPassed, IsInRun, IsStart, ShowsRun, WallFirst, all_actions}
 use Rattle.live.specs.Runs.{begins_by_wall, is_action, may_be_first, wall_first}
 use Rattle.live.specs.Sights.{ShowsEnds}
+use Rattle.live.specs.Timing.{Moments}
 use Rattle.live.specs.Walls.{is_due_since, is_wall, never_given}
+use Rattle.live.specs.declared.allow_list.AllowList.{AllowList}
+use Rattle.live.specs.declared.ends.CutCause.TheVariants.{Restarted}
+use Rattle.live.specs.declared.ends.Presence.{Presence}
 use Rattle.live.specs.declared.walled.Walled.{Walled}
 use Rattle.live.specs.declared.watched.EndsSight.{EndsSight}
 use Rattle.live.proofs.Cuts.{may_be_next, none_by, one_by, run_cuts_first}
@@ -38,6 +45,37 @@ put_on old new moment action l r =
 
 pub started : (ends : LiveEnds) → IsStart ends → IsInRun ends
 started ends s = record { start = ends; new = s; run = Begun }
+
+-- the start of a run that begins anew, and of one that goes on
+pub start_anew : (allow_list : AllowList) (line : StreamHistory) (presence : Option Presence)
+    (listener : Attempts) (refusals : Refusals) (clock walls : Moments) (answer_ms : ℕ)
+    → IsNew line → HasNoAttempts listener
+    → IsStart (begun_with allow_list line presence listener refusals clock walls answer_ms)
+start_anew allow_list line presence listener refusals clock walls answer_ms new unasked = record {
+  log = refl;
+  line = new;
+  listener = unasked;
+  connection = refl;
+  held = refl;
+  cut = refl;
+  walled = refl;
+  failed = refl;
+  late = refl;
+}
+
+pub start_on : (old : LiveEnds) → IsStart old
+    → IsStart (record old { is_cut_due = true; goes_on = true; why_cut = Restarted })
+start_on old s = record {
+  log = s.log;
+  line = s.line;
+  listener = s.listener;
+  connection = s.connection;
+  held = s.held;
+  cut = refl;
+  walled = s.walled;
+  failed = s.failed;
+  late = s.late;
+}
 
 -- an event that isn't the wall clock comes only if that was given before
 given_by : (given : Option ℕ) (has_looked : Bool) (now : ℕ)
@@ -150,12 +188,13 @@ run_begins_with_wall start end none never run =
     (run_by_wall start end (wall_by start.walled start.log never none) run)).0
 
 -- what is fixed of a port stays so in a run
-turned_fixed : (old new : LiveEnds) (event : Next) (buf : List ℕ) → LogsTurn old event buf new
+pub turned_fixed : (old new : LiveEnds) (event : Next) (buf : List ℕ) → LogsTurn old event buf new
     → fixed_of new ≡ fixed_of old
 turned_fixed old new event buf l =
     next_fixed old (as_logged old.log new) new event buf new.log l.turns refl
 
-placed_fixed : (old new : LiveEnds) (moment : ℕ) (action : Output) → LogsPut old moment action new
+pub placed_fixed : (old new : LiveEnds) (moment : ℕ) (action : Output)
+    → LogsPut old moment action new
     → fixed_of new ≡ fixed_of old
 placed_fixed old new moment action l =
     put_fixed old (as_logged old.log new) new moment action new.log l.puts refl

@@ -6,7 +6,6 @@ pub mod Walls
 pub mod Ends
 pub mod Looks
 pub mod Streams
-pub mod Sockets
 pub mod Silence
 pub mod Redial
 pub mod Law

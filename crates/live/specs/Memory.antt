@@ -7,8 +7,10 @@ use Rattle.live.specs.AllowLists.{Refusals}
 use Rattle.live.specs.declared.ends.RefusedPeers.{RefusedPeers}
 use Rattle.live.specs.OctetStreams.{Happening, Gave, WasQuiet, WasGone, Dropped, Wrote}
 use Rattle.live.specs.Redial.{DialCall, Dialed, Asked}
-use Rattle.live.specs.Streams.{ReadsWithin, Received, SendsAtOnce, Sent, Sets, Setting}
-use Rattle.live.specs.Streams.{SystemCall, Waiting, WritesWithin}
+use Rattle.live.specs.Streams.{Received, Sent, Sets, SystemCall}
+use Rattle.live.specs.declared.stream.Setting.{Setting}
+use Rattle.live.specs.declared.stream.Setting.TheVariants.{ReadsWithin, SendsAtOnce, Waiting}
+use Rattle.live.specs.declared.stream.Setting.TheVariants.{WritesWithin}
 use Rattle.std.specs.declared.io.Error.{Error}
 use Rattle.std.specs.declared.net.ip_addr.IpAddr.{IpAddr}
 

@@ -7,16 +7,11 @@ use Rattle.std.specs.declared.io.Error.{Error}
 use Rattle.std.specs.declared.io.ErrorKind.{ErrorKind}
 use Rattle.std.specs.declared.io.ErrorKind.TheVariants.{WouldBlock, TimedOut, Interrupted}
 use Rattle.std.specs.IoError.{error_kind}
+use Rattle.live.specs.declared.stream.Setting.{Setting}
+use Rattle.live.specs.declared.stream.Setting.TheVariants.{ReadsWithin, SendsAtOnce, Waiting}
+use Rattle.live.specs.declared.stream.Setting.TheVariants.{WritesWithin}
 use Rattle.live.specs.declared.ends.Got.{Got}
 use Rattle.live.specs.declared.ends.Got.TheVariants.{Octets, Quiet, Gone}
-
--- how a stream can be set: to wait at calls, or not to; to wait at a read, or at a write, so many
--- ms at the most; or to send what it takes at once, and not to join it with what follows
-pub data Setting : Type 0 where
-  Waiting : (is_waiting : Bool) → Setting
-  ReadsWithin : (ms : ℕ) → Setting
-  WritesWithin : (ms : ℕ) → Setting
-  SendsAtOnce : Setting
 
 -- a call of a stream, and what the system answered: which octets came, and how many, or how many of
 -- those that were handed to it were taken, from the front; or it was set, and whether that was done

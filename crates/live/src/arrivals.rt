@@ -2,6 +2,7 @@
 
 use crate::room::{STANDARD_ERROR, has_room};
 use crate::sockets::CentreSocket;
+use crate::stream::SocketStream;
 use std::io;
 use std::io::Eprint;
 use std::net::{IpAddr, Net, OpenListener, SocketAddr, TcpListener, TcpStream};
@@ -91,7 +92,7 @@ impl SystemListener for TcpListener {
     }
 
     fn open(&mut self, stream: TcpStream) -> io::Result<CentreSocket> {
-        CentreSocket::new(stream)
+        CentreSocket::new(SocketStream::Tcp(stream))
     }
 
     // What stands on standard error no clause of the kit's call says either.

@@ -67,7 +67,6 @@ mod port;
 mod reach;
 mod redial;
 mod room;
-mod run_port;
 mod silence;
 mod sockets;
 mod source;
@@ -108,7 +107,6 @@ pub use laws::{
 pub use port::Live;
 pub use redial::{Dialled, Dialler, Redialled};
 pub use room::{MOST_AT_ONCE, STANDARD_ERROR, STANDARD_OUTPUT, has_room};
-pub use run_port::RunPort;
 pub use sockets::{
     CentreListener, CentreSocket, LineDialler, LineSocket, LocalSocket, SystemClock,
 };

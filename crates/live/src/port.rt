@@ -1,11 +1,17 @@
 //! The port over live ends.
+ghost use Rattle.std.specs.Option.{is_some};
 ghost use Rattle.std.specs.Prelude.{◌≡◌, ◌≢◌, ℕ, ◌+◌, ◌<◌, ◌≤◌, true, false, List, [], ◌∷◌, ◌++◌};
-ghost use Rattle.std.specs.Prelude.{length, take, Some, None, IfSome, option_map};
+ghost use Rattle.std.specs.Prelude.{length, take, Some, None, IfSome, nat_lt};
 ghost use Rattle.gateway.specs.Ports.{FitsBuffer, faults_of, output_of, logged_by};
-ghost use Rattle.live.specs.Ends.{LiveEnds, Peer, after, begun_with, clock_read_at, IsTurn};
+ghost use Rattle.live.specs.Ends.{after, begun_with, clock_read_at, IsTurn};
 ghost use Rattle.live.specs.Ends.{GivesEvent, GivesWall, Turns};
 ghost use Rattle.live.specs.Ends.{PutsOut, LogsTurn, LogsPut, as_logged, FitsFound, IsWritten};
 ghost use Rattle.live.specs.Ends.{LooksOn, failure_of, faults_in, is_tick_due};
+ghost use Rattle.live.specs.OctetStreams.{IsNew};
+ghost use Rattle.live.specs.Passed.{HasNoAttempts};
+ghost use Rattle.live.specs.Runs.{IsStart, ShowsRun};
+ghost use Rattle.live.specs.Sights.{ShowsEnds};
+ghost use Rattle.live.specs.Syncs.{none_slow};
 ghost use Rattle.live.specs.Timing.{is_behind, moment_at};
 ghost use Rattle.live.specs.Looks.{LooksInRound, LooksAt};
 ghost use Rattle.gateway.specs.Log.{with_news, Went};
@@ -14,19 +20,17 @@ ghost use Rattle.live.specs.declared.ends.CutCause.TheVariants.{Restarted};
 
 use crate::allow_list::AllowList;
 use crate::clock::Timed;
-use crate::ends::{
-    Accepted, CutCause, Got, Listener, OctetStream, Presence, Reached, RefusedPeers, RunClock,
-};
+use crate::ends::{Accepted, CutCause, Got, Listener, OctetStream, Reached, RunClock};
 use crate::found::{SourceEvent, brings_frame, event_at};
 use crate::held::HeldOctets;
 use crate::source::EventSource;
+use crate::syncs::SlowSyncs;
 use crate::timing::Timing;
 use crate::walled::Walled;
-use crate::watched::Failure;
-use gateway::{Action, Config, History, Next, Port};
+use crate::watched::{EndsSight, Failure, Notice, Watched};
+use gateway::{Action, Config, Gateway, History, Next, Port};
 use session::Close;
 use std::marker::Model;
-use std::net::IpAddr;
 
 /// How long after an event a tick is given, in ms, if nothing happens.
 // All timers but that of an answer, which has ticks of its own, are whole seconds; and each tick is
@@ -38,10 +42,191 @@ const TICK_MS: u64 = 100;
 // An end that stands still: a round waits for 1 ms at the line.
 const QUIET_ROUNDS: u32 = 200;
 
-/// The port over a line, a listener and a clock. It has a log: each event that it gave and each
-/// action that it put out, of which it stores none.
+/// The port over a line, a listener and a clock, at which nothing has happened but by its events
+/// and actions since the run began. It has a log: each event that it gave and each action that it
+/// put out, of which it stores none.
 #[derive(Drop)]
 pub struct Live<S: OctetStream, L: Listener + Drop, C: RunClock + Drop> {
+    ends: Ends<S, L, C>,
+}
+
+impl<S: OctetStream, L: Listener + Drop, C: RunClock + Drop> Model for Live<S, L, C> {
+    ghost use Rattle.live.specs.Ends.{LiveEnds};
+    ghost use Rattle.live.specs.Runs.{IsInRun};
+
+    ghost Value = { LiveEnds };
+
+    ghost view = { λ a. a.ends };
+
+    ghost invariant = { λ a. IsInRun a.ends };
+}
+
+impl<S: OctetStream, L: Listener + Drop, C: RunClock + Drop> Live<S, L, C> {
+    /// A port over these ends, with no connection yet. Only addresses of this list may connect. An
+    /// answer of the line is awaited as long as by a gateway with these settings.
+    pub fn new(
+        line: S,
+        listener: L,
+        clock: C,
+        allow_list: AllowList,
+        config: &Config,
+    ) -> Live<S, L, C>
+        requires new { IsNew (S.history line) }
+        requires unasked { HasNoAttempts (L.attempts listener) }
+        ensures begun { result ≡ begun_with allow_list (S.history line) (S.presence line)
+            (L.attempts listener) (L.refusals listener) (C.moments clock) (C.walls clock)
+            config.now.line.answer_ms }
+        ensures start { IsStart result }
+    {
+        // Of the settings it needs how long an answer is awaited (docs/DECISIONS.md, "What
+        // `Live::new` takes").
+        Live::awaiting(line, listener, clock, allow_list, config.line().answer_ms)
+    }
+
+    /// The same, if an answer is awaited for so long, in ms.
+    #[tactic(auto, using(crate::proofs::Runs::start_anew, crate::proofs::Runs::started))]
+    fn awaiting(
+        line: S,
+        listener: L,
+        clock: C,
+        allow_list: AllowList,
+        answer_ms: u64,
+    ) -> Live<S, L, C>
+        requires new { IsNew (S.history line) }
+        requires unasked { HasNoAttempts (L.attempts listener) }
+        ensures begun { result ≡ begun_with allow_list (S.history line) (S.presence line)
+            (L.attempts listener) (L.refusals listener) (C.moments clock) (C.walls clock)
+            answer_ms }
+        ensures start { IsStart result }
+    {
+        let ends = Ends {
+            allow_list,
+            line,
+            listener,
+            clock,
+            connection: None,
+            held: HeldOctets::new(),
+            gone: None,
+            first: EventSource::Listener,
+            is_cut_due: false,
+            goes_on: false,
+            why_cut: CutCause::Gone,
+            failures: 0,
+            late_octets: 0,
+            timing: Timing {
+                answer_ms,
+                looked: 0,
+                request: None,
+            },
+            walled: Walled::new(),
+            history: History::new(),
+        };
+        Live { ends }
+    }
+
+    /// The same port, of a run that goes on after a restart: the connection that was open then is
+    /// cut, which is its first event but the wall clock.
+    #[tactic(auto, using(crate::proofs::Runs::start_on, crate::proofs::Runs::started))]
+    pub fn cut_first(mut self) -> Live<S, L, C>
+        requires start { IsStart self }
+        ensures { result
+            ≡ record self { is_cut_due = true; goes_on = true; why_cut = Restarted } }
+    {
+        self.ends.is_cut_due = true;
+        self.ends.goes_on = true;
+        self.ends.why_cut = CutCause::Restarted;
+        self
+    }
+}
+
+impl<S: OctetStream, L: Listener + Drop, C: RunClock + Drop> Timed for Live<S, L, C> {
+    fn shown_ms(&self) -> u64 {
+        self.ends.clock.shown_ms()
+    }
+}
+
+impl<S: OctetStream, L: Listener + Drop, C: RunClock + Drop> Port for Live<S, L, C> {
+    // Sockets say nothing, so the port says what passed (docs/DECISIONS.md, "A live port says its
+    // log").
+    ghost log = { λ ends. Some ends.log };
+
+    ghost failed = { λ ends. ends.failed };
+
+    ghost ended = { λ _. false };
+
+    ghost use Rattle.live.specs.Ends.{Fixture, fixed_of};
+
+    ghost Fixed = { Fixture };
+
+    ghost script = { λ ends. fixed_of ends };
+
+    /// Gives the wall clock if it is due. Else it looks at the ends round by round, until one has
+    /// something or a tick is due.
+    #[tactic(auto, using(crate::proofs::Logs::turn_noted))]
+    fn next(&mut self, buf: &mut [u8; 1024]) -> Next
+        requires { self.old.failed < u64.MAX }
+        ensures logged { Some self.new.log
+            ≡ with_news (Some self.old.log) (logged_by result buf.new) }
+        ensures fits { FitsBuffer result }
+        ensures done { result ≡ Done → false ≡ true }
+        ensures cause { self.new.failed ≡ self.old.failed + faults_of result }
+        ensures script { fixed_of self.new ≡ fixed_of self.old }
+        ensures turns { LogsTurn self.old result buf.new self.new }
+    {
+        self.ends.turn_on(buf)
+    }
+
+    /// It never fails: what an end doesn't take is lost.
+    #[tactic(auto, using(crate::proofs::Logs::put_noted, crate::proofs::Runs::placed_fixed))]
+    fn put(&mut self, now: u64, action: &Action<'_>) -> bool
+        ensures done { result ≡ true }
+        ensures logged { Some self.new.log
+            ≡ with_news (Some self.old.log) (Went now (output_of action.now) ∷ []) }
+        ensures script { fixed_of self.new ≡ fixed_of self.old }
+        ensures puts { LogsPut self.old now (output_of action.now) self.new }
+    {
+        self.ends.put_on(now, action);
+        true
+    }
+
+    fn failures(&self) -> u64 {
+        self.ends.failures
+    }
+}
+
+impl<S: OctetStream + Reached, L: Listener + Drop, C: RunClock + Drop> Watched for Live<S, L, C> {
+    ghost use Rattle.live.specs.Ends.{Fixture, fixed_of};
+    ghost use Rattle.live.specs.Runs.{ShowsRun};
+
+    ghost tends = { λ old _ new notice. (new ≡ old) × (notice ≡ None) };
+
+    ghost Lasting = { Fixture };
+
+    ghost lasting = { λ ends. fixed_of ends };
+
+    ghost lasts = { λ one other same. same };
+
+    ghost shows = { λ ends sight. ShowsRun ends sight };
+
+    ghost failure = { λ ends. failure_of ends.failed };
+
+    fn sight(&self) -> EndsSight
+        ensures shows { ShowsRun self.now result }
+        ensures failure { result.failure ≡ failure_of self.now.failed }
+        ensures failed { is_some result.failure ≡ nat_lt 0 self.now.failed }
+        ensures syncs { result.syncs ≡ none_slow }
+    {
+        self.ends.sight()
+    }
+
+    fn tend(&mut self, _gateway: &Gateway) -> Option<Notice> {
+        None
+    }
+}
+
+/// The ends of a run, how far they have been looked at, and what is known of them.
+#[derive(Drop)]
+struct Ends<S: OctetStream, L: Listener + Drop, C: RunClock + Drop> {
     line: S,
     listener: L,
     clock: C,
@@ -68,7 +253,7 @@ pub struct Live<S: OctetStream, L: Listener + Drop, C: RunClock + Drop> {
     history: History,
 }
 
-impl<S: OctetStream, L: Listener + Drop, C: RunClock + Drop> Model for Live<S, L, C> {
+impl<S: OctetStream, L: Listener + Drop, C: RunClock + Drop> Model for Ends<S, L, C> {
     ghost use Rattle.std.specs.Prelude.{option_map};
     ghost use Rattle.live.specs.Ends.{LiveEnds, Peer};
 
@@ -100,115 +285,30 @@ impl<S: OctetStream, L: Listener + Drop, C: RunClock + Drop> Model for Live<S, L
     } };
 }
 
-impl<S: OctetStream, L: Listener + Drop, C: RunClock + Drop> Live<S, L, C> {
+impl<S: OctetStream, L: Listener + Drop, C: RunClock + Drop> Ends<S, L, C> {
     ghost use Rattle.live.specs.declared.source.EventSource.TheVariants as sources;
     ghost use Rattle.live.specs.declared.found.SourceEvent.TheVariants as found;
 
-    /// A port over these ends, with no connection yet. Only addresses of this list may connect. An
-    /// answer of the line is awaited as long as by a gateway with these settings.
-    pub fn new(
-        line: S,
-        listener: L,
-        clock: C,
-        allow_list: AllowList,
-        config: &Config,
-    ) -> Live<S, L, C>
-        ensures { result ≡ begun_with allow_list (S.history line) (S.presence line)
-            (L.attempts listener) (L.refusals listener) (C.moments clock) (C.walls clock)
-            config.now.line.answer_ms }
+    /// What is next, which the log gets.
+    fn turn_on(&mut self, buf: &mut [u8; 1024]) -> Next
+        requires { self.old.failed < u64.MAX }
+        ensures fits { FitsBuffer result }
+        ensures done { result ≢ Done }
+        ensures cause { self.new.failed ≡ self.old.failed + faults_of result }
+        ensures turns { LogsTurn self.old result buf.new self.new }
     {
-        // Of the settings it needs how long an answer is awaited (docs/DECISIONS.md, "What
-        // `Live::new` takes").
-        Live::awaiting(line, listener, clock, allow_list, config.line().answer_ms)
+        let next = self.find(buf);
+        self.log_event(&next, buf);
+        next
     }
 
-    /// The same, if an answer is awaited for so long, in ms.
-    fn awaiting(
-        line: S,
-        listener: L,
-        clock: C,
-        allow_list: AllowList,
-        answer_ms: u64,
-    ) -> Live<S, L, C>
-        ensures { result ≡ begun_with allow_list (S.history line) (S.presence line)
-            (L.attempts listener) (L.refusals listener) (C.moments clock) (C.walls clock)
-            answer_ms }
+    /// Puts an action out, which the log gets.
+    #[tactic(auto, using(crate::proofs::Logs::put_logged))]
+    fn put_on(&mut self, now: u64, action: &Action<'_>)
+        ensures puts { LogsPut self.old now (output_of action.now) self.new }
     {
-        Live {
-            allow_list,
-            line,
-            listener,
-            clock,
-            connection: None,
-            held: HeldOctets::new(),
-            gone: None,
-            first: EventSource::Listener,
-            is_cut_due: false,
-            goes_on: false,
-            why_cut: CutCause::Gone,
-            failures: 0,
-            late_octets: 0,
-            timing: Timing {
-                answer_ms,
-                looked: 0,
-                request: None,
-            },
-            walled: Walled::new(),
-            history: History::new(),
-        }
-    }
-
-    /// The same port, of a run that goes on after a restart: the connection that was open then is
-    /// cut, which is its first event but the wall clock.
-    pub fn cut_first(mut self) -> Live<S, L, C>
-        ensures { result
-            ≡ record self { is_cut_due = true; goes_on = true; why_cut = Restarted } }
-    {
-        self.is_cut_due = true;
-        self.goes_on = true;
-        self.why_cut = CutCause::Restarted;
-        self
-    }
-
-    /// Whose connection is open.
-    pub(crate) fn peer(&self) -> Option<IpAddr>
-        ensures { result ≡ option_map (λ (p : Peer). p.address) self.now.connection }
-    {
-        match &self.connection {
-            Some(connection) => Some(connection.address),
-            None => None,
-        }
-    }
-
-    /// Why the latest connection that was cut was cut.
-    pub(crate) fn why_cut(&self) -> CutCause
-        ensures { result ≡ self.now.why_cut }
-    {
-        self.why_cut
-    }
-
-    /// How many octets of the line were dropped before requests.
-    pub(crate) fn late_octets(&self) -> u64
-        ensures { result ≡ self.now.late }
-    {
-        self.late_octets
-    }
-
-    /// What has failed: the line alone can.
-    pub(crate) fn failure(&self) -> Option<Failure>
-        ensures { result ≡ failure_of self.now.failed }
-    {
-        if self.failures == 0 {
-            return None;
-        }
-        Some(Failure::Line)
-    }
-
-    /// Who was refused.
-    pub(crate) fn refused(&self) -> RefusedPeers
-        ensures { result ≡ self.now.refusals.said }
-    {
-        self.listener.refused()
+        self.put_out(now, action);
+        self.log_action(now, action);
     }
 
     fn read_clock(&mut self) -> u64
@@ -503,69 +603,29 @@ impl<S: OctetStream, L: Listener + Drop, C: RunClock + Drop> Live<S, L, C> {
     }
 }
 
-impl<S: OctetStream + Reached, L: Listener + Drop, C: RunClock + Drop> Live<S, L, C> {
-    /// Whether the line is there.
-    pub(crate) fn line_presence(&self) -> Presence
-        ensures { self.now.presence ≡ Some result }
+impl<S: OctetStream + Reached, L: Listener + Drop, C: RunClock + Drop> Ends<S, L, C> {
+    /// What is seen of them. What can fail is the line alone.
+    fn sight(&self) -> EndsSight
+        ensures shows { ShowsEnds self.now result }
+        ensures failure { result.failure ≡ failure_of self.now.failed }
+        ensures syncs { result.syncs ≡ none_slow }
     {
-        self.line.presence()
-    }
-}
-
-impl<S: OctetStream, L: Listener + Drop, C: RunClock + Drop> Timed for Live<S, L, C> {
-    fn shown_ms(&self) -> u64 {
-        self.clock.shown_ms()
-    }
-}
-
-impl<S: OctetStream, L: Listener + Drop, C: RunClock + Drop> Port for Live<S, L, C> {
-    // Sockets say nothing, so the port says what passed (docs/DECISIONS.md, "A live port says its
-    // log").
-    ghost log = { λ ends. Some ends.log };
-
-    ghost failed = { λ ends. ends.failed };
-
-    ghost ended = { λ _. false };
-
-    ghost use Rattle.live.specs.Ends.{Fixture, fixed_of};
-
-    ghost Fixed = { Fixture };
-
-    ghost script = { λ ends. fixed_of ends };
-
-    /// Gives the wall clock if it is due. Else it looks at the ends round by round, until one has
-    /// something or a tick is due.
-    fn next(&mut self, buf: &mut [u8; 1024]) -> Next
-        requires { self.old.failed < u64.MAX }
-        ensures logged { Some self.new.log
-            ≡ with_news (Some self.old.log) (logged_by result buf.new) }
-        ensures fits { FitsBuffer result }
-        ensures done { result ≡ Done → false ≡ true }
-        ensures cause { self.new.failed ≡ self.old.failed + faults_of result }
-        ensures script { fixed_of self.new ≡ fixed_of self.old }
-        ensures turns { LogsTurn self.old result buf.new self.new }
-    {
-        let next = self.find(buf);
-        self.log_event(&next, buf);
-        next
-    }
-
-    /// It never fails: what an end doesn't take is lost.
-    #[tactic(auto, using(crate::proofs::Logs::put_noted, crate::proofs::Logs::put_logged, crate::proofs::Fixed::put_fixed))]
-    fn put(&mut self, now: u64, action: &Action<'_>) -> bool
-        ensures done { result ≡ true }
-        ensures logged { Some self.new.log
-            ≡ with_news (Some self.old.log) (Went now (output_of action.now) ∷ []) }
-        ensures script { fixed_of self.new ≡ fixed_of self.old }
-        ensures puts { LogsPut self.old now (output_of action.now) self.new }
-    {
-        self.put_out(now, action);
-        self.log_action(now, action);
-        true
-    }
-
-    fn failures(&self) -> u64 {
-        self.failures
+        EndsSight {
+            line: self.line.presence(),
+            peer: match &self.connection {
+                Some(connection) => Some(connection.address),
+                None => None,
+            },
+            why_cut: self.why_cut,
+            refused: self.listener.refused(),
+            late_octets: self.late_octets,
+            failure: if self.failures == 0 {
+                None
+            } else {
+                Some(Failure::Line)
+            },
+            syncs: SlowSyncs::none(),
+        }
     }
 }
 

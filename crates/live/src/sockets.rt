@@ -34,7 +34,8 @@ use crate::ends::{
 use crate::reach::{Connecting, HostReach, Standing, SystemReach};
 use crate::redial::{Dialled, Dialler};
 use crate::stream::{
-    SocketStream, SystemStream, drop_waiting, read_line, read_once, write_in_two, write_once,
+    Setting, SocketStream, SystemStream, drop_waiting, read_line, read_once, write_in_two,
+    write_once,
 };
 use std::io::{Eprint, ErrorKind};
 use std::marker::Model;
@@ -80,21 +81,6 @@ impl<S: SystemStream + Drop> Model for LineSocket<S> {
     ghost view = { λ s. S.calls s.stream };
 }
 
-impl LineSocket {
-    /// Connects to `tcp:HOST:PORT` or `unix:PATH`, within some seconds for each address that HOST
-    /// has (`LineDialler::reach`).
-    ///
-    /// # Errors
-    ///
-    /// Those of the system, and `InvalidInput` if the text is neither.
-    pub fn reach<R: Net<Stream = TcpStream> + std::rt::Clock>(
-        rt: &R,
-        place: &str,
-    ) -> io::Result<LineSocket> {
-        LineDialler::new(rt, place).reach()
-    }
-}
-
 impl<S: SystemStream + Drop> LineSocket<S> {
     /// Over this stream: requests go out at once, a look waits for 1 ms at the most, a write for
     /// 20.
@@ -102,9 +88,9 @@ impl<S: SystemStream + Drop> LineSocket<S> {
         ensures { IfOk result (λ line. line ≡ as_line (S.calls stream)) }
     {
         // A request is one small frame, which the system would hold back to join it with others.
-        stream.send_at_once()?;
-        stream.limit_reads(LOOK_MS)?;
-        stream.limit_writes(WRITE_MS)?;
+        stream.set(Setting::SendsAtOnce)?;
+        stream.set(Setting::ReadsWithin(LOOK_MS))?;
+        stream.set(Setting::WritesWithin(WRITE_MS))?;
         Ok(LineSocket { stream })
     }
 
@@ -112,7 +98,7 @@ impl<S: SystemStream + Drop> LineSocket<S> {
     pub(crate) fn waiting(mut stream: S) -> io::Result<LineSocket<S>>
         ensures { IfOk result (λ line. line ≡ as_line (called (S.calls stream) (Waits true true))) }
     {
-        stream.set_waiting(true)?;
+        stream.set(Setting::Waiting(true))?;
         LineSocket::over(stream)
     }
 }
@@ -379,7 +365,7 @@ impl<R: Net<Stream = TcpStream> + std::rt::Clock, W: SystemReach + Drop> Dialler
 /// The connection of a control centre, over a stream of the system. Its reads don't wait; a write
 /// waits for 20 ms at the most, if the system has no room.
 #[derive(Drop)]
-pub struct CentreSocket<S: SystemStream + Drop = TcpStream> {
+pub struct CentreSocket<S: SystemStream + Drop = SocketStream> {
     stream: S,
 }
 
@@ -397,11 +383,11 @@ impl<S: SystemStream + Drop> CentreSocket<S> {
     pub(crate) fn new(mut stream: S) -> io::Result<CentreSocket<S>>
         ensures { IfOk result (λ socket. socket ≡ as_centre (S.calls stream)) }
     {
-        stream.send_at_once()?;
-        stream.limit_writes(WRITE_MS)?;
+        stream.set(Setting::SendsAtOnce)?;
+        stream.set(Setting::WritesWithin(WRITE_MS))?;
         // Of use only if a write had waited and the stream then refused to wait no more.
-        stream.limit_reads(LOOK_MS)?;
-        stream.set_waiting(false)?;
+        stream.set(Setting::ReadsWithin(LOOK_MS))?;
+        stream.set(Setting::Waiting(false))?;
         Ok(CentreSocket { stream })
     }
 }
@@ -437,7 +423,7 @@ impl<S: SystemStream + Drop> OctetStream for CentreSocket<S> {
 /// The connection of who is on this machine, over a stream of the system, by a Unix socket. Its
 /// calls don't wait.
 #[derive(Drop)]
-pub struct LocalSocket<S: SystemStream + Drop = UnixStream> {
+pub struct LocalSocket<S: SystemStream + Drop = SocketStream> {
     stream: S,
 }
 
@@ -449,16 +435,22 @@ impl<S: SystemStream + Drop> Model for LocalSocket<S> {
     ghost view = { λ s. S.calls s.stream };
 }
 
-impl<S: SystemStream + Drop> LocalSocket<S> {
+impl LocalSocket {
     /// Over this stream, whose calls wait no more then.
     ///
     /// # Errors
     ///
     /// Those of the system.
-    pub fn new(mut stream: S) -> io::Result<LocalSocket<S>>
+    pub fn new(stream: UnixStream) -> io::Result<LocalSocket> {
+        LocalSocket::over(SocketStream::Unix(stream))
+    }
+}
+
+impl<S: SystemStream + Drop> LocalSocket<S> {
+    fn over(mut stream: S) -> io::Result<LocalSocket<S>>
         ensures { IfOk result (λ socket. socket ≡ called (S.calls stream) (Waits false true)) }
     {
-        stream.set_waiting(false)?;
+        stream.set(Setting::Waiting(false))?;
         Ok(LocalSocket { stream })
     }
 }

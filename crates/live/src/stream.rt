@@ -26,11 +26,23 @@ const FRAME_END: u8 = 0x16;
 /// The single character.
 const SINGLE: u8 = 0xE5;
 
+/// How a stream can be set.
+#[derive(Clone, Copy)]
+pub enum Setting {
+    /// Its calls wait, each as long as its timeout says, or don't.
+    Waiting(bool),
+    /// A read waits for so many ms at the most.
+    ReadsWithin(u64),
+    /// A write waits for so many ms at the most.
+    WritesWithin(u64),
+    /// Octets go out at once, and aren't held back to be joined with what follows.
+    SendsAtOnce,
+}
+
 /// Octets both ways, as the system has them. A stream that notes its calls adds the answer of each.
 pub trait SystemStream {
     ghost use Rattle.std.specs.Prelude.{◌≡◌, ◌≤◌, length, IfOk};
-    ghost use Rattle.live.specs.Streams.{Calls, ReadsWithin, SendsAtOnce, Sent, Sets, Waits};
-    ghost use Rattle.live.specs.Streams.{WritesWithin, called, received};
+    ghost use Rattle.live.specs.Streams.{Calls, Sent, Sets, called, received};
     ghost use Rattle.std.specs.Result.{is_ok};
 
     /// Its calls, with what the system answered, the newest first, if it notes them.
@@ -46,138 +58,58 @@ pub trait SystemStream {
         ensures bound { IfOk result (λ count. count ≤ length octets.now) }
         ensures noted { calls self.new ≡ called (calls self.old) (Sent octets.now result) };
 
-    /// Says whether its calls wait, each as long as its timeout says.
-    fn set_waiting(&mut self, is_waiting: bool) -> io::Result<()>
-        ensures { calls self.new ≡ called (calls self.old) (Waits is_waiting (is_ok result)) };
-
-    /// Says that a read waits for so many ms at the most.
-    fn limit_reads(&mut self, ms: u64) -> io::Result<()>
-        ensures { calls self.new ≡ called (calls self.old) (Sets (ReadsWithin ms) (is_ok result)) };
-
-    /// Says that a write waits for so many ms at the most.
-    fn limit_writes(&mut self, ms: u64) -> io::Result<()>
-        ensures { calls self.new
-            ≡ called (calls self.old) (Sets (WritesWithin ms) (is_ok result)) };
-
-    /// Says that octets go out at once, and aren't held back to be joined with what follows.
-    fn send_at_once(&mut self) -> io::Result<()>
-        ensures { calls self.new ≡ called (calls self.old) (Sets SendsAtOnce (is_ok result)) };
+    /// Sets it so.
+    fn set(&mut self, setting: Setting) -> io::Result<()>
+        ensures { calls self.new ≡ called (calls self.old) (Sets setting (is_ok result)) };
 }
 
-impl SystemStream for TcpStream {
-    ghost use Rattle.std.specs.Prelude.{None};
-
-    ghost calls = { λ _. None };
-
-    fn receive(&mut self, buf: &mut [u8]) -> io::Result<usize> {
-        self.read(buf)
-    }
-
-    fn send(&mut self, octets: &[u8]) -> io::Result<usize> {
-        self.write(octets)
-    }
-
-    fn set_waiting(&mut self, is_waiting: bool) -> io::Result<()> {
-        self.set_nonblocking(!is_waiting)
-    }
-
-    fn limit_reads(&mut self, ms: u64) -> io::Result<()> {
-        self.set_read_timeout(Some(Duration::from_millis(ms)))
-    }
-
-    fn limit_writes(&mut self, ms: u64) -> io::Result<()> {
-        self.set_write_timeout(Some(Duration::from_millis(ms)))
-    }
-
-    fn send_at_once(&mut self) -> io::Result<()> {
-        self.set_nodelay(true)
-    }
-}
-
-impl SystemStream for UnixStream {
-    ghost use Rattle.std.specs.Prelude.{None};
-
-    ghost calls = { λ _. None };
-
-    fn receive(&mut self, buf: &mut [u8]) -> io::Result<usize> {
-        self.read(buf)
-    }
-
-    fn send(&mut self, octets: &[u8]) -> io::Result<usize> {
-        self.write(octets)
-    }
-
-    fn set_waiting(&mut self, is_waiting: bool) -> io::Result<()> {
-        self.set_nonblocking(!is_waiting)
-    }
-
-    fn limit_reads(&mut self, ms: u64) -> io::Result<()> {
-        self.set_read_timeout(Some(Duration::from_millis(ms)))
-    }
-
-    fn limit_writes(&mut self, ms: u64) -> io::Result<()> {
-        self.set_write_timeout(Some(Duration::from_millis(ms)))
-    }
-
-    /// It holds nothing back.
-    fn send_at_once(&mut self) -> io::Result<()> {
-        Ok(())
-    }
-}
-
-/// A stream by TCP or by a Unix socket.
+/// A stream of the system, by TCP or by a Unix socket.
 #[derive(Drop)]
-pub enum SocketStream<T: SystemStream + Drop = TcpStream, U: SystemStream + Drop = UnixStream> {
+pub enum SocketStream {
     /// By TCP.
-    Tcp(T),
+    Tcp(TcpStream),
     /// By a Unix socket.
-    Unix(U),
+    Unix(UnixStream),
 }
 
-impl<T: SystemStream + Drop, U: SystemStream + Drop> SystemStream for SocketStream<T, U> {
-    ghost use Rattle.live.specs.Sockets.{calls_by};
+impl SystemStream for SocketStream {
+    ghost use Rattle.std.specs.Prelude.{None};
 
-    ghost calls = { λ stream. calls_by T.calls U.calls stream };
+    ghost calls = { λ _. None };
 
     fn receive(&mut self, buf: &mut [u8]) -> io::Result<usize> {
         match self {
-            SocketStream::Tcp(stream) => stream.receive(buf),
-            SocketStream::Unix(stream) => stream.receive(buf),
+            SocketStream::Tcp(stream) => stream.read(buf),
+            SocketStream::Unix(stream) => stream.read(buf),
         }
     }
 
     fn send(&mut self, octets: &[u8]) -> io::Result<usize> {
         match self {
-            SocketStream::Tcp(stream) => stream.send(octets),
-            SocketStream::Unix(stream) => stream.send(octets),
+            SocketStream::Tcp(stream) => stream.write(octets),
+            SocketStream::Unix(stream) => stream.write(octets),
         }
     }
 
-    fn set_waiting(&mut self, is_waiting: bool) -> io::Result<()> {
-        match self {
-            SocketStream::Tcp(stream) => stream.set_waiting(is_waiting),
-            SocketStream::Unix(stream) => stream.set_waiting(is_waiting),
-        }
-    }
-
-    fn limit_reads(&mut self, ms: u64) -> io::Result<()> {
-        match self {
-            SocketStream::Tcp(stream) => stream.limit_reads(ms),
-            SocketStream::Unix(stream) => stream.limit_reads(ms),
-        }
-    }
-
-    fn limit_writes(&mut self, ms: u64) -> io::Result<()> {
-        match self {
-            SocketStream::Tcp(stream) => stream.limit_writes(ms),
-            SocketStream::Unix(stream) => stream.limit_writes(ms),
-        }
-    }
-
-    fn send_at_once(&mut self) -> io::Result<()> {
-        match self {
-            SocketStream::Tcp(stream) => stream.send_at_once(),
-            SocketStream::Unix(stream) => stream.send_at_once(),
+    /// A Unix socket holds nothing back.
+    fn set(&mut self, setting: Setting) -> io::Result<()> {
+        match (self, setting) {
+            (SocketStream::Tcp(stream), Setting::Waiting(waits)) => stream.set_nonblocking(!waits),
+            (SocketStream::Unix(stream), Setting::Waiting(waits)) => stream.set_nonblocking(!waits),
+            (SocketStream::Tcp(stream), Setting::ReadsWithin(ms)) => {
+                stream.set_read_timeout(Some(Duration::from_millis(ms)))
+            }
+            (SocketStream::Unix(stream), Setting::ReadsWithin(ms)) => {
+                stream.set_read_timeout(Some(Duration::from_millis(ms)))
+            }
+            (SocketStream::Tcp(stream), Setting::WritesWithin(ms)) => {
+                stream.set_write_timeout(Some(Duration::from_millis(ms)))
+            }
+            (SocketStream::Unix(stream), Setting::WritesWithin(ms)) => {
+                stream.set_write_timeout(Some(Duration::from_millis(ms)))
+            }
+            (SocketStream::Tcp(stream), Setting::SendsAtOnce) => stream.set_nodelay(true),
+            (SocketStream::Unix(_), Setting::SendsAtOnce) => Ok(()),
         }
     }
 }
@@ -286,12 +218,12 @@ pub(crate) fn write_in_two<S: SystemStream>(stream: &mut S, octets: &[u8]) -> bo
     if taken == octets.len() {
         return true;
     }
-    if stream.set_waiting(true).is_err() {
+    if stream.set(Setting::Waiting(true)).is_err() {
         return false;
     }
     let is_taken = write_once(stream, &octets[taken..]);
     // A stream that refuses this has gone, as the next look at it finds.
-    let _ = stream.set_waiting(false);
+    let _ = stream.set(Setting::Waiting(false));
     is_taken
 }
 
@@ -300,13 +232,13 @@ pub(crate) fn write_in_two<S: SystemStream>(stream: &mut S, octets: &[u8]) -> bo
 pub(crate) fn drop_waiting<S: SystemStream>(stream: &mut S) -> u64
     ensures { DropsWaiting (S.calls stream.old) result (S.calls stream.new) }
 {
-    if stream.set_waiting(false).is_err() {
+    if stream.set(Setting::Waiting(false)).is_err() {
         // A quiet line would be waited for, and the request is worth more than what is stale.
         return 0;
     }
     let count = drop_octets(stream);
     // A stream that refuses this has gone, as the next look at it finds.
-    let _ = stream.set_waiting(true);
+    let _ = stream.set(Setting::Waiting(true));
     count
 }
 

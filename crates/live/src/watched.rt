@@ -1,12 +1,8 @@
 //! What can be seen of a port's ends from outside.
 ghost use Rattle.std.specs.Option.{is_some};
-ghost use Rattle.std.specs.Prelude.{◌≡◌, None, nat_lt};
-ghost use Rattle.live.specs.Ends.{failure_of};
-ghost use Rattle.live.specs.Sights.{ShowsEnds};
-ghost use Rattle.live.specs.Syncs.{none_slow};
+ghost use Rattle.std.specs.Prelude.{◌≡◌, nat_lt};
 
-use crate::ends::{CutCause, Listener, OctetStream, Presence, Reached, RefusedPeers, RunClock};
-use crate::port::Live;
+use crate::ends::{CutCause, Presence, RefusedPeers};
 use crate::syncs::SlowSyncs;
 use gateway::{Gateway, Port};
 use std::io::ErrorKind;
@@ -93,42 +89,4 @@ pub trait Watched: Port {
     /// What is fixed at looks too is fixed at events and actions.
     ghost lasts: { (one other : Self) → Self.Port.script one ≡ Self.Port.script other →
         lasting one ≡ lasting other };
-}
-
-impl<S: OctetStream + Reached, L: Listener + Drop, C: RunClock + Drop> Watched for Live<S, L, C> {
-    ghost use Rattle.live.specs.Ends.{Fixture, fixed_of};
-    ghost use Rattle.live.specs.Sights.{ShowsEnds};
-
-    ghost tends = { λ old _ new notice. (new ≡ old) × (notice ≡ None) };
-
-    ghost Lasting = { Fixture };
-
-    ghost lasting = { λ ends. fixed_of ends };
-
-    ghost lasts = { λ one other same. same };
-
-    ghost shows = { λ ends sight. ShowsEnds ends sight };
-
-    ghost failure = { λ ends. failure_of ends.failed };
-
-    fn sight(&self) -> EndsSight
-        ensures shows { ShowsEnds self.now result }
-        ensures failure { result.failure ≡ failure_of self.now.failed }
-        ensures failed { is_some result.failure ≡ nat_lt 0 self.now.failed }
-        ensures syncs { result.syncs ≡ none_slow }
-    {
-        EndsSight {
-            line: self.line_presence(),
-            peer: self.peer(),
-            why_cut: self.why_cut(),
-            refused: self.refused(),
-            late_octets: self.late_octets(),
-            failure: self.failure(),
-            syncs: SlowSyncs::none(),
-        }
-    }
-
-    fn tend(&mut self, _gateway: &Gateway) -> Option<Notice> {
-        None
-    }
 }

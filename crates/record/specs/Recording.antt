@@ -12,11 +12,12 @@ abbrev pub added : Option (List ℕ) → List ℕ → Option (List ℕ)
 added None more = None
 added (Some text) more = Some (text ++ more)
 
--- what the sheet took, if it says that; the lines that are held back until the next event is asked
--- for; whether a record was wished at all, which never changes; whether the record is over, since
--- none was wished, the sheet took no more, or memory ran out; and what passed unwritten, if the
--- sheet says that
+-- what passed in the lives before, in which the gateway came to be as it is; what the sheet took,
+-- if it says that; the lines that are held back until the next event is asked for; whether a record
+-- was wished at all, which never changes; whether the record is over, since none was wished, the
+-- sheet took no more, or memory ran out; and what passed unwritten, if the sheet says that
 pub record Recording : Type 0 where
+  pub before : Log
   pub taken : Option (List ℕ)
   pub held : List ℕ
   pub is_wished : Bool
@@ -43,19 +44,37 @@ pub record IsKept (r : Recording) : Type 0 where
   pub whole : r.is_over ≡ false → IfSome r.missed (λ log. log ≡ [])
   pub idle : r.is_wished ≡ false → r.is_over ≡ true
 
--- what is fixed of a port that is recorded: what is of the port inside, and whether a record was
--- wished
+-- what is fixed of a port that is recorded: what is of the port inside, what passed before, and
+-- whether a record was wished
 pub record RecordedFixture (F : Type 0) : Type 0 where
   pub port : F
+  pub before : Log
   pub is_wished : Bool
 
 abbrev pub recorded_fixture : {F : Type 0} → F → Recording → RecordedFixture F
-recorded_fixture port r = record { port = port; is_wished = r.is_wished }
+recorded_fixture port r = record { port = port; before = r.before; is_wished = r.is_wished }
 
 -- the first of two logs that is given
 abbrev pub logged_first : Option Log → Option Log → Option Log
 logged_first None other = other
 logged_first (Some log) other = Some log
+
+-- what passed in the lives before, and then in this one
+abbrev pub behind : (before : Log) → (this : Option Log) → Option Log
+behind before None = None
+behind before (Some log) = Some (log ++ before)
+
+-- the same, if this life is known by its record, or else by its port
+abbrev pub all_passed : Recording → (port : Option Log) → Option Log
+all_passed r port = behind r.before (logged_first (log_of r) port)
+
+-- a port that is recorded, and what is recorded of it
+pub record Recorded (P : Type 0) : Type 0 where
+  pub port : P
+  pub pen : Recording
+
+abbrev pub recorded : {P : Type 0} → P → Recording → Recorded P
+recorded port pen = record { port = port; pen = pen }
 
 -- if both say what passed, they say the same
 abbrev pub AreAgreed : Recording → (port : Option Log) → Type 0

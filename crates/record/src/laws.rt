@@ -7,7 +7,7 @@ ghost use Rattle.gateway.specs.Ports.{logged_by};
 ghost use Rattle.gateway.specs.declared.ports.Next.{Next};
 ghost use Rattle.record.specs.Law.{grows_by};
 ghost use Rattle.record.specs.Recording.{Recording, Gives, Receives, Notes, Puts, added, passed};
-ghost use Rattle.record.specs.Recording.{log_of, logged_first, text_of};
+ghost use Rattle.record.specs.Recording.{all_passed, behind, log_of, text_of};
 ghost use Rattle.record.specs.Written.{log_in};
 ghost use Rattle.traces.specs.Printed.{lines_of_log};
 
@@ -15,8 +15,9 @@ ghost use Rattle.traces.specs.Printed.{lines_of_log};
 /// over it stays as it is, nothing more is given to the sheet, and what passes is missed. Until
 /// then, when an event is passed on, the sheet has taken the text of all that passed before, and
 /// the event's line. An action that goes out is written down, whichever it is, and one that doesn't
-/// changes nothing. What a sheet says that it took and missed is the log of the port: what the text
-/// logs, and behind that what was missed. If it says neither, that is the log of the port inside.
+/// changes nothing. What a sheet says that it took and missed is the log of the port, behind the
+/// lives before: what the text logs, and behind that what was missed. If it says neither, the log
+/// of the port inside takes that place.
 pub fn a_record_is_the_text_of_what_passed()
     ensures notes { (old new : Recording) (news : Log) → Notes old news new →
         grows_by new.is_over old (lines_of_log news) new }
@@ -34,8 +35,9 @@ pub fn a_record_is_the_text_of_what_passed()
     ensures puts { (old new : Recording) (news : Log) → Puts true old news new →
         grows_by new.is_over old (lines_of_log news) new }
     ensures stays { (old new : Recording) (news : Log) → Puts false old news new → new ≡ old }
-    ensures log { (r : Recording) (taken : List ℕ) (missed log : Log) (port : Option Log) →
+    ensures log { (r : Recording) (taken : List ℕ) (missed : Log) (port : Option Log) →
         r.taken ≡ Some taken → r.missed ≡ Some missed →
-        (log_of r ≡ Some (missed ++ log_in (taken ++ r.held)))
-        × (logged_first (Some log) port ≡ Some log) × (logged_first None port ≡ port) }
+        all_passed r port ≡ Some ((missed ++ log_in (taken ++ r.held)) ++ r.before) }
+    ensures unsaid { (r : Recording) (port : Option Log) → log_of r ≡ None →
+        all_passed r port ≡ behind r.before port }
 {}

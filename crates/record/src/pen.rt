@@ -10,7 +10,7 @@ ghost use Rattle.traces.specs.Printed.{IsPrintable, lines_of_log};
 
 use crate::record_sheet::RecordSheet;
 use checkpoint::StateFault;
-use gateway::{Action, Gateway, Next};
+use gateway::{Action, Gateway, History, Next};
 use statetext::{Octets, TextSheet};
 use std::alloc::Global;
 use std::marker::Model;
@@ -27,6 +27,8 @@ pub struct Pen<W: RecordSheet + Drop> {
     /// It is to write: one that isn't is over from the beginning.
     is_wished: bool,
     is_over: bool,
+    /// What passed in the lives before, for proofs alone.
+    before: History,
 }
 
 impl<W: RecordSheet + Drop> Model for Pen<W> {
@@ -35,6 +37,7 @@ impl<W: RecordSheet + Drop> Model for Pen<W> {
     ghost Value = { Recording };
 
     ghost view = { λ p. record {
+      before = p.before.entries;
       taken = W.taken p.sheet;
       held = p.held;
       is_wished = p.is_wished;
@@ -43,6 +46,7 @@ impl<W: RecordSheet + Drop> Model for Pen<W> {
     } };
 
     ghost invariant = { λ p. IsKept (record {
+      before = p.before.entries;
       taken = W.taken p.sheet;
       held = p.held;
       is_wished = p.is_wished;
@@ -106,6 +110,7 @@ impl<W: RecordSheet + Drop> Pen<W> {
         requires written { IsWritten (added (W.taken sheet) first.items) }
         requires whole { IfSome (W.missed sheet) (λ log. log ≡ []) }
         ensures { result ≡ record {
+          before = [];
           taken = W.taken sheet;
           held = first.items;
           is_wished = true;
@@ -119,6 +124,7 @@ impl<W: RecordSheet + Drop> Pen<W> {
             held: Page::holding(first),
             is_wished: true,
             is_over: false,
+            before: History::new(),
         }
     }
 
@@ -126,6 +132,7 @@ impl<W: RecordSheet + Drop> Pen<W> {
     pub fn idle(alloc: Global, sheet: W) -> Pen<W>
         requires { IsWritten (W.taken sheet) }
         ensures { result ≡ record {
+          before = [];
           taken = W.taken sheet;
           held = [];
           is_wished = false;
@@ -139,7 +146,15 @@ impl<W: RecordSheet + Drop> Pen<W> {
             held: Page::new(alloc),
             is_wished: false,
             is_over: true,
+            before: History::new(),
         }
+    }
+
+    /// The run comes behind these lives.
+    pub fn come_behind(&mut self, before: History)
+        ensures { self.new ≡ record self.old { before = before.entries } }
+    {
+        self.before = before;
     }
 
     /// Writes first, line by line, the state of the gateway with which a run goes on.

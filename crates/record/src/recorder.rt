@@ -1,35 +1,44 @@
 //! A port that records what passes it.
-ghost use Rattle.std.proofs.Props.{props};
 ghost use Rattle.std.specs.Option.{is_some};
 ghost use Rattle.std.specs.Prelude.{◌≡◌, ◌+◌, ◌<◌, ◌∷◌, [], true, if◌then◌else◌, nat_lt};
 ghost use Rattle.gateway.specs.Log.{Went, with_news};
 ghost use Rattle.gateway.specs.Ports.{FitsBuffer, faults_of, output_of, logged_by};
 ghost use Rattle.gateway.specs.declared.ports.Next.TheVariants.{Done};
-ghost use Rattle.record.specs.Recording.{AreAgreed, Receives, IsKept, Puts, log_of, logged_first};
-ghost use Rattle.record.specs.Recording.{recorded_fixture};
+ghost use Rattle.record.specs.Recording.{AreAgreed, Receives, IsKept, Puts, all_passed};
+ghost use Rattle.record.specs.Recording.{recorded, recorded_fixture};
 
 use crate::pen::Pen;
 use crate::record_sheet::RecordSheet;
 use gateway::{Action, Gateway, Next, Port};
 use live::{EndsSight, Notice, Watched};
+use std::marker::Model;
 
 /// A port that passes each event and each action of another one on unchanged, and writes them down.
 /// Once the record is over they pass unwritten. If the sheet says what it took and what it missed,
-/// the log is what the record's text logs, and behind that what was missed.
+/// the log is what the record's text logs, and behind that what was missed: all of it behind what
+/// passed in the lives in which the gateway came to be as it is.
 #[derive(Drop)]
 pub struct Recorder<P: Port + Drop, W: RecordSheet + Drop> {
     port: P,
     pen: Pen<W>,
+}
+
+impl<P: Port + Drop, W: RecordSheet + Drop> Model for Recorder<P, W> {
+    ghost use Rattle.record.specs.Recording.{AreAgreed, Recorded};
+
+    ghost Value = { Recorded P };
+
+    ghost view = { λ r. record { port = r.port; pen = r.pen } };
+
     // What is written down is what passed.
-    ghost agreed: { AreAgreed pen (P.log port) } by { Prim.hlevel props },
+    ghost invariant = { λ r. AreAgreed r.pen (P.log r.port) };
 }
 
 impl<P: Port + Drop, W: RecordSheet + Drop> Recorder<P, W> {
     /// One over this port. What the pen has written so far is what has passed there.
     pub fn new(port: P, pen: Pen<W>) -> Recorder<P, W>
         requires { AreAgreed pen (P.log port) }
-        ensures port { result.port ≡ port }
-        ensures pen { result.pen ≡ pen }
+        ensures { result ≡ recorded port pen }
     {
         Recorder { port, pen }
     }
@@ -44,11 +53,11 @@ impl<P: Port + Drop, W: RecordSheet + Drop> Recorder<P, W> {
 }
 
 impl<P: Port + Drop, W: RecordSheet + Drop> Port for Recorder<P, W> {
-    ghost use Rattle.record.specs.Recording.{RecordedFixture, log_of, logged_first};
-    ghost use Rattle.record.specs.Recording.{recorded_fixture};
+    ghost use Rattle.record.specs.Recording.{RecordedFixture, all_passed, recorded_fixture};
 
-    /// What it wrote down, if its sheet says that, or else the log of the port inside.
-    ghost log = { λ r. logged_first (log_of r.pen) (P.log r.port) };
+    /// What it wrote down, if its sheet says that, or else the log of the port inside; behind the
+    /// lives before.
+    ghost log = { λ r. all_passed r.pen (P.log r.port) };
 
     ghost failed = { λ r. P.failed r.port };
 
@@ -56,7 +65,7 @@ impl<P: Port + Drop, W: RecordSheet + Drop> Port for Recorder<P, W> {
 
     ghost Fixed = { RecordedFixture P.Fixed };
 
-    /// What is fixed of the port inside, and whether a record was wished.
+    /// What is fixed of the port inside, what passed before, and whether a record was wished.
     ghost script = { λ r. recorded_fixture (P.script r.port) r.pen };
 
     /// The line of the event is given to the sheet, with those of the step before, and only then is
@@ -64,9 +73,8 @@ impl<P: Port + Drop, W: RecordSheet + Drop> Port for Recorder<P, W> {
     #[tactic(auto, using(crate::proofs::Receiving::receives))]
     fn next(&mut self, buf: &mut [u8; 1024]) -> Next
         requires { P.failed self.old.port < u64.MAX }
-        ensures logged { logged_first (log_of self.new.pen) (P.log self.new.port)
-            ≡ with_news (logged_first (log_of self.old.pen) (P.log self.old.port))
-            (logged_by result buf.new) }
+        ensures logged { all_passed self.new.pen (P.log self.new.port)
+            ≡ with_news (all_passed self.old.pen (P.log self.old.port)) (logged_by result buf.new) }
         ensures fits { FitsBuffer result }
         ensures done { result ≡ Done → P.ended self.new.port ≡ true }
         ensures script { recorded_fixture (P.script self.new.port) self.new.pen
@@ -85,10 +93,10 @@ impl<P: Port + Drop, W: RecordSheet + Drop> Port for Recorder<P, W> {
 
     fn put(&mut self, now: u64, action: &Action<'_>) -> bool
         requires { P.failed self.old.port < u64.MAX }
-        ensures logged { logged_first (log_of self.new.pen) (P.log self.new.port)
-            ≡ (if result then with_news (logged_first (log_of self.old.pen) (P.log self.old.port))
+        ensures logged { all_passed self.new.pen (P.log self.new.port)
+            ≡ (if result then with_news (all_passed self.old.pen (P.log self.old.port))
             (Went now (output_of action.now) ∷ [])
-            else logged_first (log_of self.old.pen) (P.log self.old.port)) }
+            else all_passed self.old.pen (P.log self.old.port)) }
         ensures script { recorded_fixture (P.script self.new.port) self.new.pen
             ≡ recorded_fixture (P.script self.old.port) self.old.pen }
         ensures cause { P.failed self.new.port
@@ -120,8 +128,8 @@ impl<P: Watched + Drop, W: RecordSheet + Drop> Watched for Recorder<P, W> {
     ghost lasting = { λ r. recorded_fixture (P.lasting r.port) r.pen };
 
     ghost lasts = { λ one other same.
-        ap₂ (λ port is_wished. record { port = port; is_wished = is_wished })
-        (P.lasts one.port other.port (ap (λ f. f.port) same)) (ap (λ f. f.is_wished) same) };
+        ap₂ (λ port f. record { port = port; before = f.before; is_wished = f.is_wished })
+        (P.lasts one.port other.port (ap (λ f. f.port) same)) same };
 
     ghost failure = { λ r. P.failure r.port };
 

@@ -7,7 +7,6 @@ pub mod Turning
 pub mod Looks
 pub mod WholeRuns
 pub mod ManyLives
-pub mod Lives
 pub mod RunPorts
 pub mod Begins
 pub mod AuditLemmas

@@ -14,9 +14,8 @@ use Rattle.status.specs.Looking.{looked, turned_after}
 use Rattle.status.specs.Looks.{Look}
 use Rattle.status.specs.declared.lookout.Lookout.{Lookout}
 use Rattle.status.specs.declared.streams.Stream.{Ghosts}
-use Rattle.telegate.specs.Turns.{AllLooked, AreShown, EndsInTurn, HasGoneOn, HasServed, HaveLooked}
-use Rattle.telegate.specs.Turns.{RunStanding, TakesEvent, stands, Begun, Turned, InATurn}
-use Rattle.telegate.specs.Turns.{WithoutEnd, shown_to}
+use Rattle.telegate.specs.Turns.{AllLooked, AreShown, HasGoneOn, HasServed, HaveLooked}
+use Rattle.telegate.specs.Turns.{RunStanding, TakesEvent, Begun, Turned, shown_to}
 use Rattle.telegate.proofs.Turning.{no_events_yet, one_more_event}
 
 -- by so many events, and the gateway still follows the log
@@ -98,52 +97,7 @@ none_shown l before after none same =
     subst (λ o. AreShown l (shown_to before) (shown_to o)) (sym same)
     (subst (λ o. AreShown l (shown_to o) (shown_to o)) (sym none) refl)
 
--- how a run stands, seen by a part of its port
-seen : {X Y : Type 0} → (X → Y) → RunStanding X → RunStanding Y
-seen f s = stands s.gateway (f s.port) s.book s.shown
-
--- what was tended is tended, seen so
-gone_on_seen : {X Y F : Type 0} (f : X → Y) (log : Y → Option Log) (script : Y → F)
-    (tends : Y → State → Y → Option Notice → Type 0) (first : RunStanding X) (n : ℕ)
-    (last : RunStanding X)
-    → HasGoneOn (λ x. log (f x)) (λ x. script (f x)) (λ a s b w. tends (f a) s (f b) w) first n last
-    → HasGoneOn log script tends (seen f first) n (seen f last)
-unfolding seen
-gone_on_seen f log script tends first _ _ Begun = Begun
-gone_on_seen f log script tends first _ _ (Turned n before taken after h t l) =
-    Turned n (seen f before) (seen f taken) (seen f after)
-    (gone_on_seen f log script tends first n before h)
-    (record { one = t.one; fixed = t.fixed; follows = t.follows; shown = t.shown })
-    (record {
-      notice = l.notice;
-      same = l.same;
-      quiet = l.quiet;
-      tended = l.tended;
-      logged = l.logged;
-      shown = l.shown;
-    })
-
-pub served_seen : {X Y F E : Type 0} (f : X → Y) (log : Y → Option Log) (script : Y → F)
-    (tends : Y → State → Y → Option Notice → Type 0) (failure : Y → Option Failure)
-    (first last : RunStanding X) (ended : Result (Unit {0}) E)
-    → HasServed (λ x. log (f x)) (λ x. script (f x)) (λ a s b w. tends (f a) s (f b) w)
-    (λ x. failure (f x)) first last ended
-    → HasServed log script tends failure (stands first.gateway (f first.port) first.book
-    first.shown)
-    (stands last.gateway (f last.port) last.book last.shown) ended
-unfolding seen
-served_seen f log script tends failure first last _ (InATurn n before ended h e) =
-    InATurn n (seen f before) ended (gone_on_seen f log script tends first n before h)
-    (record {
-      few = e.few;
-      fixed = e.fixed;
-      between = e.between;
-      closes = e.closes;
-      shown = e.shown;
-    })
-served_seen f log script tends failure first last _ (WithoutEnd h) =
-    WithoutEnd (gone_on_seen f log script tends first 18446744073709551615 last h)
-
+-- a first standing under another name
 pub served_from : {P F E : Type 0} (log : P → Option Log) (script : P → F)
     (tends : P → State → P → Option Notice → Type 0) (failure : P → Option Failure)
     (first from last : RunStanding P) (ended : Result (Unit {0}) E) → first ≡ from

@@ -11,7 +11,8 @@ use Rattle.gateway.specs.Setups.{setup_of}
 use Rattle.gateway.specs.State.{State, IsBetweenSteps}
 use Rattle.live.specs.Ends.{Fixture, LiveEnds}
 use Rattle.live.specs.declared.watched.Notice.{Notice}
-use Rattle.record.specs.Recording.{AreAgreed, RecordedFixture, Recording, log_of, logged_first}
+use Rattle.record.specs.Recording.{AreAgreed, Recorded, RecordedFixture, Recording, all_passed}
+use Rattle.record.specs.Recording.{behind}
 use Rattle.sqlite_disk.specs.declared.Disk.{Ghosts}
 use Rattle.state.specs.Both.{Both}
 use Rattle.state.specs.Deeds.{Deeds, AreRight, MayBe, Received, Appended, Synced, Begun as BegunLog}
@@ -22,20 +23,19 @@ use Rattle.state.specs.Returns.{HasReturned}
 use Rattle.state.specs.Standings.{Renews}
 use Rattle.state.specs.Stores.{head}
 use Rattle.state.specs.declared.beginning.Origin.{Origin}
-use Rattle.telegate.specs.Lives.{LivesFixture, behind}
 use Rattle.telegate.specs.ManyLives.{ComesBehind, HasKeptOn, IsHeadIn, IsHeadUpTo, IsLastOfLives}
 use Rattle.telegate.specs.ManyLives.{IsUpTo, First, Behind, OfTheFirst, OfOneBegun, OfTheNext}
 use Rattle.telegate.specs.Served.{log_of_kept, script_of_kept, tends_of_kept}
-use Rattle.telegate.specs.Turns.{HasGoneOn, HaveLooked, PortOfLife, RunStanding, TakesEvent}
+use Rattle.telegate.specs.Turns.{HasGoneOn, HaveLooked, RunStanding, TakesEvent}
 use Rattle.telegate.specs.Turns.{Begun, Turned, log_in_life, script_in_life, tends_in_life}
 
 -- what is recorded is what has passed, so that the log of all lives is known by the port's
-passed_all : (before was : Log) (pen : Recording) (port known : Log) → AreAgreed pen (Some port)
-    → port ≡ known → was ≡ before
-    → behind was (logged_first (log_of pen) (Some port)) ≡ Some (known ++ before)
-passed_all before was pen port known agreed same earlier =
-    ap (behind was) agreed
-    ∙ (ap (λ (log : Log). Some (log ++ was)) same
+passed_all : (before : Log) (pen : Recording) (port known : Log) → AreAgreed pen (Some port)
+    → port ≡ known → pen.before ≡ before
+    → all_passed pen (Some port) ≡ Some (known ++ before)
+passed_all before pen port known agreed same earlier =
+    ap (behind pen.before) agreed
+    ∙ (ap (λ (log : Log). Some (log ++ pen.before)) same
     ∙ ap (λ (log : Log). Some (known ++ log)) earlier)
 
 -- a log that is begun at a look, or not
@@ -49,32 +49,31 @@ renewed p before old new state all now (inr lost) =
 
 module _ (S : Type 0) (p : Setup) (before : Log) where
   abbrev Kept : Type 0
-  Kept = RunStanding (PortOfLife (Keeping (Both LiveEnds S)))
+  Kept = RunStanding (Recorded (Keeping (Both LiveEnds S)))
 
   -- the logs that were begun by then begin with states that are up to what had passed
   abbrev AreUpTo : Kept → Type 0
   AreUpTo s = AllByRecursion (IsHeadUpTo p before) (heads s.port.port.ends.deeds)
 
   -- the state at a look is up to what has passed at the port, behind the lives before
-  up_to : (at after : Kept) → at.port.before ≡ before
+  up_to : (at after : Kept) → at.port.pen.before ≡ before
       → HaveLooked (log_in_life log_of_kept) (tends_in_life log_of_kept tends_of_kept) at after
       → Follows p at.gateway (log_in_life log_of_kept at.port)
       → Rests p (log_in_life log_of_kept at.port)
       → IsUpTo p (passed at.port.port.ends.deeds ++ before) at.gateway
   up_to at after earlier look follows rests =
-      let tended = look.tended.0 in
-      let logged = passed_all before at.port.before at.port.pen at.port.port.ends.port.log
-      (passed at.port.port.ends.deeds) tended.2 tended.0.passed earlier in (
+      let logged = passed_all before at.port.pen at.port.port.ends.port.log
+      (passed at.port.port.ends.deeds) look.tended.2 look.tended.0.passed earlier in (
         subst (Follows p at.gateway) logged follows,
         subst (Rests p) logged rests,
       )
 
-  looked_up_to : (at after : Kept) → at.port.before ≡ before → AreUpTo at
+  looked_up_to : (at after : Kept) → at.port.pen.before ≡ before → AreUpTo at
       → HaveLooked (log_in_life log_of_kept) (tends_in_life log_of_kept tends_of_kept) at after
       → Follows p at.gateway (log_in_life log_of_kept at.port)
       → Rests p (log_in_life log_of_kept at.port) → AreUpTo after
   looked_up_to at after earlier all look follows rests =
-      let tended = look.tended.0.0 in
+      let tended = look.tended.0 in
       let now = up_to at after earlier look follows rests in
       let looked : AllByRecursion (IsHeadUpTo p before) (heads tended.looked.ends.deeds) =
       elim tended.looks.looks [
@@ -90,19 +89,18 @@ module _ (S : Type 0) (p : Setup) (before : Log) where
   -- one event later
   taken_up_to : (at taken : Kept)
       → TakesEvent (log_in_life log_of_kept) (script_in_life script_of_kept) at taken
-      → at.port.before ≡ before → AreUpTo at
+      → at.port.pen.before ≡ before → AreUpTo at
       → Follows p at.gateway (log_in_life log_of_kept at.port)
       → Rests p (log_in_life log_of_kept at.port)
-      → (taken.port.before ≡ before) × AreUpTo taken
+      → (taken.port.pen.before ≡ before) × AreUpTo taken
       × Follows p taken.gateway (log_in_life log_of_kept taken.port)
       × Rests p (log_in_life log_of_kept taken.port)
   taken_up_to at taken t earlier all follows rests =
       let is = t.follows p follows rests in
       let begun : heads taken.port.port.ends.deeds ≡ heads at.port.port.ends.deeds =
-      ap (λ (f : LivesFixture (RecordedFixture (UnlookedFixture Fixture))). f.port.port.heads)
+      ap (λ (f : RecordedFixture (UnlookedFixture Fixture)). f.port.heads)
       t.fixed in (
-        ap (λ (f : LivesFixture (RecordedFixture (UnlookedFixture Fixture))). f.before) t.fixed
-            ∙ earlier,
+        ap (λ (f : RecordedFixture (UnlookedFixture Fixture)). f.before) t.fixed ∙ earlier,
         subst (AllByRecursion (IsHeadUpTo p before)) (sym begun) all,
         is.0,
         is.1,
@@ -112,17 +110,17 @@ module _ (S : Type 0) (p : Setup) (before : Log) where
   gone_up_to : (first : Kept) (n : ℕ) (last : Kept)
       → HasGoneOn (log_in_life log_of_kept) (script_in_life script_of_kept)
       (tends_in_life log_of_kept tends_of_kept) first n last
-      → first.port.before ≡ before → AreUpTo first
+      → first.port.pen.before ≡ before → AreUpTo first
       → Follows p first.gateway (log_in_life log_of_kept first.port)
       → Rests p (log_in_life log_of_kept first.port)
-      → (last.port.before ≡ before) × AreUpTo last
+      → (last.port.pen.before ≡ before) × AreUpTo last
       × Follows p last.gateway (log_in_life log_of_kept last.port)
       × Rests p (log_in_life log_of_kept last.port)
   gone_up_to first _ _ Begun earlier all follows rests = (earlier, all, follows, rests)
   gone_up_to first _ _ (Turned n at taken after h t l) earlier all follows rests =
       let was = gone_up_to first n at h earlier all follows rests in
       let is = taken_up_to at taken t was.0 was.1 was.2 was.3 in (
-        l.tended.1 ∙ is.0,
+        ap (λ (r : Recording). r.before) l.tended.1 ∙ is.0,
         looked_up_to taken after is.0 is.1 l is.2 is.3,
         subst (λ s. Follows p s (log_in_life log_of_kept after.port)) (sym l.same)
             (subst (Follows p taken.gateway) (sym l.quiet) is.2),
@@ -138,9 +136,9 @@ begun_up_to p before state gateway deeds up same renews =
 
 -- the logs that a run has begun by now, and where the run stands
 module _ (S : Type 0) (p : Setup) (origin : Origin) (events : ℕ)
-    (now : RunStanding (PortOfLife (Keeping (Both LiveEnds S)))) where
+    (now : RunStanding (Recorded (Keeping (Both LiveEnds S)))) where
   gone_all : HasKeptOn origin events now → IsUpTo p origin.before.entries origin.gateway
-      → (now.port.before ≡ origin.before.entries) × AreUpTo S p origin.before.entries now
+      → (now.port.pen.before ≡ origin.before.entries) × AreUpTo S p origin.before.entries now
       × Follows p now.gateway (log_in_life log_of_kept now.port)
       × Rests p (log_in_life log_of_kept now.port)
   gone_all gone up =

@@ -1,18 +1,18 @@
 -- What came of a live run as it was wished.
 use Rattle.std.proofs.Common.{◌≡◌, ℕ, Bool, List, [], ◌∷◌, ◌++◌, false, true, Option, Some, None}
-use Rattle.std.proofs.Common.{Result, Err, refl, sym, subst, ap, ◌∙◌, ◌⊎◌, ◌+◌, inl, inr, is_some}
+use Rattle.std.proofs.Common.{Result, Ok, Err, refl, sym, subst, ap, ◌∙◌, ◌⊎◌, ◌+◌, inl, inr, is_some}
 use Rattle.std.specs.Borrow.{Bor}
 use Rattle.std.specs.Prelude.{MatchOption}
 use Rattle.clap.specs.Words.{Text}
 use Rattle.gateway.specs.Config.{Settings}
 use Rattle.gateway.specs.Log.{Log}
 use Rattle.live.specs.Ends.{Fixture}
-use Rattle.settings.specs.Live.{Places, places_of}
-use Rattle.settings.specs.declared.live.LiveSettings.{LiveSettings}
+use Rattle.settings.specs.Live.{Places}
 use Rattle.sqlite_disk.specs.declared.Disk.{Ghosts}
 use Rattle.state.specs.declared.beginning.Origin.{Origin}
 use Rattle.telegate.specs.AsWished.{IsAsWished}
-use Rattle.telegate.specs.Asked.{Asked, StateIn, asked_for, call_if, ends_asked, run_asked}
+use Rattle.telegate.specs.Asked.{Asked, StateIn, asked_by, asked_for, call_if, ends_asked}
+use Rattle.telegate.specs.Asked.{run_asked}
 use Rattle.telegate.specs.Asked.{LineAt, ListenAt, LogAt, RecordAt, SiteCall, StatusAt}
 use Rattle.telegate.specs.Asked.{scribes_asked}
 use Rattle.telegate.specs.Kept.{HasLivedFrom, IsKeptFault, first_moment}
@@ -28,8 +28,9 @@ use Rattle.telegate.specs.declared.living.Over.TheVariants.{Anew, Kept}
 
 pub lived_anew : {E : Type 0} (begins : Origin → Type 0) (settings : Settings) (wishes : Wishes)
     (old new : Asked) (left : RunLeft) (ended : Result (Unit {0}) E) → wishes.state ≡ None
-    → new ≡ ends_asked wishes.redial 0 (scribes_asked wishes.status old) → left.before ≡ []
-    → HasLived settings wishes.allow_list false [] left.port left.pen ended
+    → new ≡ ends_asked wishes.redial 0 (scribes_asked wishes.status old)
+    → left.pen.before ≡ []
+    → HasLived settings wishes.allow_list false left.port left.pen ended
     → HasRun 0 left.port.failed ended
     → IsAsWished wishes left.book left.pen left.is_shown
     → HasLivedAs begins settings wishes old new left ended
@@ -54,7 +55,7 @@ pub lived_kept : {E : Type 0} (begins : Origin → Type 0) (settings : Settings)
     → wishes.state ≡ Some directory
     → HasLivedFrom begins settings wishes.allow_list
     (λ moment. new ≡ ends_asked wishes.redial moment (asked_for (StateIn directory.now true ∷ [])
-    (scribes_asked wishes.status old))) left.before left.port left.pen ended
+    (scribes_asked wishes.status old))) left.port left.pen ended
     → HasRun 0 (left.port.failed + left.stops) ended
     → IsAsWished wishes left.book left.pen left.is_shown
     → left.bears_loss ≡ Some wishes.bears_loss
@@ -65,7 +66,7 @@ lived_kept begins settings wishes old new directory left ended named lived devic
     (λ _. HasLivedKept begins settings wishes old new left ended) in
     let F : Option (Bor Text) → Type 0 = λ state. HasLivedFrom begins settings wishes.allow_list
     (λ moment. new ≡ ends_asked wishes.redial moment (asked_for (call_if StateIn state)
-    (scribes_asked wishes.status old))) left.before left.port left.pen ended in
+    (scribes_asked wishes.status old))) left.port left.pen ended in
     subst P (sym named)
     (record {
       lived = subst F (sym named) lived;
@@ -116,39 +117,60 @@ begins_weaker {E} strong weak settings wishes old new left ended h implies = by 
       bears = kept.bears;
     }
 
--- a run at a site with these places
-pub come_at : (strong weak : Origin → Type 0) (settings : Settings) (places : LiveSettings)
-    (wishes : Wishes) (old new : Asked) (answer : Result (Unit {0}) RunFault)
-    → HasNotBegun old new answer ⊎ HasCome strong settings wishes old new answer
-    → old.places ≡ places_of places → ((o : Origin) → strong o → weak o)
-    → HasComeAt weak settings places wishes answer
-come_at strong weak settings places wishes old new answer (inl none) at implies =
-    record { old = old; at = at; new = new; came = inl none }
-come_at strong weak settings places wishes old new answer (inr come) at implies = record {
-  old = old;
-  at = at;
-  new = new;
-  came = inr (record {
-    left = come.left;
-    ended = come.ended;
-    lived = begins_weaker strong weak settings wishes old new come.left come.ended come.lived
-        implies;
-    answered = come.answered;
-  });
-}
+-- all that a run asks for
+asked_at : {E : Type 0} (begins : Origin → Type 0) (settings : Settings) (wishes : Wishes)
+    (old new : Asked) (left : RunLeft) (ended : Result (Unit {0}) E)
+    → HasLivedAs begins settings wishes old new left ended
+    → (moment : ℕ) × (new ≡ run_asked wishes moment old)
+asked_at begins settings wishes old new left ended h =
+    by_state wishes.state
+    (λ (a : HasLivedAnew settings wishes old new left ended). (0, a.asked))
+    (λ (k : HasLivedKept begins settings wishes old new left ended). (
+      first_moment k.lived.origin.moment,
+      k.lived.clock,
+    )) h
+
+-- what a run asks for leaves the places, and what led to the state, as they are
+asked_so : {E : Type 0} (begins : Origin → Type 0) (settings : Settings) (wishes : Wishes)
+    (lineage : Log) (calls : Option (List SiteCall)) (clocks : Option (List ℕ)) (places : Places)
+    (new : Asked) (left : RunLeft) (ended : Result (Unit {0}) E)
+    → HasLivedAs begins settings wishes (asked_by lineage calls clocks places) new left ended
+    → new ≡ asked_by lineage new.calls new.clocks places
+asked_so begins settings wishes lineage calls clocks places new left ended h =
+    let at = asked_at begins settings wishes (asked_by lineage calls clocks places) new left ended
+    h in
+    at.1 ∙ sym (ap (λ (a : Asked). asked_by lineage a.calls a.clocks places) at.1)
+
+none_by : (one other new : Asked) (answer : Result (Unit {0}) RunFault) → new.clocks ≡ other.clocks
+    → HasNotBegun one new answer → HasNotBegun one other answer
+none_by one other new (Ok done) same none = none
+none_by one other new (Err fault) same none = (none.0, sym same ∙ none.1)
+
+-- a run at a site with these places, of whose notes this is known
+pub come_at : {D : Type 0} (g : Ghosts D) (settings : Settings) (wishes : Wishes)
+    (one lineage : Log) (calls : Option (List SiteCall)) (clocks : Option (List ℕ))
+    (places : Places) (new : Asked) (answer : Result (Unit {0}) RunFault) → one ≡ lineage
+    → HasComeAt (StartsIn g wishes settings one) settings wishes (asked_by one calls clocks places)
+    new answer
+    → HasComeAt (StartsIn g wishes settings lineage) settings wishes
+    (asked_by lineage calls clocks places) (asked_by lineage new.calls new.clocks places) answer
+come_at g settings wishes one lineage calls clocks places new answer same came =
+    subst (λ (l : Log). HasComeAt (StartsIn g wishes settings l) settings wishes
+    (asked_by l calls clocks places) (asked_by l new.calls new.clocks places) answer) same
+    (elim came [
+      | inl none ↦ inl (none_by (asked_by one calls clocks places)
+          (asked_by one new.calls new.clocks places) new answer refl none)
+      | inr over ↦ inr (subst (λ (a : Asked). HasCome (StartsIn g wishes settings one) settings
+          wishes (asked_by one calls clocks places) a answer)
+          (asked_so _ settings wishes one calls clocks places new over.left over.ended over.lived)
+          over)
+    ])
 
 -- one that had no memory, or no end, before it asked a site for anything
-pub never_at : (begins : Origin → Type 0) (settings : Settings) (places : LiveSettings)
-    (wishes : Wishes) (fault : RunFault) → IsKeptFault fault
-    → HasComeAt begins settings places wishes (Err fault)
-never_at begins settings places wishes fault is =
-    let none : Asked = record {
-      places = places_of places;
-      lineage = [];
-      calls = None;
-      clocks = None;
-    } in
-    record { old = none; at = refl; new = none; came = inl (is, refl) }
+pub never_at : (begins : Origin → Type 0) (settings : Settings) (wishes : Wishes) (asked : Asked)
+    (fault : RunFault) → IsKeptFault fault
+    → HasComeAt begins settings wishes asked asked (Err fault)
+never_at begins settings wishes asked fault is = inl (is, refl)
 
 -- what is left of it is as it was wished
 pub as_wished : {E : Type 0} (begins : Origin → Type 0) (settings : Settings) (wishes : Wishes)
@@ -224,13 +246,7 @@ asked_as_wished begins settings wishes places lineage before moments new left en
       calls = Some before;
       clocks = Some moments;
     } in
-    let at : (moment : ℕ) × (new ≡ run_asked wishes moment old) =
-    by_state wishes.state
-    (λ (a : HasLivedAnew settings wishes old new left ended). (0, a.asked))
-    (λ (k : HasLivedKept begins settings wishes old new left ended). (
-      first_moment k.lived.origin.moment,
-      k.lived.clock,
-    )) h in
+    let at = asked_at begins settings wishes old new left ended h in
     let all = all_noted wishes.redial at.0 wishes.state wishes.status places lineage before
     moments in (
       at.0,

@@ -10,12 +10,12 @@ use Rattle.gateway.specs.Runs.{MoreEvents}
 use Rattle.live.specs.Cuts.{CutsFirst}
 use Rattle.live.specs.Ends.{Fixture, LiveEnds}
 use Rattle.live.specs.Runs.{WallFirst}
+use Rattle.record.specs.Recording.{all_passed}
 use Rattle.state.specs.Beginnings.{moment_at}
 use Rattle.state.specs.declared.beginning.Origin.{Origin}
 use Rattle.state.specs.declared.start.Beginning.{Beginning}
 use Rattle.state.specs.declared.start.Beginning.TheVariants as beginnings
 use Rattle.telegate.specs.Asked.{Asked}
-use Rattle.telegate.specs.Lives.{all_passed}
 use Rattle.telegate.specs.Living.{HasLived, IsPortOfRun}
 use Rattle.telegate.specs.Ran.{HasLivedAnew, HasLivedAs, HasLivedKept, RunLeft}
 use Rattle.telegate.specs.Running.{HasEnded}
@@ -50,14 +50,11 @@ used_all {E} n ended before log shown over well is =
 pub over_as : {E : Type 0} (begins : Origin → Type 0) (settings : Settings) (wishes : Wishes)
     (old new : Asked) (left : RunLeft) (ended : Result (Unit {0}) E)
     → HasLivedAs begins settings wishes old new left ended
-    → OnOk ended (HasEnded false (Some left.before)
-    (all_passed left.before left.pen (Some left.port.log)))
+    → OnOk ended (HasEnded false (Some left.pen.before)
+    (all_passed left.pen (Some left.port.log)))
 over_as begins settings wishes old new left ended h =
     by_state wishes.state
-    (λ (a : HasLivedAnew settings wishes old new left ended).
-    let P : Log → Type 0 = λ before. OnOk ended (HasEnded false (Some before)
-    (all_passed before left.pen (Some left.port.log))) in
-    subst P (sym a.anew) a.lived.over)
+    (λ (a : HasLivedAnew settings wishes old new left ended). a.lived.over)
     (λ (k : HasLivedKept begins settings wishes old new left ended). k.lived.on.over) h
 
 -- ---- The first events
@@ -99,12 +96,9 @@ kept_of {E} begins settings wishes old new left ended directory h named =
 pub lived_anew : {E : Type 0} (begins : Origin → Type 0) (settings : Settings) (wishes : Wishes)
     (old new : Asked) (left : RunLeft) (ended : Result (Unit {0}) E)
     → HasLivedAs begins settings wishes old new left ended → wishes.state ≡ None
-    → HasLived settings wishes.allow_list false left.before left.port left.pen ended
+    → HasLived settings wishes.allow_list false left.port left.pen ended
 lived_anew {E} begins settings wishes old new left ended h none =
     let P : Option (Bor Text) → Type 0 = λ state.
     MatchOption state (HasLivedAnew settings wishes old new left ended)
     (λ _. HasLivedKept begins settings wishes old new left ended) in
-    let a : HasLivedAnew settings wishes old new left ended = subst P none h in
-    let L : Log → Type 0 = λ before.
-    HasLived settings wishes.allow_list false before left.port left.pen ended in
-    subst L (sym a.anew) a.lived
+    (subst P none h).lived

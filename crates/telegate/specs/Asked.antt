@@ -6,6 +6,8 @@ use Rattle.clap.specs.Words.{Text}
 use Rattle.gateway.specs.Log.{Log}
 use Rattle.settings.specs.Live.{Places}
 use Rattle.telegate.specs.declared.host.Wishes.{Wishes}
+use Rattle.telegate.specs.declared.site.SiteRequest.{SiteRequest}
+use Rattle.telegate.specs.declared.site.SiteRequest.TheVariants as request
 
 -- What a site was asked for, and whether it gave that: where the log goes, and where the record
 -- does; the listener for visitors at a place; the directory of a name, in which a state is kept;
@@ -27,6 +29,16 @@ pub record Asked : Type 0 where
   pub lineage : Log
   pub calls : Option (List SiteCall)
   pub clocks : Option (List ℕ)
+
+-- a site with these places, if this led to the state there and this was noted so far
+abbrev pub asked_by : (lineage : Log) → (calls : Option (List SiteCall))
+    → (clocks : Option (List ℕ)) → Places → Asked
+asked_by lineage calls clocks places = record {
+  places = places;
+  lineage = lineage;
+  calls = calls;
+  clocks = clocks;
+}
 
 -- these more
 abbrev pub calls_behind : (calls : List SiteCall) → (before : Option (List SiteCall))
@@ -62,6 +74,20 @@ clock_asked given moment a = record {
   calls = a.calls;
   clocks = clocks_by given moment a.clocks;
 }
+
+-- what a process notes of a call
+abbrev pub calls_of : SiteRequest → List SiteCall
+calls_of request.Log = LogAt ∷ []
+calls_of request.Record = RecordAt ∷ []
+calls_of (request.Status place given) = StatusAt place.now given ∷ []
+calls_of (request.State name given) = StateIn name.now given ∷ []
+calls_of (request.Listener place given) = ListenAt place.now given ∷ []
+calls_of (request.Line place again given) = LineAt place.now again given ∷ []
+calls_of (request.Clock moment given) = []
+
+abbrev pub clocks_of : SiteRequest → Option (List ℕ) → Option (List ℕ)
+clocks_of (request.Clock moment given) clocks = clocks_by given moment clocks
+clocks_of _ clocks = clocks
 
 -- no clock was given if this is an error: so nothing has run
 abbrev pub UnclockedIfErr : {A E : Type 0} → Result A E → (old new : Asked) → Type 0

@@ -3,13 +3,11 @@ use Rattle.std.specs.Prelude.{◌≡◌, ℕ, false, OnOk, Option, Some, None, R
 use Rattle.std.specs.Option.{is_some}
 use Rattle.gateway.specs.Agrees.{Follows, Rests}
 use Rattle.gateway.specs.Config.{Settings}
-use Rattle.gateway.specs.Log.{Log}
 use Rattle.gateway.specs.Setups.{setup_of}
 use Rattle.live.specs.Ends.{LiveEnds}
 use Rattle.live.specs.declared.allow_list.AllowList.{AllowList}
-use Rattle.record.specs.Recording.{Recording}
+use Rattle.record.specs.Recording.{Recording, all_passed}
 use Rattle.state.specs.declared.beginning.Origin.{Origin}
-use Rattle.telegate.specs.Lives.{all_passed}
 use Rattle.telegate.specs.Living.{HasLived, IsPortOfRun}
 use Rattle.telegate.specs.Running.{HasEnded}
 use Rattle.telegate.specs.declared.fault.RunFault.{RunFault}
@@ -38,19 +36,19 @@ IsKeptFault fault = IsEndFault fault
 -- up. If the gateway began with the state that the lives before lead to, all lives together keep
 -- every promise of a gateway with these settings.
 pub record HasLivedOn {E : Type 0} (settings : Settings) (allow_list : AllowList) (origin : Origin)
-    (before : Log) (port : LiveEnds) (pen : Recording) (ended : Result (Unit {0}) E) : Type 0 where
-  pub behind : before ≡ origin.before.entries
+    (port : LiveEnds) (pen : Recording) (ended : Result (Unit {0}) E) : Type 0 where
+  pub behind : pen.before ≡ origin.before.entries
   pub port_is : IsPortOfRun settings allow_list (is_some origin.moment) port
-  pub over : OnOk ended (HasEnded false (Some before) (all_passed before pen (Some port.log)))
-  pub lived : Follows (setup_of settings) origin.gateway (Some before) →
-      Rests (setup_of settings) (Some before) →
-      HasLived settings allow_list (is_some origin.moment) before port pen ended
+  pub over : OnOk ended (HasEnded false (Some pen.before) (all_passed pen (Some port.log)))
+  pub lived : Follows (setup_of settings) origin.gateway (Some pen.before) →
+      Rests (setup_of settings) (Some pen.before) →
+      HasLived settings allow_list (is_some origin.moment) port pen ended
 
 -- A run whose state is kept is over. It began so, and went on from there, with its clock.
 pub record HasLivedFrom {E : Type 0} (begins : Origin → Type 0) (settings : Settings)
-    (allow_list : AllowList) (clocked : (moment : ℕ) → Type 0) (before : Log) (port : LiveEnds)
+    (allow_list : AllowList) (clocked : (moment : ℕ) → Type 0) (port : LiveEnds)
     (pen : Recording) (ended : Result (Unit {0}) E) : Type 0 where
   pub origin : Origin
   pub begun : begins origin
   pub clock : clocked (first_moment origin.moment)
-  pub on : HasLivedOn settings allow_list origin before port pen ended
+  pub on : HasLivedOn settings allow_list origin port pen ended

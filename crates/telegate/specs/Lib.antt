@@ -14,7 +14,6 @@ pub mod Examples
 pub mod Source
 pub mod Records
 pub mod Parts
-pub mod Lives
 pub mod Sites
 pub mod Lines
 pub mod Living

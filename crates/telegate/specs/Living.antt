@@ -1,13 +1,11 @@
 -- What a live run came to (profile).
 use Rattle.std.specs.Prelude.{◌≡◌, Bool, false, OnOk, Some, Result}
 use Rattle.gateway.specs.Config.{Settings}
-use Rattle.gateway.specs.Log.{Log}
 use Rattle.gateway.specs.Setups.{setup_of}
 use Rattle.live.specs.Ends.{LiveEnds, fixed_of}
 use Rattle.live.specs.Runs.{BeginsSo, HasPassed, IsInRun}
 use Rattle.live.specs.declared.allow_list.AllowList.{AllowList}
-use Rattle.record.specs.Recording.{Recording}
-use Rattle.telegate.specs.Lives.{all_passed}
+use Rattle.record.specs.Recording.{Recording, all_passed}
 use Rattle.telegate.specs.Running.{HasEnded, HasRunFaithfully, IsRecorded}
 
 -- The port is that of a run with these settings and this allow list, which goes on after a restart
@@ -33,8 +31,8 @@ pub record IsPortOfRun (settings : Settings) (allow_list : AllowList) (goes_on :
 -- gateway with these settings, and so does what is written of it. A port between real ends has
 -- always another event, so it ended well only once all turns that can be counted were used up.
 pub record HasLived {E : Type 0} (settings : Settings) (allow_list : AllowList) (goes_on : Bool)
-    (before : Log) (port : LiveEnds) (pen : Recording) (ended : Result (Unit {0}) E) : Type 0 where
+    (port : LiveEnds) (pen : Recording) (ended : Result (Unit {0}) E) : Type 0 where
   pub port_is : IsPortOfRun settings allow_list goes_on port
-  pub over : OnOk ended (HasEnded false (Some before) (all_passed before pen (Some port.log)))
-  pub faithful : HasRunFaithfully (setup_of settings) (all_passed before pen (Some port.log)) ended
-  pub recorded : IsRecorded (setup_of settings) before pen ended
+  pub over : OnOk ended (HasEnded false (Some pen.before) (all_passed pen (Some port.log)))
+  pub faithful : HasRunFaithfully (setup_of settings) (all_passed pen (Some port.log)) ended
+  pub recorded : IsRecorded (setup_of settings) pen ended

@@ -8,6 +8,7 @@ use Rattle.gateway.specs.Restored.{IsSavable}
 use Rattle.gateway.specs.State.{State, IsBetweenSteps}
 use Rattle.live.specs.Ends.{LiveEnds}
 use Rattle.live.specs.declared.watched.Notice.{Notice}
+use Rattle.record.specs.Recording.{Recorded}
 use Rattle.settings.specs.Settings.{IsReadOfText}
 use Rattle.sqlite_disk.specs.declared.Disk.{Ghosts}
 use Rattle.state.specs.Both.{Both}
@@ -17,7 +18,7 @@ use Rattle.state.specs.Origins.{IsNew}
 use Rattle.state.specs.Returns.{GoesOnOver, IsBegunOver}
 use Rattle.state.specs.declared.beginning.Origin.{Origin}
 use Rattle.telegate.specs.Served.{BeganWith, log_of_kept, script_of_kept, tends_of_kept}
-use Rattle.telegate.specs.Turns.{HasGoneOn, HaveLooked, PortOfLife, RunStanding, TakesEvent}
+use Rattle.telegate.specs.Turns.{HasGoneOn, HaveLooked, RunStanding, TakesEvent}
 use Rattle.telegate.specs.Turns.{log_in_life, script_in_life, tends_in_life}
 
 -- this state follows this log, each step of which has done all that it could
@@ -32,17 +33,17 @@ IsHeadUpTo p before head = IsUpTo p (head.1 ++ before) head.0
 -- A run has gone on by so many events from its first standing, in which it began so.
 pub record HasGoneOnFrom {P F : Type 0} (log : P → Option Log) (script : P → F)
     (tends : P → State → P → Option Notice → Type 0) (begins : State → P → Type 0) (before : Log)
-    (events : ℕ) (now : RunStanding (PortOfLife P)) : Type 0 where
-  pub first : RunStanding (PortOfLife P)
+    (events : ℕ) (now : RunStanding (Recorded P)) : Type 0 where
+  pub first : RunStanding (Recorded P)
   pub begun : begins first.gateway first.port.port
-  pub behind : first.port.before ≡ before
+  pub behind : first.port.pen.before ≡ before
   pub empty : log_in_life log first.port ≡ Some before
   pub on : HasGoneOn (log_in_life log) (script_in_life script) (tends_in_life log tends) first
       events now
 
 -- a run whose state is kept
 abbrev pub HasKeptOn : {S : Type 0} → Origin → (events : ℕ)
-    → RunStanding (PortOfLife (Keeping (Both LiveEnds S))) → Type 0
+    → RunStanding (Recorded (Keeping (Both LiveEnds S))) → Type 0
 HasKeptOn origin events now =
     HasGoneOnFrom log_of_kept script_of_kept tends_of_kept (BeganWith origin)
     origin.before.entries events now
@@ -59,7 +60,7 @@ pub record GoesOnByOne {P F : Type 0} (log : P → Option Log) (script : P → F
 -- one that was begun by now, or of one that is begun at the next look. Whether the last is whole on
 -- the disk isn't said.
 pub data IsHeadIn {S : Type 0} (origin : Origin)
-    (now : RunStanding (PortOfLife (Keeping (Both LiveEnds S)))) : State × Log → Type 0 where
+    (now : RunStanding (Recorded (Keeping (Both LiveEnds S)))) : State × Log → Type 0 where
   OfTheFirst : IsHeadIn origin now (origin.gateway, [])
   OfOneBegun : (head : State × Log) (earlier : List (State × Log))
       → heads now.port.port.ends.deeds ≡ head ∷ earlier → IsHeadIn origin now head
@@ -73,7 +74,7 @@ pub data IsHeadIn {S : Type 0} (origin : Origin)
 pub record ComesBehind (S : Type 0) {D : Type 0} (g : Ghosts D) (c : Settings)
     (this next : Origin) : Type 0 where
   pub events : ℕ
-  pub now : RunStanding (PortOfLife (Keeping (Both LiveEnds S)))
+  pub now : RunStanding (Recorded (Keeping (Both LiveEnds S)))
   pub gone : HasKeptOn this events now
   pub head : State × Log
   pub in_run : IsHeadIn this now head

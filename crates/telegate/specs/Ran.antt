@@ -2,11 +2,10 @@
 use Rattle.std.specs.Prelude.{◌≡◌, ◌⊎◌, ◌+◌, ℕ, List, [], Bool, false, Option, Some}
 use Rattle.std.specs.Prelude.{MatchOption, Result, Ok, Err}
 use Rattle.gateway.specs.Config.{Settings}
-use Rattle.gateway.specs.Log.{Log}
 use Rattle.live.specs.Ends.{LiveEnds}
 use Rattle.record.specs.Recording.{Recording}
 use Rattle.runlog.specs.Logging.{Book}
-use Rattle.settings.specs.Live.{places_of}
+use Rattle.settings.specs.Live.{Places, places_of}
 use Rattle.settings.specs.Settings.{IsLiveReadOfText}
 use Rattle.settings.specs.declared.live.LiveSettings.{LiveSettings}
 use Rattle.state.specs.declared.beginning.Origin.{Origin}
@@ -24,11 +23,10 @@ use Rattle.telegate.specs.declared.living.Over.{Over}
 use Rattle.telegate.specs.declared.living.Over.TheVariants.{Anew, Kept}
 use Rattle.telegate.specs.declared.running.DeviceFailed.{DeviceFailed}
 
--- What is left of a run that is over: what passed before it, its port, its record and its log,
--- whether it was shown, and, where its state was kept, whether it bore the loss of that, and how
--- often it stopped for it.
+-- What is left of a run that is over: its port, its record, which says what passed before it, and
+-- its log; whether it was shown; and, if its state was kept, whether it bore the loss of that, and
+-- how often it stopped for it.
 pub record RunLeft : Type 0 where
-  pub before : Log
   pub port : LiveEnds
   pub pen : Recording
   pub book : Book
@@ -42,8 +40,8 @@ pub record RunLeft : Type 0 where
 pub record HasLivedAnew {E : Type 0} (settings : Settings) (wishes : Wishes) (old new : Asked)
     (left : RunLeft) (ended : Result (Unit {0}) E) : Type 0 where
   pub asked : new ≡ run_asked wishes 0 old
-  pub anew : left.before ≡ []
-  pub lived : HasLived settings wishes.allow_list false [] left.port left.pen ended
+  pub anew : left.pen.before ≡ []
+  pub lived : HasLived settings wishes.allow_list false left.port left.pen ended
   pub device : HasRun 0 left.port.failed ended
   pub wished : IsAsWished wishes left.book left.pen left.is_shown
 
@@ -54,7 +52,7 @@ pub record HasLivedKept {E : Type 0} (begins : Origin → Type 0) (settings : Se
     (wishes : Wishes) (old new : Asked) (left : RunLeft) (ended : Result (Unit {0}) E)
     : Type 0 where
   pub lived : HasLivedFrom begins settings wishes.allow_list
-      (λ moment. new ≡ run_asked wishes moment old) left.before left.port left.pen ended
+      (λ moment. new ≡ run_asked wishes moment old) left.port left.pen ended
   pub device : HasRun 0 (left.port.failed + left.stops) ended
   pub wished : IsAsWished wishes left.book left.pen left.is_shown
   pub bears : left.bears_loss ≡ Some wishes.bears_loss
@@ -91,27 +89,27 @@ abbrev pub HasNotBegun : (old new : Asked) → Result (Unit {0}) RunFault → Ty
 HasNotBegun old new (Ok done) = ⊥
 HasNotBegun old new (Err fault) = IsKeptFault fault × (new.clocks ≡ old.clocks)
 
--- either was so at a site with the places of these settings
-pub record HasComeAt (begins : Origin → Type 0) (settings : Settings) (places : LiveSettings)
-    (wishes : Wishes) (answer : Result (Unit {0}) RunFault) : Type 0 where
-  pub old : Asked
-  pub at : old.places ≡ places_of places
-  pub new : Asked
-  pub came : HasNotBegun old new answer ⊎ HasCome begins settings wishes old new answer
+-- it didn't begin, or it is over
+abbrev pub HasComeAt : (begins : Origin → Type 0) → Settings → Wishes → (old new : Asked)
+    → Result (Unit {0}) RunFault → Type 0
+HasComeAt begins settings wishes old new answer =
+    HasNotBegun old new answer ⊎ HasCome begins settings wishes old new answer
 
 -- as the answer of a command
 abbrev pub told : Result (Unit {0}) RunFault → Result (Unit {0}) Fault
 told (Ok done) = Ok done
 told (Err fault) = Err (fault_of_run fault)
 
--- the settings of a live run are those of its file, and this is answered of it
-pub record HasRunWith (begins : Settings → Origin → Type 0) (text : List ℕ)
-    (wishes : Wishes) (answer : Result (Unit {0}) Fault) : Type 0 where
+-- The settings of a live run are those of its file, and this is answered of it. This was asked for
+-- before and after it, at a site with its places.
+pub record HasRunWith (begins : Settings → Origin → Type 0) (old new : Places → Asked)
+    (text : List ℕ) (wishes : Wishes) (answer : Result (Unit {0}) Fault) : Type 0 where
   pub settings : Settings
   pub places : LiveSettings
   pub are : IsLiveReadOfText text (Ok (settings, places))
   pub run : Result (Unit {0}) RunFault
-  pub came : HasComeAt (begins settings) settings places wishes run
+  pub came : HasComeAt (begins settings) settings wishes (old (places_of places))
+      (new (places_of places)) run
   pub answered : answer ≡ told run
 
 -- or the file is refused by the first fault, and nothing is run
@@ -119,6 +117,7 @@ abbrev pub IsRefused : List ℕ → Result (Unit {0}) Fault → Type 0
 IsRefused text (Ok done) = ⊥
 IsRefused text (Err fault) = IsLiveConfigFault text fault
 
-abbrev pub HasRunBy : (begins : Settings → Origin → Type 0) → List ℕ → Wishes
-    → Result (Unit {0}) Fault → Type 0
-HasRunBy begins text wishes answer = HasRunWith begins text wishes answer ⊎ IsRefused text answer
+abbrev pub HasRunBy : (begins : Settings → Origin → Type 0) → (old new : Places → Asked) → List ℕ
+    → Wishes → Result (Unit {0}) Fault → Type 0
+HasRunBy begins old new text wishes answer =
+    HasRunWith begins old new text wishes answer ⊎ (IsRefused text answer × (new ≡ old))

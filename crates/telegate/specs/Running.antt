@@ -60,5 +60,5 @@ IsTextOf p before is_over (Some text) None result = Unit {0}
 IsTextOf p before is_over (Some text) (Some missed) result =
     IsRecordOf p before is_over text missed result
 
-abbrev pub IsRecorded : {A E : Type 0} → Setup → (before : Log) → Recording → Result A E → Type 0
-IsRecorded p before r result = IsTextOf p before r.is_over (text_of r) r.missed result
+abbrev pub IsRecorded : {A E : Type 0} → Setup → Recording → Result A E → Type 0
+IsRecorded p r result = IsTextOf p r.before r.is_over (text_of r) r.missed result

@@ -9,13 +9,14 @@ use Rattle.live.specs.Ends.{Fixture, LiveEnds, failure_of, fixed_of}
 use Rattle.live.specs.declared.watched.Failure.{Failure}
 use Rattle.live.specs.declared.watched.Notice.{Notice}
 use Rattle.status.specs.Looks.{Standing}
+use Rattle.record.specs.Recording.{Recorded}
 use Rattle.runlog.specs.Logging.{Book}
 use Rattle.state.specs.Both.{Both}
 use Rattle.state.specs.Keeping as keeping
 use Rattle.state.specs.Keeping.{HasTended, Keeping, UnlookedFixture, unlooked_fixture}
 use Rattle.state.specs.Standings.{Renews}
 use Rattle.state.specs.declared.beginning.Origin.{Origin}
-use Rattle.telegate.specs.Turns.{HasServed, PortOfLife, RunStanding, failure_in_life, log_in_life}
+use Rattle.telegate.specs.Turns.{HasServed, RunStanding, failure_in_life, log_in_life}
 use Rattle.telegate.specs.Turns.{script_in_life, stands, tends_in_life}
 
 -- A run is over, of which this port, this log and what visitors are shown are left. It began so,
@@ -23,11 +24,11 @@ use Rattle.telegate.specs.Turns.{script_in_life, stands, tends_in_life}
 -- before the next one came.
 pub record WasServed {P F E : Type 0} (log : P → Option Log) (script : P → F)
     (tends : P → State → P → Option Notice → Type 0) (failure : P → Option Failure)
-    (begins : State → P → Type 0) (before : Log) (last : PortOfLife P) (book : Book)
+    (begins : State → P → Type 0) (before : Log) (last : Recorded P) (book : Book)
     (shown : Option Standing) (ended : Result (Unit {0}) E) : Type 0 where
-  pub first : RunStanding (PortOfLife P)
+  pub first : RunStanding (Recorded P)
   pub begun : begins first.gateway first.port.port
-  pub behind : first.port.before ≡ before
+  pub behind : first.port.pen.before ≡ before
   pub empty : log_in_life log first.port ≡ Some before
   pub gateway : State
   pub served : HasServed (log_in_life log) (script_in_life script) (tends_in_life log tends)
@@ -38,7 +39,7 @@ abbrev pub IsLeft : LiveEnds → State → LiveEnds → Option Notice → Type 0
 IsLeft old state new notice = (new ≡ old) × (notice ≡ None)
 
 -- a run that began anew, without a state
-abbrev pub HasServedAnew : {E : Type 0} → Settings → PortOfLife LiveEnds → Book
+abbrev pub HasServedAnew : {E : Type 0} → Settings → Recorded LiveEnds → Book
     → Option Standing → Result (Unit {0}) E → Type 0
 HasServedAnew c last book shown ended =
     WasServed (λ ends. Some ends.log) (λ ends. fixed_of ends) IsLeft
@@ -62,7 +63,7 @@ abbrev pub BeganWith : {S : Type 0} → Origin → State → Keeping (Both LiveE
 BeganWith origin s k = (s ≡ origin.gateway) × Renews [] s k.ends.deeds
 
 -- A run whose state is kept. It began with this gateway.
-abbrev pub HasServedOn : {S E : Type 0} → Origin → PortOfLife (Keeping (Both LiveEnds S)) → Book
+abbrev pub HasServedOn : {S E : Type 0} → Origin → Recorded (Keeping (Both LiveEnds S)) → Book
     → Option Standing → Result (Unit {0}) E → Type 0
 HasServedOn origin last book shown ended =
     WasServed log_of_kept script_of_kept tends_of_kept

@@ -11,10 +11,10 @@ use Rattle.live.specs.declared.watched.Notice.{Notice}
 use Rattle.status.specs.Looking.{looked, turned_after}
 use Rattle.status.specs.Looks.{Look, Standing}
 use Rattle.status.specs.declared.lookout.Lookout.{Lookout}
-use Rattle.record.specs.Recording.{AreAgreed, RecordedFixture, Recording, recorded_fixture}
+use Rattle.record.specs.Recording.{AreAgreed, Recorded, RecordedFixture, all_passed}
+use Rattle.record.specs.Recording.{recorded_fixture}
 use Rattle.runlog.specs.Logging.{Book, Closes, Tends}
 use Rattle.status.specs.declared.streams.Stream.{Ghosts}
-use Rattle.telegate.specs.Lives.{LivesFixture, all_passed, fixture}
 
 -- How a run stands: its gateway, its port, what was logged, and what is shown to visitors, if there
 -- is a listener for them.
@@ -117,32 +117,22 @@ pub data HasServed {P F E : Type 0} (log : P → Option Log) (script : P → F)
   WithoutEnd : HasGoneOn log script tends first 18446744073709551615 last
       → HasServed log script tends failure first last (Ok tt)
 
--- a port in its life: what passed in the lives before, what is recorded of it, and itself
-pub record PortOfLife (P : Type 0) : Type 0 where
-  pub before : Log
-  pub pen : Recording
-  pub port : P
-
-abbrev pub in_life : {P : Type 0} → (before : Log) → Recording → P → PortOfLife P
-in_life before pen port = record { before = before; pen = pen; port = port }
-
--- what has passed in all lives
-abbrev pub log_in_life : {P : Type 0} → (P → Option Log) → PortOfLife P → Option Log
-log_in_life log l = all_passed l.before l.pen (log l.port)
+-- what has passed in all lives at a port that is recorded
+abbrev pub log_in_life : {P : Type 0} → (P → Option Log) → Recorded P → Option Log
+log_in_life log l = all_passed l.pen (log l.port)
 
 -- what is fixed of it
-abbrev pub script_in_life : {P F : Type 0} → (P → F) → PortOfLife P
-    → LivesFixture (RecordedFixture F)
-script_in_life script l = fixture (recorded_fixture (script l.port) l.pen) l.before
+abbrev pub script_in_life : {P F : Type 0} → (P → F) → Recorded P → RecordedFixture F
+script_in_life script l = recorded_fixture (script l.port) l.pen
 
 -- It tended the state, of which nothing is recorded. What is recorded is what has passed, if both
 -- is known.
 abbrev pub tends_in_life : {P : Type 0} → (P → Option Log)
-    → (P → State → P → Option Notice → Type 0) → PortOfLife P → State → PortOfLife P
+    → (P → State → P → Option Notice → Type 0) → Recorded P → State → Recorded P
     → Option Notice → Type 0
 tends_in_life log tends old state new notice =
-    (tends old.port state new.port notice × (new.pen ≡ old.pen)
-    × AreAgreed old.pen (log old.port)) × (new.before ≡ old.before)
+    tends old.port state new.port notice × (new.pen ≡ old.pen)
+    × AreAgreed old.pen (log old.port)
 
-abbrev pub failure_in_life : {P : Type 0} → (P → Option Failure) → PortOfLife P → Option Failure
+abbrev pub failure_in_life : {P : Type 0} → (P → Option Failure) → Recorded P → Option Failure
 failure_in_life failure l = failure l.port

@@ -12,7 +12,7 @@ use centre::{
     Centre, Desk, Outcome, Style, Terms, Untold, Wish, converse, end_line, errand_of, is_wish_word,
     read_wish, tag_of,
 };
-use live::{LineSocket, RunClock, SystemClock};
+use live::{LineDialler, RunClock, SystemClock};
 use settings::{is_address, read_config};
 use std::alloc::{AllocError, Global};
 use std::io;
@@ -194,7 +194,7 @@ pub(crate) fn control_at<W: Write>(
 {
     let alloc = rt.alloc();
     let place = dialled(alloc, errands.place)?;
-    let stream = match LineSocket::reach(rt, place.as_str()) {
+    let stream = match LineDialler::new(rt, place.as_str()).reach() {
         Ok(stream) => stream,
         Err(fault) if fault.kind() == io::ErrorKind::OutOfMemory => {
             return Err(Uncontrolled::Failed(Fault::NoMemory));

@@ -1,10 +1,14 @@
 //! What the program needs of the system that it runs on.
-ghost use Rattle.std.specs.Prelude.{◌≡◌, ℕ, Bool, List, Result, IfOk, IfErr, map, option_map};
+ghost use Rattle.std.specs.IoError.{error_kind};
+ghost use Rattle.std.specs.declared.io.ErrorKind.TheVariants.{OutOfMemory};
+ghost use Rattle.std.specs.Prelude.{◌≡◌, ◌↔◌, ℕ, Bool, List, Result, IfOk, IfErr, map, option_map};
 ghost use Rattle.std.specs.Prelude.{string_bytes};
 ghost use Rattle.sim.specs.Scenarios.{FitsScenario};
+ghost use Rattle.settings.specs.Live.{places_of};
+ghost use Rattle.telegate.specs.Asked.{asked_by};
 ghost use Rattle.telegate.specs.Controlled.{HasPrinted};
-ghost use Rattle.telegate.specs.Playing.{ArePlayed};
-ghost use Rattle.telegate.specs.Ran.{HasComeAt};
+ghost use Rattle.telegate.specs.Playing.{ArePlayed, ArePlayedBy};
+ghost use Rattle.telegate.specs.Ran.{HasComeAt, HasRunBy};
 ghost use Rattle.state_files.specs.declared.looking.Stood.{Stood};
 ghost use Rattle.telegate.specs.Source.{Gives};
 ghost use Rattle.telegate.specs.Starts.{StartsIn};
@@ -17,7 +21,7 @@ use crate::fault::{Fault, RunFault};
 use crate::inquiry::ask_at;
 use crate::living::{read_live, run_out};
 use crate::playing::{play_behind, scenario_of};
-use crate::site::{Process, tell_refused};
+use crate::site::{Notes, Process, tell_refused};
 use crate::source::Source;
 use centre::Outcome;
 use gateway::{Config, History};
@@ -157,7 +161,7 @@ pub(crate) trait Host {
 /// The system of a process, in whose directory this stands. What led to the state that a run may
 /// find there only proofs know.
 #[derive(Drop)]
-pub(crate) struct System<'r, S: Starts> {
+pub(crate) struct System<'r, S: Starts, N: Notes + Drop> {
     pub(crate) rt: &'r HostRuntime,
     /// Whether its standard error is a terminal, and its standard output isn't.
     pub(crate) is_watched: bool,
@@ -167,17 +171,22 @@ pub(crate) struct System<'r, S: Starts> {
     pub(crate) starts: S,
     /// What led to the state at the head of the newest log there.
     pub(crate) lineage: History,
+    /// What live runs asked it for.
+    pub(crate) notes: N,
 }
 
-impl<S: Starts> Host for System<'_, S> {
+impl<S: Starts, N: Notes + Drop> Host for System<'_, S, N> {
     ghost has = { λ _ _ _. Unit {0} };
 
     ghost lacks = { λ _ _. Unit {0} };
 
+    ghost use Rattle.telegate.specs.Asked.{asked_by};
     ghost use Rattle.telegate.specs.Ran.{HasRunBy};
 
-    ghost ran = { λ old _ text wishes ended. HasRunBy (λ settings. StartsIn
-        ⟦<FileFrom<S::Found> as Disk>⟧ wishes settings old.lineage.entries) text wishes ended };
+    ghost ran = { λ old new text wishes ended. HasRunBy (λ settings. StartsIn
+        ⟦<FileFrom<S::Found> as Disk>⟧ wishes settings old.lineage.entries)
+        (asked_by old.lineage.entries (N.calls old.notes) (N.clocks old.notes))
+        (asked_by old.lineage.entries (N.calls new.notes) (N.clocks new.notes)) text wishes ended };
 
     ghost use Rattle.telegate.specs.Playing.{ArePlayedBy};
 
@@ -214,20 +223,32 @@ impl<S: Starts> Host for System<'_, S> {
         }
     }
 
-    fn is_watched(&self) -> bool {
+    fn is_watched(&self) -> bool
+        ensures { result ≡ self.now.is_watched }
+    {
         self.is_watched
     }
 
-    fn shows_colours(&self) -> bool {
+    fn shows_colours(&self) -> bool
+        ensures { result ≡ self.now.has_colours }
+    {
         self.has_colours
     }
 
-    fn run(&mut self, config: &[u8], wishes: Wishes<'_>) -> Result<(), Fault> {
+    fn run(&mut self, config: &[u8], wishes: Wishes<'_>) -> Result<(), Fault>
+        // It asked for what this one run asks for, once, and for nothing else.
+        ensures { HasRunBy (λ settings. StartsIn ⟦<FileFrom<S::Found> as Disk>⟧ wishes.entry
+            settings self.old.lineage.entries) (asked_by self.old.lineage.entries
+            (N.calls self.old.notes) (N.clocks self.old.notes)) (asked_by self.old.lineage.entries
+            (N.calls self.new.notes) (N.clocks self.new.notes)) config.now wishes.entry result }
+    {
         let (settings, places) = read_live(self.rt.alloc(), config)?;
         Ok(run_process(self, &settings, &places, config, wishes)?)
     }
 
-    fn play(&self, config: &[u8], script: &[u8]) -> Result<(), Fault> {
+    fn play(&self, config: &[u8], script: &[u8]) -> Result<(), Fault>
+        ensures { ArePlayedBy config.now script.now result }
+    {
         let (settings, places) = read_live(self.rt.alloc(), config)?;
         let scenario = scenario_of(self.rt.alloc(), &settings, script)?;
         play_at(self.rt, &settings, scenario, places.line.as_str())
@@ -238,7 +259,9 @@ impl<S: Starts> Host for System<'_, S> {
         errands: &Errands<'_>,
         addresses: &[u16],
         out: &mut W,
-    ) -> Result<Outcome, Uncontrolled> {
+    ) -> Result<Outcome, Uncontrolled>
+        ensures { IfOk result (λ _. HasPrinted (W.contents out.old) (W.contents out.new)) }
+    {
         control_at(self.rt, errands, addresses, out)
     }
 
@@ -258,7 +281,9 @@ impl<S: Starts> Host for System<'_, S> {
 }
 
 /// Why a file, a directory or an answer isn't had. What the system says of it is told.
-fn told_unread(rt: &HostRuntime, what: &str, place: &str, fault: &io::Error) -> Unread {
+fn told_unread(rt: &HostRuntime, what: &str, place: &str, fault: &io::Error) -> Unread
+    ensures { (result ≡ unread.NoMemory) ↔ (error_kind fault.now ≡ OutOfMemory) }
+{
     if fault.kind() == io::ErrorKind::OutOfMemory {
         return Unread::NoMemory;
     }
@@ -296,15 +321,18 @@ fn play_at(
 /// Runs the gateway live with these settings and places, which were read from this text, in a
 /// process of this system.
 #[tactic(auto, using(crate::proofs::RanLemmas::never_at))]
-fn run_process<S: Starts>(
-    system: &System<'_, S>,
+fn run_process<S: Starts, N: Notes + Drop>(
+    system: &mut System<'_, S, N>,
     settings: &Config,
     places: &LiveSettings,
     text: &[u8],
     wishes: Wishes<'_>,
 ) -> Result<(), RunFault>
     ensures { HasComeAt (StartsIn ⟦<FileFrom<S::Found> as Disk>⟧ wishes.entry settings.now
-        system.now.lineage.entries) settings.now places.now wishes.entry result }
+        system.old.lineage.entries) settings.now wishes.entry (asked_by system.old.lineage.entries
+        (N.calls system.old.notes) (N.clocks system.old.notes) (places_of places.now))
+        (asked_by system.old.lineage.entries (N.calls system.new.notes)
+        (N.clocks system.new.notes) (places_of places.now)) result }
 {
     let rt = system.rt;
     let Ok(stations) = names_of(rt.alloc(), wishes.names) else {
@@ -315,30 +343,17 @@ fn run_process<S: Starts>(
         return Err(RunFault::EndUnusable);
     };
     let names = named_by(wishes.names, stations.as_slice());
-    let mut site = process_of(system, places, names, &wishes);
-    run_out(&mut site, settings, text, wishes)
-}
-
-/// A process of this system with these settings and names, and a log as it is wished.
-fn process_of<'a, S: Starts>(
-    system: &System<'a, S>,
-    places: &'a LiveSettings,
-    names: LogNames<'a>,
-    wishes: &Wishes<'_>,
-) -> Process<'a, S>
-    ensures severity { result.has_severity ≡ wishes.now.log_severity }
-    ensures places { result.places.now ≡ places.now }
-    ensures lineage { result.lineage.entries ≡ system.now.lineage.entries }
-{
-    Process {
-        rt: system.rt,
+    let mut site = Process {
+        rt,
         places,
         names,
         has_severity: wishes.log_severity,
         is_logged: wishes.log,
         starts: system.starts,
         lineage: system.lineage.again(),
-    }
+        notes: &mut system.notes,
+    };
+    run_out(&mut site, settings, text, wishes)
 }
 
 /// What the line and these stations are called.

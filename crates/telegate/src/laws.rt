@@ -10,6 +10,7 @@ ghost use Rattle.gateway.specs.Reports.{Setup};
 ghost use Rattle.gateway.specs.Restored.{IsSavable};
 ghost use Rattle.gateway.specs.Setups.{setup_of};
 ghost use Rattle.gateway.specs.State.{State, IsBetweenSteps};
+ghost use Rattle.record.specs.Recording.{Recorded};
 ghost use Rattle.settings.specs.Live.{Places};
 ghost use Rattle.settings.specs.Site.{SiteNames, SiteValues, names_of};
 ghost use Rattle.state.specs.Both.{Both};
@@ -30,18 +31,17 @@ ghost use Rattle.telegate.specs.ManyLives.{ComesBehind, HasKeptOn, IsHeadIn, IsH
 ghost use Rattle.telegate.specs.ManyLives.{IsLastOfLives, IsUpTo};
 ghost use Rattle.telegate.specs.Ran.{HasLivedAs, RunLeft};
 ghost use Rattle.telegate.specs.Starts.{StartsIn};
-ghost use Rattle.telegate.specs.Turns.{AllLooked, HasGoneOn, PortOfLife, RunStanding};
+ghost use Rattle.telegate.specs.Turns.{AllLooked, HasGoneOn, RunStanding};
 ghost use Rattle.telegate.specs.Wishes.{AreWishes, Said, said_by, said_in, said_of};
 ghost use Rattle.telegate.specs.declared.host.Wishes.{Wishes};
 ghost use Rattle.telegate.specs.declared.run_words.RunWords.{RunWords};
 ghost use Rattle.telegate.specs.declared.running.DeviceFailed.{DeviceFailed};
 ghost use Rattle.telegate.specs.declared.site.ProcessLine.TheVariants.{Once, Again};
 
-use crate::life::Life;
 use crate::living::Kept;
 use crate::site::{ReturningLine, RunSite, SystemLine};
 use gateway::steps_leave_nothing_open;
-use live::{LineSocket, OctetStream, RunPort, Watched};
+use live::{LineSocket, Live, OctetStream, Watched};
 use record::Recorder;
 use sqlite_disk::Disk;
 use state::{Beginning, Store};
@@ -49,16 +49,14 @@ use state::{Beginning, Store};
 /// The line of the program.
 type ProgramLine = SystemLine<'static, HostRuntime>;
 
-/// The port of a run that keeps no state, behind the lives before it.
-type PortAnew<T> = Life<
-    Recorder<
-        RunPort<<T as RunSite>::Line, <T as RunSite>::Listener, <T as RunSite>::Clock>,
-        <T as RunSite>::Sheet,
-    >,
+/// The port of a run that keeps no state.
+type PortAnew<T> = Recorder<
+    Live<<T as RunSite>::Line, <T as RunSite>::Listener, <T as RunSite>::Clock>,
+    <T as RunSite>::Sheet,
 >;
 
-/// The port of a run whose state is kept, behind the lives before it.
-type PortKept<T> = Life<Recorder<Kept<T>, <T as RunSite>::Sheet>>;
+/// The port of a run whose state is kept.
+type PortKept<T> = Recorder<Kept<T>, <T as RunSite>::Sheet>;
 
 /// The line of the program is there as the stream is that it holds, and says so.
 pub fn the_line_is_there_as_its_stream_is()
@@ -74,9 +72,9 @@ pub fn the_line_is_there_as_its_stream_is()
 /// lives before it are, and with a state on the disk as without one.
 pub fn sights_show_the_ends<T: RunSite>()
     ensures anew { (run : _) (sight : EndsSight) →
-        ⟦<PortAnew<T> as Watched>⟧.shows run sight → ShowsRun run.port.port sight }
+        ⟦<PortAnew<T> as Watched>⟧.shows run sight → ShowsRun run.port sight }
     ensures kept { (run : _) (sight : EndsSight) →
-        ⟦<PortKept<T> as Watched>⟧.shows run sight → ShowsRun run.port.port.ends.port sight }
+        ⟦<PortKept<T> as Watched>⟧.shows run sight → ShowsRun run.port.ends.port sight }
 {}
 
 /// Each value of a site's file reaches the run under its own name: flags, the state's directory,
@@ -171,7 +169,7 @@ pub fn the_clock_of_a_run_begins_where_its_gateway_stands<T: RunSite>()
           clocks = Some moments;
         }) new left ended → w.state ≡ Some directory →
         (o : Origin) × StartsIn T.Folder.File.Disk w c lineage o
-        × (left.before ≡ o.before.entries)
+        × (left.pen.before ≡ o.before.entries)
         × ((o.beginning ≡ Beginning.GoesOn) ⊎ (o.beginning ≡ Beginning.LinksReset) →
         new.clocks ≡ Some (o.gateway.moment ∷ moments))
         × ((o.beginning ≡ Beginning.Anew) ⊎ (o.beginning ≡ Beginning.PutAside) →
@@ -194,7 +192,7 @@ pub fn behind_each_event_all_look<P: Watched>()
 /// that was begun at a look, or of one that is begun at the next look.
 pub fn each_log_begins_where_the_run_stands<S: Store>()
     ensures heads { (p : Setup) (origin : Origin) (events : ℕ)
-        (now : RunStanding (PortOfLife (Keeping (Both LiveEnds S)))) (head : State × Log) →
+        (now : RunStanding (Recorded (Keeping (Both LiveEnds S)))) (head : State × Log) →
         HasKeptOn origin events now → IsUpTo p origin.before.entries origin.gateway →
         IsHeadIn origin now head → IsHeadUpTo p origin.before.entries head }
     ensures readable { (bears : Bool) (deeds : Deeds) (head : State × Log)

@@ -20,11 +20,11 @@ ghost use Rattle.telegate.specs.Kept.{HasLivedFrom, HasLivedOn, IsEndFault, IsKe
 ghost use Rattle.telegate.specs.Kept.{first_moment};
 ghost use Rattle.telegate.specs.Law.{LogsAll};
 ghost use Rattle.telegate.specs.Living.{HasLived, IsPortOf};
-ghost use Rattle.telegate.specs.Ran.{HasCome, HasLivedAs, HasNotBegun, IfOver, answer_to};
+ghost use Rattle.telegate.specs.Ran.{HasComeAt, HasLivedAs, IfOver, answer_to};
 ghost use Rattle.telegate.specs.Running.{HasRun, IsReadLiveConfig};
 ghost use Rattle.telegate.specs.Served.{HasServedAnew, HasServedOn};
 ghost use Rattle.telegate.specs.Starts.{IsWithout, StartsIn};
-ghost use Rattle.telegate.specs.Turns.{in_life, shown_to};
+ghost use Rattle.telegate.specs.Turns.{shown_to};
 ghost use Rattle.telegate.specs.declared.fault.RunFault.TheVariants as run_fault;
 ghost use Rattle.telegate.specs.Logged.{IsRefused, IsUnkept, LogsNoteIf, LogsBeginning, LogsGap};
 ghost use Rattle.telegate.specs.Logged.{LogsStart, LogsWithout, note_if_on, note_of_address};
@@ -36,7 +36,7 @@ use crate::place::Place;
 use crate::running::{DeviceFailed, Lived, Scribes, live};
 use crate::site::{EndRefusal, RunSite};
 use gateway::{Action, Config, Gateway, History, NoMemory};
-use live::{AllowList, Listener, Live, OctetStream, RunPort};
+use live::{AllowList, Listener, Live, OctetStream};
 use record::{Pen, RecordSheet};
 use runlog::{LogSink, Logger, Note, Obstacle, Trouble, Watch};
 use settings::{ConfigFault, LiveSettings, read_live_config};
@@ -70,6 +70,7 @@ fn scribes_of<T: RunSite>(
 ) -> Result<Scribes<T::Sink, T::Sheet, T::Glass>, RunFault>
     ensures new { IfOk result (λ scribes.
         logged_first (log_of scribes.pen) (Some []) ≡ Some []) }
+    ensures first { IfOk result (λ scribes. scribes.pen.before ≡ []) }
     ensures logs { IfOk result (λ scribes. scribes.logger.is_over ≡ not wishes.now.log) }
     ensures records { IfOk result (λ scribes. scribes.pen.is_over ≡ not wishes.now.record) }
     ensures wished { IfOk result (λ scribes.
@@ -123,6 +124,7 @@ fn lookout_of<T: RunSite>(
 #[tactic(auto, using(crate::proofs::Begins::new_is_written, crate::proofs::Begins::added_nothing, crate::proofs::Begins::new_has_nothing))]
 fn pen_of<T: RunSite>(site: &mut T, is_recorded: bool) -> Pen<T::Sheet>
     ensures new { logged_first (log_of result) (Some []) ≡ Some [] }
+    ensures first { result.before ≡ [] }
     ensures records { result.is_over ≡ not is_recorded }
     ensures wished { result.is_wished ≡ is_recorded }
     ensures asked { T.asked site.new ≡ asked_for (RecordAt ∷ []) (T.asked site.old) }
@@ -235,13 +237,12 @@ fn refused<S: LogSink + Drop>(refusal: EndRefusal, logger: &mut Logger<S>) -> Ru
 
 /// The port of a run between these ends. In one that goes on after a restart the connection of then
 /// is cut first.
-#[tactic(auto, using(crate::proofs::RunPorts::start_anew, crate::proofs::RunPorts::start_on))]
 fn port_between<S: OctetStream, L: Listener + Drop, C: live::RunClock + Drop>(
     config: &Config,
     ends: RunEnds<S, L, C>,
     allow_list: AllowList,
     goes_on: bool,
-) -> RunPort<S, L, C>
+) -> Live<S, L, C>
     requires new { IsNew (S.history ends.line) }
     requires unasked { HasNoAttempts (L.attempts ends.listener) }
     ensures port { IsPortOf config.now allow_list goes_on result }
@@ -250,7 +251,7 @@ fn port_between<S: OctetStream, L: Listener + Drop, C: live::RunClock + Drop>(
     ensures failed { result.failed ≡ 0 }
 {
     let port = Live::new(ends.line, ends.listener, ends.clock, allow_list, config);
-    RunPort::new(if goes_on { port.cut_first() } else { port })
+    if goes_on { port.cut_first() } else { port }
 }
 
 /// A live run that is over: one that began anew, or one whose state is kept.
@@ -265,7 +266,7 @@ pub(crate) enum Over<A: Drop, K: Drop> {
 /// A live run at this site that is over.
 pub(crate) type RunOver<T> = Over<
     Lived<
-        RunPort<<T as RunSite>::Line, <T as RunSite>::Listener, <T as RunSite>::Clock>,
+        Live<<T as RunSite>::Line, <T as RunSite>::Listener, <T as RunSite>::Clock>,
         <T as RunSite>::Sheet,
         <T as RunSite>::Sink,
         <T as RunSite>::Glass,
@@ -289,9 +290,8 @@ pub(crate) fn run_at<T: RunSite>(
         (λ anew. HasLivedAs
         (StartsIn T.Folder.File.Disk wishes.entry config.now (T.asked site.old).lineage)
         config.now wishes.entry (T.asked site.old) (T.asked site.new) (record {
-          before = anew.run_log.port.before.entries;
-          port = anew.run_log.port.port.port;
-          pen = anew.run_log.port.port.pen;
+          port = anew.run_log.port.port;
+          pen = anew.run_log.port.pen;
           book = anew.run_log.logger;
           is_shown = is_some anew.lookout;
           bears_loss = None;
@@ -299,21 +299,20 @@ pub(crate) fn run_at<T: RunSite>(
         }) anew.ended)
         (λ kept. HasLivedAs (λ origin.
         StartsIn T.Folder.File.Disk wishes.entry config.now (T.asked site.old).lineage origin
-        × HasServedOn origin (in_life kept.run_log.port.before.entries kept.run_log.port.port.pen
-        kept.run_log.port.port.port) kept.run_log.logger (shown_to kept.lookout) kept.ended)
+        × HasServedOn origin kept.run_log.port
+        kept.run_log.logger (shown_to kept.lookout) kept.ended)
         config.now wishes.entry (T.asked site.old) (T.asked site.new) (record {
-          before = kept.run_log.port.before.entries;
-          port = kept.run_log.port.port.port.ends.port;
-          pen = kept.run_log.port.port.pen;
+          port = kept.run_log.port.port.ends.port;
+          pen = kept.run_log.port.pen;
           book = kept.run_log.logger;
           is_shown = is_some kept.lookout;
-          bears_loss = Some kept.run_log.port.port.port.bears_loss;
-          stops = kept.run_log.port.port.port.stops;
+          bears_loss = Some kept.run_log.port.port.bears_loss;
+          stops = kept.run_log.port.port.stops;
         }) kept.ended)) }
     // So did those of a run that began anew.
     ensures served { IfOk result (λ over. IfOver over
-        (λ anew. HasServedAnew config.now (in_life anew.run_log.port.before.entries
-        anew.run_log.port.port.pen anew.run_log.port.port.port) anew.run_log.logger
+        (λ anew. HasServedAnew config.now
+        anew.run_log.port anew.run_log.logger
         (shown_to anew.lookout) anew.ended) (λ _. Unit {0})) }
     // Without a clock nothing has run.
     ensures none { UnclockedIfErr result (T.asked site.old) (T.asked site.new) }
@@ -354,8 +353,7 @@ pub(crate) fn run_out<T: RunSite>(
     wishes: Wishes<'_>,
 ) -> Result<(), RunFault>
     requires severity { T.severe site.old ≡ wishes.log_severity }
-    ensures { HasNotBegun (T.asked site.old) (T.asked site.new) result
-        ⊎ HasCome (StartsIn T.Folder.File.Disk wishes.entry config.now
+    ensures { HasComeAt (StartsIn T.Folder.File.Disk wishes.entry config.now
         (T.asked site.old).lineage) config.now wishes.entry (T.asked site.old)
         (T.asked site.new) result }
 {
@@ -371,17 +369,17 @@ fn run_anew<T: RunSite>(
     site: &mut T,
     config: &Config,
     wishes: Wishes<'_>,
-) -> Result<Lived<RunPort<T::Line, T::Listener, T::Clock>, T::Sheet, T::Sink, T::Glass>, RunFault>
-    ensures lived { IfOk result (λ lived. HasLived config.now wishes.entry.allow_list false []
-        lived.run_log.port.port.port lived.run_log.port.port.pen lived.ended) }
-    ensures device { IfOk result (λ lived. HasRun 0 lived.run_log.port.port.port.failed
+) -> Result<Lived<Live<T::Line, T::Listener, T::Clock>, T::Sheet, T::Sink, T::Glass>, RunFault>
+    ensures lived { IfOk result (λ lived. HasLived config.now wishes.entry.allow_list false
+        lived.run_log.port.port lived.run_log.port.pen lived.ended) }
+    ensures device { IfOk result (λ lived. HasRun 0 lived.run_log.port.port.failed
         lived.ended) }
-    ensures before { IfOk result (λ lived. lived.run_log.port.before.entries ≡ []) }
+    ensures before { IfOk result (λ lived. lived.run_log.port.pen.before ≡ []) }
     ensures served { IfOk result (λ lived. HasServedAnew config.now
-        (in_life lived.run_log.port.before.entries lived.run_log.port.port.pen
-        lived.run_log.port.port.port) lived.run_log.logger (shown_to lived.lookout) lived.ended) }
+        lived.run_log.port lived.run_log.logger
+        (shown_to lived.lookout) lived.ended) }
     ensures wished { IfOk result (λ lived. IsAsWished wishes.entry lived.run_log.logger
-        lived.run_log.port.port.pen (is_some lived.lookout)) }
+        lived.run_log.port.pen (is_some lived.lookout)) }
     ensures asked { IfOk result (λ _. T.asked site.new
         ≡ ends_asked wishes.entry.redial 0 (scribes_asked wishes.entry.status (T.asked site.old))) }
     ensures none { UnclockedIfErr result (T.asked site.old) (T.asked site.new) }
@@ -402,31 +400,32 @@ fn run_new<T: RunSite>(
     ends: RunEnds<T::Line, T::Listener, T::Clock>,
     allow_list: AllowList,
     scribes: Scribes<T::Sink, T::Sheet, T::Glass>,
-) -> Lived<RunPort<T::Line, T::Listener, T::Clock>, T::Sheet, T::Sink, T::Glass>
+) -> Lived<Live<T::Line, T::Listener, T::Clock>, T::Sheet, T::Sink, T::Glass>
     requires new { logged_first (log_of scribes.pen) (Some []) ≡ Some [] }
+    requires first { scribes.pen.before ≡ [] }
     requires begins { Follows (setup_of config.now) gateway (Some []) }
     requires clock { T.begins_at ends.clock 0 }
     requires line { IsNew (T.Line.history ends.line) }
     requires listener { HasNoAttempts (T.Listener.attempts ends.listener) }
-    ensures lived { HasLived config.now allow_list false [] result.run_log.port.port.port
-        result.run_log.port.port.pen result.ended }
-    ensures device { HasRun 0 result.run_log.port.port.port.failed result.ended }
-    ensures before { result.run_log.port.before.entries ≡ [] }
-    ensures served { HasServedAnew config.now (in_life result.run_log.port.before.entries
-        result.run_log.port.port.pen result.run_log.port.port.port) result.run_log.logger
+    ensures lived { HasLived config.now allow_list false result.run_log.port.port
+        result.run_log.port.pen result.ended }
+    ensures device { HasRun 0 result.run_log.port.port.failed result.ended }
+    ensures before { result.run_log.port.pen.before ≡ [] }
+    ensures served { HasServedAnew config.now
+        result.run_log.port result.run_log.logger
         (shown_to result.lookout) result.ended }
     ensures logged { book_fixture result.run_log.logger ≡ book_fixture scribes.logger }
-    ensures recorded { result.run_log.port.port.pen.is_wished ≡ scribes.pen.is_wished }
+    ensures recorded { result.run_log.port.pen.is_wished ≡ scribes.pen.is_wished }
     ensures looked { is_some result.lookout ≡ is_some scribes.lookout }
 {
     let port = port_between(config, ends, allow_list, false);
-    live(gateway, port, History::new(), scribes)
+    live(gateway, port, scribes)
 }
 
 /// A port between the ends of a site, whose events are kept in a directory of it.
 pub(crate) type Kept<T> = Keeper<
     Pair<
-        RunPort<<T as RunSite>::Line, <T as RunSite>::Listener, <T as RunSite>::Clock>,
+        Live<<T as RunSite>::Line, <T as RunSite>::Listener, <T as RunSite>::Clock>,
         DiskStore<Place<<T as RunSite>::Folder>>,
     >,
 >;
@@ -471,22 +470,21 @@ fn run_kept<T: RunSite>(
     // It began so, went on from there, and all looked behind each of its events.
     ensures lived { IfOk result (λ lived. HasLivedFrom (λ origin.
         StartsIn T.Folder.File.Disk wishes.entry config.now (T.asked site.old).lineage origin
-        × HasServedOn origin (in_life lived.run_log.port.before.entries
-        lived.run_log.port.port.pen lived.run_log.port.port.port) lived.run_log.logger
-        (shown_to lived.lookout) lived.ended) config.now wishes.entry.allow_list
+        × HasServedOn origin lived.run_log.port
+        lived.run_log.logger (shown_to lived.lookout) lived.ended) config.now
+        wishes.entry.allow_list
         (λ moment. T.asked site.new
         ≡ ends_asked wishes.entry.redial moment (asked_for (StateIn directory.now true ∷ [])
         (scribes_asked wishes.entry.status (T.asked site.old))))
-        lived.run_log.port.before.entries lived.run_log.port.port.port.ends.port
-        lived.run_log.port.port.pen lived.ended) }
+        lived.run_log.port.port.ends.port lived.run_log.port.pen lived.ended) }
     ensures wished { IfOk result (λ lived. IsAsWished wishes.entry lived.run_log.logger
-        lived.run_log.port.port.pen (is_some lived.lookout)) }
+        lived.run_log.port.pen (is_some lived.lookout)) }
     ensures device { IfOk result (λ lived. HasRun 0
-        (lived.run_log.port.port.port.ends.port.failed + lived.run_log.port.port.port.stops)
+        (lived.run_log.port.port.ends.port.failed + lived.run_log.port.port.stops)
         lived.ended) }
     // It bore the loss of its state where that was wished.
     ensures bears { IfOk result (λ lived.
-        lived.run_log.port.port.port.bears_loss ≡ wishes.entry.bears_loss) }
+        lived.run_log.port.port.bears_loss ≡ wishes.entry.bears_loss) }
     ensures none { UnclockedIfErr result (T.asked site.old) (T.asked site.new) }
     ensures fault { IfErr result IsKeptFault }
 {
@@ -508,10 +506,12 @@ fn log_mount<T: RunSite>(site: &T, directory: &str, logger: &mut Logger<T::Sink>
     }
 }
 
-/// The record of a run that goes on says first with which state it does, for its audit.
+/// A run comes behind the lives that led to its gateway. The record of one that goes on says first
+/// with which state it does, for its audit.
 fn begin_record<W: RecordSheet + Drop>(origin: &Origin, pen: &mut Pen<W>)
-    ensures { pen.new ≡ pen.old }
+    ensures { pen.new ≡ record pen.old { before = origin.now.before.entries } }
 {
+    pen.come_behind(origin.before.again());
     if origin.moment.is_some() {
         pen.begin_with(&origin.gateway);
     }
@@ -536,32 +536,31 @@ fn run_from<T: RunSite>(
     scribes: Scribes<T::Sink, T::Sheet, T::Glass>,
 ) -> Lived<Kept<T>, T::Sheet, T::Sink, T::Glass>
     requires new { logged_first (log_of scribes.pen) (Some []) ≡ Some [] }
+    requires behind { scribes.pen.before ≡ begun.origin.before.entries }
     requires clock { T.begins_at ends.clock (first_moment begun.origin.moment) }
     requires line { IsNew (T.Line.history ends.line) }
     requires listener { HasNoAttempts (T.Listener.attempts ends.listener) }
     ensures lived { HasLivedOn config.now wishes.entry.allow_list begun.origin
-        result.run_log.port.before.entries result.run_log.port.port.port.ends.port
-        result.run_log.port.port.pen result.ended }
-    ensures device { HasRun 0 (result.run_log.port.port.port.ends.port.failed
-        + result.run_log.port.port.port.stops) result.ended }
+        result.run_log.port.port.ends.port result.run_log.port.pen result.ended }
+    ensures device { HasRun 0 (result.run_log.port.port.ends.port.failed
+        + result.run_log.port.port.stops) result.ended }
     ensures logged { book_fixture result.run_log.logger ≡ book_fixture scribes.logger }
-    ensures recorded { result.run_log.port.port.pen.is_wished ≡ scribes.pen.is_wished }
+    ensures recorded { result.run_log.port.pen.is_wished ≡ scribes.pen.is_wished }
     ensures looked { is_some result.lookout ≡ is_some scribes.lookout }
-    ensures bears { result.run_log.port.port.port.bears_loss ≡ wishes.entry.bears_loss }
-    ensures served { HasServedOn begun.origin (in_life result.run_log.port.before.entries
-        result.run_log.port.port.pen result.run_log.port.port.port) result.run_log.logger
+    ensures bears { result.run_log.port.port.bears_loss ≡ wishes.entry.bears_loss }
+    ensures served { HasServedOn begun.origin
+        result.run_log.port result.run_log.logger
         (shown_to result.lookout) result.ended }
 {
     let Begun { origin, store } = begun;
     let Origin {
         gateway,
         moment,
-        before,
         ..
     } = origin;
     let goes_on = moment.is_some();
     let keeper = keeper_between(site, config, ends, goes_on, store, &gateway, wishes);
-    live(gateway, keeper, before, scribes)
+    live(gateway, keeper, scribes)
 }
 
 /// What this directory has, or a new state, or none if the directory can't be used. It is logged.

@@ -37,7 +37,6 @@ mod in_words;
 mod inquiry;
 mod job;
 mod laws;
-mod life;
 mod living;
 mod manner;
 mod mounts;
@@ -68,6 +67,7 @@ use host::{Host, System};
 use manner::shows_colours;
 use performing::write_fault;
 use shell::obey;
+use site::{Notes, SiteRequest};
 use sqlite_std_file::Unknown;
 use state_files::Starts;
 use std::io::{IsTerminal, Write};
@@ -87,6 +87,20 @@ impl Starts for AsTheyStand {
     }
 }
 
+/// Notes nothing of what live runs ask for.
+#[derive(Drop)]
+struct Unnoted;
+
+impl Notes for Unnoted {
+    ghost use Rattle.std.specs.Prelude.{None};
+
+    ghost calls = { λ _. None };
+
+    ghost clocks = { λ _. None };
+
+    fn note(&mut self, _request: SiteRequest<'_>) {}
+}
+
 fn main(rt: HostRuntime) -> ExitCode {
     let mut out = rt.stdout();
     let mut err = rt.stderr();
@@ -100,6 +114,7 @@ fn main(rt: HostRuntime) -> ExitCode {
         has_colours,
         starts: AsTheyStand,
         lineage: History::new(),
+        notes: Unnoted,
     };
     ExitCode::from(run(&rt, &mut system, &mut out, &mut err))
 }

@@ -11,7 +11,7 @@ ghost use Rattle.gateway.specs.Setups.{setup_of};
 ghost use Rattle.gateway.specs.Traffic.{IsFaithful};
 ghost use Rattle.live.specs.Cuts.{CutsFirst};
 ghost use Rattle.live.specs.Runs.{WallFirst};
-ghost use Rattle.record.specs.Recording.{text_of};
+ghost use Rattle.record.specs.Recording.{all_passed, text_of};
 ghost use Rattle.runlog.specs.Logging.{Book, LogsAction, taken_in};
 ghost use Rattle.runlog.specs.declared.note.Note.TheVariants as note;
 ghost use Rattle.runlog.specs.declared.note.Obstacle.{Obstacle};
@@ -21,7 +21,6 @@ ghost use Rattle.state.specs.declared.start.Beginning.TheVariants as beginning;
 ghost use Rattle.state_words.specs.Notes.{note_of_given_up};
 ghost use Rattle.telegate.specs.Asked.{Asked};
 ghost use Rattle.telegate.specs.Law.{LogsAll};
-ghost use Rattle.telegate.specs.Lives.{all_passed};
 ghost use Rattle.telegate.specs.Logged.{IsRefused, IsUnkept, LogsBeginning, LogsWithout};
 ghost use Rattle.telegate.specs.Ran.{HasLivedAs, RunLeft};
 ghost use Rattle.telegate.specs.Running.{HasRun};
@@ -42,8 +41,8 @@ pub fn no_run_stops_by_itself<T: RunSite>()
     ensures turns { (c : Settings) (w : Wishes) (old new : Asked) (left : RunLeft)
         (ended : Result (Unit {0}) DeviceFailed) (log : Log) →
         HasLivedAs (StartsIn T.Folder.File.Disk w c old.lineage) c w old new left ended →
-        ended ≡ Ok tt → all_passed left.before left.pen (Some left.port.log) ≡ Some log →
-        length (events_of log) ≡ length (events_of left.before) + 18446744073709551615 }
+        ended ≡ Ok tt → all_passed left.pen (Some left.port.log) ≡ Some log →
+        length (events_of log) ≡ length (events_of left.pen.before) + 18446744073709551615 }
     ensures device { (before after : ℕ) (ended : Result (Unit {0}) DeviceFailed)
         (why : DeviceFailed) → HasRun before after ended → ended ≡ Err why →
         after ≡ before + 1 }
@@ -56,21 +55,22 @@ pub fn a_live_run_keeps_the_promises_of_its_settings<T: RunSite>()
     ensures anew { (c : Settings) (w : Wishes) (old new : Asked) (left : RunLeft)
         (ended : Result (Unit {0}) DeviceFailed) (log : Log) →
         HasLivedAs (StartsIn T.Folder.File.Disk w c old.lineage) c w old new left ended →
-        w.state ≡ None → all_passed left.before left.pen (Some left.port.log) ≡ Some log →
+        w.state ≡ None → all_passed left.pen (Some left.port.log) ≡ Some log →
         IsFaithful (setup_of c) log }
     ensures recorded { (c : Settings) (w : Wishes) (old new : Asked) (left : RunLeft)
         (ended : Result (Unit {0}) DeviceFailed) (text : List ℕ) →
         HasLivedAs (StartsIn T.Folder.File.Disk w c old.lineage) c w old new left ended →
         w.state ≡ None → text_of left.pen ≡ Some text → left.pen.missed ≡ Some [] →
-        (log : Log) × (text ≡ lines_of_log log) × IsFaithful (setup_of c) (log ++ left.before) }
+        (log : Log) × (text ≡ lines_of_log log) × IsFaithful (setup_of c) (log ++ left.pen.before) }
     ensures kept { (c : Settings) (w : Wishes) (old new : Asked) (left : RunLeft)
         (ended : Result (Unit {0}) DeviceFailed) (directory : Bor Text) →
         HasLivedAs (StartsIn T.Folder.File.Disk w c old.lineage) c w old new left ended →
         w.state ≡ Some directory →
         (o : Origin) × StartsIn T.Folder.File.Disk w c old.lineage o
-        × (left.before ≡ o.before.entries) × (Follows (setup_of c) o.gateway (Some left.before) →
-        Rests (setup_of c) (Some left.before) → (log : Log) →
-        all_passed left.before left.pen (Some left.port.log) ≡ Some log →
+        × (left.pen.before ≡ o.before.entries)
+        × (Follows (setup_of c) o.gateway (Some left.pen.before) →
+        Rests (setup_of c) (Some left.pen.before) → (log : Log) →
+        all_passed left.pen (Some left.port.log) ≡ Some log →
         IsFaithful (setup_of c) log) }
 {}
 
@@ -87,7 +87,7 @@ pub fn a_run_that_goes_on_cuts_the_old_connection<T: RunSite>()
         HasLivedAs (StartsIn T.Folder.File.Disk w c old.lineage) c w old new left ended →
         w.state ≡ Some directory →
         (o : Origin) × StartsIn T.Folder.File.Disk w c old.lineage o
-        × (left.before ≡ o.before.entries)
+        × (left.pen.before ≡ o.before.entries)
         × ((o.beginning ≡ beginning.GoesOn) ⊎ (o.beginning ≡ beginning.LinksReset) →
         CutsFirst left.port.log) }
 {}

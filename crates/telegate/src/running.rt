@@ -4,15 +4,13 @@ ghost use Rattle.std.specs.Option.{is_some};
 ghost use Rattle.gateway.specs.Agrees.{Follows, Rests};
 ghost use Rattle.gateway.specs.Reports.{Setup};
 ghost use Rattle.gateway.specs.State.{State};
-ghost use Rattle.record.specs.Recording.{AreAgreed};
+ghost use Rattle.record.specs.Recording.{AreAgreed, all_passed, recorded};
 ghost use Rattle.runlog.specs.Logging.{book_fixture, logged_fixture};
-ghost use Rattle.telegate.specs.Lives.{all_passed};
 ghost use Rattle.telegate.specs.Running.{HasEnded, HasRun, HasRunFaithfully, IsRecorded};
-ghost use Rattle.telegate.specs.Turns.{HasServed, failure_in_life, in_life, log_in_life};
+ghost use Rattle.telegate.specs.Turns.{HasServed, failure_in_life, log_in_life};
 ghost use Rattle.telegate.specs.Turns.{script_in_life, shown_to, stands, tends_in_life};
 
-use crate::life::Life;
-use gateway::{End, Gateway, History, drive_on};
+use gateway::{End, Gateway, drive_on};
 use live::{EndsSight, Watched};
 use record::{Pen, RecordSheet, Recorder};
 use runlog::{LogSink, Logger, RunLog};
@@ -40,7 +38,7 @@ pub(crate) struct Lived<
     S: LogSink + Drop,
     D: StreamSource + Drop,
 > {
-    pub(crate) run_log: RunLog<Life<Recorder<P, W>>, S>,
+    pub(crate) run_log: RunLog<Recorder<P, W>, S>,
     pub(crate) lookout: Option<Lookout<D>>,
     pub(crate) ended: Result<(), DeviceFailed>,
     /// How its ends stood then.
@@ -101,49 +99,43 @@ pub(crate) fn live<
     W: RecordSheet + Drop,
     S: LogSink + Drop,
     D: StreamSource + Drop,
->(gateway: Gateway, port: P, before: History, scribes: Scribes<S, W, D>) -> Lived<P, W, S, D>
+>(gateway: Gateway, port: P, scribes: Scribes<S, W, D>) -> Lived<P, W, S, D>
     requires few { P.failed port < u64.MAX }
     requires agreed { AreAgreed scribes.pen (P.log port) }
-    ensures device { HasRun (P.failed port) (P.failed result.run_log.port.port.port) result.ended }
-    ensures over { OnOk result.ended (HasEnded (P.ended result.run_log.port.port.port)
-        (all_passed before.entries scribes.pen (P.log port))
-        (all_passed before.entries result.run_log.port.port.pen
-        (P.log result.run_log.port.port.port))) }
-    ensures lasting { P.lasting result.run_log.port.port.port ≡ P.lasting port }
+    ensures device { HasRun (P.failed port) (P.failed result.run_log.port.port) result.ended }
+    ensures over { OnOk result.ended (HasEnded (P.ended result.run_log.port.port)
+        (all_passed scribes.pen (P.log port))
+        (all_passed result.run_log.port.pen (P.log result.run_log.port.port))) }
+    ensures lasting { P.lasting result.run_log.port.port ≡ P.lasting port }
     // It was logged, recorded and shown to its end, if it was at its beginning.
     ensures logged { book_fixture result.run_log.logger ≡ book_fixture scribes.logger }
-    ensures recorded { result.run_log.port.port.pen.is_wished ≡ scribes.pen.is_wished }
+    ensures recorded { result.run_log.port.pen.is_wished ≡ scribes.pen.is_wished }
     ensures looked { is_some result.lookout ≡ is_some scribes.lookout }
-    ensures before { result.run_log.port.before.entries ≡ before.entries }
-    ensures shown { P.shows result.run_log.port.port.port result.sight }
+    ensures before { result.run_log.port.pen.before ≡ scribes.pen.before }
+    ensures shown { P.shows result.run_log.port.port result.sight }
     // Behind each event all look at the gateway before the next one comes: its port, the log, and
     // visitors.
     ensures served { (last : State) × HasServed (log_in_life P.log) (script_in_life P.script)
         (tends_in_life P.log P.tends) (failure_in_life P.failure)
-        (stands gateway (in_life before.entries scribes.pen port) scribes.logger
-        (shown_to scribes.lookout)) (stands last
-        (in_life result.run_log.port.before.entries result.run_log.port.port.pen
-        result.run_log.port.port.port) result.run_log.logger (shown_to result.lookout))
-        result.ended }
+        (stands gateway (recorded port scribes.pen) scribes.logger (shown_to scribes.lookout))
+        (stands last result.run_log.port
+        result.run_log.logger (shown_to result.lookout)) result.ended }
     // If the gateway begins with the state that all that passed before leads to, what has passed
     // then keeps every promise of a gateway with these settings.
-    ensures faithful { (p : Setup) →
-        Follows p gateway (all_passed before.entries scribes.pen (P.log port)) →
-        Rests p (all_passed before.entries scribes.pen (P.log port)) →
-        HasRunFaithfully p (all_passed before.entries result.run_log.port.port.pen
-        (P.log result.run_log.port.port.port)) result.ended }
+    ensures faithful { (p : Setup) → Follows p gateway (all_passed scribes.pen (P.log port)) →
+        Rests p (all_passed scribes.pen (P.log port)) →
+        HasRunFaithfully p (all_passed result.run_log.port.pen
+        (P.log result.run_log.port.port)) result.ended }
     // And so does what is written of it.
-    ensures text { (p : Setup) →
-        Follows p gateway (all_passed before.entries scribes.pen (P.log port)) →
-        Rests p (all_passed before.entries scribes.pen (P.log port)) →
-        IsRecorded p before.entries result.run_log.port.port.pen result.ended }
+    ensures text { (p : Setup) → Follows p gateway (all_passed scribes.pen (P.log port)) →
+        Rests p (all_passed scribes.pen (P.log port)) →
+        IsRecorded p result.run_log.port.pen result.ended }
 {
-    let recorder = Recorder::new(port, scribes.pen);
-    let mut run_log = RunLog::new(Life::new(recorder, before), scribes.logger);
+    let mut run_log = RunLog::new(Recorder::new(port, scribes.pen), scribes.logger);
     let mut lookout = scribes.lookout;
     let ended = serve(gateway, &mut run_log, &mut lookout);
-    let _is_over = run_log.port().port().is_over();
-    let sight = run_log.port().port().sight();
+    let _is_over = run_log.port().is_over();
+    let sight = run_log.port().sight();
     Lived {
         run_log,
         lookout,

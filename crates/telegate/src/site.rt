@@ -141,9 +141,45 @@ pub(crate) trait RunSite {
         ensures asked { asked self.new ≡ asked self.old };
 }
 
+/// What a process was asked for, and whether it gave that.
+#[derive(Clone, Copy)]
+pub(crate) enum SiteRequest<'a> {
+    /// Where the log goes.
+    Log,
+    /// Where the record goes.
+    Record,
+    /// The listener for visitors at a place.
+    Status(&'a str, bool),
+    /// The directory of a name, in which a state is kept.
+    State(&'a str, bool),
+    /// The listener for control centres at a place.
+    Listener(&'a str, bool),
+    /// The line at a place, which is reached again when it ends, or not.
+    Line(&'a str, bool, bool),
+    /// A clock that begins at this moment, in ms.
+    Clock(u64, bool),
+}
+
+/// Notes what a process was asked for. The program's own notes nothing, and code has no other: what
+/// is proved over each such type holds of one that notes all.
+pub(crate) trait Notes {
+    ghost use Rattle.std.specs.Prelude.{◌≡◌, ℕ, List, Option};
+    ghost use Rattle.telegate.specs.Asked.{SiteCall, calls_behind, calls_of, clocks_of};
+
+    /// The calls so far, the newest first, if it notes them.
+    ghost calls: { Self → Option (List SiteCall) };
+
+    /// And the moments, in ms, at which the clocks begin that were given.
+    ghost clocks: { Self → Option (List ℕ) };
+
+    fn note(&mut self, request: SiteRequest<'_>)
+        ensures calls { calls self.new ≡ calls_behind (calls_of request.entry) (calls self.old) }
+        ensures clocks { clocks self.new ≡ clocks_of request.entry (clocks self.old) };
+}
+
 /// The ends that a process has at these places.
 #[derive(Drop)]
-pub(crate) struct Process<'r, S: Starts> {
+pub(crate) struct Process<'r, S: Starts, N: Notes> {
     pub(crate) rt: &'r HostRuntime,
     pub(crate) places: &'r LiveSettings,
     /// What the line and the stations are called.
@@ -156,6 +192,7 @@ pub(crate) struct Process<'r, S: Starts> {
     pub(crate) starts: S,
     /// What led to the state at the head of the newest log there.
     pub(crate) lineage: History,
+    pub(crate) notes: &'r mut N,
 }
 
 /// The line of a process.
@@ -211,7 +248,7 @@ impl<L: Reached, A: Reached> Reached for ProcessLine<L, A> {
     }
 }
 
-impl<'r, S: Starts> RunSite for Process<'r, S> {
+impl<'r, S: Starts, N: Notes> RunSite for Process<'r, S, N> {
     type Line = SystemLine<'r, HostRuntime>;
 
     type Listener = CentreListener<'r, HostRuntime>;
@@ -237,21 +274,17 @@ impl<'r, S: Starts> RunSite for Process<'r, S> {
     ghost severe = { λ process. process.has_severity };
 
     ghost use Rattle.settings.specs.Live.{places_of};
-    ghost use Rattle.std.specs.Prelude.{None};
+    ghost use Rattle.telegate.specs.Asked.{asked_by};
 
-    // A process notes none of its calls.
-    ghost asked = { λ process. record {
-      places = places_of process.places.now;
-      lineage = process.lineage.entries;
-      calls = None;
-      clocks = None;
-    } };
+    ghost asked = { λ process. asked_by process.lineage.entries (N.calls process.notes.now)
+        (N.clocks process.notes.now) (places_of process.places.now) };
 
     fn alloc(&self) -> Global {
         self.rt.alloc()
     }
 
     fn sink(&mut self) -> StandardError<'r, 'r, HostRuntime> {
+        self.notes.note(SiteRequest::Log);
         let lines = StandardError::new(self.rt, self.names);
         if self.has_severity {
             lines.with_severity()
@@ -265,26 +298,30 @@ impl<'r, S: Starts> RunSite for Process<'r, S> {
     }
 
     fn sheet(&mut self) -> StandardOutput<'r, HostRuntime> {
+        self.notes.note(SiteRequest::Record);
         StandardOutput::new(self.rt)
     }
 
     fn listener(
         &mut self,
     ) -> Result<(CentreListener<'r, HostRuntime>, Option<SocketAddr>), EndRefusal> {
-        match CentreListener::listen(self.rt, self.places.listen.as_str()) {
+        let place = self.places.listen.as_str();
+        let opened = CentreListener::listen(self.rt, place);
+        self.notes
+            .note(SiteRequest::Listener(place, opened.is_ok()));
+        match opened {
             Ok(listener) => {
                 let address = listener.address().ok();
                 Ok((listener, address))
             }
-            Err(fault) => {
-                let place = self.places.listen.as_str();
-                Err(self.refusal(port_trouble(&fault), "listener", place, &fault))
-            }
+            Err(fault) => Err(self.refusal(port_trouble(&fault), "listener", place, &fault)),
         }
     }
 
     fn status_listener(&mut self, place: &str) -> Result<VisitorListener, EndRefusal> {
-        match VisitorListener::listen(self.rt, place) {
+        let opened = VisitorListener::listen(self.rt, place);
+        self.notes.note(SiteRequest::Status(place, opened.is_ok()));
+        match opened {
             Ok(listener) => Ok(listener),
             Err(fault) => Err(self.refusal(Trouble::StatusUnusable, "status", place, &fault)),
         }
@@ -292,22 +329,28 @@ impl<'r, S: Starts> RunSite for Process<'r, S> {
 
     fn line(&mut self, redial: bool) -> Result<SystemLine<'r, HostRuntime>, EndRefusal> {
         let place = self.places.line.as_str();
-        match reached(self.rt, place, redial) {
+        let line = reached(self.rt, place, redial);
+        self.notes
+            .note(SiteRequest::Line(place, redial, line.is_ok()));
+        match line {
             Ok(line) => Ok(line),
             Err(fault) => Err(self.refusal(line_trouble(&fault), "line", place, &fault)),
         }
     }
 
     fn clock(&mut self, moment: u64) -> Result<SystemClock<'r, HostRuntime>, EndRefusal> {
-        match SystemClock::start_at(self.rt, moment) {
+        let clock = SystemClock::start_at(self.rt, moment);
+        self.notes.note(SiteRequest::Clock(moment, clock.is_ok()));
+        match clock {
             Ok(clock) => Ok(clock),
             Err(fault) => Err(refusal_by(Trouble::LineUnreached, &fault)),
         }
     }
 
     fn folder(&mut self, name: &str) -> Result<Directory<S>, AllocError> {
-        let path = String::from_str(self.rt.alloc(), name)?;
-        Ok(Directory::new(*self.rt, path, self.starts, self.lineage.again()))
+        let path = String::from_str(self.rt.alloc(), name);
+        self.notes.note(SiteRequest::State(name, path.is_ok()));
+        Ok(Directory::new(*self.rt, path?, self.starts, self.lineage.again()))
     }
 
     fn is_on_btrfs(&self, name: &str) -> bool {
@@ -330,13 +373,13 @@ fn reached<'r, R: Net<Stream = TcpStream> + Clock>(
     ensures new { IfOk result (λ line. IsNew (of_line (λ _. None) (λ _. None) line)) }
 {
     if !redial {
-        return Ok(ProcessLine::Once(LineSocket::reach(rt, place)?));
+        return Ok(ProcessLine::Once(LineDialler::new(rt, place).reach()?));
     }
     let tries = SystemClock::start(rt)?;
     Ok(ProcessLine::Again(Redialled::new(LineDialler::new(rt, place), tries)))
 }
 
-impl<S: Starts> Process<'_, S> {
+impl<S: Starts, N: Notes> Process<'_, S, N> {
     /// Why an end can't be had at this place. It is told, unless the log says it.
     fn refusal(&self, trouble: Trouble, end: &str, place: &str, fault: &io::Error) -> EndRefusal {
         let refusal = refusal_by(trouble, fault);

@@ -95,7 +95,7 @@ fn the_wall_clock_is_given_each_second_between_the_looks(rt: HostRuntime) {
 fn a_stalled_request_has_its_whole_time(rt: HostRuntime) {
     let time = Time::new(0, 0);
     let mut port = ends(&time, 170, false);
-    port.line.write_ms = 1200;
+    port.ends.line.write_ms = 1200;
     ask(&rt, &mut port, 0);
     assert!(rt; matches!(next(&rt, &mut port), Next::Tick(999)));
     time.pass(200);
@@ -131,8 +131,8 @@ fn after_stalls(rt: &impl Abort, answer_ms: u64, stall_ms: u64, look_ms: u64) ->
     let mut port = ends(&time, answer_ms, true);
     ask(rt, &mut port, 0);
     time.pass(stall_ms);
-    port.line.look_ms = look_ms;
-    port.first = EventSource::Line;
+    port.ends.line.look_ms = look_ms;
+    port.ends.first = EventSource::Line;
     let first = next(rt, &mut port);
     (first, next(rt, &mut port))
 }
@@ -158,7 +158,7 @@ fn connected_after(rt: &impl Abort, stall_ms: u64, look_ms: u64) -> (Next, Next,
     assert!(rt; matches!(next(rt, &mut port), Next::Open(0)));
     ask(rt, &mut port, 0);
     time.pass(stall_ms);
-    if let Some(centre) = &mut port.connection {
+    if let Some(centre) = &mut port.ends.connection {
         centre.stream.look_ms = look_ms;
     }
     let first = next(rt, &mut port);
@@ -205,7 +205,7 @@ fn runs_without_repeat(alloc: Global, every: u64, stall_ms: u64) -> Result<bool,
     if port.failures() >= 9 || drive_on(&mut gateway, &mut port, 2000) != End::Turns {
         return Ok(false);
     }
-    Ok(port.line.repeats == 0 && port.line.requests > 2)
+    Ok(port.ends.line.repeats == 0 && port.ends.line.requests > 2)
 }
 
 #[test]

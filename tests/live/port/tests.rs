@@ -66,7 +66,7 @@ fn ends(line: StreamWays, centre: Option<StreamWays>) -> MemoryPort {
         AllowList::Anyone,
         1000,
     );
-    port.walled.give(0);
+    port.ends.walled.give(0);
     port
 }
 
@@ -99,12 +99,13 @@ fn is_right(port: &mut MemoryPort, step: PortCall) -> bool {
         PortCall::Asks => port.put(0, &Action::Line(&[0x10])),
         PortCall::Closes(cause) => port.put(2, &Action::Close(cause)),
         PortCall::Comes(ways) => {
-            port.listener.centre = Some(stream(ways));
+            port.ends.listener.centre = Some(stream(ways));
             true
         }
-        PortCall::Waits => port.listener.centre.is_some(),
-        PortCall::Line(reads, writes) => (port.line.reads, port.line.writes) == (reads, writes),
-        PortCall::Connection(writes) => match &port.connection {
+        PortCall::Waits => port.ends.listener.centre.is_some(),
+        PortCall::Line(reads, writes) => (port.ends.line.reads, port.ends.line.writes)
+            == (reads, writes),
+        PortCall::Connection(writes) => match &port.ends.connection {
             Some(centre) => Some(centre.stream.writes) == writes,
             None => writes.is_none(),
         },
@@ -330,15 +331,15 @@ fn each_request_can_be_lost(rt: HostRuntime) {
 #[test]
 fn octets_that_wait_before_requests_are_counted(rt: HostRuntime) {
     let mut port = ends(QUIET, None);
-    port.line.waiting = 3;
+    port.ends.line.waiting = 3;
     assert!(rt; port.failures() < 9);
-    assert_eq!(rt; port.late_octets(), 0);
+    assert_eq!(rt; port.ends.late_octets, 0);
     assert!(rt; port.put(0, &Action::Line(&[0x10])));
-    assert_eq!(rt; port.late_octets(), 3);
-    port.line.waiting = 4;
+    assert_eq!(rt; port.ends.late_octets, 3);
+    port.ends.line.waiting = 4;
     assert!(rt; port.put(0, &Action::Tcp(&[0x68, 4, 1, 0, 0, 0])));
     assert!(rt; port.put(0, &Action::Line(&[0x10])));
-    assert_eq!(rt; port.late_octets(), 7);
+    assert_eq!(rt; port.ends.late_octets, 7);
 }
 
 #[test]

@@ -4,6 +4,7 @@ use super::{CentreListener, LineDialler, LineSocket, SystemClock};
 use crate::allow_list::AllowList;
 use crate::ends::{Got, Listener, OctetStream, RefusedPeers};
 use crate::redial::Redialled;
+use crate::stream::SocketStream;
 use std::io::{Read, Write};
 use std::net::{IpAddr, Ipv4Addr, Net, OpenStream, SocketAddr, TcpListener, TcpStream};
 use std::os::unix::net::UnixStream;
@@ -32,7 +33,7 @@ fn started<R: Net<Stream = TcpStream>>(rt: &R, address: SocketAddr) -> Result<Tc
 #[test]
 fn a_quiet_line_does_not_hold_who_looks(rt: HostRuntime) -> Result<(), Fail> {
     let (stream, mut station) = UnixStream::pair(&rt)?;
-    let mut line = LineSocket::over(stream)?;
+    let mut line = LineSocket::over(SocketStream::Unix(stream))?;
     let mut buf = [0; 1024];
     assert_eq!(rt; line.read(&mut buf), Got::Quiet);
     station.write_all(&[0xE5])?;

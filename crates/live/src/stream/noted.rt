@@ -1,10 +1,10 @@
 //! A stream of the system in memory, which notes its calls: an instance of what is asked of one.
 ghost use Rattle.std.specs.Prelude.{◌≡◌, [], ◌∷◌, Ok, Err, Some, true};
 ghost use Rattle.std.specs.declared.io.Error.{Error};
-ghost use Rattle.live.specs.Memory.{calls_in, setting_of};
-ghost use Rattle.live.specs.Streams.{Received, Sent, Sets, Waits};
+ghost use Rattle.live.specs.Memory.{calls_in};
+ghost use Rattle.live.specs.Streams.{Received, Sent, Sets};
 
-use super::SystemStream;
+use super::{Setting, SystemStream};
 use gateway::{Action, History, Next};
 use std::io;
 use std::io::ErrorKind;
@@ -36,23 +36,18 @@ fn with_write(log: &History, octets: &[u8], count: usize) -> History
     log.went(&(count as u64), &Action::Tcp(octets))
 }
 
-/// The calls of a stream, with one that set whether it waits.
-fn with_waiting(log: &History, is_waiting: bool) -> History
+/// The calls of a stream, with one that set it so.
+fn with_setting(log: &History, setting: Setting) -> History
     ensures { (fault : Error) → calls_in fault result.entries
-        ≡ Waits is_waiting true ∷ calls_in fault log.now.entries }
+        ≡ Sets setting true ∷ calls_in fault log.now.entries }
 {
-    if is_waiting {
-        log.came(&Next::Wall(0, 1), &NO_OCTETS)
-    } else {
-        log.came(&Next::Wall(0, 0), &NO_OCTETS)
-    }
-}
-
-/// The calls of a stream, with one that set it otherwise.
-fn with_setting(log: &History, kind: u64, number: u64) -> History
-    ensures { (fault : Error) → calls_in fault result.entries
-        ≡ Sets (setting_of kind number) true ∷ calls_in fault log.now.entries }
-{
+    let (kind, number) = match setting {
+        Setting::Waiting(false) => (0, 0),
+        Setting::Waiting(true) => (0, 1),
+        Setting::ReadsWithin(ms) => (1, ms),
+        Setting::WritesWithin(ms) => (2, ms),
+        Setting::SendsAtOnce => (3, 0),
+    };
     log.came(&Next::Wall(kind, number), &NO_OCTETS)
 }
 
@@ -102,23 +97,8 @@ impl SystemStream for PiecewiseStream<'_> {
         Ok(count)
     }
 
-    fn set_waiting(&mut self, is_waiting: bool) -> io::Result<()> {
-        self.log = with_waiting(&self.log, is_waiting);
-        Ok(())
-    }
-
-    fn limit_reads(&mut self, ms: u64) -> io::Result<()> {
-        self.log = with_setting(&self.log, 1, ms);
-        Ok(())
-    }
-
-    fn limit_writes(&mut self, ms: u64) -> io::Result<()> {
-        self.log = with_setting(&self.log, 2, ms);
-        Ok(())
-    }
-
-    fn send_at_once(&mut self) -> io::Result<()> {
-        self.log = with_setting(&self.log, 3, 0);
+    fn set(&mut self, setting: Setting) -> io::Result<()> {
+        self.log = with_setting(&self.log, setting);
         Ok(())
     }
 }

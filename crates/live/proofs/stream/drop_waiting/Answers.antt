@@ -4,6 +4,6 @@ use Rattle.live.proofs.stream.drop_waiting.Goals as goal
 
 pub returns : goal.returns
 returns g c =
-    drained _ _ _ _ _ _ _ (ok_of c.set_waiting.result (sym c.is_err.ensures.value
+    drained _ _ _ _ _ _ _ (ok_of c.set.result (sym c.is_err.ensures.value
     ∙ c.if-is_err.false))
-    c.set_waiting.ensures c.drop_octets-count.ensures c.set_waiting-2.ensures
+    c.set.ensures c.drop_octets-count.ensures c.set-2.ensures

@@ -6,9 +6,8 @@ pub returns-in_ok-run_anew-in-None-clause-lived : goal.returns-in_ok-run_anew-in
 returns-in_ok-run_anew-in-None-clause-lived g c =
     let run = c.in_ok-run_anew-in-None.field-0 in
     lived_anew _ c.args.config.now c.args.wishes _ _ (record {
-      before = run.run_log.port.before.entries;
-      port = run.run_log.port.port.port;
-      pen = run.run_log.port.port.pen;
+      port = run.run_log.port.port;
+      pen = run.run_log.port.pen;
       book = run.run_log.logger;
       is_shown = is_some run.lookout;
       bears_loss = None;
@@ -22,13 +21,12 @@ pub returns-in_ok-run_kept-in-Some-clause-lived : goal.returns-in_ok-run_kept-in
 returns-in_ok-run_kept-in-Some-clause-lived g c =
     let run = c.in_ok-run_kept-in-Some.field-0 in
     lived_kept _ c.args.config.now c.args.wishes _ _ c.in-Some.directory (record {
-      before = run.run_log.port.before.entries;
-      port = run.run_log.port.port.port.ends.port;
-      pen = run.run_log.port.port.pen;
+      port = run.run_log.port.port.ends.port;
+      pen = run.run_log.port.pen;
       book = run.run_log.logger;
       is_shown = is_some run.lookout;
-      bears_loss = Some run.run_log.port.port.port.bears_loss;
-      stops = run.run_log.port.port.port.stops;
+      bears_loss = Some run.run_log.port.port.bears_loss;
+      stops = run.run_log.port.port.stops;
     }) run.ended c.in-Some.is c.in_ok-run_kept-in-Some.ensures.lived
     c.in_ok-run_kept-in-Some.ensures.device c.in_ok-run_kept-in-Some.ensures.wished
     (ap Some c.in_ok-run_kept-in-Some.ensures.bears)

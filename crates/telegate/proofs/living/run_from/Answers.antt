@@ -10,10 +10,10 @@ use Rattle.telegate.proofs.living.run_from.Goals as goal
 pub returns-clause-lived : goal.returns-clause-lived
 returns-clause-lived g c =
     let fixed : IsPortOf c.args.config.now c.args.wishes.allow_list
-    (is_some c.args.begun.origin.moment) c.live.result.run_log.port.port.port.ends.port =
+    (is_some c.args.begun.origin.moment) c.live.result.run_log.port.port.ends.port =
     search rules in
     let port = port_of_run c.args.config.now c.args.wishes.allow_list
-    (is_some c.args.begun.origin.moment) c.live.result.run_log.port.port.port.ends.port
+    (is_some c.args.begun.origin.moment) c.live.result.run_log.port.port.ends.port
     _ fixed c.live.ensures.shown.port in
     record {
       behind = search rules;
@@ -30,8 +30,9 @@ returns-clause-lived g c =
 pub returns-clause-served : goal.returns-clause-served
 returns-clause-served g c =
     let served = c.live.ensures.served in
-    let entries = c.args.begun.origin.before.entries in
-    served_whole _ _ _ _ _ entries entries c.args.scribes.pen c.keeper_between-keeper.result
+    served_whole _ _ _ _ _ c.args.begun.origin.before.entries c.args.scribes.pen
+    c.keeper_between-keeper.result
     c.args.begun.origin.gateway _ _ served.0 _ _ _ _
-    (refl, c.keeper_between-keeper.ensures.begun) refl (ap Some c.keeper_between-keeper.ensures.log)
+    (refl, c.keeper_between-keeper.ensures.begun) c.requires.behind
+    (ap Some c.keeper_between-keeper.ensures.log)
     c.requires.new served.1

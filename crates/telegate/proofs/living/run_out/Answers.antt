@@ -8,9 +8,8 @@ returns-in-Ok g c =
     inr (by_over c.in-Ok.over _ _ _ _ c.in-Ok.ensures.lived c.ended_of.ensures
     (λ run lived ends. record {
       left = record {
-        before = run.run_log.port.before.entries;
-        port = run.run_log.port.port.port;
-        pen = run.run_log.port.port.pen;
+        port = run.run_log.port.port;
+        pen = run.run_log.port.pen;
         book = run.run_log.logger;
         is_shown = is_some run.lookout;
         bears_loss = None;
@@ -22,13 +21,12 @@ returns-in-Ok g c =
     })
     (λ run lived ends. record {
       left = record {
-        before = run.run_log.port.before.entries;
-        port = run.run_log.port.port.port.ends.port;
-        pen = run.run_log.port.port.pen;
+        port = run.run_log.port.port.ends.port;
+        pen = run.run_log.port.pen;
         book = run.run_log.logger;
         is_shown = is_some run.lookout;
-        bears_loss = Some run.run_log.port.port.port.bears_loss;
-        stops = run.run_log.port.port.port.stops;
+        bears_loss = Some run.run_log.port.port.bears_loss;
+        stops = run.run_log.port.port.stops;
       };
       ended = run.ended;
       lived = begins_weaker _ _ _ _ _ _ _ _ lived (λ o begun. begun.0);

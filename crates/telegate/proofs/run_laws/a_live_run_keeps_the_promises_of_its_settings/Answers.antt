@@ -7,8 +7,7 @@ use Rattle.gateway.specs.Setups.{setup_of}
 use Rattle.gateway.specs.Traffic.{IsFaithful}
 use Rattle.live.specs.Ends.{LiveEnds}
 use Rattle.live.specs.declared.allow_list.AllowList.{AllowList}
-use Rattle.record.specs.Recording.{Recording, text_of}
-use Rattle.telegate.specs.Lives.{all_passed}
+use Rattle.record.specs.Recording.{Recording, all_passed, text_of}
 use Rattle.telegate.specs.Living.{HasLived}
 use Rattle.telegate.specs.Running.{HasRunFaithfully, IsRecordOf, IsRunFaithful, IsTextOf}
 use Rattle.traces.specs.Printed.{lines_of_log}
@@ -21,20 +20,21 @@ faithful_by p shown (Ok done) h = h.0
 faithful_by p shown (Err why) h = h
 
 promised : {E : Type 0} (settings : Settings) (allow_list : AllowList) (goes_on : Bool)
-    (before log : Log) (port : LiveEnds) (pen : Recording) (ended : Result (Unit {0}) E)
-    → HasLived settings allow_list goes_on before port pen ended
-    → all_passed before pen (Some port.log) ≡ Some log → IsFaithful (setup_of settings) log
-promised settings allow_list goes_on before log port pen ended lived is =
+    (log : Log) (port : LiveEnds) (pen : Recording) (ended : Result (Unit {0}) E)
+    → HasLived settings allow_list goes_on port pen ended
+    → all_passed pen (Some port.log) ≡ Some log → IsFaithful (setup_of settings) log
+promised settings allow_list goes_on log port pen ended lived is =
     subst (λ (shown : Option Log). IsRunFaithful (setup_of settings) shown) is
     (faithful_by (setup_of settings) _ ended lived.faithful)
 
 promised_text : {E : Type 0} (settings : Settings) (allow_list : AllowList) (goes_on : Bool)
-    (before : Log) (text : List ℕ) (port : LiveEnds) (pen : Recording)
-    (ended : Result (Unit {0}) E) → HasLived settings allow_list goes_on before port pen ended
+    (text : List ℕ) (port : LiveEnds) (pen : Recording)
+    (ended : Result (Unit {0}) E) → HasLived settings allow_list goes_on port pen ended
     → text_of pen ≡ Some text → pen.missed ≡ Some []
-    → (log : Log) × (text ≡ lines_of_log log) × IsFaithful (setup_of settings) (log ++ before)
-promised_text {E} settings allow_list goes_on before text port pen ended lived is none =
+    → (log : Log) × (text ≡ lines_of_log log) × IsFaithful (setup_of settings) (log ++ pen.before)
+promised_text {E} settings allow_list goes_on text port pen ended lived is none =
     let p = setup_of settings in
+    let before = pen.before in
     let given : IsTextOf p before pen.is_over (Some text) pen.missed ended =
     subst (λ (t : Option (List ℕ)). IsTextOf p before pen.is_over t pen.missed ended) is
     lived.recorded in
@@ -44,12 +44,12 @@ promised_text {E} settings allow_list goes_on before text port pen ended lived i
 
 pub returns-clause-anew : goal.returns-clause-anew
 returns-clause-anew g c settings wishes old new left ended log h none =
-    promised settings wishes.allow_list _ left.before log left.port left.pen ended
+    promised settings wishes.allow_list _ log left.port left.pen ended
     (lived_anew _ settings wishes old new left ended h none)
 
 pub returns-clause-recorded : goal.returns-clause-recorded
 returns-clause-recorded g c settings wishes old new left ended text h none =
-    promised_text settings wishes.allow_list _ left.before text left.port left.pen ended
+    promised_text settings wishes.allow_list _ text left.port left.pen ended
     (lived_anew _ settings wishes old new left ended h none)
 
 pub returns-clause-kept : goal.returns-clause-kept
@@ -59,6 +59,6 @@ returns-clause-kept g c settings wishes old new left ended directory h named =
       o,
       k.lived.begun,
       k.lived.on.behind,
-      λ follows rests log. promised settings wishes.allow_list _ left.before log left.port left.pen
+      λ follows rests log. promised settings wishes.allow_list _ log left.port left.pen
           ended (k.lived.on.lived follows rests),
     )

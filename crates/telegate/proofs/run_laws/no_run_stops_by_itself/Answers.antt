@@ -1,5 +1,5 @@
 use Rattle.std.proofs.Common.{Result, Some, subst}
-use Rattle.telegate.specs.Lives.{all_passed}
+use Rattle.record.specs.Recording.{all_passed}
 use Rattle.telegate.specs.Running.{HasRun}
 use Rattle.telegate.specs.declared.running.DeviceFailed.{DeviceFailed}
 use Rattle.telegate.proofs.RunLaw.{over_as, used_all}
@@ -7,8 +7,8 @@ use Rattle.telegate.proofs.run_laws.no_run_stops_by_itself.Goals as goal
 
 pub returns-clause-turns : goal.returns-clause-turns
 returns-clause-turns g c settings wishes old new left ended log h well is =
-    used_all 18446744073709551615 ended left.before log
-    (all_passed left.before left.pen (Some left.port.log))
+    used_all 18446744073709551615 ended left.pen.before log
+    (all_passed left.pen (Some left.port.log))
     (over_as _ settings wishes old new left ended h) well is
 
 pub returns-clause-device : goal.returns-clause-device

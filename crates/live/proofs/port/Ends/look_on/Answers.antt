@@ -2,7 +2,7 @@ use Rattle.std.proofs.Common.{refl, sym, ap, ◌∙◌}
 use Rattle.live.specs.Ends.{LiveEnds, NoRound}
 use Rattle.live.specs.Timing.{is_awaited}
 use Rattle.live.proofs.Turns.{none_failed, quiet_more}
-use Rattle.live.proofs.port.Live.look_on.Goals as goal
+use Rattle.live.proofs.port.Ends.look_on.Goals as goal
 
 pub loop-init : goal.loop-init
 loop-init g c = record { quiet = NoRound; failed = refl }

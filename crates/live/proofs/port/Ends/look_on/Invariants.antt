@@ -1,6 +1,6 @@
 use Rattle.std.proofs.Common.{◌≡◌}
 use Rattle.live.specs.Ends.{QuietRounds}
-use Rattle.live.proofs.port.Live.look_on.Given as goal
+use Rattle.live.proofs.port.Ends.look_on.Given as goal
 
 abbrev pub invariant-loop : goal.invariant-loop
 invariant-loop g l = record {

@@ -2,7 +2,7 @@ use Rattle.std.proofs.Common.{subst}
 use Rattle.live.specs.Ends.{LiveEnds}
 use Rattle.live.specs.Runs.{ShowsRun}
 use Rattle.live.proofs.Runs.{shown_so}
-use Rattle.live.proofs.run_port.RunPortWatched.sight.Goals as goal
+use Rattle.live.proofs.port.LiveWatched.sight.Goals as goal
 
 pub returns-clause-shows : goal.returns-clause-shows
 returns-clause-shows g c =
