@@ -6,7 +6,7 @@ use Rattle.std.specs.List.{AllByRecursion}
 use Rattle.gateway.specs.Log.{LineOut}
 use Rattle.runlog.specs.Logging.{Book}
 use Rattle.runlog.specs.Passing.{Passed, Went, passed}
-use Rattle.runlog.specs.Watching.{Watching}
+use Rattle.runlog.specs.Watching.{Watching, heard_if}
 use Rattle.runlog.specs.declared.note.LogLine.{LogLine}
 use Rattle.runlog.specs.declared.traffic.Traffic.{Traffic}
 
@@ -27,10 +27,10 @@ IsInPlace before behind t w = w.traffic ≡ before ++ t ∷ behind
 abbrev pub IsWatched : Book → Type 0
 IsWatched b = (b.is_over && not b.is_watching) ≡ false
 
--- What passed is known to those who look, and its line, if it has one, is handed over if the log
--- goes on.
+-- What passed is known to those who look, and so is its line, if it has one, which is handed over if
+-- the log goes on.
 pub record IsFollowed (p : Passed) (old new : Book) : Type 0 where
-  pub known : new.watching ≡ (passed p old.watching).0
+  pub known : new.watching ≡ heard_if (passed p old.watching).1 (passed p old.watching).0
   pub line : (l : LogLine) (before : List LogLine) → (passed p old.watching).1 ≡ Some l
       → old.is_over ≡ false → old.handed ≡ Some before → new.handed ≡ Some (l ∷ before)
   pub none : (passed p old.watching).1 ≡ None → new.handed ≡ old.handed

@@ -205,7 +205,10 @@ left_out_words count since =
     else (codes " (" ++ decimal count ++ codes " left out")
     ++ (codes " since " ++ decimal since ++ codes ")")
 
+-- what the line says
+abbrev pub said : LogLine → List ℕ
+said l = words l.note ++ left_out_words l.left_out.count l.left_out.since
+
 -- what stands behind the line's UTC time
 abbrev pub line_text : LogLine → List ℕ
-line_text l = (decimal l.moment ++ codes " " ++ words l.note) ++ left_out_words l.left_out.count
-    l.left_out.since
+line_text l = decimal l.moment ++ codes " " ++ said l

@@ -1,7 +1,7 @@
 //! Laws of the station that answers, commands and mishaps are noted of, of what passes a run that
 //! is watched, of APDUs that come in a step, and of how a run ends.
 ghost use Rattle.std.specs.Prelude.{◌≡◌, ℕ, ◌+◌, ◌%◌, ◌<◌, ◌≤◌, Bool, List, ◌∷◌, ◌++◌, length};
-ghost use Rattle.std.specs.Prelude.{[], ◌-◌, drop, Option, Some, None, false, ◌≢◌, ◌⊎◌};
+ghost use Rattle.std.specs.Prelude.{[], ◌-◌, drop, take, Option, Some, None, false, ◌≢◌, ◌⊎◌};
 ghost use Rattle.std.specs.declared.net.ip_addr.IpAddr.{IpAddr};
 ghost use Rattle.asdu.specs.Sizes.{tcp};
 ghost use Rattle.ft12.specs.Spelling.{spelling};
@@ -22,7 +22,8 @@ ghost use Rattle.runlog.specs.Exchange.{traffic_after};
 ghost use Rattle.runlog.specs.Inbox as inbox;
 ghost use Rattle.runlog.specs.Inbox.{Inbox, Orders, apdu_noted, judged, order_noted};
 ghost use Rattle.command.specs.Refusals.{glance_of};
-ghost use Rattle.runlog.specs.Logging.{Book, LogsAction, LogsEventSeeing, LogsLook};
+ghost use Rattle.runlog.specs.Latest.{shown_behind};
+ghost use Rattle.runlog.specs.Logging.{Book, LogsAction, LogsEach, LogsEventSeeing, LogsLook};
 ghost use Rattle.runlog.specs.Orders.{octet, order_of};
 ghost use Rattle.runlog.specs.Passing.{Between, Came, Went, passed};
 ghost use Rattle.runlog.specs.Traffic.{answer_told, sent};
@@ -30,6 +31,7 @@ ghost use Rattle.runlog.specs.Watching.{Watching, is_repeat};
 ghost use Rattle.runlog.specs.Watching.{line_received};
 ghost use Rattle.runlog.specs.declared.fate.CommandFate.TheVariants as fate;
 ghost use Rattle.runlog.specs.declared.fate.Mishap.TheVariants as mishap;
+ghost use Rattle.runlog.specs.declared.note.LogLine.{LogLine};
 ghost use Rattle.runlog.specs.declared.note.Note.TheVariants as note;
 ghost use Rattle.runlog.specs.declared.order.Order.{Order};
 ghost use Rattle.runlog.specs.declared.traffic.Traffic.{Traffic};
@@ -104,7 +106,8 @@ pub fn each_apdu_of_a_step_is_read()
 
 /// Each event, each action and each look at the gateway is known to those who look, and has its
 /// line if the log goes on: of that very event, with what was seen then, at that moment, and of
-/// that very gateway.
+/// that very gateway. Of all lines so far, but for those of counts, the latest 20 are known to
+/// those who look, none left out, in their order.
 pub fn what_passes_is_known_and_logged()
     ensures event { (sight : EndsSight) (old new : Book) (event : Next) (octets : List ℕ) →
         IsWatched old → LogsEventSeeing sight old event octets new →
@@ -113,4 +116,7 @@ pub fn what_passes_is_known_and_logged()
         LogsAction old now action new → IsFollowed (Went now action) old new }
     ensures look { (old new : Book) (gateway : State) → IsWatched old →
         LogsLook old gateway new → IsFollowed (Between gateway) old new }
+    ensures latest { (lines before : List LogLine) (old new : Book) → LogsEach lines old new →
+        old.watching.latest ≡ take 20 before →
+        new.watching.latest ≡ take 20 (shown_behind lines before) }
 {}

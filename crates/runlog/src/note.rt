@@ -7,7 +7,7 @@ ghost use Rattle.runlog.specs.Notes.{notice_words, of_station};
 ghost use Rattle.runlog.specs.Notes.{given_up_words, peer_words, refused_peers_words};
 ghost use Rattle.runlog.specs.Notes.{damaged_words, obstacle_words, remnant_words};
 ghost use Rattle.runlog.specs.Notes.{skip_words, skipped_words, spoilt_words, sync_words};
-ghost use Rattle.runlog.specs.Notes.{trouble_words, words};
+ghost use Rattle.runlog.specs.Notes.{said, trouble_words, words};
 
 use crate::causes::{cause_words, line_cause_words};
 use crate::content::Skip;
@@ -524,16 +524,27 @@ fn write_left_out<W: fmt::Write>(count: u64, since: u64, f: &mut fmt::Formatter<
     write!(f, " since {since})")
 }
 
+/// What a line says, without its moment.
+#[derive(Clone, Copy)]
+pub struct LineWords<'l> {
+    pub line: &'l LogLine,
+}
+
+impl fmt::Display for LineWords<'_> {
+    ghost output = { λ words. Some (said words.line.now) };
+
+    fn fmt<W: fmt::Write>(&self, f: &mut fmt::Formatter<W>) -> fmt::Result {
+        let LogLine { note, left_out, .. } = self.line;
+        write!(f, "{note}")?;
+        write_left_out(left_out.count, left_out.since, f)
+    }
+}
+
 impl fmt::Display for LogLine {
     ghost output = { λ line. Some (line_text line) };
 
     fn fmt<W: fmt::Write>(&self, f: &mut fmt::Formatter<W>) -> fmt::Result {
-        let LogLine {
-            moment,
-            note,
-            left_out,
-        } = self;
-        write!(f, "{moment} {note}")?;
-        write_left_out(left_out.count, left_out.since, f)
+        let words = LineWords { line: self };
+        write!(f, "{} {words}", self.moment)
     }
 }

@@ -58,6 +58,11 @@ keeps Off = false
 keeps Kept = true
 keeps NotKept = false
 
+abbrev pub is_off : Keeping → Bool
+is_off Off = true
+is_off Kept = false
+is_off NotKept = false
+
 abbrev pub may_answer : StationView → Bool
 may_answer station = not (is_silent station)
 

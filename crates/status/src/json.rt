@@ -4,10 +4,11 @@ ghost use Rattle.std.specs.Fmt.{decimal};
 ghost use Rattle.status.specs.TextPage.{put};
 ghost use Rattle.status.specs.Json as spec;
 
+use crate::events::{name_about, time_of};
 use crate::judging::judge;
 use crate::lists::{Form, put_listed};
 use crate::page::TextPage;
-use crate::snapshot::{Setting, Snapshot, StationView};
+use crate::snapshot::{EventView, Setting, Snapshot, StationView};
 use crate::texts::put_summary;
 use crate::words::{Marks, Word, put_words};
 
@@ -91,6 +92,35 @@ impl Form<Setting<'_>> for SettingForm {
     }
 }
 
+/// A line of the log as an object.
+#[derive(Drop)]
+struct EventForm<'s> {
+    snapshot: &'s Snapshot<'s>,
+}
+
+impl Form<EventView> for EventForm<'_> {
+    ghost text = { λ form event. spec.json_of_event form.snapshot.now event };
+
+    fn put(&self, page: &mut TextPage, event: &EventView) {
+        put_words(
+            page,
+            &[
+                Word::Text("{\"moment_ms\":"),
+                Word::Number(event.moment_ms),
+                Word::Text(",\"wall_ms\":"),
+                Word::NumberOr(time_of(self.snapshot, event.moment_ms), "null"),
+                Word::Text(",\"severity\":\""),
+                Word::Severe(event.severity),
+                Word::Text("\",\"line\":\""),
+                Word::Escaped(Marks::Json, event.text.as_str()),
+                Word::Text("\",\"name\":\""),
+                Word::Escaped(Marks::Json, name_about(self.snapshot, event.about)),
+                Word::Text("\"}"),
+            ],
+        );
+    }
+}
+
 /// Puts a text as a string, or null.
 fn put_text(page: &mut TextPage, text: Option<&str>)
     ensures { page.new ≡ put (spec.json_of_text text.entry) page.old }
@@ -139,6 +169,8 @@ fn put_before_cause(page: &mut TextPage, snapshot: &Snapshot<'_>)
             Word::Escaped(Marks::Json, snapshot.name),
             Word::Text("\",\"there\":"),
             Word::Either(snapshot.line.is_there, "true", "false"),
+            Word::Text(",\"was_there\":"),
+            Word::Either(snapshot.line.was_there, "true", "false"),
             Word::Text(",\"since_ms\":"),
             Word::Number(snapshot.line.since_ms),
             Word::Text(",\"cause\":"),
@@ -200,6 +232,8 @@ pub(crate) fn put_json(page: &mut TextPage, snapshot: &Snapshot<'_>)
     put_listed(page, &NumberForm, snapshot.queue.hour);
     put_before_stations(page, snapshot);
     put_listed(page, &StationForm, snapshot.stations);
+    page.put(b"],\"latest\":[");
+    put_listed(page, &EventForm { snapshot }, snapshot.latest);
     page.put(b"],\"settings\":{");
     put_listed(page, &SettingForm, snapshot.settings);
     page.put(b"}}\n");

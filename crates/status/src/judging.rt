@@ -98,6 +98,13 @@ pub(crate) fn keeps(keeping: Keeping) -> bool
     matches!(keeping, Keeping::Kept)
 }
 
+/// The state isn't to be kept on the disk.
+pub(crate) fn is_off(keeping: Keeping) -> bool
+    ensures { result ≡ spec.is_off keeping }
+{
+    matches!(keeping, Keeping::Off)
+}
+
 /// Reports don't get through, or would be lost.
 fn is_critical(snapshot: &Snapshot<'_>) -> bool
     ensures { result ≡ spec.is_critical snapshot.now }
