@@ -25,4 +25,3 @@ pub mod Passing
 pub mod Standings
 pub mod Examples
 pub mod Names
-pub mod Naming

@@ -167,7 +167,7 @@ hour_parts s =
     joined (HOUR.now ∷ decimal (60 - length s.queue.hour.now) ∷ codes " 100" ∷ [])
     ∷ rows (text_of_step s.queue.places) s.queue.hour.now
     ∷ joined (
-      codes "V100z\"/></svg><b>" ∷ decimal s.queue.places ∷ codes "</b><b>0</b>" ∷ [])
+    codes "V100z\"/></svg><b>" ∷ decimal s.queue.places ∷ codes "</b><b>0</b>" ∷ [])
     ∷ marks_text s.wall_ms ∷ []
 
 abbrev pub hour_text : Snapshot → List ℕ

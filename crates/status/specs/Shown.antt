@@ -11,7 +11,7 @@ use Rattle.gateway.specs.declared.settings.StationSettings.{StationSettings as S
 use Rattle.std.specs.declared.io.ErrorKind.{ErrorKind}
 use Rattle.runlog.specs.Causes.{line_cause_words}
 use Rattle.runlog.specs.Names.{name_in, subject_of}
-use Rattle.runlog.specs.Notes.{line_text}
+use Rattle.runlog.specs.Notes.{said}
 use Rattle.runlog.specs.Severities.{severity_of}
 use Rattle.runlog.specs.Stations as stations
 use Rattle.runlog.specs.declared.names.NamedStation.{NamedStation}
@@ -98,7 +98,7 @@ AreRows (suc n) (k ∷ known) (w ∷ watches) (t ∷ traffics) (row ∷ rows) =
 
 -- the words of a line of the log, or nothing if they find no room
 abbrev pub IsTextOf : LogLine → (text : List ℕ) → Type 0
-IsTextOf line text = (text ≡ line_text line) ⊎ (text ≡ [])
+IsTextOf line text = (text ≡ said line) ⊎ (text ≡ [])
 
 -- a line of the log as it is shown
 pub record IsEvent (line : LogLine) (view : EventView) : Type 0 where

@@ -1,11 +1,12 @@
 -- Texts that more than one page has (this gateway's own profile).
-use Rattle.std.specs.Prelude.{ℕ, ◌-◌, ◌/◌, ◌==◌, nat_lt, Bool, not, ◌&&◌, List, [], ◌∷◌, length, count_by}
+use Rattle.std.specs.Prelude.{ℕ, ◌-◌, ◌/◌, ◌==◌, nat_lt, Bool, not, List, [], ◌∷◌, length, count_by}
 use Rattle.std.specs.Prelude.{Option, Some, None, codes, if◌then◌else◌}
 use Rattle.std.specs.Option.{is_some}
 use Rattle.std.specs.Fmt.{decimal}
 use Rattle.live.specs.declared.syncs.SlowSyncs.{SlowSyncs}
 use Rattle.status.specs.Words.{escaped, escaped_behind, joined, right}
-use Rattle.status.specs.Judge.{cannot_keep, is_full, is_off, is_up, judgement_of, keeps}
+use Rattle.status.specs.Judge.{cannot_keep, has_gone, is_awaited, is_full, is_off, is_up}
+use Rattle.status.specs.Judge.{judgement_of, keeps}
 use Rattle.status.specs.Labels.{judgement_text}
 use Rattle.status.specs.declared.words.Marks.{Marks}
 use Rattle.status.specs.declared.words.Marks.TheVariants.{Plain}
@@ -19,8 +20,8 @@ text_if is_so text = if is_so then text else codes ""
 abbrev pub trouble_parts : Snapshot → List (List ℕ)
 trouble_parts s =
     judgement_text (judgement_of s) ∷ codes ": "
-    ∷ text_if (not s.line.is_there && s.line.was_there) (codes "line lost")
-    ∷ text_if (not s.line.is_there && not s.line.was_there) (codes "line not there yet")
+    ∷ text_if (has_gone s.line) (codes "line lost")
+    ∷ text_if (is_awaited s.line) (codes "line not there yet")
     ∷ escaped_behind Plain (codes ": ") s.line.cause
     ∷ text_if (not s.line.is_there) (codes "; ")
     ∷ (if is_some s.centre.peer then codes "" else codes "control centre not connected; ")
@@ -59,8 +60,8 @@ abbrev pub line_text : Marks → Snapshot → List ℕ
 line_text marks s = joined (
     escaped marks s.name.now ∷ comma_behind s.name.now
     ∷ text_if s.line.is_there (codes "there")
-    ∷ text_if (not s.line.is_there && s.line.was_there) (codes "lost")
-    ∷ text_if (not s.line.is_there && not s.line.was_there) (codes "not there yet")
+    ∷ text_if (has_gone s.line) (codes "lost")
+    ∷ text_if (is_awaited s.line) (codes "not there yet")
     ∷ codes " for " ∷ [])
 
 -- which syncs of the state were slow, behind this, if any was

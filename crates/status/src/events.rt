@@ -12,10 +12,7 @@ use runlog::Subject;
 fn name_at<'a>(stations: &[StationView<'a>], address: u16) -> &'a str
     ensures { result.now ≡ spec.name_at address stations.now }
 {
-    match stations
-        .iter()
-        .find(|station| station.address == address)
-    {
+    match stations.iter().find(|station| station.address == address) {
         Some(station) => station.name,
         None => "",
     }

@@ -38,7 +38,7 @@ tr.up td.s, tr.notice td.e { color: var(--good) }\n\
 tr.silent td.s, tr.down td.s, tr.error td.e { color: var(--bad) }\n\
 tr.warning td.e { color: var(--warn) } td.e { white-space: normal }\n\
 meter { width: 7rem }\n\
-.hour { position: relative; max-width: 30rem; margin: 0 1rem 1.5rem .5rem }\n\
+.hour { position: relative; max-width: 30rem; margin: 0 1rem 2.5rem .5rem }\n\
 svg { border: 1px solid var(--line); display: block; height: 5rem; width: 100% }\n\
 path { fill: var(--soft) }\n\
 .hour b, .hour span { position: absolute; font-size: .8rem; font-weight: 400 }\n\
@@ -59,7 +59,8 @@ th, td { white-space: normal; padding-right: .5rem } td.n { white-space: nowrap 
 const SYNCS: &str = "</td></tr>\n<tr><th>slow syncs</th><td>";
 
 /// What the table of stations begins with.
-const STATIONS: &str = "</table>\n<h2>Stations</h2>\n<p class=\"more\">more columns: to the side</p>\n\
+const STATIONS: &str = "</table>\n<h2>Stations</h2>\n\
+<p class=\"more\">more columns: to the side</p>\n\
 <div class=\"scroll\"><table class=\"stations\">\n<tr><th>name</th>\
 <th>address</th><th>common address</th><th>standing</th><th>since</th><th>last report</th>\
 <th>reports</th><th>skipped</th><th>gaps</th><th>commands</th></tr>\n";
@@ -76,8 +77,7 @@ const HOUR: &str = "</table>\n<h2>Queue in the last hour</h2>\n\
 <div class=\"hour\"><svg viewBox=\"0 0 60 100\" preserveAspectRatio=\"none\"><path d=\"M";
 
 /// What the table of settings begins with.
-const SETTINGS: &str =
-    "</div>\n<h2>Settings in force</h2>\n<div class=\"scroll\"><table>\n";
+const SETTINGS: &str = "</div>\n<h2>Settings in force</h2>\n<div class=\"scroll\"><table>\n";
 
 /// How many minutes a chart shows.
 const CHART: u64 = 60;

@@ -5,7 +5,7 @@ ghost use Rattle.status.specs.Judge.{is_up as is_up_of};
 ghost use Rattle.status.specs.TextPage.{put};
 ghost use Rattle.status.specs.Texts as spec;
 
-use crate::judging::{cannot_keep, is_full, is_off, is_up, judge, keeps};
+use crate::judging::{cannot_keep, has_gone, is_awaited, is_full, is_off, is_up, judge, keeps};
 use crate::page::TextPage;
 use crate::snapshot::{Snapshot, StationView};
 use crate::words::{Marks, Word, put_words};
@@ -23,8 +23,6 @@ fn put_troubles(page: &mut TextPage, snapshot: &Snapshot<'_>)
     ensures { page.new ≡ put (spec.troubles snapshot.now) page.old }
 {
     let is_away = !snapshot.line.is_there;
-    let is_line_lost = is_away && snapshot.line.was_there;
-    let is_not_reached = is_away && !snapshot.line.was_there;
     let is_connected = snapshot.centre.peer.is_some();
     let is_lost = cannot_keep(snapshot.keeping);
     put_words(
@@ -32,8 +30,8 @@ fn put_troubles(page: &mut TextPage, snapshot: &Snapshot<'_>)
         &[
             Word::Judged(judge(snapshot)),
             Word::Text(": "),
-            Word::Either(is_line_lost, "line lost", ""),
-            Word::Either(is_not_reached, "line not there yet", ""),
+            Word::Either(has_gone(&snapshot.line), "line lost", ""),
+            Word::Either(is_awaited(&snapshot.line), "line not there yet", ""),
             Word::EscapedBehind(Marks::Plain, ": ", snapshot.line.cause),
             Word::Either(is_away, "; ", ""),
             Word::Either(is_connected, "", "control centre not connected; "),
@@ -92,8 +90,8 @@ pub(crate) fn put_line(page: &mut TextPage, marks: Marks, snapshot: &Snapshot<'_
             Word::Escaped(marks, snapshot.name),
             Word::Either(snapshot.name.is_empty(), "", ", "),
             Word::Either(line.is_there, "there", ""),
-            Word::Either(!line.is_there && line.was_there, "lost", ""),
-            Word::Either(!line.is_there && !line.was_there, "not there yet", ""),
+            Word::Either(has_gone(line), "lost", ""),
+            Word::Either(is_awaited(line), "not there yet", ""),
             Word::Text(" for "),
         ],
     );

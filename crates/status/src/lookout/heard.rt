@@ -4,7 +4,7 @@ ghost use Rattle.status.specs.Shown.{AreEvents, IsEvent, IsTextOf};
 
 use crate::snapshot::EventView;
 use arrayvec::{ArrayString, ArrayVec};
-use runlog::{LogLine, subject_of};
+use runlog::{LineWords, LogLine, subject_of};
 use std::fmt::Write;
 
 /// The words of a line, or nothing if they find no room.
@@ -12,7 +12,8 @@ fn text_of(line: &LogLine) -> ArrayString<256>
     ensures { IsTextOf line.now result.bytes }
 {
     let mut text = ArrayString::new();
-    match write!(text, "{line}") {
+    let words = LineWords { line };
+    match write!(text, "{words}") {
         Ok(()) => text,
         // Never: the longest line has 200 octets.
         Err(_) => ArrayString::new(),
