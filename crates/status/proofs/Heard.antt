@@ -1,7 +1,9 @@
 -- The latest lines of the log that are shown, one behind another.
-use Rattle.std.proofs.Common.{◌≡◌, ℕ, suc, ◌+◌, ◌<◌, List, [], ◌∷◌, ◌++◌, length, take, get_or}
+use Rattle.std.proofs.Common.{◌≡◌, ℕ, suc, ◌+◌, ◌<◌, ◌≤◌, List, [], ◌∷◌, ◌++◌, length, take, get_or}
 use Rattle.std.proofs.Common.{sym, ap, subst, ◌∙◌, arith}
 use Rattle.std.proofs.Math.Seq.{take-suc}
+use Rattle.std.proofs.lemmas.Bool.Decides.{nat_tests}
+use Rattle.std.specs.Prelude.{◌==◌, false}
 use Rattle.std.specs.List.{AllZip}
 use Rattle.runlog.specs.declared.note.LogLine.{LogLine}
 use Rattle.status.specs.Shown.{AreEvents, IsEvent}
@@ -15,11 +17,13 @@ zip_more R (a ∷ xs) [] x y all one = absurd all
 zip_more R (a ∷ xs) (b ∷ ys) x y (first, all) one = (first, zip_more R xs ys x y all one)
 
 pub one_more : (latest : List LogLine) (events : List EventView) (i : ℕ) (line : LogLine)
-    (event : EventView) → i < length latest → line ≡ get_or latest i line → IsEvent line event
+    (event : EventView) → i < length latest → IsEvent (get_or latest i line) event
     → AreEvents (take i latest) events → AreEvents (take (i + 1) latest) (events ++ event ∷ [])
-one_more latest events i line event lt at is all =
+one_more latest events i line event lt is all =
     let next : suc i ≡ i + 1 = omega arith in
     subst (λ (l : List LogLine). AreEvents l (events ++ event ∷ []))
     (sym (take-suc latest i line lt) ∙ ap (λ (n : ℕ). take n latest) next)
-    (zip_more IsEvent (take i latest) events (get_or latest i line) event all
-    (subst (λ (x : LogLine). IsEvent x event) at is))
+    (zip_more IsEvent (take i latest) events (get_or latest i line) event all is)
+
+pub not_twenty : (n i : ℕ) → false ≡ (n == 20) → n ≤ 20 → n ≡ i → i + 1 ≤ 20
+not_twenty n i is le same = grind (arith, nat_tests)

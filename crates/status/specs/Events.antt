@@ -1,24 +1,24 @@
 -- The latest lines of the log, as they stand on a page (this gateway's own profile).
-use Rattle.std.specs.Prelude.{ℕ, ◌-◌, ◌/◌, ◌%◌, ◌==◌, List, [], ◌∷◌, Option, Some, None, codes}
+use Rattle.std.specs.Prelude.{ℕ, ◌-◌, ◌/◌, ◌%◌, ◌==◌, List, [], ◌∷◌, Option, Some, None, option_map}
+use Rattle.std.specs.Prelude.{codes}
 use Rattle.std.specs.List.{find}
 use Rattle.runlog.specs.declared.names.Subject.{Subject}
 use Rattle.runlog.specs.declared.names.Subject.TheVariants as subject
+use Rattle.status.specs.Shown.{text_or_none}
 use Rattle.status.specs.Words.{joined, two_digits}
 use Rattle.status.specs.declared.snapshot.Snapshot.{Snapshot}
 use Rattle.status.specs.declared.snapshot.StationView.{StationView}
 
-abbrev pub name_of : Option StationView → List ℕ
-name_of (Some s) = s.name.now
-name_of None = []
-
--- the name of the station with this link address, or nothing
-abbrev pub name_at : (address : ℕ) → List StationView → List ℕ
-name_at address stations = name_of (find (λ (s : StationView). s.address == address) stations)
+-- the name of the station with this link address, if it is there
+abbrev pub name_in : (address : ℕ) → List StationView → Option (List ℕ)
+name_in address stations =
+    option_map (λ (s : StationView). s.name.now)
+    (find (λ (s : StationView). s.address == address) stations)
 
 -- the name of what a line is about, or nothing
 abbrev pub name_about : Snapshot → Subject → List ℕ
 name_about s subject.Line = s.name.now
-name_about s (subject.Station address) = name_at address s.stations.now
+name_about s (subject.Station address) = text_or_none (name_in address s.stations.now)
 name_about s subject.Other = []
 
 abbrev pub time_by : Option ℕ → (now moment : ℕ) → Option ℕ

@@ -113,23 +113,19 @@ version_text s = joined (
     SETTINGS.now ∷ codes "<tr><th>telegate</th><td>" ∷ escaped Html s.version.now
     ∷ codes "</td></tr>\n" ∷ [])
 
--- the words of a line of the log, and behind them the name of what it is about, if that has one
-abbrev pub name_words : (name : List ℕ) → List (List ℕ)
-name_words name =
+-- the name of what a line is about behind its words, if that has one
+abbrev pub name_text : (name : List ℕ) → List ℕ
+name_text name = joined (
     (if length name == 0 then codes "" else codes " [") ∷ escaped Html name
-    ∷ (if length name == 0 then codes "" else codes "]") ∷ codes "</td></tr>\n" ∷ []
-
-abbrev pub event_words : Snapshot → EventView → List ℕ
-event_words s event = joined (
-    codes "</td><td class=\"e\">" ∷ escaped Html event.text.bytes
-    ∷ name_words (name_about s event.about))
+    ∷ (if length name == 0 then codes "" else codes "]") ∷ codes "</td></tr>\n" ∷ [])
 
 -- a line of the log as a row
 abbrev pub event_parts : Snapshot → EventView → List (List ℕ)
 event_parts s event =
     joined (codes "<tr class=\"" ∷ severity_text event.severity ∷ codes "\"><td class=\"n\">" ∷ [])
     ∷ time_text (time_of s event.moment_ms) ∷ cell ∷ age_text 0 s.now_ms event.moment_ms
-    ∷ event_words s event ∷ []
+    ∷ joined (codes "</td><td class=\"e\">" ∷ escaped Html event.text.bytes ∷ [])
+    ∷ name_text (name_about s event.about) ∷ []
 
 abbrev pub text_of_event : Snapshot → EventView → List ℕ
 text_of_event s event = joined (event_parts s event)
@@ -156,10 +152,14 @@ abbrev pub mark_parts : (minute : ℕ) → List (List ℕ)
 mark_parts minute =
     mark_text minute 45 ∷ mark_text minute 30 ∷ mark_text minute 15 ∷ mark_text minute 0 ∷ []
 
--- a mark for each quarter of the last hour, if the time is known
+-- a mark for each quarter of the hour before this minute
+abbrev pub quarters_text : (minute : ℕ) → List ℕ
+quarters_text minute = joined (mark_parts minute)
+
+-- the same of the last hour, if the time is known
 abbrev pub marks_text : Option ℕ → List ℕ
 marks_text None = []
-marks_text (Some wall) = joined (mark_parts (wall / 60000))
+marks_text (Some wall) = quarters_text (wall / 60000)
 
 -- how full the queue was in the last hour, up to now at the right
 abbrev pub hour_parts : Snapshot → List (List ℕ)

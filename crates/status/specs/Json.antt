@@ -16,9 +16,13 @@ use Rattle.status.specs.declared.snapshot.Snapshot.{Snapshot}
 abbrev pub flag : Bool → List ℕ
 flag b = if b then codes "true" else codes "false"
 
--- a text as a string, or null
+-- a text as a string
+abbrev pub json_string : List ℕ → List ℕ
+json_string text = joined (codes "\"" ∷ escaped Json text ∷ codes "\"" ∷ [])
+
+-- the same, or null
 abbrev pub json_of_text : Option (Bor (List ℕ)) → List ℕ
-json_of_text (Some text) = joined (codes "\"" ∷ escaped Json text.now ∷ codes "\"" ∷ [])
+json_of_text (Some text) = json_string text.now
 json_of_text None = codes "null"
 
 abbrev pub station_parts : StationView → List (List ℕ)
@@ -46,13 +50,17 @@ json_of_setting s = joined (
     ∷ codes "\"" ∷ [])
 
 -- a line of the log as an object
+abbrev pub event_head : EventView → (wall : Option ℕ) → List ℕ
+event_head event wall = joined (
+    codes "{\"moment_ms\":" ∷ decimal event.moment_ms
+    ∷ codes ",\"wall_ms\":" ∷ number_or wall (codes "null")
+    ∷ codes ",\"severity\":\"" ∷ severity_text event.severity ∷ codes "\"" ∷ [])
+
 abbrev pub event_parts : Snapshot → EventView → List (List ℕ)
 event_parts s event =
-    codes "{\"moment_ms\":" ∷ decimal event.moment_ms
-    ∷ codes ",\"wall_ms\":" ∷ number_or (time_of s event.moment_ms) (codes "null")
-    ∷ codes ",\"severity\":\"" ∷ severity_text event.severity
-    ∷ codes "\",\"line\":\"" ∷ escaped Json event.text.bytes
-    ∷ codes "\",\"name\":\"" ∷ escaped Json (name_about s event.about) ∷ codes "\"}" ∷ []
+    event_head event (time_of s event.moment_ms)
+    ∷ codes ",\"line\":" ∷ json_string event.text.bytes
+    ∷ codes ",\"name\":" ∷ json_string (name_about s event.about) ∷ codes "}" ∷ []
 
 abbrev pub json_of_event : Snapshot → EventView → List ℕ
 json_of_event s event = joined (event_parts s event)

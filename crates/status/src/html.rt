@@ -1,11 +1,11 @@
 //! The snapshot as a page for a person: HTML without a script, and with nothing from elsewhere.
-ghost use Rattle.std.specs.Prelude.{◌≡◌};
+ghost use Rattle.std.specs.Prelude.{◌≡◌, ◌≤◌};
 ghost use Rattle.status.specs.Html as spec;
 ghost use Rattle.status.specs.TextPage.{put};
 ghost use Rattle.status.specs.Words.{rows};
 
-use crate::events::{name_about, put_time, time_of};
 use crate::judging::{is_silent, judge, unfilled};
+use crate::latest::{name_about, put_time, time_of};
 use crate::lists::{Form, put_rows};
 use crate::page::TextPage;
 use crate::snapshot::{EventView, Setting, Snapshot, StationView};
@@ -328,19 +328,17 @@ struct EventForm<'s> {
     snapshot: &'s Snapshot<'s>,
 }
 
-/// Puts the words of a line, with the name of what it is about behind them, if that has one.
-fn put_event_words(page: &mut TextPage, snapshot: &Snapshot<'_>, event: &EventView)
-    ensures { page.new ≡ put (spec.event_words snapshot.now event.now) page.old }
+/// Puts the name of what a line is about behind its words, if that has one.
+fn put_name(page: &mut TextPage, name: &str)
+    ensures { page.new ≡ put (spec.name_text name.now) page.old }
 {
-    let name = name_about(snapshot, event.about);
+    let is_nameless = name.is_empty();
     put_words(
         page,
         &[
-            Word::Text("</td><td class=\"e\">"),
-            Word::Escaped(Marks::Html, event.text.as_str()),
-            Word::Either(name.is_empty(), "", " ["),
+            Word::Either(is_nameless, "", " ["),
             Word::Escaped(Marks::Html, name),
-            Word::Either(name.is_empty(), "", "]"),
+            Word::Either(is_nameless, "", "]"),
             Word::Text("</td></tr>\n"),
         ],
     );
@@ -361,7 +359,14 @@ impl Form<EventView> for EventForm<'_> {
         put_time(page, time_of(self.snapshot, event.moment_ms));
         page.put(b"</td><td class=\"n\">");
         put_age(page, 0, self.snapshot.now_ms, event.moment_ms);
-        put_event_words(page, self.snapshot, event);
+        put_words(
+            page,
+            &[
+                Word::Text("</td><td class=\"e\">"),
+                Word::Escaped(Marks::Html, event.text.as_str()),
+            ],
+        );
+        put_name(page, name_about(self.snapshot, event.about));
     }
 }
 
@@ -397,19 +402,24 @@ fn put_mark(page: &mut TextPage, minute: u64, before: u64)
     );
 }
 
-/// Puts a mark for each quarter of the last hour, if the time is known.
-fn put_marks(page: &mut TextPage, wall_ms: Option<u64>)
-    ensures { page.new ≡ put (spec.marks_text wall_ms) page.old }
+/// Puts a mark for each quarter of the hour before this minute since 1970.
+fn put_quarters(page: &mut TextPage, minute: u64)
+    ensures { page.new ≡ put (spec.quarters_text minute) page.old }
 {
-    let Some(wall_ms) = wall_ms else {
-        page.put(&[]);
-        return;
-    };
-    let minute = wall_ms / 60_000;
     put_mark(page, minute, 45);
     put_mark(page, minute, 30);
     put_mark(page, minute, 15);
     put_mark(page, minute, 0);
+}
+
+/// The same of the last hour, if the time is known.
+fn put_marks(page: &mut TextPage, wall_ms: Option<u64>)
+    ensures { page.new ≡ put (spec.marks_text wall_ms) page.old }
+{
+    match wall_ms {
+        Some(wall_ms) => put_quarters(page, wall_ms / 60_000),
+        None => page.put(&[]),
+    }
 }
 
 /// Puts how full the queue was in the last hour, up to now at the right.

@@ -4,8 +4,8 @@ ghost use Rattle.std.specs.Fmt.{decimal};
 ghost use Rattle.status.specs.TextPage.{put};
 ghost use Rattle.status.specs.Json as spec;
 
-use crate::events::{name_about, time_of};
 use crate::judging::judge;
+use crate::latest::{name_about, time_of};
 use crate::lists::{Form, put_listed};
 use crate::page::TextPage;
 use crate::snapshot::{EventView, Setting, Snapshot, StationView};
@@ -98,27 +98,49 @@ struct EventForm<'s> {
     snapshot: &'s Snapshot<'s>,
 }
 
+/// Puts what stands before the words of a line.
+fn put_event_head(page: &mut TextPage, event: &EventView, wall_ms: Option<u64>)
+    ensures { page.new ≡ put (spec.event_head event.now wall_ms) page.old }
+{
+    put_words(
+        page,
+        &[
+            Word::Text("{\"moment_ms\":"),
+            Word::Number(event.moment_ms),
+            Word::Text(",\"wall_ms\":"),
+            Word::NumberOr(wall_ms, "null"),
+            Word::Text(",\"severity\":\""),
+            Word::Severe(event.severity),
+            Word::Text("\""),
+        ],
+    );
+}
+
 impl Form<EventView> for EventForm<'_> {
     ghost text = { λ form event. spec.json_of_event form.snapshot.now event };
 
     fn put(&self, page: &mut TextPage, event: &EventView) {
-        put_words(
-            page,
-            &[
-                Word::Text("{\"moment_ms\":"),
-                Word::Number(event.moment_ms),
-                Word::Text(",\"wall_ms\":"),
-                Word::NumberOr(time_of(self.snapshot, event.moment_ms), "null"),
-                Word::Text(",\"severity\":\""),
-                Word::Severe(event.severity),
-                Word::Text("\",\"line\":\""),
-                Word::Escaped(Marks::Json, event.text.as_str()),
-                Word::Text("\",\"name\":\""),
-                Word::Escaped(Marks::Json, name_about(self.snapshot, event.about)),
-                Word::Text("\"}"),
-            ],
-        );
+        put_event_head(page, event, time_of(self.snapshot, event.moment_ms));
+        page.put(b",\"line\":");
+        put_string(page, event.text.as_str());
+        page.put(b",\"name\":");
+        put_string(page, name_about(self.snapshot, event.about));
+        page.put(b"}");
     }
+}
+
+/// Puts a text as a string.
+fn put_string(page: &mut TextPage, text: &str)
+    ensures { page.new ≡ put (spec.json_string text.now) page.old }
+{
+    put_words(
+        page,
+        &[
+            Word::Text("\""),
+            Word::Escaped(Marks::Json, text),
+            Word::Text("\""),
+        ],
+    );
 }
 
 /// Puts a text as a string, or null.
@@ -126,14 +148,7 @@ fn put_text(page: &mut TextPage, text: Option<&str>)
     ensures { page.new ≡ put (spec.json_of_text text.entry) page.old }
 {
     match text {
-        Some(text) => put_words(
-            page,
-            &[
-                Word::Text("\""),
-                Word::Escaped(Marks::Json, text),
-                Word::Text("\""),
-            ],
-        ),
+        Some(text) => put_string(page, text),
         None => page.put(b"null"),
     }
 }

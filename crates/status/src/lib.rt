@@ -25,13 +25,13 @@
 #![tactic(auto)]
 
 mod answer;
-mod events;
 mod examples;
 mod hour;
 mod html;
 mod json;
 mod judging;
 mod labels;
+mod latest;
 mod laws;
 mod lists;
 mod lookout;

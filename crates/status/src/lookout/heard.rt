@@ -37,11 +37,11 @@ pub(crate) fn events_of(latest: &[LogLine]) -> ArrayVec<EventView, 20>
     ensures { AreEvents (take 20 latest.now) result.items }
 {
     let mut events = ArrayVec::new();
-    for line in latest {
+    for one in latest {
         if events.is_full() {
             break;
         }
-        events.push(event_of(line));
+        events.push(event_of(one));
     }
     events
 }

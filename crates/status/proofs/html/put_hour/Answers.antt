@@ -9,5 +9,6 @@ returns c =
       c.put_words-2.ensures,
       c.put_rows.ensures,
       c.put_words.ensures,
+      c.saturating_sub.ensures,
     )
     (puts_joined (hour_parts c.args.snapshot.now) c.args.page.now)

@@ -5,7 +5,10 @@ use Rattle.status.proofs.html.EventFormFormEventView.put.Goals as goal
 pub returns : goal.returns
 returns c =
     rw (
-      c.put_event_words.ensures,
+      c.put_name.ensures,
+      c.name_about.ensures,
+      c.put_words-2.ensures,
+      c.as_str.ensures.value,
       c.put_age.ensures,
       c.put.ensures,
       c.put_time.ensures,

@@ -1,6 +1,7 @@
 //! The latest lines of the log, as they stand on a page.
 ghost use Rattle.std.specs.Prelude.{◌≡◌, option_map};
 ghost use Rattle.status.specs.Events as spec;
+ghost use Rattle.status.specs.Shown.{text_or_none};
 ghost use Rattle.status.specs.TextPage.{put};
 
 use crate::page::TextPage;
@@ -8,12 +9,22 @@ use crate::snapshot::{Snapshot, StationView};
 use crate::words::{Word, put_words};
 use runlog::Subject;
 
-/// The name of the station with this link address, or nothing.
-fn name_at<'a>(stations: &[StationView<'a>], address: u16) -> &'a str
-    ensures { result.now ≡ spec.name_at address stations.now }
+/// The name of the station with this link address, if it is there.
+fn name_in<'a>(stations: &[StationView<'a>], address: u16) -> Option<&'a str>
+    ensures { option_map (λ s. s.now) result ≡ spec.name_in address stations.now }
 {
     match stations.iter().find(|station| station.address == address) {
-        Some(station) => station.name,
+        Some(station) => Some(station.name),
+        None => None,
+    }
+}
+
+/// A text, or nothing.
+fn text_or_none(text: Option<&str>) -> &str
+    ensures { result.now ≡ text_or_none (option_map (λ t. t.now) text.entry) }
+{
+    match text {
+        Some(text) => text,
         None => "",
     }
 }
@@ -24,7 +35,7 @@ pub(crate) fn name_about<'a>(snapshot: &Snapshot<'a>, about: Subject) -> &'a str
 {
     match about {
         Subject::Line => snapshot.name,
-        Subject::Station(address) => name_at(snapshot.stations, address),
+        Subject::Station(address) => text_or_none(name_in(snapshot.stations, address)),
         Subject::Other => "",
     }
 }
