@@ -32,4 +32,4 @@ pub use reading::{Manner, Order, Wish, is_wish_word, read_wish};
 pub use request::{ACTIVATION, DEACTIVATION, GLOBAL, Request, Value};
 pub use serving::{Untold, converse};
 pub use tags::tag_of;
-pub use telling::{Style, Way, end_line, push_line};
+pub use telling::{Style, Way, end_line, push_line, silent_line};
