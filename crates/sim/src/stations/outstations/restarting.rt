@@ -56,7 +56,8 @@ impl Outstations {
         }
     }
 
-    /// The line with this index has its station restart if that is due, so many ms behind the start.
+    /// The line with this index has its station restart if that is due, so many ms behind the
+    /// start.
     fn restart_by(&mut self, line: usize, passed: u64)
         requires { passed ≤ 999999999999999 }
     {
