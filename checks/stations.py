@@ -11,6 +11,8 @@ reports, once each, though an answer was lost; a command of its is confirmed on 
 An answer that the script delays comes late, with its own octets, while others are heard and answered. Behind a cut, or where a later
 answer is delayed, it doesn't come. `telegate run` waits for it if `answer_ms` is longer than the delay, and else repeats the request.
 
+A station that restarts is silent until its link is reset.
+
 In time: a report of `at` comes once, and not before its moment; one of `every` comes in each period; the time begins with the first
 connection. A station that confirms or refuses gives what docs/STATIONS.md says to each kind of command. Wrong lines are told by their
 numbers, of either kind, and `sim` refuses these lines.
@@ -452,9 +454,14 @@ WRONG = [
     ("turns 1\nconfirm 1 1\n", 2),
     ("turns 1\nconfirm 1\n\n# x\nrefuse 1\n", 5),
     ("turns 1\nrefuse 2\nconfirm 1\nrefuse 2\n", 4),
-    # Without `turns` it is the line behind the last.
-    (f"at 10 {REPORT}\nconfirm 1\n", 3),
-    (f"at 10 {REPORT}\nconfirm 1", 3),
+    ("turns 1\nrestart 1\n", 2),
+    ("turns 1\nat 9 restart 1\n", 2),
+    ("turns 1\nat 10 restart 3\n", 2),
+    ("turns 1\nat 10 restart\n", 2),
+    ("turns 1\nevery 10 restart 1 1\n", 2),
+    ("turns 1\nat 10 reset 1\n", 2),
+    # `turns` may be missing, but it stands once.
+    ("turns 1\nturns 2\n", 2),
     # The first wrong line of either kind.
     (f"turns 1\nat 9 {REPORT}\ncut x\n", 2),
     (f"turns 1\ncut x\nat 9 {REPORT}\n", 2),
@@ -470,12 +477,12 @@ def wrong_lines(count, program, folder):
             count.compare(f"wrong script {number}", (out, err, played.process.returncode), wanted)
     # The edges of the ranges, comments between them, and 1,000 lines are right.
     own = f"at 10 {REPORT}\nevery 86400000 {REPORT}\nconfirm 2\nrefuse 1\ndelay answer 0 10\ndelay answer 1 86400000\n"
-    right = f"# at 1\nturns 1\n{own}lose answer 1\nspoil answer 1 1\n" + f"at 10 {REPORT}\n" * 994
+    right = f"# at 1\n{own}lose answer 1\nspoil answer 1 1\n" + f"at 10 {REPORT}\n" * 993 + "at 86400000 restart 2"
     with Played(program, folder, f"tcp:127.0.0.1:{ends.free_port()}", right) as played:
         played.met().close()
         count.judge("1,000 lines", played.process.poll() is None)
         named = os.path.join(folder, "sim.script")
-        for word in (f"at 10 {REPORT}", f"every 10 {REPORT}", "confirm 1", "refuse 1", "delay answer 3 100"):
+        for word in (f"at 10 {REPORT}", f"every 10 {REPORT}", "confirm 1", "refuse 1", "delay answer 3 100", "at 10 restart 1"):
             with open(named, "w") as file:
                 file.write(f"turns 1\n{word}\n")
             made = subprocess.run([program, "sim", played.config, named], capture_output=True, timeout=ends.PATIENCE)
@@ -507,6 +514,36 @@ def by_example(count, program, folder):
         count.judge("example: the 1,000th answer is late", 0.6 - LOOK <= passed < 2.1, f"after {passed:.3f} s")
 
 
+def restarts(count, program, folder):
+    """A station that restarts forgets its link, its frame count bit and its reports. It is silent to all but a request of its status
+    and a reset. The other one goes on. So it is once by `at`, and again and again by `every`."""
+    script = "at 700 restart 1\nreport 1 2 %s\nat 100 report 1 2 %s\nevery 10000 restart 2\n" % (POINT.hex(), VALUE.hex())
+    with Played(program, folder, f"tcp:127.0.0.1:{ends.free_port()}", script) as played, played.met() as stream:
+        first, second = Polled(stream, 1), Polled(stream, 2)
+        count.compare("restart: before it", first.poll(2), POINT)
+        time.sleep(1)
+        exchange(count, "restart: silent to a poll", stream, ends.fixed(0x5B, 1), b"")
+        exchange(count, "restart: silent to it again", stream, ends.fixed(0x5B, 1), b"")
+        count.compare("restart: the other one goes on", second.ask(11), (0xE5, b""))
+        exchange(count, "restart: status", stream, ends.fixed(0x49, 1), UP)
+        first = Polled(stream, 1)
+        count.compare("restart: nothing waits any more", first.ask(11), (0xE5, b""))
+    with Played(program, folder, f"tcp:127.0.0.1:{ends.free_port()}", "every 500 restart 1\n") as played:
+        with played.met() as stream:
+            for number in (1, 2, 3):
+                exchange(count, f"every restart: reset {number}", stream, ends.fixed(0x40, 1), CONFIRMED)
+                begin, bit = time.monotonic(), 0x20
+                stream.settimeout(0.2)
+                while time.monotonic() < begin + 5:
+                    stream.sendall(ends.fixed(0x5B | bit, 1))
+                    if not exactly(stream, 1):
+                        break
+                    bit ^= 0x20
+                    time.sleep(0.01)
+                count.judge(f"every restart: {number}", time.monotonic() - begin < 1.5, f"{time.monotonic() - begin:.3f} s")
+                stream.settimeout(ends.PATIENCE)
+
+
 def taken(count, program, folder):
     """A port at which somebody listens ends the command; nothing is printed."""
     with socket.create_server(("127.0.0.1", 0)) as server:
@@ -518,4 +555,4 @@ def taken(count, program, folder):
 
 
 if __name__ == "__main__":
-    frame.main(at_a_port, at_a_socket, late, late_to_a_gateway, with_a_gateway, in_time, full, replied, wrong_lines, by_example, taken)
+    frame.main(at_a_port, at_a_socket, late, late_to_a_gateway, with_a_gateway, in_time, full, replied, wrong_lines, restarts, by_example, taken)

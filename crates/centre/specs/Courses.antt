@@ -16,8 +16,20 @@ pub record HasTold (old new : Desk) (before after : Option (List ℕ)) : Type 0 
   pub goes : GoesOn old text new
   pub printed : Appends before after text
 
+-- some text is printed
+abbrev pub IsPrinted : (before after : Option (List ℕ)) → Type 0
+IsPrinted before after = (text : List ℕ) × Appends before after text
+
 -- this is known then of the errand
 pub record HasConversed (old : Desk) (outcome : Outcome) (new : Desk)
     (before after : Option (List ℕ)) : Type 0 where
   pub told : HasTold old new before after
   pub known : new.centre.errand.outcome ≡ Some outcome
+
+-- Who gave nothing is named behind all that passed.
+pub record HasPursued (old : Desk) (outcome : Outcome) (new : Desk)
+    (before after : Option (List ℕ)) : Type 0 where
+  pub mid : Option (List ℕ)
+  pub conversed : HasConversed old outcome new before mid
+  pub named : IsPrinted mid after
+  pub printed : IsPrinted before after

@@ -1,8 +1,9 @@
 -- Requests that are sent one after another, and what answers say to them (IEC 60870-5-101, 7.2.3
 -- and IEC 60870-5-5, 6.8).
 use Rattle.std.specs.Prelude.{ℕ, ◌+◌, ◌*◌, ◌-◌, ◌/◌, ◌%◌, ◌==◌, nat_lt, nat_le, Bool, ◌&&◌, ◌||◌}
-use Rattle.std.specs.Prelude.{not, if◌then◌else◌, List, length, slice_index, slice_get, Option}
-use Rattle.std.specs.Prelude.{Some, None, option_map}
+use Rattle.std.specs.Prelude.{not, if◌then◌else◌, List, [], ◌∷◌, length, slice_index, slice_get}
+use Rattle.std.specs.Prelude.{Option, Some, None, option_map}
+use Rattle.std.specs.List.{filter}
 use Rattle.centre.specs.declared.errand.Answer.{Answer}
 use Rattle.centre.specs.declared.errand.Loss.{Loss}
 use Rattle.centre.specs.declared.errand.Outcome.{Outcome}
@@ -17,13 +18,16 @@ use Rattle.centre.specs.declared.errand.Until.TheVariants as until
 use Rattle.centre.specs.declared.request.Request.{Request}
 
 -- requests, whether it goes on when they are through, how long a confirmation may take, whose turn
--- it is, how far that one is, and what became of the errand
+-- it is, how far that one is, the stations whose termination of a request to all is waited for,
+-- those of which nothing came, and what became of the errand
 pub record Errand : Type 0 where
   pub steps : List Step
   pub stays : Bool
   pub wait : ℕ
   pub at : ℕ
   pub standing : Standing
+  pub awaited : List ℕ
+  pub silent : List ℕ
   pub outcome : Option Outcome
 
 -- type, cause, common address and object address in the sizes of IEC 60870-5-104
@@ -92,21 +96,35 @@ sent_step now (Some s) e = sent_by now s.until e
 abbrev pub sent_off : (now : ℕ) → Errand → Errand
 sent_off now e = sent_step now (turn_of e) e
 
+-- the stations but this one; an answer with the common address of all is one of all
+abbrev pub others : (ca : ℕ) → List ℕ → List ℕ
+others ca cas = if ca == 65535 then [] else filter (λ one. not (one == ca)) cas
+
+-- A station has terminated the request, which is through once none is waited for.
+abbrev pub ended_by : (now : ℕ) → (awaited : List ℕ) → Errand → Errand
+ended_by now [] e = passed outcome.Terminated e
+ended_by now (ca ∷ awaited) e = record e { standing = Confirmed now }
+
+abbrev pub ended_at : (now ca : ℕ) → Errand → Errand
+ended_at now ca e = ended_by now (others ca e.awaited)
+    (record e { silent = others ca e.silent; awaited = others ca e.awaited })
+
 -- an answer to the request whose turn it is
-abbrev pub said_to : (now : ℕ) → Until → (cause : ℕ) → Reply → Errand → Errand
-said_to now u cause Refuses e = record e { outcome = Some (outcome.Refused cause) }
-said_to now until.Sent cause Confirms e = e
-said_to now until.Sent cause Terminates e = e
-said_to now until.Confirmed cause Confirms e = passed outcome.Confirmed e
-said_to now until.Confirmed cause Terminates e = e
-said_to now (until.Terminated ms) cause Confirms e = record e { standing = Confirmed now }
-said_to now (until.Terminated ms) cause Terminates e = passed outcome.Terminated e
+abbrev pub said_to : (now : ℕ) → Until → Answer → Reply → Errand → Errand
+said_to now u a Refuses e = record e { outcome = Some (outcome.Refused a.cause) }
+said_to now until.Sent a Confirms e = e
+said_to now until.Sent a Terminates e = e
+said_to now until.Confirmed a Confirms e = passed outcome.Confirmed e
+said_to now until.Confirmed a Terminates e = e
+said_to now (until.Terminated ms) a Confirms e =
+    record e { standing = Confirmed now; silent = others a.ca e.silent }
+said_to now (until.Terminated ms) a Terminates e = ended_at now a.ca e
 
 -- before the request went out it says nothing
-abbrev pub obeyed : (now : ℕ) → Until → (cause : ℕ) → Reply → Standing → Errand → Errand
-obeyed now u cause reply Unsent e = e
-obeyed now u cause reply (Sent since) e = said_to now u cause reply e
-obeyed now u cause reply (Confirmed since) e = said_to now u cause reply e
+abbrev pub obeyed : (now : ℕ) → Until → Answer → Reply → Standing → Errand → Errand
+obeyed now u a reply Unsent e = e
+obeyed now u a reply (Sent since) e = said_to now u a reply e
+obeyed now u a reply (Confirmed since) e = said_to now u a reply e
 
 -- A termination is waited for anew while what was asked for comes.
 abbrev pub prolonged : (now : ℕ) → Answer → Standing → Errand → Errand
@@ -117,7 +135,7 @@ prolonged now a (Confirmed since) e =
 
 abbrev pub replied : (now : ℕ) → Until → Answer → Option Reply → Errand → Errand
 replied now u a None e = prolonged now a e.standing e
-replied now u a (Some reply) e = obeyed now u a.cause reply e.standing e
+replied now u a (Some reply) e = obeyed now u a reply e.standing e
 
 abbrev pub heard_at : (now : ℕ) → Answer → Option Step → Errand → Errand
 heard_at now a None e = e
@@ -132,6 +150,11 @@ heard_by now (Some a) (Some end) e = e
 abbrev pub heard : (now : ℕ) → List ℕ → Errand → Errand
 heard now xs e = heard_by now (answer_in xs) e.outcome e
 
+-- a request that not all have terminated in time
+abbrev pub unended : (silent : List ℕ) → Errand → Errand
+unended [] e = passed outcome.Confirmed e
+unended (ca ∷ silent) e = record e { outcome = Some outcome.Silent }
+
 abbrev pub waited_at : (now : ℕ) → Standing → Until → Errand → Errand
 waited_at now Unsent u e = e
 waited_at now (Sent since) u e =
@@ -139,13 +162,14 @@ waited_at now (Sent since) u e =
 waited_at now (Confirmed since) until.Sent e = e
 waited_at now (Confirmed since) until.Confirmed e = e
 waited_at now (Confirmed since) (until.Terminated ms) e =
-    if nat_le ms (now - since) then passed outcome.Confirmed e else e
+    if nat_le ms (now - since) then unended e.silent e else e
 
 abbrev pub waited_by : (now : ℕ) → Option Step → Errand → Errand
 waited_by now None e = e
 waited_by now (Some s) e = waited_at now e.standing s.until e
 
--- Time passes: a confirmation has so long, and a termination that doesn't come is done without.
+-- Time passes: a confirmation has so long, and a termination that doesn't come is done without,
+-- unless a station gave nothing at all.
 abbrev pub waited : (now : ℕ) → Errand → Errand
 waited now e = waited_by now (turn_of e) e
 

@@ -52,6 +52,8 @@ switch_on manner = first_centre 0 (record {
   wait = 10000;
   at = 0;
   standing = Unsent;
+  awaited = [];
+  silent = [];
   outcome = None;
 })
 

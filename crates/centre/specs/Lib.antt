@@ -7,3 +7,4 @@ pub mod Desks
 pub mod Courses
 pub mod Endings
 pub mod Examples
+pub mod Words

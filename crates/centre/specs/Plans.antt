@@ -1,6 +1,6 @@
 -- The requests of an errand (IEC 60870-5-101, 7.2.1.4 and 7.2.1.5), and what is waited for (this
 -- gateway's own profile).
-use Rattle.std.specs.Prelude.{◌≡◌, ℕ, ◌+◌, Bool, true, false, if◌then◌else◌, List, [], ◌∷◌, map}
+use Rattle.std.specs.Prelude.{◌≡◌, ℕ, ◌+◌, ◌==◌, Bool, true, false, if◌then◌else◌, List, [], ◌∷◌, map}
 use Rattle.std.specs.Prelude.{Option, Some, None}
 use Rattle.centre.specs.Errands.{Errand}
 use Rattle.centre.specs.Requests.{command_type, content_of}
@@ -84,6 +84,18 @@ stays (Counters ca) = false
 stays (Clock ca) = false
 stays (Command o) = false
 
+-- the stations whose termination is waited for: those of the settings, if a request is to all
+abbrev pub awaited_by : Option ℕ → List ℕ → List ℕ
+awaited_by None known = []
+awaited_by (Some ca) known = if ca == 65535 then known else []
+
+abbrev pub awaited_of : Wish → Terms → List ℕ
+awaited_of Watch t = []
+awaited_of (Interrogate ca) t = awaited_by ca t.addresses.now
+awaited_of (Counters ca) t = awaited_by ca t.addresses.now
+awaited_of (Clock ca) t = []
+awaited_of (Command o) t = []
+
 -- the errand, before its first request
 pub record IsErrandOf (w : Wish) (t : Terms) (e : Errand) : Type 0 where
   pub steps : e.steps ≡ steps_of w t
@@ -91,4 +103,6 @@ pub record IsErrandOf (w : Wish) (t : Terms) (e : Errand) : Type 0 where
   pub patience : e.wait ≡ t.wait
   pub first : e.at ≡ 0
   pub unsent : e.standing ≡ Unsent
+  pub awaited : e.awaited ≡ awaited_of w t
+  pub silent : e.silent ≡ awaited_of w t
   pub open_end : e.outcome ≡ None

@@ -48,7 +48,11 @@ abbrev pub told : Style → Way → (now : ℕ) → Apdu → List ℕ
 told style.Words way now a = word_line way now a
 told style.Json way now a = json_line way now a
 
--- ---- Behind all: what became of the errand
+-- ---- Behind all: who gave nothing, and what became of the errand
+
+abbrev pub silent_line : Style → (ca : ℕ) → List ℕ
+silent_line style.Words ca = codes "no answer from common address " ++ (decimal ca ++ codes "\n")
+silent_line style.Json ca = codes "{\"silent\":" ++ (decimal ca ++ codes "}\n")
 
 unfoldable pub end_words : Outcome → List ℕ
 end_words outcome = outcome_words outcome ++ codes "\n"

@@ -92,6 +92,13 @@ impl Centre {
         self.errand.outcome()
     }
 
+    /// The common addresses of which nothing has come, of those that a request to all waits for.
+    pub fn silent(&self) -> &[u16]
+        ensures { result.now ≡ self.now.errand.silent }
+    {
+        self.errand.silent()
+    }
+
     /// The connection is lost. An errand that has ended before has ended so.
     pub fn lose(&mut self, why: Loss)
         ensures { self.new ≡ cut_off why self.old }

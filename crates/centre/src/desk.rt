@@ -72,6 +72,13 @@ impl<S: OctetStream + Drop> Desk<S> {
         self.centre.outcome()
     }
 
+    /// The common addresses of which nothing has come, of those that a request to all waits for.
+    pub fn silent(&self) -> &[u16]
+        ensures { result.now ≡ self.now.centre.errand.silent }
+    {
+        self.centre.silent()
+    }
+
     /// Looks at the connection once, takes what came, and sends what is due. Answers the text of
     /// what passed, with a line for each APDU.
     pub fn round(&mut self, now: u64) -> Result<String, AllocError>

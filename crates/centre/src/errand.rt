@@ -1,7 +1,7 @@
 //! What a control centre is to do, and how far it is with that.
-ghost use Rattle.std.specs.Prelude.{◌≡◌, ◌<◌, length, option_map};
-ghost use Rattle.centre.specs.Errands.{answer_in, due_of, gathers, heard, heard_at};
-ghost use Rattle.centre.specs.Errands.{lost, passed, reply_to, sent_off, turn_of, waited};
+ghost use Rattle.std.specs.Prelude.{◌≡◌, ◌==◌, ◌<◌, filter, length, not, option_map};
+ghost use Rattle.centre.specs.Errands.{answer_in, due_of, ended_at, gathers, heard, heard_at};
+ghost use Rattle.centre.specs.Errands.{lost, others, passed, reply_to, sent_off, turn_of, waited};
 
 use crate::request::{GLOBAL, Request};
 use std::marker::Model;
@@ -89,6 +89,10 @@ pub struct Errand {
     /// Whose turn it is.
     at: usize,
     standing: Standing,
+    /// The common addresses whose termination is still waited for, of a request to all.
+    awaited: Vec<u16>,
+    /// Those of which nothing came so far.
+    silent: Vec<u16>,
     outcome: Option<Outcome>,
 }
 
@@ -103,6 +107,8 @@ impl Model for Errand {
       wait = e.wait;
       at = e.at;
       standing = e.standing;
+      awaited = e.awaited.items;
+      silent = e.silent.items;
       outcome = e.outcome;
     } };
 }
@@ -141,6 +147,23 @@ fn reply_to(request: &Request, answer: Answer) -> Option<Reply>
     }
 }
 
+/// A station has answered: what is left of such a list without it, or without all of them.
+fn drop_answered(stations: &mut Vec<u16>, ca: u16)
+    ensures { stations.new.items ≡ others ca stations.old.items }
+{
+    if ca == GLOBAL {
+        stations.clear();
+    } else {
+        drop_one(stations, ca);
+    }
+}
+
+fn drop_one(stations: &mut Vec<u16>, ca: u16)
+    ensures { stations.new.items ≡ filter (λ one. not (one == ca)) stations.old.items }
+{
+    stations.retain(|one| *one != ca);
+}
+
 /// Whether it was asked for by an interrogation, of objects or of counters.
 fn gathers(answer: Answer) -> bool
     ensures { result ≡ gathers answer }
@@ -153,14 +176,23 @@ impl Errand {
     ghost use Rattle.centre.specs.declared.errand.Standing.TheVariants.{Unsent};
 
     /// One of these requests, in their order, before the first of them. A watch stays when they are
-    /// through. Each confirmation may take so many ms.
-    pub fn new(steps: Vec<Step>, stays: bool, wait: u64) -> Errand
+    /// through. Each confirmation may take so many ms. A request to all is through once each of the
+    /// stations `awaited` has terminated it, and `silent` has the same ones.
+    pub fn new(
+        steps: Vec<Step>,
+        stays: bool,
+        wait: u64,
+        awaited: Vec<u16>,
+        silent: Vec<u16>,
+    ) -> Errand
         ensures { result ≡ record {
           steps = steps.items;
           stays = stays;
           wait = wait;
           at = 0;
           standing = Unsent;
+          awaited = awaited.items;
+          silent = silent.items;
           outcome = None;
         } }
     {
@@ -170,8 +202,17 @@ impl Errand {
             wait,
             at: 0,
             standing: Standing::Unsent,
+            awaited,
+            silent,
             outcome: None,
         }
+    }
+
+    /// The common addresses of which nothing has come, of those that a request to all waits for.
+    pub fn silent(&self) -> &[u16]
+        ensures { result.now ≡ self.now.silent }
+    {
+        self.silent.as_slice()
     }
 
     /// What became of it, once it is over.
@@ -242,9 +283,10 @@ impl Errand {
             (_, Some(Reply::Refuses), _) => self.outcome = Some(Outcome::Refused(answer.cause)),
             (_, Some(Reply::Confirms), Until::Confirmed) => self.pass(Outcome::Confirmed),
             (_, Some(Reply::Confirms), Until::Terminated(_)) => {
+                drop_answered(&mut self.silent, answer.ca);
                 self.standing = Standing::Confirmed(now);
             }
-            (_, Some(Reply::Terminates), Until::Terminated(_)) => self.pass(Outcome::Terminated),
+            (_, Some(Reply::Terminates), Until::Terminated(_)) => self.end_at(answer.ca, now),
             // While what an interrogation asked for still comes its end is waited for anew.
             (Standing::Confirmed(_), None, _) if gathers(answer) => {
                 self.standing = Standing::Confirmed(now);
@@ -253,8 +295,22 @@ impl Errand {
         }
     }
 
+    /// A termination came from a station, or from all.
+    fn end_at(&mut self, ca: u16, now: u64)
+        requires { self.old.at < length self.old.steps }
+        ensures { self.new ≡ ended_at now ca self.old }
+    {
+        drop_answered(&mut self.silent, ca);
+        drop_answered(&mut self.awaited, ca);
+        if self.awaited.is_empty() {
+            self.pass(Outcome::Terminated);
+        } else {
+            self.standing = Standing::Confirmed(now);
+        }
+    }
+
     /// Time passes. A confirmation that doesn't come in time ends the errand; a termination that
-    /// doesn't come is done without.
+    /// doesn't come is done without, but a station that gave nothing isn't.
     pub(crate) fn wait_on(&mut self, now: u64)
         ensures { self.new ≡ waited now self.old }
     {
@@ -267,7 +323,11 @@ impl Errand {
             }
             (Standing::Confirmed(since), Until::Terminated(ms))
                 if now.saturating_sub(since) >= ms => {
-                self.pass(Outcome::Confirmed);
+                if self.silent.is_empty() {
+                    self.pass(Outcome::Confirmed);
+                } else {
+                    self.outcome = Some(Outcome::Silent);
+                }
             }
             (_, _) => {}
         }

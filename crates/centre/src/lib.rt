@@ -30,6 +30,6 @@ pub use examples::exchanges_by_example;
 pub use planning::{Terms, errand_of};
 pub use reading::{Manner, Order, Wish, is_wish_word, read_wish};
 pub use request::{ACTIVATION, DEACTIVATION, GLOBAL, Request, Value};
-pub use serving::{Untold, converse};
+pub use serving::{Untold, converse, pursue};
 pub use tags::tag_of;
-pub use telling::{Style, Way, end_line, push_line};
+pub use telling::{Style, Way, end_line, push_line, silent_line};

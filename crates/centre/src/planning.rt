@@ -1,7 +1,7 @@
 //! The requests of an errand.
 ghost use Rattle.std.specs.Prelude.{◌≡◌, ◌≤◌, IfOk, length, map};
 ghost use Rattle.centre.specs.Plans.{IsErrandOf, addresses_for, command_step, order_steps, step_to};
-ghost use Rattle.centre.specs.Plans.{tag_if};
+ghost use Rattle.centre.specs.Plans.{awaited_of, tag_if};
 
 use crate::errand::{Errand, Step, Until};
 use crate::reading::{Manner, Order, Wish};
@@ -52,7 +52,22 @@ pub fn errand_of(alloc: Global, wish: Wish, terms: Terms<'_>) -> Result<Errand, 
         Wish::Clock(ca) => to_stations(alloc, CLOCK, &terms.tag, ca, terms, Until::Confirmed)?,
         Wish::Command(order) => commands(alloc, order, terms)?,
     };
-    Ok(Errand::new(steps, matches!(wish, Wish::Watch), terms.wait))
+    let awaited = awaited_by(alloc, wish, terms)?;
+    let silent = awaited_by(alloc, wish, terms)?;
+    let stays = matches!(wish, Wish::Watch);
+    Ok(Errand::new(steps, stays, terms.wait, awaited, silent))
+}
+
+/// The stations whose termination of a request to all is waited for.
+fn awaited_by(alloc: Global, wish: Wish, terms: Terms<'_>) -> Result<Vec<u16>, AllocError>
+    ensures { IfOk result (λ all. all.items ≡ awaited_of wish terms.entry) }
+{
+    match wish {
+        Wish::Interrogate(Some(GLOBAL)) | Wish::Counters(Some(GLOBAL)) => {
+            terms.addresses.to_vec(alloc)
+        }
+        _ => Ok(Vec::new(alloc)),
+    }
 }
 
 /// One for each station that is asked.

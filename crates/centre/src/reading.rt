@@ -1,5 +1,8 @@
 //! What the words of a call ask for.
-ghost use Rattle.std.specs.Prelude.{◌^◌, ◌<◌, IfSome};
+ghost use Rattle.std.specs.Prelude.{◌≡◌, ◌^◌, ◌<◌, ◌||◌, IfSome, is_some, option_map, true};
+ghost use Rattle.centre.specs.Words.{IsNamedBy, is_order, is_question, manner_name};
+ghost use Rattle.centre.specs.Words.{name_of};
+ghost use Rattle.std.specs.Str.{bytes_eq};
 
 use crate::request::Value;
 use std::num::saturating_f64_to_i16;
@@ -40,7 +43,9 @@ pub enum Wish {
 
 /// What words ask for: what is to be done, of whom, and a command's value. `None` says that they
 /// are wrong.
-pub fn read_wish(what: Option<&str>, target: Option<&str>, value: Option<&str>) -> Option<Wish> {
+pub fn read_wish(what: Option<&str>, target: Option<&str>, value: Option<&str>) -> Option<Wish>
+    ensures { IfSome result (λ wish. IsNamedBy (option_map (λ w. w.now) what.entry) wish) }
+{
     let Some(what) = what else {
         return Some(Wish::Watch);
     };
@@ -65,11 +70,16 @@ pub fn read_wish(what: Option<&str>, target: Option<&str>, value: Option<&str>) 
 }
 
 /// Whether a word says what is to be done, so that it names no file.
-pub fn is_wish_word(word: &str) -> bool {
+pub fn is_wish_word(word: &str) -> bool
+    ensures { result ≡ (is_question word.now || is_order word.now) }
+{
     wish_for(word, None).is_some() || manner_of(word).is_some()
 }
 
-fn wish_for(what: &str, ca: Option<u16>) -> Option<Wish> {
+fn wish_for(what: &str, ca: Option<u16>) -> Option<Wish>
+    ensures known { is_some result ≡ is_question what.now }
+    ensures named { IfSome result (λ wish. bytes_eq what.now (name_of wish) ≡ true) }
+{
     match what {
         "interrogate" => Some(Wish::Interrogate(ca)),
         "counters" => Some(Wish::Counters(ca)),
@@ -78,7 +88,10 @@ fn wish_for(what: &str, ca: Option<u16>) -> Option<Wish> {
     }
 }
 
-fn manner_of(word: &str) -> Option<Manner> {
+fn manner_of(word: &str) -> Option<Manner>
+    ensures known { is_some result ≡ is_order word.now }
+    ensures named { IfSome result (λ manner. bytes_eq word.now (manner_name manner) ≡ true) }
+{
     match word {
         "select" => Some(Manner::Select),
         "execute" => Some(Manner::Execute),

@@ -3,7 +3,7 @@ ghost use Rattle.std.specs.Prelude.{◌≡◌, ◌++◌, IfOk, OnOk, string_byte
 ghost use Rattle.std.specs.Fmt.{decimal};
 ghost use Rattle.apci.specs.Borrowed.{owned};
 ghost use Rattle.centre.specs.Telling.{end_json, end_line, end_words, json_line, numbers_json};
-ghost use Rattle.centre.specs.Telling.{told, way_json, way_words, word_line, words_json};
+ghost use Rattle.centre.specs.Telling.{silent_line, told, way_json, way_words, word_line, words_json};
 
 use crate::errand::{Answer, Outcome, answer_in};
 use apci::ApduRef;
@@ -145,6 +145,16 @@ fn push_number(text: &mut String, name: &str, number: u32) -> Result<(), AllocEr
 {
     text.push_str(name)?;
     write!(text, "{number}")
+}
+
+/// The line before the last one for a station of which nothing came, by its common address.
+pub fn silent_line(alloc: Global, style: Style, ca: u16) -> Result<String, AllocError>
+    ensures { IfOk result (λ text. string_bytes text ≡ silent_line style ca) }
+{
+    match style {
+        Style::Words => format!(in alloc; "no answer from common address {ca}\n"),
+        Style::Json => format!(in alloc; "{{\"silent\":{ca}}}\n"),
+    }
 }
 
 /// The last line: what became of the errand.

@@ -81,7 +81,7 @@ fn root_of(alloc: Global, text: &[u8]) -> Result<Table, ConfigFault>
 }
 
 /// Reads each key in its order, and then looks for unknown ones.
-fn read_table(alloc: Global, root: &Table) -> Result<Config, ConfigFault>
+pub(crate) fn read_table(alloc: Global, root: &Table) -> Result<Config, ConfigFault>
     ensures { IsReadOf (known_settings (table_view root.now)) values_of
         (table_view root.now) result }
 {
@@ -91,7 +91,10 @@ fn read_table(alloc: Global, root: &Table) -> Result<Config, ConfigFault>
 }
 
 /// The same for a live run.
-fn read_live_table(alloc: Global, root: &Table) -> Result<(Config, LiveSettings), ConfigFault>
+pub(crate) fn read_live_table(
+    alloc: Global,
+    root: &Table,
+) -> Result<(Config, LiveSettings), ConfigFault>
     ensures { IsReadOf (known_live (table_view root.now)) live_values_of
         (table_view root.now) result }
 {

@@ -10,6 +10,11 @@ mod explaining;
 mod file;
 mod finding;
 mod lines;
+mod mending;
+mod remarks;
 mod stations;
 
 pub use self::explaining::{explain, explain_site};
+pub use self::remarks::{
+    Remark, config_remarks, listen_remarks, live_remarks, site_remarks, stranger_remarks,
+};

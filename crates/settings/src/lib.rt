@@ -27,8 +27,12 @@ mod wanted;
 
 pub use config::{read_config, read_live_config, wrong_station};
 pub use fault::{ConfigFault, WrongKey};
-pub use hints::{explain, explain_site};
+pub use hints::{
+    Remark, config_remarks, explain, explain_site, listen_remarks, live_remarks, site_remarks,
+    stranger_remarks,
+};
 pub use keys::{Flag, Whole, given, section};
 pub use live::{LiveSettings, is_address, is_here};
+pub use places::Place;
 pub use site::{Flags, Names, Places, Site, SiteFault, StationName, read_site, site_values};
 pub use wanted::wanted_values;

@@ -22,6 +22,7 @@ mod wanted;
 
 pub use self::fault::SiteFault;
 pub use self::names::{Names, StationName, wrong_station};
+pub(crate) use self::wanted::SITE_ROWS;
 pub use self::wanted::site_values;
 use crate::fault::WrongKey;
 use crate::keys::{Flag, given, section};
@@ -124,7 +125,7 @@ pub fn read_site(alloc: Global, text: &[u8]) -> Result<Site, SiteFault>
     ensures { IsSiteRead text.now result }
 {
     match root_of(alloc, text) {
-        Ok(root) => read_table(alloc, &root),
+        Ok(root) => read_site_table(alloc, &root),
         Err(fault) => Err(fault),
     }
 }
@@ -142,7 +143,7 @@ fn root_of(alloc: Global, text: &[u8]) -> Result<Table, SiteFault>
 }
 
 /// Reads each key in its order, and then looks for unknown ones.
-fn read_table(alloc: Global, root: &Table) -> Result<Site, SiteFault>
+pub(crate) fn read_site_table(alloc: Global, root: &Table) -> Result<Site, SiteFault>
     ensures { IsReadOf (table_view root.now) result }
 {
     let site = read_known(alloc, root)?;

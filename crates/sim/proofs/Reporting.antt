@@ -110,6 +110,19 @@ station_given view now e i class report s t is_given lt at f =
         }) e
     by_case false = e
 
+-- a station was changed
+pub station_changed : (view now : OutstationsState) → view ≡ now → (i : ℕ)
+    (change : Secondary → Secondary) (s t : Secondary) → i < length now.stations →
+    s ≡ get_or view.stations i s → t ≡ change s →
+    record view { stations = slice_set view.stations i t }
+    ≡ record now { stations = changed_at i change now.stations }
+station_changed view now e i change s t lt at f =
+    let here : i < length view.stations =
+    subst (λ (x : OutstationsState). i < length x.stations) (sym e) lt in
+    ap (λ (ss : List Secondary). record view { stations = ss })
+    (set_changed view.stations i change s t here at f)
+    ∙ ap (λ (x : OutstationsState). record x { stations = changed_at i change x.stations }) e
+
 -- and its report counted
 pub report_counted : (view mid old : OutstationsState) → view ≡ mid → (i : ℕ) (class : Class)
     (report : List ℕ) → mid ≡ record old {

@@ -43,6 +43,7 @@ mod due;
 mod ending;
 mod examples;
 mod fault;
+mod flaws;
 mod laws;
 mod line;
 mod numbered;
@@ -61,6 +62,7 @@ pub use beginning::begin;
 pub use directive::{Class, Directive, RequestFate};
 pub use examples::{calls_by_example, losses_by_example};
 pub use fault::SimFault;
+pub use flaws::script_flaw;
 pub use laws::stations_are_honest;
 pub use line::read_line;
 pub use reading::read_script;
@@ -69,8 +71,8 @@ pub use script::Script;
 pub use sim::Sim;
 pub use simulating::{simulate, simulate_watched};
 pub use stations::{
-    Cue, GatewaySocket, LineListener, OutstationServer, Outstations, Scenario, TimedServer, Timer,
-    play, read_scenario, serve,
+    Cue, GatewaySocket, LineListener, OutstationServer, Outstations, RestartTimer, Scenario,
+    TimedServer, Timer, play, read_scenario, serve,
 };
 pub use tally::StationTally;
 pub use traces::TextFault;

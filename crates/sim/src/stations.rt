@@ -13,7 +13,7 @@ mod replies;
 mod scenario;
 mod timed_server;
 
-pub use self::cue::{Cue, Timer};
+pub use self::cue::{Cue, RestartTimer, Timer};
 pub use self::listeners::{GatewaySocket, LineListener};
 pub use self::outstations::Outstations;
 pub use self::place::OutstationServer;

@@ -80,14 +80,14 @@ fn explain_under(
 }
 
 /// Which station is meant, counted from 0, if one is.
-fn item_of(
+pub(crate) fn item_of(
     alloc: Global,
     file: File,
     root: &Table,
     path: &str,
 ) -> Result<Option<usize>, AllocError> {
     match file {
-        File::Settings => match path {
+        File::Settings | File::LiveSettings => match path {
             "station.address" | "station.ca" | "station.select" => {
                 crate::config::wrong_station(alloc, root)
             }
@@ -101,7 +101,7 @@ fn item_of(
 }
 
 /// The key of a dotted path, of this station. If its table is none, the key of that.
-fn spot_of<'a>(root: &Table, path: &'a str, item: Option<usize>) -> Spot<'a> {
+pub(crate) fn spot_of<'a>(root: &Table, path: &'a str, item: Option<usize>) -> Spot<'a> {
     let Some((table, key)) = path.split_once('.') else {
         return Spot {
             table: None,
@@ -136,7 +136,7 @@ fn is_single(value: &Value) -> bool {
 }
 
 /// Where another station has the number of this one, if one has.
-fn twin_of(
+pub(crate) fn twin_of(
     alloc: Global,
     text: &[u8],
     root: &Table,

@@ -23,7 +23,8 @@ pub(crate) fn twin_station(root: &Table, item: usize, key: &str) -> Option<usize
     }
 }
 
-fn stations(root: &Table) -> &[Value] {
+/// The stations of a document.
+pub(crate) fn stations(root: &Table) -> &[Value] {
     let Some(value) = given(Some(root), "station") else {
         return &[];
     };
@@ -64,6 +65,13 @@ fn twin(stations: &[Value], item: usize, key: &str) -> Option<usize>
         }
     }
     None
+}
+
+/// Whether one of these stations has this number under this key.
+pub(crate) fn has_number(stations: &[Value], wanted: i64, key: &str) -> bool {
+    stations
+        .iter()
+        .any(|station| number(station, key) == Some(wanted))
 }
 
 /// Whether both stations have the same number under this key.

@@ -1,6 +1,6 @@
 //! What a line of a script says to the outstations here alone, at no other place.
 ghost use Rattle.std.specs.Prelude.{◌≡◌, ◌-◌, ◌≤◌, IfSome};
-ghost use Rattle.sim.specs.Cues.{IsPeriod, given_at, is_due, next_due, report_due};
+ghost use Rattle.sim.specs.Cues.{IsPeriod, given_at, is_due, next_due, report_due, restart_due};
 
 use crate::directive::Class;
 use link::UserData;
@@ -23,11 +23,23 @@ pub struct Timer {
     pub due: Option<u64>,
 }
 
+/// A restart that a station has at its moments.
+#[derive(Clone, Copy)]
+pub struct RestartTimer {
+    /// The station's index, from 0.
+    pub station: usize,
+    /// As those of a [`Timer`].
+    pub every: Option<u64>,
+    pub due: Option<u64>,
+}
+
 /// What a line says to the outstations here.
 #[derive(Drop)]
 pub enum Cue {
     /// A station has a report at its moments.
     Timed(Timer),
+    /// A station restarts at its moments.
+    Restarted(RestartTimer),
     /// The station with this index confirms each command that it accepts.
     Confirm(usize),
     /// The station with this index refuses each command that it accepts.
@@ -81,14 +93,26 @@ impl Cue {
         }
     }
 
-    /// Its report is given, so many ms behind the start.
+    /// The station that is to restart, so many ms behind the start.
+    pub(crate) fn restart(&self, passed: u64) -> Option<usize>
+        ensures { result ≡ restart_due passed self.now }
+    {
+        match self {
+            Cue::Restarted(timer) if is_due(passed, timer.due) => Some(timer.station),
+            _ => None,
+        }
+    }
+
+    /// Its report is given, or its station restarted, so many ms behind the start.
     pub(crate) fn give(&mut self, passed: u64)
         requires passed { passed ≤ 999999999999999 }
         requires timely { IsTimely self.old }
         ensures { self.new ≡ given_at passed self.old }
     {
-        if let Cue::Timed(timer) = self {
-            timer.due = next_due(passed, timer.every);
+        match self {
+            Cue::Timed(timer) => timer.due = next_due(passed, timer.every),
+            Cue::Restarted(timer) => timer.due = next_due(passed, timer.every),
+            _ => {}
         }
     }
 }

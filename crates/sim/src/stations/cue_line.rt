@@ -6,7 +6,7 @@ ghost use Rattle.sim.specs.Cues.{FitsLine, IsPeriod};
 
 use crate::directive::Directive;
 use crate::line::read_line;
-use crate::stations::cue::{Cue, Timer};
+use crate::stations::cue::{Cue, RestartTimer, Timer};
 use ft12::LinkSize;
 use std::alloc::{AllocError, Global};
 use traces::{cut, read_decimal};
@@ -66,6 +66,11 @@ fn index(stations: usize, digits: &[u8]) -> Option<usize> {
     }
 }
 
+/// The same, if a number stands there.
+fn index_in(stations: usize, digits: Option<&[u8]>) -> Option<usize> {
+    index(stations, digits?)
+}
+
 /// `confirm S` and `refuse S`.
 fn habit(word: &[u8], station: Option<usize>) -> Option<Cue>
     ensures { (size : LinkSize) → IfSome result (FitsLine size) }
@@ -104,6 +109,31 @@ fn delayed(what: &[u8], rest: &[u8]) -> Option<Cue>
     delay(what, number(request), time(ms))
 }
 
+/// `at MS restart S` and `every MS restart S`.
+fn restarted(size: LinkSize, word: &[u8], ms: Option<u64>, station: Option<usize>) -> Option<Cue>
+    requires { IfSome ms IsPeriod }
+    ensures { IfSome result (FitsLine size) }
+{
+    let ms = ms?;
+    Some(Cue::Restarted(RestartTimer {
+        station: station?,
+        every: period(word, ms)?,
+        due: Some(ms),
+    }))
+}
+
+/// How often that is behind the first time, by its word.
+fn period(word: &[u8], ms: u64) -> Option<Option<u64>>
+    requires { IsPeriod ms }
+    ensures { IfSome result (λ every. IfSome every IsPeriod) }
+{
+    match word {
+        b"at" => Some(None),
+        b"every" => Some(Some(ms)),
+        _ => None,
+    }
+}
+
 /// `at MS report S CLASS HEX` and `every MS report S CLASS HEX`.
 fn timed(
     size: LinkSize,
@@ -120,11 +150,7 @@ fn timed(
     let Some(Directive::Report(station, class, report)) = directive else {
         return None;
     };
-    let every = match word {
-        b"at" => None,
-        b"every" => Some(ms),
-        _ => return None,
-    };
+    let every = period(word, ms)?;
     Some(Cue::Timed(Timer {
         station,
         class,
@@ -156,6 +182,10 @@ pub(crate) fn read_cue(
     };
     if word == b"delay".as_slice() {
         return Ok(delayed(second, rest));
+    }
+    let (third, station) = cut(rest, SPACE);
+    if third == b"restart".as_slice() {
+        return Ok(restarted(size, word, time(second), index_in(stations, station)));
     }
     let directive = read_line(alloc, size, stations, rest)?;
     Ok(timed(size, stations, word, time(second), directive))

@@ -14,8 +14,10 @@ ghost use Rattle.sim.specs.Late.{at_once, late_after, late_behind, late_now};
 
 mod replying;
 mod reporting;
+mod restarting;
 
 use self::replying::{ReplyProgress, none_replied};
+use self::restarting::addresses_of;
 use crate::beginning::begin;
 use crate::directive::Directive;
 use crate::receiving::{arriving, put_out};
@@ -36,7 +38,10 @@ use std::marker::Model;
 /// which the script loses some, and some of whose answers it loses or spoils.
 #[derive(Drop)]
 pub struct Outstations {
+    alloc: Global,
     size: LinkSize,
+    /// The link addresses of the stations.
+    addresses: Vec<u16>,
     /// The sizes of the numbers in ASDUs.
     sizes: Sizes,
     script: Script,
@@ -69,6 +74,7 @@ enum ReceivedFront {
 impl Model for Outstations {
     ghost use Rattle.std.specs.Prelude.{◌≡◌, [], Some, unwrap_or};
     ghost use Rattle.std.specs.List.{AllByRecursion};
+    ghost use Rattle.link.specs.Requests.{FitsAddress};
     ghost use Rattle.sim.specs.Cues.{FitsLine};
     ghost use Rattle.sim.specs.Exchanges.{OutstationsState};
 
@@ -88,6 +94,7 @@ impl Model for Outstations {
     } };
 
     ghost invariant = { λ o. record {
+      addresses : AllByRecursion (FitsAddress o.size) o.addresses.items;
       sizes : AllByRecursion (λ s. s.size ≡ o.size) o.stations.items;
       lines : AllByRecursion (FitsLine o.size) o.cues.items;
       line : o.line.size ≡ o.size;
@@ -140,9 +147,12 @@ impl Outstations {
         let stations = begin(alloc, config, &script)?;
         let had = counts_of(alloc, &script, config.stations().len())?;
         let progress = none_replied(alloc, config.stations().len())?;
+        let addresses = addresses_of(alloc, config)?;
         let size = config.line().link;
         Ok(Outstations {
+            alloc,
             size,
+            addresses,
             sizes: config.line().sizes,
             script,
             cues,

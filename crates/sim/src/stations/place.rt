@@ -63,6 +63,13 @@ impl<L: Listener + Drop> OutstationServer<L> {
         self.outstations.give_reports(passed);
     }
 
+    /// Each line of the script has its station restart if that is due, so many ms behind the start.
+    pub(crate) fn restart_all(&mut self, passed: u64)
+        requires { passed ≤ 999999999999999 }
+    {
+        self.outstations.restart_all(passed);
+    }
+
     /// Each station gives its next reply to the commands that it accepted.
     pub(crate) fn reply_all(&mut self) {
         self.outstations.reply_all();

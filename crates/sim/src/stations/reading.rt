@@ -12,9 +12,11 @@ use crate::stations::scenario::Scenario;
 use ft12::LinkSize;
 use gateway::Config;
 use std::alloc::{AllocError, Global};
-use traces::{TextFault, parts};
+use traces::{TextFault, cut, parts};
 
 const LINE_FEED: u8 = b'\n';
+
+const SPACE: u8 = b' ';
 
 /// How many lines there may be for the outstations alone.
 const MOST_CUES: usize = 1000;
@@ -96,12 +98,22 @@ fn put_commented(text: &mut Vec<u8>, line: &[u8]) -> Result<(), AllocError> {
     Ok(())
 }
 
-/// The text of these lines, in which each that is for the outstations alone is a comment.
+/// Whether a line says how many calls of the port there are, which means nothing here.
+fn is_turns_line(line: &[u8]) -> bool {
+    let (word, _) = cut(line, SPACE);
+    word == b"turns".as_slice()
+}
+
+/// The text of these lines, in which each that is for the outstations alone is a comment. A script
+/// has to say how many calls there are: behind the last line that is said, if no line says it.
 fn without_cues(alloc: Global, lines: &[&[u8]]) -> Result<Vec<u8>, AllocError> {
     let mut text = Vec::new(alloc);
     for (i, line) in lines.iter().enumerate() {
         separate(&mut text, i)?;
         put_commented(&mut text, *line)?;
+    }
+    if !lines.iter().any(|line| is_turns_line(*line)) {
+        text.extend_from_slice(b"\nturns 0")?;
     }
     Ok(text)
 }
@@ -137,9 +149,10 @@ fn joined(
 
 /// Reads a whole text for these settings: lines of a script of `sim`, and between them lines for
 /// the outstations alone, which are `at MS report S CLASS HEX` and `every MS report S CLASS HEX`
-/// (10 ms to a day), `confirm S` and `refuse S`, and `delay answer N MS`. There are 1,000 of these
-/// at the most, one of `confirm` and `refuse` for a station, and one of `delay` for a request. Else
-/// it is as `read_script` says. The first wrong line is the fault.
+/// (10 ms to a day), the same with `restart S`, `confirm S` and `refuse S`, and `delay answer N
+/// MS`. There are 1,000 of these at the most, one of `confirm` and `refuse` for a station, and one
+/// of `delay` for a request. Else it is as `read_script` says, but `turns` may be missing. The
+/// first wrong line is the fault.
 pub fn read_scenario(alloc: Global, config: &Config, text: &[u8]) -> Result<Scenario, TextFault>
     ensures { IfOk result (FitsScenario config.now) }
 {

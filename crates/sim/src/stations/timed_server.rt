@@ -20,8 +20,9 @@ impl<L: Listener + Drop> TimedServer<L> {
     }
 
     /// Looks at each end once, and then gives the gateway the answer that goes out late at this
-    /// moment of the clock, in ms. Then each line of the script gives its station the report that
-    /// it has due. At last each station gives its next reply to the commands that it accepted.
+    /// moment of the clock, in ms. Then stations restart whose lines say so, and each line of the
+    /// script gives its station the report that it has due. At last each station gives its next
+    /// reply to the commands that it accepted.
     pub fn round(&mut self, now: u64) {
         self.place.look();
         self.begin(now);
@@ -44,8 +45,9 @@ impl<L: Listener + Drop> TimedServer<L> {
     /// What is due is given, once the time has begun.
     fn give_reports(&mut self, now: u64) {
         if let Some(start) = self.start {
-            self.place
-                .give_reports(now.saturating_sub(start).min(LAST_MS));
+            let passed = now.saturating_sub(start).min(LAST_MS);
+            self.place.restart_all(passed);
+            self.place.give_reports(passed);
         }
     }
 }

@@ -1,5 +1,5 @@
 //! The replies of the stations' applications to the commands that they accepted.
-ghost use Rattle.std.specs.Prelude.{◌≡◌, IfOk, length};
+ghost use Rattle.std.specs.Prelude.{◌≡◌, IfOk, false, length};
 ghost use Rattle.sim.specs.Progress.{next_step, none_replied};
 ghost use Rattle.sim.specs.Replying.{IsNext, Replies, RepliesEach, advanced, manner_in};
 ghost use Rattle.sim.specs.Replying.{manner_of};
@@ -36,11 +36,7 @@ pub(super) fn none_replied(alloc: Global, stations: usize) -> Result<Vec<ReplyPr
 {
     let mut all = Vec::new(alloc);
     for _ in 0..stations {
-        let first = ReplyProgress {
-            commands: 0,
-            is_confirmed: false,
-        };
-        all.push(first).map_err(|_| NoMemory)?;
+        all.push(ReplyProgress::none()).map_err(|_| NoMemory)?;
     }
     Ok(all)
 }
@@ -71,6 +67,16 @@ fn manner_of(station: usize, cues: &[Cue]) -> Option<bool>
 }
 
 impl ReplyProgress {
+    /// Nothing was replied to.
+    pub(super) fn none() -> ReplyProgress
+        ensures { result ≡ record { commands = 0; is_confirmed = false } }
+    {
+        ReplyProgress {
+            commands: 0,
+            is_confirmed: false,
+        }
+    }
+
     /// One reply further.
     fn step(&mut self)
         ensures { self.new ≡ next_step self.old }

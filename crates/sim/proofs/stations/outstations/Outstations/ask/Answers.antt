@@ -27,6 +27,7 @@ invariant_of-self c =
     let same : length after ≡ length before =
     length_out c.fate-fate.result c.as_slice.result.now before after c.put_out-reply.result out in
     record {
+      addresses = c.self.invariant.addresses;
       sizes = subst (λ (ss : List Secondary). HaveSize c.self.inside.size ss)
           (sym (written_back before after c.self.inside.stations.len
           (omega (arith, same, c.self.inside.stations.ok.0, c.self.inside.stations.ok.1))))
