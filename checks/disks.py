@@ -5,7 +5,7 @@ without a gap, nothing is operated twice, and the line is polled on.
     checks/disks.py [--program FILE] [--only NAME] [--part NAME] [--seed N]
 
 - In a state that a killed run left a bit is turned, a sector reads as zeros (the first one, too), the
-  file ends early, or two sectors are exchanged. Each start goes on without a loss, or says what is
+  file ends early, has nothing left, or two sectors are exchanged. Each start goes on without a loss, or says what is
   wrong with the state and tells a gap of each station that lost a report. So does the start behind
   one that was killed amid that.
 - A copy of the directory takes its place: it is stale by itself. Kills and power cuts, also amid a
@@ -175,6 +175,40 @@ def cut_to_used(life, chance, part):
     path = life.newest()
     os.truncate(path, len(used(path)))
     return "file ends behind its last line"
+
+
+def emptied(count, program, lives, left):
+    """Of the newest file, or of the only one that was written, nothing is left but such octets."""
+    with tempfile.TemporaryDirectory() as folder:
+        life = Life(program, folder, lives=lives)
+        path = life.newest()
+        with open(path, "wb") as file:
+            file.write(left)
+        lines, _, _ = looked(life.gateway, life.gateway.state)
+        faults, says = life.goes_on()
+        if lives > 1:
+            count.judge("a look at it tells that", lines[0] == "state is stale: each link is reset", lines)
+            count.judge("nothing is lost without a gap", not faults and says == "stale", (faults, says))
+        else:
+            count.compare("the log says that nothing was found", says, "begins anew")
+
+
+def first_of_an_older_version(count, program):
+    """A first log of an older version has number 1, no seals, and an empty file beside it: it goes on."""
+    with tempfile.TemporaryDirectory() as folder:
+        life = Life(program, folder)
+        path = life.newest()
+        with open(path, "rb") as file:
+            octets = file.read()
+        end = 87 + int(octets[57:73], 16)
+        events = b"".join(line + b"\n" for line in octets[end:].split(b"\0")[0].split(b"\n")[:-1] if not line.startswith(b"!"))
+        head = b"telegate state 1 rules 1 segment %016x" % 1 + octets[49:87]
+        with open(path, "wb") as file:
+            file.write((head + octets[87:end] + events).ljust(len(octets), b"\0"))
+        other = ({"segments", "segments-wal"} - {os.path.basename(path)}).pop()
+        os.truncate(os.path.join(life.gateway.state, other), 0)
+        faults, says = life.goes_on()
+        count.judge("an empty file beside it is none that was cut", not faults and says == "goes on", (faults, says))
 
 
 def exchange(life, chance, part):
@@ -690,6 +724,8 @@ PARTS = [
     alone("damaged and cut", damaged_and_cut),
     damage_part("short files", cut_short, 8),
     damage_part("shortened behind its last line", cut_to_used, 2),
+    *(alone(f"emptied in life {lives}, {len(left)} left", emptied, lives, left) for lives in (1, 2, 3) for left in (b"", b"t")),
+    alone("first log of an older version", first_of_an_older_version),
     damage_part("sectors exchanged", exchange, 6),
     *(alone(f"{kind} {way}", a_copy, way, lives) for way in COPIES for kind, lives in (("the same,", 0), ("an older one,", 1))),
     alone("killed often", killed_often),

@@ -10,6 +10,7 @@ use Rattle.segments.specs.Crash.{HasAt, HasLength, BeginsWith, HasNoOther, IsBla
 use Rattle.segments.specs.Crash.{IsLong}
 use Rattle.segments.specs.Crash.{IsWholeIfOpen}
 use Rattle.segments.specs.Crashes.{AreShutOr}
+use Rattle.segments.specs.Starts.{IsBlank}
 use Rattle.segments.specs.Written.{text_in}
 
 -- Octets of a text, of which a part is held
@@ -158,14 +159,25 @@ synced_no_other file new stored only le blank c left i some = elim (cases_lt i s
 
 -- A file that is shut
 
+-- what is blank behind that was blank before
+blank_before : (d c : List ℕ) → Mixed 0 (45 ∷ []) d c → IsBlank c → IsBlank d
+blank_before [] c mixed blank = (omega arith, λ mark. let no : 0 ≡ 45 = mark in omega (arith, no))
+blank_before (x ∷ l) c mixed blank = elim (mixed.each 0 (lit< tt) (omega arith)) [
+  | inl kept ↦ (omega (arith, mixed.torn.no_shorter, blank.0), λ mark. blank.1 (kept ∙ mark))
+  | inr put ↦ absurd (blank.1 put)
+]
+
 pub shut_old : (old new : List ℕ → Type 0) → Follows (Mixed 0 (45 ∷ [])) old new
     → AreShutOr new old
 shut_old old new follows c is = elim (cases_lt 1 (length c)) [
   | inl long ↦ elim (w.2.each 0 (lit< tt) (some long)) [
     | inl kept ↦ inr (subst old (ext_get_or 0 w.0 c (len long) (same long (sym kept))) w.1)
-    | inr put ↦ inl (inr put)
+    | inr put ↦ inl (inr put, λ blank. absurd (blank.1 put))
   ]
-  | inr short ↦ inl (inl (omega (arith, short)))
+  | inr short ↦ inl (
+    inl (omega (arith, short)),
+    λ blank. (w.0, w.1, blank_before w.0 c w.2 blank),
+  )
 ]
   where
     w : (d : List ℕ) × old d × Mixed 0 (45 ∷ []) d c
@@ -192,7 +204,8 @@ shut_old old new follows c is = elim (cases_lt 1 (length c)) [
     ]
 
 pub all_shut : (outcomes these : List ℕ → Type 0) → IsShut outcomes → AreShutOr outcomes these
-all_shut outcomes these shut c is = inl (inr (shut c is))
+all_shut outcomes these shut c is =
+    inl (inr (shut c is), λ blank. absurd (blank.1 (shut c is)))
 
 pub cut_long : (n : ℕ) (file : List ℕ) (old new : List ℕ → Type 0) → Only file old → 0 < length file
     → 0 < n

@@ -393,7 +393,7 @@ shut_older outcomes number shut c is head text fits found =
 pub unshut_older : (old new : List ℕ → Type 0) (number : ℕ) → AreShutOr new old
     → AreOlder old number → AreOlder new number
 unshut_older old new number kept older c is head text fits found = elim (kept c is) [
-  | inl shut ↦ absurd (not_shut c head found.first shut)
+  | inl shut ↦ absurd (not_shut c head found.first shut.0)
   | inr was ↦ older c was head text fits found
 ]
 
@@ -459,13 +459,19 @@ whole_or_shut : (outcomes : List ℕ → Type 0) (number : ℕ) (body : List ℕ
     → AreShutOr outcomes (IsTextTo size (whole_text number body))
     → AreShutOr outcomes (HasWhole number body)
 whole_or_shut outcomes number body size fits blocks kept c left = elim (kept c left) [
-  | inl shut ↦ inl shut
-  | inr text ↦ inr (record {
-    fits = fits;
-    text = text.0;
-    blocks = ap (λ (n : ℕ). are_blocks (n - (87 + length body))) text.1 ∙ blocks;
-  })
+  | inl shut ↦ inl (
+    shut.0,
+    λ blank. let (before, text, none) = shut.1 blank in (before, whole before text, none),
+  )
+  | inr text ↦ inr (whole c text)
 ]
+  where
+    whole : (d : List ℕ) → IsTextTo size (whole_text number body) d → HasWhole number body d
+    whole d text = record {
+      fits = fits;
+      text = text.0;
+      blocks = ap (λ (n : ℕ). are_blocks (n - (87 + length body))) text.1 ∙ blocks;
+    }
 
 pub few_or_shut : (outcomes : List ℕ → Type 0) (number octets sum remainder : ℕ) (body : List ℕ)
     (size : ℕ)
@@ -475,7 +481,7 @@ pub few_or_shut : (outcomes : List ℕ → Type 0) (number octets sum remainder 
     → AreShutOr outcomes (IsTextTo size (whole_text number body))
     → AreShutOr outcomes (HasWhole number body)
 few_or_shut outcomes number octets sum remainder body size few long small value summed (inl shut)
-    blocks kept c left = inl (inr (shut c left))
+    blocks kept c left = inl (inr (shut c left), λ blank. absurd (blank.1 (shut c left)))
 few_or_shut outcomes number octets sum remainder body size few long small value summed (inr less)
     blocks kept c left =
     whole_or_shut outcomes number body size (record {
@@ -543,6 +549,7 @@ below_front file front number begins lt head text fits found =
 pub newer_front : (file : List ℕ) (front : FileFront) (number : ℕ) → IsHeadIn file front
     → FitsIn front → number < number_in front → BeginsNewer number file
 newer_front file fronts.Shut number begins fits lt = absurd (omega (arith, lt))
+newer_front file fronts.Blank number begins fits lt = absurd (omega (arith, lt))
 newer_front file (fronts.Head head) number begins fits lt = (head, fits, begins.begins, lt)
 newer_front file fronts.Other number begins fits lt = absurd (omega (arith, lt))
 

@@ -1,6 +1,6 @@
 -- How a file begins.
 use Rattle.std.proofs.Common.{◌≡◌, ◌∙◌, Bool, inl, inr, ℕ, ◌+◌, ◌<◌, ◌≤◌, List, [], ◌∷◌, length}
-use Rattle.std.proofs.Common.{drop, take, min, slice_index, IfOk, IfNone, IfSome, Option, Some}
+use Rattle.std.proofs.Common.{drop, take, max, min, slice_index, IfOk, IfNone, IfSome, Option, Some}
 use Rattle.std.proofs.Common.{None, Result}
 use Rattle.std.proofs.Common.{Ok, Err, OnOk, is_err, true, false, refl, ap, sym, subst, arith}
 use Rattle.std.proofs.lemmas.Bool.{cases_lt, leb-false, lt-leb}
@@ -12,7 +12,7 @@ use Rattle.segments.specs.Head.{Fits, head_of}
 use Rattle.std.specs.Option.{is_some}
 use Rattle.std.specs.Prelude.{not, ◌&&◌, if◌then◌else◌}
 use Rattle.segments.specs.Starts.{ArePlaced, BeginsSo, FitsIn, HasNoNewer, HasNone, IsAbove}
-use Rattle.segments.specs.Starts.{IsBacked, IsBackedBy, IsFoundIn, IsWholeIn}
+use Rattle.segments.specs.Starts.{IsBacked, IsBackedBy, IsFirst, IsFoundIn, IsWholeIn}
 use Rattle.segments.specs.Starts.{IsHeadIn, IsNewest, IsNext, IsShut, IsSound, is_shut}
 use Rattle.segments.specs.Starts.{may_have_newer, number_in, other_side}
 use Rattle.segments.specs.declared.head.SegmentHead.{SegmentHead}
@@ -44,18 +44,31 @@ not_shut file head holds (inl short) = omega (arith, short, head_within file hea
 not_shut file head holds (inr is) = let no : 45 ≡ 116 = sym is ∙ head_letter file head holds in
     absurd (omega (arith, no))
 
-pub shut_short : (file : List ℕ) → length file < 2 → IsHeadIn file fronts.Shut
-shut_short file short = record {
-  begins = inl short;
-  heads = λ head fits holds. absurd (not_shut file head holds (inl short));
+none_first : (file : List ℕ) → length file ≡ 0 → slice_index file 0 ≡ 45 → ⊥
+none_first [] none is = let no : 0 ≡ 45 = is in absurd (omega (arith, no))
+none_first (x ∷ l) none is = absurd (omega (arith, none))
+
+short_blank : (file : List ℕ) → length file < 2 → (slice_index file 0 ≡ 45 → ⊥)
+    → IsHeadIn file fronts.Blank
+short_blank file short some = record {
+  begins = (short, some);
+  heads = λ head fits holds. absurd (omega (arith, short, head_within file head holds));
 }
+
+pub empty_blank : (file : List ℕ) → length file ≡ 0 → IsHeadIn file fronts.Blank
+empty_blank file none = short_blank file (omega (arith, none)) (none_first file none)
+
+pub blank_short : (file first : List ℕ) → Holds file 0 first → 0 < length first
+    → (slice_index first 0 ≡ 45 → ⊥) → length file < 2 → IsHeadIn file fronts.Blank
+blank_short file first held one some short =
+    short_blank file short (λ mark. some (sym (held.each 0 (omega (arith, one))) ∙ mark))
 
 pub shut_by_mark : (file first : List ℕ) → Holds file 0 first → 0 < length first
     → slice_index first 0 ≡ 45
     → IsHeadIn file fronts.Shut
 shut_by_mark file first held one mark =
     let is : slice_index file 0 ≡ 45 = held.each 0 (omega (arith, one)) ∙ mark in record {
-      begins = inr is;
+      begins = is;
       heads = λ head fits holds. absurd (not_shut file head holds (inr is));
     }
 
@@ -137,11 +150,14 @@ above_front file front number begins le head fits holds =
 
 -- The number behind that of a first line, or the first one
 pub next_front : (file other : List ℕ) (front : FileFront) (number : ℕ) → IsHeadIn file front
-    → FitsIn front → number ≡ min (number_in front + 1) 18446744073709551615
+    → FitsIn front → number ≡ max 2 (min (number_in front + 1) 18446744073709551615)
     → IsNext number file other
 next_front file other fronts.Shut number begins fits is = inl (omega (arith, is))
-next_front file other (fronts.Head head) number begins fits is =
-    inr (inl (head, fits, begins.begins, is))
+next_front file other fronts.Blank number begins fits is = inl (omega (arith, is))
+next_front file other (fronts.Head head) number begins fits is = elim (cases_lt head.number 1) [
+  | inl none ↦ inl (omega (arith, is, none))
+  | inr some ↦ inr (inl (head, fits, begins.begins, omega (arith, is, some)))
+]
 next_front file other fronts.Other number begins fits is = inl (omega (arith, is))
 
 pub next_other : (number : ℕ) (newest other : List ℕ) → IsNext number newest other
@@ -169,20 +185,24 @@ pub shut_front : (file : List ℕ) (front : FileFront) → IsHeadIn file front �
     → is_shut front
     ≡ true
 shut_front file fronts.Shut begins shut = refl
+shut_front file fronts.Blank begins shut = refl
 shut_front file (fronts.Head head) begins shut = absurd (not_shut file head begins.begins shut)
 shut_front file fronts.Other begins shut = absurd (begins.begins shut)
 
--- if it has no segment it is shut
-pub sound_shut : (file : List ℕ) (front : FileFront) → IsHeadIn file front → HasNone file
-    → IsSound file
-    → is_shut front ≡ true
-sound_shut file front begins none (inl shut) = shut_front file front begins shut
-sound_shut file front begins none (inr found) = absurd (none found.0 found.1 found.2 found.3)
+-- a file with a mark is shut by it
+by_mark : (file : List ℕ) (front : FileFront) → IsHeadIn file front → slice_index file 0 ≡ 45
+    → front ≡ fronts.Shut
+by_mark file fronts.Shut begins mark = refl
+by_mark file fronts.Blank begins mark = absurd (begins.begins.1 mark)
+by_mark file (fronts.Head head) begins mark =
+    absurd (not_shut file head begins.begins (inr mark))
+by_mark file fronts.Other begins mark = absurd (begins.begins (inr mark))
 
-pub not_sound : (file : List ℕ) (front : FileFront) → IsHeadIn file front → is_shut front ≡ false
-    → HasNone file → IsSound file → ⊥
-not_sound file front begins isnt none sound =
-    let is = sound_shut file front begins none sound in absurd (cc)
+pub not_sound : (file : List ℕ) (front : FileFront) → IsHeadIn file front
+    → (front ≡ fronts.Shut → ⊥) → HasNone file → IsSound file → ⊥
+not_sound file front begins isnt none (inl mark) = isnt (by_mark file front begins mark)
+not_sound file front begins isnt none (inr found) =
+    none found.0 found.1 found.2 found.3
 
 pub whole_sound : (file : List ℕ) (front : FileFront) → FitsIn front → IsWholeIn file front
     → IsSound file
@@ -191,7 +211,8 @@ whole_sound file front fits whole =
 
 pub by_shut : (file : List ℕ) (front : FileFront) → IsHeadIn file front → is_shut front ≡ true
     → IsShut file
-by_shut file fronts.Shut begins is = begins.begins
+by_shut file fronts.Shut begins is = inr begins.begins
+by_shut file fronts.Blank begins is = inl begins.begins.0
 by_shut file (fronts.Head head) begins is = absurd (cc)
 by_shut file fronts.Other begins is = absurd (cc)
 
@@ -249,7 +270,13 @@ pub sure_beside : (newest other : List ℕ) (front behind : FileFront) (own : Se
     → IsHeadIn newest front → IsHeadIn other behind → front ≡ fronts.Head own → FitsIn front
     → FitsIn behind → may_have_newer own.number behind ≡ false → HasNoNewer newest other
 sure_beside newest other front fronts.Shut own begins behind is fits fits' sure =
-    inl behind.begins
+    inl (inr behind.begins, λ blank. absurd (blank.1 behind.begins))
+sure_beside newest other front fronts.Blank own begins behind is fits fits' sure =
+    let mine : Holds newest 0 (head_of own) =
+    subst (λ (f : FileFront). BeginsSo newest f) is begins.begins in
+    let own_fits : Fits own = subst FitsIn is fits in
+    let low : own.number < 2 = leb-false 2 own.number sure in
+    inl (inl behind.begins.0, λ blank. (own, own_fits, mine, omega (arith, low)))
 sure_beside newest other front (fronts.Head head) own begins behind is fits fits' sure =
     let mine : Holds newest 0 (head_of own) =
     subst (λ (f : FileFront). BeginsSo newest f) is begins.begins in
@@ -261,8 +288,16 @@ pub only_beside : (newest other : List ℕ) (front behind : FileFront) (own : Se
     → IsHeadIn newest front → IsHeadIn other behind → front ≡ fronts.Head own
     → HasNoNewer newest other → may_have_newer own.number behind ≡ false
 only_beside newest other front fronts.Shut own begins behind is older = refl
+only_beside newest other front fronts.Blank own begins behind is (inl shut) =
+    let first : IsFirst newest = shut.1 behind.begins in
+    let a : number_in front ≡ first.0.number =
+    ap number_in (begins.heads first.0 first.1 first.2) in
+    let c : number_in front ≡ own.number = ap number_in is in
+    lt-leb 2 own.number (omega (arith, first.3, a, c))
+only_beside newest other front fronts.Blank own begins behind is (inr older) =
+    let no = behind.heads older.1 older.3 older.5 in absurd (cc)
 only_beside newest other front (fronts.Head head) own begins behind is (inl shut) =
-    absurd (not_shut other head behind.begins shut)
+    absurd (not_shut other head behind.begins shut.0)
 only_beside newest other front (fronts.Head head) own begins behind is (inr older) =
     let a : number_in front ≡ older.0.number =
     ap number_in (begins.heads older.0 older.2 older.4) in
@@ -271,7 +306,7 @@ only_beside newest other front (fronts.Head head) own begins behind is (inr olde
     let c : number_in front ≡ own.number = ap number_in is in
     lt-leb own.number head.number (omega (arith, older.6, a, b, c))
 only_beside newest other front fronts.Other own begins behind is (inl shut) =
-    absurd (behind.begins shut)
+    absurd (behind.begins shut.0)
 only_beside newest other front fronts.Other own begins behind is (inr older) =
     let no = behind.heads older.1 older.3 older.5 in absurd (cc)
 

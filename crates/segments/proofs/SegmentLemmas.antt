@@ -174,7 +174,8 @@ pub publish_mixed : (head text : List ℕ) (old new : List ℕ → Type 0) → l
 publish_mixed head text old new count first long shut follows whole c is =
     let w = follows c is in
     elim (w.2.each 0 (omega (arith, first_one head count)) (long w.0 w.1)) [
-      | inl kept ↦ inl (inr (kept ∙ shut w.0 w.1))
+      | inl kept ↦ let mark = kept ∙ shut w.0 w.1 in
+          inl (inr mark, λ blank. absurd (blank.1 mark))
       | inr put ↦ inr (whole c is (put ∙ get_or-take 1 head 0 0 (lit< tt) ∙ first))
     ]
 
@@ -230,7 +231,11 @@ pub text_or_shut : (outcomes : List ℕ → Type 0) (size : ℕ) (seen text : Li
     → IsTextTo size text seen → AreShutOr outcomes (λ c. c ≡ seen)
     → AreShutOr outcomes (IsTextTo size text)
 text_or_shut outcomes size seen text has kept c left = elim (kept c left) [
-  | inl shut ↦ inl shut
+  | inl shut ↦ inl (
+    shut.0,
+    λ blank. let (before, is, none) = shut.1 blank in
+        (before, subst (IsTextTo size text) (sym is) has, none),
+  )
   | inr is ↦ inr (subst (IsTextTo size text) (sym is) has)
 ]
 

@@ -3,7 +3,7 @@ use Rattle.std.specs.Prelude.{◌≡◌, ◌⊎◌, true, ℕ, ◌+◌, ◌-◌,
 use Rattle.segments.specs.Crash.{BeginsWith, HasLength, HasText}
 use Rattle.segments.specs.Head.{Fits, head_for, head_of, whole_text}
 use Rattle.segments.specs.Room.{are_blocks, damage_in, log_in}
-use Rattle.segments.specs.Starts.{IsBacked, IsFoundIn, IsShut}
+use Rattle.segments.specs.Starts.{IsBacked, IsBlank, IsFoundIn, IsShut}
 use Rattle.statetext.specs.Sealed.{AreWrites, sealed_text}
 use Rattle.segments.specs.declared.head.SegmentHead.{SegmentHead}
 
@@ -31,9 +31,14 @@ AreOlder outcomes number = (c : List ℕ) → outcomes c → (head : SegmentHead
     → Fits head →
     IsFoundIn c head text → head.number < number
 
+-- a file is shut, and if nothing is in it, one of these has nothing either
+abbrev pub IsShutAmong : (these : List ℕ → Type 0) → (file : List ℕ) → Type 0
+IsShutAmong these file =
+    IsShut file × (IsBlank file → (before : List ℕ) × these before × IsBlank before)
+
 -- each outcome is shut, or one of these
 abbrev pub AreShutOr : (outcomes : List ℕ → Type 0) → (List ℕ → Type 0) → Type 0
-AreShutOr outcomes these = (c : List ℕ) → outcomes c → IsShut c ⊎ these c
+AreShutOr outcomes these = (c : List ℕ) → outcomes c → IsShutAmong these c ⊎ these c
 
 -- a file has the segment with this number and this checkpoint, and zeros alone behind it: whole
 -- blocks

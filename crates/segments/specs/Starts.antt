@@ -1,6 +1,6 @@
 -- What a start finds in a file (profile).
 use Rattle.std.specs.Io.Iter.{u64_saturate}
-use Rattle.std.specs.Prelude.{◌≡◌, ◌⊎◌, Bool, true, false, nat_le, ℕ, ◌+◌, ◌<◌, ◌≤◌}
+use Rattle.std.specs.Prelude.{◌≡◌, ◌≢◌, ◌⊎◌, Bool, true, false, nat_le, ℕ, ◌+◌, ◌<◌, ◌≤◌}
 use Rattle.std.specs.Prelude.{List, length, slice_index}
 use Rattle.sqlite_disk.specs.Disk.{Holds}
 use Rattle.statetext.specs.Sum.{sum_of}
@@ -19,9 +19,17 @@ other_side sides.Db = sides.Log
 abbrev pub IsShut : List ℕ → Type 0
 IsShut file = (length file < 2) ⊎ (slice_index file 0 ≡ 45)
 
--- it is shut, or begins with this first line of a segment, or with something else
+-- nothing was ever begun in the file, or nothing is left of it: it has fewer than 2 octets, and its
+-- first octet isn't `-` (45)
+abbrev pub IsBlank : List ℕ → Type 0
+IsBlank file = (length file < 2) × (slice_index file 0 ≢ 45)
+
+-- its first octet is `-`, or nothing was begun in it, or it begins with this first line of a
+-- segment,
+-- or with something else
 abbrev pub BeginsSo : List ℕ → FileFront → Type 0
-BeginsSo file fronts.Shut = IsShut file
+BeginsSo file fronts.Shut = slice_index file 0 ≡ 45
+BeginsSo file fronts.Blank = IsBlank file
 BeginsSo file (fronts.Head head) = Holds file 0 (head_of head)
 BeginsSo file fronts.Other = IsShut file → ⊥
 
@@ -33,18 +41,22 @@ pub record IsHeadIn (file : List ℕ) (front : FileFront) : Type 0 where
 
 abbrev pub number_in : FileFront → ℕ
 number_in fronts.Shut = 0
+number_in fronts.Blank = 0
 number_in (fronts.Head head) = head.number
 number_in fronts.Other = 0
 
 abbrev pub is_shut : FileFront → Bool
 is_shut fronts.Shut = true
+is_shut fronts.Blank = true
 is_shut (fronts.Head head) = false
 is_shut fronts.Other = false
 
--- a file that begins so may have had a segment as new as the one with this number: it isn't shut,
--- and doesn't begin with the first line of an older one
+-- A file that begins so may have had a segment as new as the one with this number: it isn't shut,
+-- and doesn't begin with the first line of an older one. Only beside the first segment of an older
+-- version, which had number 1, nothing may ever have been begun in it.
 abbrev pub may_have_newer : (number : ℕ) → FileFront → Bool
 may_have_newer number fronts.Shut = false
+may_have_newer number fronts.Blank = nat_le 2 number
 may_have_newer number (fronts.Head head) = nat_le number head.number
 may_have_newer number fronts.Other = true
 
@@ -65,9 +77,9 @@ abbrev pub IsNewest : (newest other : List ℕ) → Type 0
 IsNewest newest other = (own head : SegmentHead) (text others : List ℕ) → Fits own → Fits head →
     IsFoundIn newest own text → IsFoundIn other head others → head.number ≤ own.number
 
--- the file is shut, or has a segment: no crash leaves another one
+-- the file begins with `-`, or has a segment: no crash leaves another one beside a log
 abbrev pub IsSound : List ℕ → Type 0
-IsSound file = IsShut file
+IsSound file = (slice_index file 0 ≡ 45)
     ⊎ ((head : SegmentHead) × (text : List ℕ) × Fits head × IsFoundIn file head text)
 
 -- these are the two files as they were, the newest segment being in the one of this side
@@ -87,14 +99,23 @@ IsBehind number file =
     (head : SegmentHead) × Fits head × Holds file 0 (head_of head)
     × (number ≡ u64_saturate (head.number + 1))
 
+-- the number of the first segment: only that of an older version was 1
+abbrev pub first_number : ℕ
+first_number = 2
+
 -- the number is the first one, or the next behind a first line that stands in one of the files
 abbrev pub IsNext : ℕ → (newest other : List ℕ) → Type 0
-IsNext number newest other = (number ≡ 1) ⊎ (IsBehind number newest ⊎ IsBehind number other)
+IsNext number newest other = (number ≡ first_number)
+    ⊎ (IsBehind number newest ⊎ IsBehind number other)
+
+-- the file begins with the first line of a segment that was the first one of an older version
+abbrev pub IsFirst : List ℕ → Type 0
+IsFirst file = (own : SegmentHead) × Fits own × Holds file 0 (head_of own) × (own.number ≤ 1)
 
 -- The other file is shut, or begins with the first line of a segment that is older: so none as new
--- as the newest ever stood there.
+-- as the newest ever stood there. It has something in it, unless the newest is of an older version.
 abbrev pub HasNoNewer : (newest other : List ℕ) → Type 0
-HasNoNewer newest other = IsShut other
+HasNoNewer newest other = (IsShut other × (IsBlank other → IsFirst newest))
     ⊎ ((own : SegmentHead) × (head : SegmentHead) × Fits own × Fits head
     × Holds newest 0 (head_of own) × Holds other 0 (head_of head) × (head.number < own.number))
 
@@ -135,5 +156,6 @@ IsWholeIn file front = (head : SegmentHead) × (text : List ℕ) × (front ≡ f
 -- the numbers of a first line have so few digits
 abbrev pub FitsIn : FileFront → Type 0
 FitsIn fronts.Shut = Unit {0}
+FitsIn fronts.Blank = Unit {0}
 FitsIn (fronts.Head head) = Fits head
 FitsIn fronts.Other = Unit {0}

@@ -37,6 +37,7 @@ pub fn shut<D: Disk>(file: &mut D) -> Result<(), SegmentFault>
     ensures long { OnOk result (IsLong (D.Disk.may_leave file.new)) }
     ensures shut { OnOk result (IsShut (D.Disk.may_leave file.new)) }
     ensures sized { OnOk result (length (D.Disk.seen file.new) ≡ 87) }
+    ensures clean { IsTrue (D.Disk.is_clean file.new) → IsTrue (D.Disk.is_clean file.old) }
     ensures crash { IsTrue (D.Disk.is_mixing file.old)
         → AreShutOr (D.Disk.may_leave file.new) (D.Disk.may_leave file.old) }
 {

@@ -114,13 +114,13 @@ pub fn no_crash_takes_both_files<D: Disk>()
 
 /// The number of the next segment is its own. It is above the number of each first line that stands
 /// in one of the files, until the 64 bits of a number are used up: so the newest segment is never
-/// one of two. And none is left out: the number before it stands there, unless it is the first.
+/// one of two. And none is left out: the number before it stands there, unless it is the first, 2.
 pub fn the_next_number_is_new()
     ensures above { (number : ℕ) (file : List ℕ) (head : SegmentHead) → IsAbove number file →
         Fits head → Holds file 0 (head_of head) → head.number < 2 ^ 64 - 1 →
         head.number < number }
     ensures next { (number : ℕ) (newest other : List ℕ) → IsNext number newest other →
-        1 < number → (head : SegmentHead) × Fits head
+        2 < number → (head : SegmentHead) × Fits head
         × (Holds newest 0 (head_of head) ⊎ Holds other 0 (head_of head))
         × (number ≤ head.number + 1) }
 {}

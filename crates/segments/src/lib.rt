@@ -44,5 +44,5 @@ pub use laws::{
 };
 pub use room::row_with_room;
 pub use segment::Segment;
-pub use start::{FoundHead, FoundLog, Side, Start, is_below, is_sound, newest_side};
+pub use start::{FoundHead, FoundLog, Side, Start, is_below, is_sound, newest_side, shut_blank};
 pub use writer::{Failed, Writer};

@@ -1,13 +1,15 @@
 //! The segment whose lines are appended.
 ghost use Rattle.std.specs.Prelude.{◌≡◌, ◌+◌, ◌-◌, ◌<◌, ◌≤◌, ◌^◌, ◌∷◌, ◌++◌, ℕ, List, []};
-ghost use Rattle.std.specs.Prelude.{length, drop, slice_index, take, IsTrue, OnOk, OnErr, IfOk, IfErr};
+ghost use Rattle.std.specs.Prelude.{length, drop, slice_index, take, IsTrue, OnOk, OnErr, IfOk};
+ghost use Rattle.std.specs.Prelude.{IfErr};
 ghost use Rattle.std.specs.Prelude.{Err, true, false};
 ghost use Rattle.std.specs.List.{concat};
 ghost use Rattle.std.specs.declared.io.ErrorKind.{ErrorKind};
 ghost use Rattle.std.specs.declared.io.ErrorKind.TheVariants.{Other};
 ghost use Rattle.segments.specs.Faults.{IsDevice};
 ghost use Rattle.segments.specs.declared.fault.SegmentFault.TheVariants.{Device, Full, NoMemory};
-ghost use Rattle.segments.specs.Crash.{AreMixing, HasLength, BeginsWith, HasAt, HasNoOther, IsBlankFrom};
+ghost use Rattle.segments.specs.Crash.{AreMixing, HasLength, BeginsWith, HasAt, HasNoOther};
+ghost use Rattle.segments.specs.Crash.{IsBlankFrom};
 ghost use Rattle.segments.specs.Crashes.{StandsIn, StaysBacked, Survives, log_text};
 ghost use Rattle.segments.specs.Head.{Fits, head_for, head_of, whole_text};
 ghost use Rattle.segments.specs.Room.{are_blocks};
@@ -154,7 +156,8 @@ fn commit<D: Disk>(file: &mut D, at: usize, octets: &[u8]) -> Result<usize, Segm
 
 impl<D: Disk> Segment<D> {
     ghost use Rattle.segments.specs.Segment.{body_of, file_of, fixed_of, is_open, octets_of};
-    ghost use Rattle.segments.specs.Segment.{open_of, outcomes_of, own_number, seal_octets, size_of};
+    ghost use Rattle.segments.specs.Segment.{open_of, outcomes_of, own_number, seal_octets};
+    ghost use Rattle.segments.specs.Segment.{size_of};
     ghost use Rattle.segments.specs.Segment.{with_write, writes_of};
 
     /// A segment in a file that is synced: the text ends there, zeros stand behind it. The sum is

@@ -1,16 +1,18 @@
 //! What a start finds in the two files.
 ghost use Rattle.std.specs.Option.{ForSome, is_some};
 ghost use Rattle.std.specs.Io.Iter.{u64_saturate};
-ghost use Rattle.std.specs.Prelude.{◌≡◌, ◌==◌, ℕ, ◌+◌, ◌-◌, ◌<◌, ◌≤◌, ◌^◌, false, true, List, None};
+ghost use Rattle.std.specs.Prelude.{◌≡◌, ◌⊎◌, ◌==◌, max, ℕ, ◌+◌, ◌-◌, ◌<◌, ◌≤◌, ◌^◌, false, true};
+ghost use Rattle.std.specs.Prelude.{List, None};
 ghost use Rattle.std.specs.Prelude.{◌&&◌};
-ghost use Rattle.std.specs.Prelude.{drop, length, take, position, IsTrue, IfOk, IfNone};
+ghost use Rattle.std.specs.Prelude.{drop, length, take, position, IsTrue, IfOk, IfNone, OnOk};
 ghost use Rattle.std.specs.Prelude.{IfSome, Some};
 ghost use Rattle.std.specs.Prelude.{if◌then◌else◌};
 ghost use Rattle.sqlite_disk.specs.Disk.{Holds};
 ghost use Rattle.segments.specs.Head.{Fits, head_of};
 ghost use Rattle.segments.specs.Room.{are_blocks, before_zero, damage_in, log_in};
 ghost use Rattle.segments.specs.Starts.{ArePlaced, BeginsNewer, FitsIn, HasNoNewer, HasNone};
-ghost use Rattle.segments.specs.Starts.{IsAbove};
+ghost use Rattle.segments.specs.Crash.{IsShut as IsShutThere};
+ghost use Rattle.segments.specs.Starts.{IsAbove, IsBlank, first_number};
 ghost use Rattle.segments.specs.Starts.{IsBacked, IsBackedBy, IsBelow, IsFoundIn, IsWholeIn};
 ghost use Rattle.segments.specs.Starts.{IsHeadIn, IsNewest, IsNext, IsShut, IsSound};
 ghost use Rattle.segments.specs.Starts.{is_shut, may_have_newer, number_in, other_side};
@@ -19,7 +21,7 @@ ghost use Rattle.segments.specs.declared.start.FileFront.TheVariants.{Head};
 ghost use Rattle.statetext.specs.Sum.{sum_of};
 
 use crate::SegmentFault;
-use crate::gate::{BLOCK, HEAD, SHUT, done};
+use crate::gate::{BLOCK, HEAD, SHUT, done, shut};
 use crate::head::{SegmentHead, parse, print};
 use sqlite_disk::{Disk, Files};
 use statetext::{Sum, read_sealed};
@@ -60,8 +62,10 @@ impl Side {
 /// How a file begins.
 #[derive(Clone, Copy)]
 pub(crate) enum FileFront {
-    /// It is shut, or it was never written: it has no segment.
+    /// It is shut: it has no segment.
     Shut,
+    /// It has no octet, or one that isn't `-`: nothing was ever begun there, or nothing is left.
+    Blank,
     /// With the first line of a segment.
     Head(SegmentHead),
     /// With something else.
@@ -83,14 +87,17 @@ pub(crate) fn front_at<D: Disk>(alloc: Global, file: &mut D) -> Result<FileFront
         Ok(octets) => octets,
         Err(error) => return Err(SegmentFault::Device(error.kind())),
     };
-    if octets < 2 {
-        return Ok(FileFront::Shut);
+    if octets == 0 {
+        return Ok(FileFront::Blank);
     }
     if octets < HEAD {
         let mut first = [0];
         done(file.read_at(0, &mut first))?;
         if first[0] == SHUT {
             return Ok(FileFront::Shut);
+        }
+        if octets < 2 {
+            return Ok(FileFront::Blank);
         }
         return Ok(FileFront::Other);
     }
@@ -352,11 +359,11 @@ pub struct Start<D: Disk> {
         IsFoundIn (D.Disk.seen newest) c.head c.text.items)) },
 }
 
-/// Whether a file is shut.
+/// Whether a file is shut, or nothing was begun in it.
 fn is_shut(front: FileFront) -> bool
     ensures { result ≡ is_shut front }
 {
-    matches!(front, FileFront::Shut)
+    matches!(front, FileFront::Shut | FileFront::Blank)
 }
 
 /// Whether both files are shut.
@@ -372,6 +379,9 @@ fn may_have_newer(number: u64, front: FileFront) -> bool
 {
     match front {
         FileFront::Shut => false,
+        // Beside a segment of this version no crash leaves an empty file (docs/DECISIONS.md, "An
+        // empty file").
+        FileFront::Blank => FIRST <= number,
         // As new too: which of two with one number came later, nobody knows (docs/DECISIONS.md,
         // "Two logs of one number").
         FileFront::Head(head) => number <= head.number,
@@ -385,8 +395,19 @@ pub(crate) fn number_of(front: FileFront) -> u64
 {
     match front {
         FileFront::Head(head) => head.number,
-        FileFront::Shut | FileFront::Other => 0,
+        FileFront::Shut | FileFront::Blank | FileFront::Other => 0,
     }
+}
+
+/// The number of the first segment. Only that of an older version was 1, which left the other file
+/// empty beside it (docs/DECISIONS.md, "An empty file").
+const FIRST: u64 = 2;
+
+/// The number behind this one, which is 0 if no segment stands.
+fn next_number(number: u64) -> u64
+    ensures { result ≡ max first_number (u64_saturate (number + 1)) }
+{
+    FIRST.max(number.saturating_add(1))
 }
 
 /// The checkpoint of a file that begins so.
@@ -437,7 +458,8 @@ fn is_whole<D: Disk>(alloc: Global, file: &mut D, front: FileFront) -> Result<bo
     Ok(sum == head.sum)
 }
 
-/// Whether a start doubts nothing of a file: it is shut, or has a segment that is whole.
+/// Whether no start doubts a file beside the next segment: its first octet says that it is shut, or
+/// it has a segment that is whole.
 pub fn is_sound<D: Disk>(alloc: Global, file: &mut D) -> Result<bool, SegmentFault>
     requires { IsTrue (D.Disk.is_usable file.old) }
     ensures sound { IfOk result (λ is. is ≡ true → IsTrue (D.Disk.is_clean file.new) →
@@ -449,10 +471,25 @@ pub fn is_sound<D: Disk>(alloc: Global, file: &mut D) -> Result<bool, SegmentFau
     ensures seen { D.Disk.seen file.new ≡ D.Disk.seen file.old }
 {
     let front = front_at(alloc, file)?;
-    if is_shut(front) {
+    if let FileFront::Shut = front {
         return Ok(true);
     }
     is_whole(alloc, file, front)
+}
+
+/// Shuts a file in which nothing was ever begun, on the disk too. Each other one stays as it is.
+pub fn shut_blank<D: Disk>(alloc: Global, file: &mut D) -> Result<(), SegmentFault>
+    requires { IsTrue (D.Disk.is_usable file.old) }
+    ensures left { OnOk result (IsTrue (D.Disk.is_clean file.new) →
+        (IsBlank (D.Disk.seen file.old) × IsShutThere (D.Disk.may_leave file.new))
+        ⊎ ((c : List ℕ) → D.Disk.may_leave file.new c → D.Disk.may_leave file.old c)) }
+    ensures usable { OnOk result (IsTrue (D.Disk.is_usable file.new)) }
+    ensures clean { IsTrue (D.Disk.is_clean file.new) → IsTrue (D.Disk.is_clean file.old) }
+{
+    match front_at(alloc, file)? {
+        FileFront::Blank => shut(file),
+        FileFront::Shut | FileFront::Head(_) | FileFront::Other => Ok(()),
+    }
 }
 
 /// In which of two files the newest segment stands. The other one may be written over: if it has a
@@ -536,7 +573,7 @@ impl<D: Disk + Drop> Start<D> {
         let Files { mut log, mut db } = files;
         let first = front_at(alloc, &mut log)?;
         let second = front_at(alloc, &mut db)?;
-        let number = number_of(first).max(number_of(second)).saturating_add(1);
+        let number = next_number(number_of(first).max(number_of(second)));
         if number_of(first) >= number_of(second) {
             Start::choose(alloc, log, first, db, second, Side::Log, number)
         } else {
@@ -561,7 +598,7 @@ impl<D: Disk + Drop> Start<D> {
         requires fits { FitsIn front }
         requires both { FitsIn other_front }
         requires order { number_in other_front ≤ number_in front }
-        requires next { number ≡ u64_saturate (number_in front + 1) }
+        requires next { number ≡ max first_number (u64_saturate (number_in front + 1)) }
         ensures placed { (log db : List ℕ) →
             ArePlaced side log db (D.Disk.seen newer) (D.Disk.seen older) →
             IfOk result (λ s. ArePlaced s.side log db (newest_in s) (other_in s)) }

@@ -54,7 +54,8 @@ logged_is (Heard event ∷ calls) = logged_is calls
 logged_is (Tried true ∷ calls) = logged_is calls
 logged_is (Tried false ∷ calls) = logged_is calls
 logged_is (Asked is_lost cause ∷ calls) =
-    logged_more (notice_of is_lost cause (patience_behind calls)) (patience_behind calls) (latest calls)
+    logged_more (notice_of is_lost cause (patience_behind calls)) (patience_behind calls)
+    (latest calls)
     (told calls) (moment_is calls) (logged_is calls)
 
 pub tried_is : (calls : List Call) → (patience_behind calls).tried ≡ failed (tries calls)

@@ -15,7 +15,7 @@ IsNew = (number : ℕ) (file : List ℕ) (head : SegmentHead) → IsAbove number
     → Holds file 0 (head_of head) → head.number < 2 ^ 64 - 1 → head.number < number
 
 abbrev pub LeavesNoneOut : Type 0
-LeavesNoneOut = (number : ℕ) (newest other : List ℕ) → IsNext number newest other → 1 < number
+LeavesNoneOut = (number : ℕ) (newest other : List ℕ) → IsNext number newest other → 2 < number
     → (head : SegmentHead) × Fits head
     × (Holds newest 0 (head_of head) ⊎ Holds other 0 (head_of head)) × (number ≤ head.number + 1)
 
@@ -40,7 +40,7 @@ module _ {D : Type 0} {g : Ghosts D} where
 
   pub next : LeavesNoneOut → (number : ℕ) (opened : Opened D g) (newest other : D)
       → IsNumbered number opened → opened ≡ opens.Both newest other
-      → IsTrue (g.is_clean newest) → IsTrue (g.is_clean other) → 1 < number
+      → IsTrue (g.is_clean newest) → IsTrue (g.is_clean other) → 2 < number
       → (head : SegmentHead) × Fits head × (Holds (g.seen newest) 0 (head_of head)
       ⊎ Holds (g.seen other) 0 (head_of head)) × (number ≤ head.number + 1)
   next none number opened newest other numbered is one two =
@@ -48,5 +48,5 @@ module _ {D : Type 0} {g : Ghosts D} where
       (both number opened newest other numbered is one two).2
 
   pub aside : (number : ℕ) (opened : Opened D g) → IsNumbered number opened
-      → opened ≡ opens.Neither → number ≡ 1
+      → opened ≡ opens.Neither → number ≡ 2
   aside number opened numbered is = subst (λ (o : Opened D g). IsNumbered number o) is numbered

@@ -3,6 +3,8 @@ use Rattle.std.proofs.Common.{◌≡◌, inl, inr, ℕ, Bool, true, List, ◌∷
 use Rattle.sqlite_disk.specs.declared.Disk.{Ghosts}
 use Rattle.segments.specs.Crash.{AreMixing, IsShut}
 use Rattle.segments.specs.Crashes.{AreShutOr, HasWhole}
+use Rattle.segments.specs.Head.{head_for}
+use Rattle.segments.proofs.Fronts.{not_shut}
 use Rattle.statetext.specs.Text.{lines_in}
 use Rattle.state.specs.Logs.{AreAmid, AreFilesOf, IsAmid, IsReadWell}
 use Rattle.state.specs.Logs.{leaves_amid, leaves_behind}
@@ -22,14 +24,20 @@ kept_amid before outcomes number settings lines kept file left = elim (kept file
 
 pub shut_amid : (before outcomes : List ℕ → Type 0) (number : ℕ) (settings : List ℕ)
     (lines : List (List ℕ)) → IsShut outcomes → AreAmid before number settings lines outcomes
-shut_amid before outcomes number settings lines shut file left = inl (inr (shut file left))
+shut_amid before outcomes number settings lines shut file left =
+    inl (inr (shut file left), λ blank. absurd (blank.1 (shut file left)))
 
 pub whole_amid : (before outcomes : List ℕ → Type 0) (number : ℕ) (settings : List ℕ)
     (lines : List (List ℕ)) (body : List ℕ) → lines_in body ≡ settings ∷ lines
     → AreShutOr outcomes (HasWhole number body) → AreAmid before number settings lines outcomes
 whole_amid before outcomes number settings lines body says kept file left =
     elim (kept file left) [
-      | inl shut ↦ inl shut
+      | inl shut ↦ inl (
+        shut.0,
+        λ blank. let (was, whole, none) = shut.1 blank in
+            let fresh = fresh_whole number body was whole settings lines says in
+            absurd (not_shut was (head_for number fresh.body) fresh.found.first (inl none.0)),
+      )
       | inr whole ↦ inr (inr (fresh_whole number body file whole settings lines says))
     ]
 
@@ -38,7 +46,10 @@ whole_amid before outcomes number settings lines body says kept file left =
 less_amid : (before more : List ℕ → Type 0) (number : ℕ) (settings : List ℕ)
     (lines : List (List ℕ)) (file : List ℕ) → ((c : List ℕ) → before c → more c)
     → IsAmid before number settings lines file → IsAmid more number settings lines file
-less_amid before more number settings lines file stays (inl shut) = inl shut
+less_amid before more number settings lines file stays (inl shut) = inl (
+  shut.0,
+  λ blank. let (was, is, none) = shut.1 blank in (was, stays was is, none),
+)
 less_amid before more number settings lines file stays (inr (inl was)) = inr (inl (stays file was))
 less_amid before more number settings lines file stays (inr (inr new)) = inr (inr new)
 

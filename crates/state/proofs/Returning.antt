@@ -101,7 +101,7 @@ module _ {D : Type 0} (g : Ghosts D) (settings : List ℕ) (deeds : Deeds) (file
 
   -- a file that isn't doubted has no segment as new
   no_newer : IsSound other → HasNoNewer file other
-  no_newer (inl shut) = inl shut
+  no_newer (inl mark) = inl (inr mark, λ blank. absurd (blank.1 mark))
   no_newer (inr found) = inr (
     kept.opening.head,
     found.0,

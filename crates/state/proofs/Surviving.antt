@@ -17,11 +17,11 @@ use Rattle.gateway.specs.declared.ports.Next.{Next}
 use Rattle.gateway.specs.declared.ports.Next.TheVariants as answers
 use Rattle.segments.specs.Crash.{AreMixing, HasNoOther, IsShut}
 use Rattle.segments.specs.Crashes.{AreOlder, StandsIn, Survives, damage_behind, lines_behind}
-use Rattle.segments.specs.Crashes.{log_text}
+use Rattle.segments.specs.Crashes.{IsShutAmong, log_text}
 use Rattle.segments.specs.Head.{Fits, head_for}
 use Rattle.segments.specs.Segment.{body_of, open_of, outcomes_of, own_number, writes_of}
 use Rattle.segments.specs.Starts as starts
-use Rattle.segments.specs.Starts.{IsFoundIn, IsSound}
+use Rattle.segments.specs.Starts.{IsBlank, IsFoundIn, IsSound}
 use Rattle.segments.specs.declared.head.SegmentHead.{SegmentHead}
 use Rattle.segments.proofs.Crashes.{one_segment, same_first, whole_left}
 use Rattle.segments.proofs.Fronts.{not_shut}
@@ -35,7 +35,7 @@ use Rattle.state.specs.Replays.{AreRead, whole_lines}
 use Rattle.state.specs.Deeds.{Deeds, Received, Appended, Synced, Begun, GivenUp, PutOut, is_kept}
 use Rattle.state.specs.Deeds.{waiting, written}
 use Rattle.state.specs.Lines.{FitsLine, IsWritable}
-use Rattle.state.specs.Doubts.{AreUndoubted}
+use Rattle.state.specs.Doubts.{AreUndoubted, IsUndoubted}
 use Rattle.state.specs.Logs.{HasFreshLog, HasOlder, IsOlderBeside, SurvivesAsLogged}
 use Rattle.state.specs.Logs.{leaves_amid}
 use Rattle.state.specs.Logs.{leaves_both, leaves_in, stored_in}
@@ -125,7 +125,7 @@ stands_sound outcomes own stands c left doubted =
     doubted (inr (head_for own body, body, whole, there))
 
 pub shut_sound : (outcomes : List ℕ → Type 0) → IsShut outcomes → AreUndoubted outcomes
-shut_sound outcomes shut c left doubted = doubted (inl (inr (shut c left)))
+shut_sound outcomes shut c left doubted = doubted (inl (shut c left))
 
 pub only_sound : (file : List ℕ) (outcomes : List ℕ → Type 0) → Only file outcomes → IsSound file
     → AreUndoubted outcomes
@@ -146,11 +146,23 @@ older_than outcomes own stands file other left below mine head text others fits 
     (same_first file mine (head_for own body) fits whole found.first there.first) in
     omega (arith, same, below head others fits' found')
 
-shut_beside : (file other : List ℕ) → starts.IsShut other → IsOlderBeside file other
-shut_beside file other shut = record {
-  sound = λ doubted. doubted (inl shut);
+not_blank : (file : List ℕ) → IsBlank file → IsSound file → ⊥
+not_blank file none (inl mark) = none.1 mark
+not_blank file none (inr found) = not_shut file found.0 found.3.first (inl none.0)
+
+shut_among : (before : List ℕ → Type 0) (file : List ℕ) → AreUndoubted before
+    → IsShutAmong before file → IsUndoubted file
+shut_among before file sound (inr mark, among) doubted = doubted (inl mark)
+shut_among before file sound (inl short, among) doubted =
+    let (was, is, none) = among (short, λ mark. doubted (inl mark)) in
+    sound was is (not_blank was none)
+
+shut_beside : (before : List ℕ → Type 0) (file other : List ℕ) → AreUndoubted before
+    → IsShutAmong before other → IsOlderBeside file other
+shut_beside before file other sound shut = record {
+  sound = shut_among before other sound shut;
   older = λ own head text others fits fits' found found'.
-      absurd (not_shut other head found'.first shut);
+      absurd (not_shut other head found'.first shut.0);
 }
 
 behind_fresh : (outcomes : List ℕ → Type 0) (own : ℕ) → StandsIn outcomes own → (number : ℕ)
@@ -249,7 +261,7 @@ module _ {D : Type 0} {g : Ghosts D} where
       → IsOlderBeside file other
       ⊎ (HasFreshLog number settings lines other × IsOlderBeside other file)
   current_amid current stands number settings lines file other (clean, less, left, inl shut) =
-      inl (shut_beside file other shut)
+      inl (shut_beside (g.may_leave current.spare) file other (current.sound clean) shut)
   current_amid current stands number settings lines file other (clean, less, left, inr (inl was)) =
       inl (current_beside current stands file other (clean, left, was))
   current_amid current stands number settings lines file other (clean, less, left, inr (inr new)) =

@@ -1,7 +1,7 @@
 -- What a start takes of a directory.
 use Rattle.std.proofs.Common.{◌≡◌, ◌⊎◌, inl, inr, ℕ, ◌<◌, ◌≤◌, Bool, true, false}
 use Rattle.std.proofs.Common.{List, [], ◌∷◌, length, Option, Some, None, Ok}
-use Rattle.std.proofs.Common.{refl, sym, ap, subst, arith}
+use Rattle.std.proofs.Common.{refl, slice_index, sym, ap, subst, arith}
 use Rattle.std.specs.List.{AllByRecursion}
 use Rattle.std.specs.Option.{is_some}
 use Rattle.std.proofs.lemmas.List.{append-nil}
@@ -98,13 +98,29 @@ module _ {D : Type 0} {g : Ghosts D} where
       → head.number < own.number
   takes_newest c log mark newest other o over on own head fits fits' holds holds' =
       elim (over.begun.sure on over.first over.second) [
-        | inl shut ↦ absurd (not_shut (g.seen other) head holds' shut)
+        | inl shut ↦ absurd (not_shut (g.seen other) head holds' shut.0)
         | inr found ↦
             let (mine, its, fits-mine, fits-its, stands, stands', order) = found in
             let same : mine ≡ own = same_first _ mine own fits-mine fits stands holds in
             let same' : its ≡ head = same_first _ its head fits-its fits' stands' holds' in
             subst (λ (h : SegmentHead). head.number < h.number) same
             (subst (λ (h : SegmentHead). h.number < mine.number) same' order)
+      ]
+
+  pub takes_first : (c : Settings) (log : Log) (mark : Option Bool)
+      (newest other : D) (o : Origin) → BeginsOver g c log mark newest other o
+      → o.beginning ≡ beginnings.GoesOn → length (g.seen other) < 2
+      → (slice_index (g.seen other) 0 ≡ 45 → ⊥) → (own : SegmentHead) → Fits own
+      → Holds (g.seen newest) 0 (head_of own) → own.number ≤ 1
+  takes_first c log mark newest other o over on short some own fits holds =
+      elim (over.begun.sure on over.first over.second) [
+        | inl shut ↦
+            let (mine, fits-mine, stands, low) = shut.1 (short, some) in
+            subst (λ (h : SegmentHead). h.number ≤ 1)
+            (same_first _ mine own fits-mine fits stands holds) low
+        | inr found ↦
+            let (mine, its, fits-mine, fits-its, stands, stands', order) = found in
+            absurd (not_shut (g.seen other) its stands' (inl short))
       ]
 
   pub never_stale : (c : Settings) (log : Log) (newest other : D) (o : Origin)

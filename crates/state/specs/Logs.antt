@@ -4,10 +4,10 @@ use Rattle.std.specs.Prelude.{Bool, true, None}
 use Rattle.std.specs.List.{concat}
 use Rattle.sqlite_disk.specs.declared.Disk.{Ghosts}
 use Rattle.segments.specs.Crash.{AreMixing, HasNoOther}
-use Rattle.segments.specs.Crashes.{Survives, damage_behind, lines_behind, log_text}
+use Rattle.segments.specs.Crashes.{IsShutAmong, Survives, damage_behind, lines_behind, log_text}
 use Rattle.segments.specs.Head.{Fits, head_for}
 use Rattle.segments.specs.Segment.{body_of, file_of, open_of, outcomes_of, own_number, writes_of}
-use Rattle.segments.specs.Starts.{IsFoundIn, IsShut, IsSound}
+use Rattle.segments.specs.Starts.{IsFoundIn, IsSound}
 use Rattle.segments.specs.declared.head.SegmentHead.{SegmentHead}
 use Rattle.statetext.specs.Text.{lines_in}
 use Rattle.state.specs.Doubts.{IsUndoubted}
@@ -37,11 +37,13 @@ pub record HasFreshLog (number : ℕ) (settings : List ℕ) (lines : List (List 
   pub says : lines_in body ≡ settings ∷ lines
 
 -- What a file has when the next log, with this number and this head, is begun in it: it is shut, or
--- has what it may have had before, or has the next log.
+-- has what it may have had before, or has the next log. It has nothing in it only if it may have
+-- had
+-- nothing before.
 abbrev pub IsAmid : (before : List ℕ → Type 0) → (number : ℕ) → (settings : List ℕ)
     → (lines : List (List ℕ)) → (file : List ℕ) → Type 0
 IsAmid before number settings lines file =
-    IsShut file ⊎ (before file ⊎ HasFreshLog number settings lines file)
+    IsShutAmong before file ⊎ (before file ⊎ HasFreshLog number settings lines file)
 
 -- whatever a crash leaves of a file, the next log is begun in it so
 abbrev pub AreAmid : (before : List ℕ → Type 0) → (number : ℕ) → (settings : List ℕ)

@@ -5,7 +5,7 @@ use Rattle.gateway.specs.Config.{Settings}
 use Rattle.gateway.specs.Log.{Log}
 use Rattle.gateway.specs.Setups.{setup_of}
 use Rattle.gateway.specs.State.{first_state}
-use Rattle.segments.specs.Starts.{HasNoNewer, IsAbove, IsNewest, IsNext, IsShut}
+use Rattle.segments.specs.Starts.{HasNoNewer, IsAbove, IsNewest, IsNext, IsShut, first_number}
 use Rattle.sqlite_disk.specs.declared.Disk.{Ghosts}
 use Rattle.state.specs.Beginnings.{IsReadWhole, GoesOnFrom, has_past, is_trusted, moment_at}
 use Rattle.state.specs.Logs.{NewestIs}
@@ -43,10 +43,9 @@ module _ {D : Type 0} {g : Ghosts D} where
 
   -- The number of the next log is above that of each whose first line stands in one of these files,
   -- unless it is the greatest of 64 bits. No number is left out. Behind files that were put aside
-  -- it
-  -- is 1.
+  -- it is the first.
   abbrev pub IsNumbered : ℕ → Opened D g → Type 0
-  IsNumbered number opens.Neither = number ≡ 1
+  IsNumbered number opens.Neither = number ≡ first_number
   IsNumbered number (opens.Both newest spare) =
       IsTrue (g.is_clean newest) → IsTrue (g.is_clean spare) →
       IsAbove number (g.seen newest) × IsAbove number (g.seen spare)

@@ -42,6 +42,9 @@ use std::alloc::Global;
 use std::io::ErrorKind;
 use std::marker::Brand;
 
+/// The number of the first log.
+const FIRST: u64 = 2;
+
 /// The log can't be read. Which of its two files it is, and why, nobody tells.
 const UNREAD: FolderFault = FolderFault::Unusable("segments", ErrorKind::Other);
 
@@ -739,6 +742,6 @@ fn put_aside<F: Folder + Drop>(
     if !folder.put_aside(newest, other) {
         return Err(UNREAD);
     }
-    let store = DiskStore::new(alloc, folder, settings, 1);
+    let store = DiskStore::new(alloc, folder, settings, FIRST);
     anew(alloc, config, store, Beginning::PutAside)
 }

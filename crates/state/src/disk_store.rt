@@ -24,7 +24,7 @@ use crate::store::Store;
 use checkpoint::{Sheet, StateFault};
 use gateway::Gateway;
 use segments::{
-    Failed, Segment, SegmentFault, Side, Writer, is_below, is_sound, newest_side, shut,
+    Failed, Segment, SegmentFault, Side, Writer, is_below, is_sound, newest_side, shut, shut_blank,
 };
 use sqlite_disk::{Disk, Files};
 use statetext::TextSheet;
@@ -178,9 +178,9 @@ impl<F: Folder + Drop> DiskStore<F> {
     }
 
     /// Begins a segment in the one file, while the newest one stands in the other as it is. What
-    /// no crash leaves there is shut once the new segment stands. Whichever call of the disk fails,
-    /// a crash leaves the one file shut, or as it was, or with the new segment whole, and the other
-    /// as it was.
+    /// no crash leaves there is shut once the new segment stands, and an empty file before.
+    /// Whichever call of the disk fails, a crash leaves the one file shut, or as it was, or with
+    /// the new segment whole, and the other as it was.
     fn begin_in(
         &mut self,
         newest: F::File,
@@ -216,6 +216,10 @@ impl<F: Folder + Drop> DiskStore<F> {
     {
         let number = self.number;
         self.number = number.saturating_add(1);
+        let Some(newest) = shut_if_blank(self.alloc, newest, is_sound, &mut self.cause) else {
+            self.opened = Opened::Neither;
+            return false;
+        };
         let blocks = self.folder.blocks();
         let settings = &self.settings;
         let segment = write_segment(
@@ -476,6 +480,38 @@ fn cause_of(fault: FolderFault) -> Option<ErrorKind> {
         FolderFault::InUse | FolderFault::Unusable(_, ErrorKind::Other) => None,
         FolderFault::Unusable(_, cause) => Some(cause),
         FolderFault::NoMemory => Some(ErrorKind::OutOfMemory),
+    }
+}
+
+/// The file beside which the next segment is begun. If nothing was ever begun in it, it is shut
+/// first: a start that found the new segment beside an empty file would take that for one that was
+/// cut. `None`: it couldn't be done, and the cause is noted.
+fn shut_if_blank<D: Disk + Drop>(
+    alloc: Global,
+    newest: D,
+    is_sound: bool,
+    cause: &mut Option<ErrorKind>,
+) -> Option<D>
+    requires { IsTrue (D.Disk.is_usable newest) }
+    ensures same { is_sound ≡ true → result ≡ Some newest }
+    ensures usable { IfSome result (λ file. IsTrue (D.Disk.is_usable file)) }
+    ensures clean { IfSome result (λ file. IsTrue (D.Disk.is_clean file) →
+        IsTrue (D.Disk.is_clean newest)) }
+    ensures backed { IfSome result (λ file. IsTrue (D.Disk.is_clean file) → (spare : List ℕ) →
+        StaysBacked (D.Disk.may_leave newest) spare → StaysBacked (D.Disk.may_leave file) spare) }
+    ensures older { IfSome result (λ file. IsTrue (D.Disk.is_clean file) → (number : ℕ) →
+        AreOlder (D.Disk.may_leave newest) number → AreOlder (D.Disk.may_leave file) number) }
+{
+    if is_sound {
+        return Some(newest);
+    }
+    let mut file = newest;
+    match shut_blank(alloc, &mut file) {
+        Ok(()) => Some(file),
+        Err(fault) => {
+            *cause = cause_of(FolderFault::from(fault));
+            None
+        }
     }
 }
 

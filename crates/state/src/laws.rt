@@ -17,7 +17,7 @@ ghost use Rattle.link.specs.Procedure.{is_up};
 ghost use Rattle.link.specs.Turns.{station_at};
 ghost use Rattle.segments.specs.Crashes.{damage_behind, lines_behind};
 ghost use Rattle.segments.specs.Head.{Fits, head_of};
-ghost use Rattle.segments.specs.Starts.{IsFoundIn, IsShut};
+ghost use Rattle.segments.specs.Starts.{IsBlank, IsFoundIn, IsShut};
 ghost use Rattle.segments.specs.declared.head.SegmentHead.{SegmentHead};
 ghost use Rattle.settings.specs.Settings.{IsReadOfText};
 ghost use Rattle.sqlite_disk.specs.Disk.{Holds};
@@ -299,7 +299,8 @@ pub fn a_start_goes_on_behind_a_crash<D: Disk + Drop>()
 /// A state that is damaged is never gone on with as if it was whole. What is gone on with has a
 /// checkpoint of the length and the sum that its first line says. If the links go on, each whole
 /// line behind that logs an event, no damage ends the log, no first line of a segment as new stands
-/// in the other file, and no mark says that the state is stale.
+/// in the other file, and no mark says that the state is stale. And unless the segment is the very
+/// first, the other file isn't empty: of a file that was cut to nothing nobody knows what it had.
 pub fn a_damaged_state_never_goes_on_as_whole<D: Disk + Drop>()
     ensures whole { (c : Settings) (log : Log) (mark : Option Bool)
         (newest other : D) (o : Origin) → BeginsOver D.Disk c log mark newest other o →
@@ -319,6 +320,11 @@ pub fn a_damaged_state_never_goes_on_as_whole<D: Disk + Drop>()
         o.beginning ≡ Beginning.GoesOn → (own head : SegmentHead) → Fits own → Fits head →
         Holds (D.Disk.seen newest) 0 (head_of own) → Holds (D.Disk.seen other) 0 (head_of head) →
         head.number < own.number }
+    ensures emptied { (c : Settings) (log : Log) (mark : Option Bool)
+        (newest other : D) (o : Origin) → BeginsOver D.Disk c log mark newest other o →
+        o.beginning ≡ Beginning.GoesOn → length (D.Disk.seen other) < 2 →
+        (slice_index (D.Disk.seen other) 0 ≡ 45 → ⊥) → (own : SegmentHead) → Fits own →
+        Holds (D.Disk.seen newest) 0 (head_of own) → own.number ≤ 1 }
     ensures stale { (c : Settings) (log : Log) (newest other : D) (o : Origin) →
         BeginsOver D.Disk c log (Some true) newest other o →
         o.beginning ≡ Beginning.GoesOn → ⊥ }
@@ -327,7 +333,8 @@ pub fn a_damaged_state_never_goes_on_as_whole<D: Disk + Drop>()
 /// What stands in a directory isn't passed over. A run begins anew beside two files only if both
 /// are shut. No link is reset without a reason. If no mark stands, the other file is shut or begins
 /// with an older segment's first line, and each line of the log is read, a run goes on with its
-/// links. It goes on with the newer of two segments.
+/// links. A file with nothing in it is shut in this sense beside the very first segment alone. It
+/// goes on with the newer of two segments.
 pub fn what_stands_is_not_passed_over<D: Disk + Drop>()
     ensures anew { (c : Settings) (log : Log) (mark : Option Bool)
         (newest other : D) (o : Origin) → BeginsOver D.Disk c log mark newest other o →
@@ -335,7 +342,9 @@ pub fn what_stands_is_not_passed_over<D: Disk + Drop>()
         (length (D.Disk.seen file) < 2) ⊎ (slice_index (D.Disk.seen file) 0 ≡ 45) }
     ensures links { (c : Settings) (log : Log) (newest other : D) (o : Origin) →
         BeginsOver D.Disk c log (Some false) newest other o →
-        IsShut (D.Disk.seen other) ⊎ ((own head : SegmentHead) × Fits own × Fits head ×
+        (IsShut (D.Disk.seen other) × (IsBlank (D.Disk.seen other) → (own : SegmentHead)
+        × Fits own × Holds (D.Disk.seen newest) 0 (head_of own) × (own.number ≤ 1)))
+        ⊎ ((own head : SegmentHead) × Fits own × Fits head ×
         Holds (D.Disk.seen newest) 0 (head_of own) × Holds (D.Disk.seen other) 0 (head_of head) ×
         (head.number < own.number)) →
         IsReadWhole (D.Disk.seen newest) → o.beginning ≡ Beginning.LinksReset → ⊥ }

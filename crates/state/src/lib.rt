@@ -47,7 +47,7 @@ pub use laws::{
     nothing_goes_out_before_it_is_on_disk, what_is_on_disk_is_in_the_log,
     what_stands_is_not_passed_over,
 };
-pub use looking::{Seen, Sight, are_changed, look};
+pub use looking::{Seen, Sight, are_changed, look, settings_said};
 pub use loss::{Loss, StoreFault};
 pub use pair::Pair;
 pub use renewal::{Patience, is_renewal_due};

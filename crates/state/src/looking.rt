@@ -169,8 +169,8 @@ fn look_behind<K: Lineage, D: Disk + Drop>(
     }
 }
 
-/// The settings that a text says, if it says any.
-fn said_in(alloc: Global, text: &[u8]) -> Result<Option<Config>, AllocError>
+/// The settings that a text says, if it says any. Only want of memory is answered by an `Err`.
+pub fn settings_said(alloc: Global, text: &[u8]) -> Result<Option<Config>, AllocError>
     ensures some { IfOk result (λ said. IfSome said (λ c. IsReadOfText text.now (Ok c))) }
     ensures none { IfOk result (λ said. said ≡ None → (c : Settings) →
         IsReadOfText text.now (Ok c) → ⊥) }
@@ -188,10 +188,10 @@ fn said_in(alloc: Global, text: &[u8]) -> Result<Option<Config>, AllocError>
 pub fn are_changed(alloc: Global, written: &[u8], text: &[u8]) -> Result<bool, AllocError>
     ensures { IfOk result (AreChanged written.now text.now) }
 {
-    let Some(before) = said_in(alloc, written)? else {
+    let Some(before) = settings_said(alloc, written)? else {
         return Ok(true);
     };
-    let Some(now) = said_in(alloc, text)? else {
+    let Some(now) = settings_said(alloc, text)? else {
         return Ok(true);
     };
     Ok(!are_same(&before, &now))

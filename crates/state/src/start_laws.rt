@@ -147,7 +147,7 @@ pub fn nothing_is_gone_on_with_but_a_state<D: Disk + Drop>()
 /// The first log of a run has a number of its own. It is above the number of each first line that
 /// stands in one of the two files, until the 64 bits of a number are used up: so behind the next
 /// crash the newer log counts, and no command is sent again by an older one. None is left out, and
-/// behind files that were put aside it is 1.
+/// the first is 2: so it is behind files that were put aside.
 pub fn the_first_log_of_a_run_has_its_own_number<D: Disk + Drop>()
     ensures above { (number : ℕ) (opened : Opened D D.Disk) (newest other file : D)
         (head : SegmentHead) → IsNumbered number opened → opened ≡ Opened.Both newest other →
@@ -157,11 +157,11 @@ pub fn the_first_log_of_a_run_has_its_own_number<D: Disk + Drop>()
         head.number < number }
     ensures next { (number : ℕ) (opened : Opened D D.Disk) (newest other : D) →
         IsNumbered number opened → opened ≡ Opened.Both newest other →
-        IsTrue (D.Disk.is_clean newest) → IsTrue (D.Disk.is_clean other) → 1 < number →
+        IsTrue (D.Disk.is_clean newest) → IsTrue (D.Disk.is_clean other) → 2 < number →
         (head : SegmentHead) × Fits head × (Holds (D.Disk.seen newest) 0 (head_of head)
         ⊎ Holds (D.Disk.seen other) 0 (head_of head)) × (number ≤ head.number + 1) }
     ensures aside { (number : ℕ) (opened : Opened D D.Disk) → IsNumbered number opened →
-        opened ≡ Opened.Neither → number ≡ 1 }
+        opened ≡ Opened.Neither → number ≡ 2 }
 {
     the_next_number_is_new();
 }

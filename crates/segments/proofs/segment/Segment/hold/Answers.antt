@@ -25,7 +25,8 @@ invariant_of-self g c =
     let longer : length page ≡ length s.page.items + length octets =
     ap length c.in-Ok.ensures.items ∙ length-append s.page.items octets in
     let left : AreMixing g.D.Disk
-    → HasNoOther out (log_text s.number w.body w.writes ++ (w.lines ++ octets)) = λ mixing. subst (HasNoOther out)
+    → HasNoOther out (log_text s.number w.body w.writes ++ (w.lines ++ octets)) =
+    λ mixing. subst (HasNoOther out)
     (append_assoc (log_text s.number w.body w.writes) w.lines octets)
     (no_other_more out (log_text s.number w.body w.writes ++ w.lines) octets
     (s.left mixing on)) in

@@ -19,7 +19,8 @@ invariant_of-self-in-Ok g c =
     subst (HasLength old) (sym s.sized) s.long in
     let within : s.stored ≤ length (g.D.Disk.seen s.file) = omega (arith, s.within, s.sized) in
     let held = ap (text_in s.stored (g.D.Disk.seen s.file)) c.deref.ensures.value ∙ s.text on in
-    let left : AreMixing g.D.Disk → HasNoOther new text = λ mixing. c.store.ensures.mixed text (mixing s.file) long
+    let left : AreMixing g.D.Disk → HasNoOther new text =
+    λ mixing. c.store.ensures.mixed text (mixing s.file) long
     (has_page s.stored (g.D.Disk.seen s.file) c.deref.result.now text within held)
     (s.left mixing on) in
     record {

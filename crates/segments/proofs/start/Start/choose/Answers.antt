@@ -6,7 +6,7 @@ use Rattle.segments.specs.Starts.{IsNext, other_side}
 use Rattle.segments.specs.declared.start.FoundHead.{FoundHead}
 use Rattle.segments.specs.declared.start.FileFront.TheVariants as fronts
 use Rattle.segments.proofs.Fronts.{above_front, backed_first, first_newest, next_front, next_other}
-use Rattle.segments.proofs.Fronts.{are_doubtful, of_both, only_beside}
+use Rattle.segments.proofs.Fronts.{are_doubtful, backed_none, of_both, of_none, only_beside}
 use Rattle.segments.proofs.Fronts.{of_some, of_three, placed_as, placed_other, sure_beside}
 use Rattle.segments.proofs.start.Start.choose.Goals as goal
 
@@ -284,3 +284,12 @@ returns-clause-blank g c =
     (subst (λ (l : List ℕ). IsHeadIn l c.args.other_front)
     (sym (ap (λ d. g.D.Disk.seen d) is ∙ c.found_in-2.ensures.seen))
     (c.requires.other (c.found_in-2.ensures.clean older))) shut shut')
+
+pub returns-clause-backed : goal.returns-clause-backed
+returns-clause-backed g c =
+    of_both c.made-2.result c.made-2.ensures.newest c.made-2.ensures.other (λ s is other clean.
+    let newer : IsTrue (g.D.Disk.is_clean c.found_in.new.file) =
+    subst (λ d. IsTrue (g.D.Disk.is_clean d)) other clean.1 in
+    subst (λ d. IsBacked (g.D.Disk.seen s.newest) (g.D.Disk.seen d)) (sym other)
+    (backed_none (g.D.Disk.seen s.newest) (g.D.Disk.seen c.found_in.new.file)
+    (of_none c.in_ok-found.field-0 c.in_default.is c.in_ok-found.ensures.none newer)))

@@ -49,7 +49,8 @@ module _ {M : Type 1} {𝓤 : Ura M} (𝓛 : Logic 𝓤) (mem : Memory → SProp
         returns ! (look_at ! 0 refl) $ free_all ! refl $
         suffices ! _ (ends_at 𝓛 f.ended stayed (f.clauses 𝓛 mem run) bound (vstruct vnil)
         (record { has = contents }) tt tt) $
-        says ! refl $ pure_i ! (made.the_row.own_val (record { has = contents }) (vstruct vnil ∷ []))
+        says ! refl $ pure_i ! (made.the_row.own_val (record { has = contents })
+        (vstruct vnil ∷ []))
         ((λ vss. (tt, tt)), tt) ((tt, (refl, tt)), tt) $
         move ! (1 ∷ 2 ∷ 0 ∷ []) $ done !)
 

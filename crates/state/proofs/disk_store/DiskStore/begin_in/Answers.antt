@@ -7,6 +7,16 @@ invariant_of-current g c = record {
   own = c.in-Ok.ensures.number;
   counted = begun_counted _ _ _ _ c.in-Ok.ensures.writes.0 c.in-Ok.ensures.writes.1;
   room = omega (arith, c.in-Ok.ensures.room, c.in-Ok.ensures.octets, c.blocks-blocks.ensures.room);
-  sound = c.in-Some.ensures.sound;
-  older = c.in-Some.ensures.older;
+  sound = c.in-Some-mended.ensures.sound;
+  older = c.in-Some-mended.ensures.older;
 }
+
+pub write_segment-segment-requires-clause-backed :
+    goal.write_segment-segment-requires-clause-backed
+write_segment-segment-requires-clause-backed g c clean clean' =
+    c.in-Some.ensures.backed clean _
+    (c.requires.backed (c.in-Some.ensures.clean clean) clean')
+
+pub mended-requires-clause-older : goal.mended-requires-clause-older
+mended-requires-clause-older g c clean =
+    c.in-Some.ensures.older clean _ (c.requires.older (c.in-Some.ensures.clean clean))

@@ -16,7 +16,8 @@ invariant_of-self g c =
           (subst (λ (s : List ℕ). IsStored s (Synced ∷ was.trail.deeds)
           (g.S.Store.stored c.sync-is_synced.new.self)) (sym e.settings)
           (synced_stored (g.S.Store.settings was.store) was.trail.deeds
-          (g.S.Store.stored was.store) (g.S.Store.stored c.sync-is_synced.new.self) c.self.invariant.0
+          (g.S.Store.stored was.store) (g.S.Store.stored c.sync-is_synced.new.self)
+          c.self.invariant.0
           (e.synced c.if-is_synced.true))),
       subst (λ (d : Deeds). IsMarked d (g.S.Store.mark c.sync-is_synced.new.self)) (sym is)
           (subst (λ (m : Option Bool). IsMarked (Synced ∷ was.trail.deeds) m) (sym e.mark)
