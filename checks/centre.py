@@ -203,7 +203,7 @@ def wrong_words(count, program, folder):
     with open(name, "w") as file:
         file.write("[line]\n")
     out, err, status = called([program, "centre", "127.0.0.1:1", name])
-    count.judge("wrong settings", out == [] and err.startswith("config: ") and status == 1, (out, err, status))
+    count.judge("wrong settings", out == [] and frame.bare(err).startswith("config: ") and status == 1, (out, err, status))
 
 
 def counter(number):
@@ -304,6 +304,41 @@ def requests(count, program, folder):
             count.compare(f"{name}: STOPDT act", gateway.frame(), STOP)
             gateway.stream.sendall(STOPPED)
             count.compare(f"{name}: end", gateway.ended(), (["confirmed and terminated" if is_waited else "confirmed"], 0))
+
+
+def all_asked(count, program, folder):
+    """An interrogation of all (65535) ends once each station of the settings has terminated it. Of whom nothing came is said, if the
+    others' terminations are there and the wait is over. With the common address of all, or without settings, the first one ends it."""
+    config = os.path.join(folder, "three.toml")
+    with open(config, "w") as file:
+        file.write(SETTINGS.format(line=ends.free_port(), listener=ends.free_port()))
+    asked = bytes.fromhex("64010600" "FFFF" "000000" "14")
+
+    def reply(ns, cause, ca):
+        return information(ns, 1, asked[:2] + bytes([cause]) + asked[3:4] + ca.to_bytes(2, "little") + asked[6:])
+
+    done, silent = (["confirmed and terminated"], 0), (["no answer from common address 2", "no answer in time"], 3)
+    # What comes before the stop, each by its cause and common address, and how it ends.
+    rows = [
+        ("all of them", [config], [(7, 1), (7, 2), (10, 2), (7, 3), (10, 1), (10, 3)], done),
+        ("one of all", [config], [(7, 1), (10, 65535)], done),
+        ("no settings", [], [(7, 1), (10, 1)], done),
+        ("one gives nothing", [config], [(7, 1), (7, 3), (10, 3), (10, 1)], silent),
+        ("one doesn't terminate", [config], [(7, 1), (7, 2), (7, 3), (10, 3), (10, 1)], (["confirmed"], 0)),
+    ]
+    for name, words, replies, (said, status) in rows:
+        with Gateway(program, *words, "interrogate", "65535", "--wait", "1") as gateway:
+            gateway.started(count, name)
+            count.compare(f"all, {name}: the request", gateway.frame(), information(0, 0, asked))
+            for ns, (cause, ca) in enumerate(replies):
+                if ns == len(replies) - 1:
+                    count.compare(f"all, {name}: it waits", gateway.frame(0.3), b"")
+                gateway.stream.sendall(reply(ns, cause, ca))
+            count.compare(f"all, {name}: acknowledged", gateway.frame(), supervisory(len(replies)))
+            count.compare(f"all, {name}: STOPDT act", gateway.frame(), STOP)
+            gateway.stream.sendall(STOPPED)
+            out = gateway.process.communicate(timeout=ends.PATIENCE)[0].decode().splitlines()
+            count.compare(f"all, {name}: end", (out[-len(said):], gateway.process.returncode), (said, status))
 
 
 def tagged(count, program, folder):
@@ -440,5 +475,7 @@ def silent(count, program, folder):
 
 
 if __name__ == "__main__":
-    parts = (before_a_run, watched, wrong_words, requests, tagged, operated, acknowledged, refused, silent)
+    parts = (
+        before_a_run, watched, wrong_words, requests, all_asked, tagged, operated, acknowledged, refused, silent,
+    )
     frame.main(*parts, side_by_side=True)

@@ -5,7 +5,8 @@ reports.
     checks/faults.py [--program FILE] [--only NAME]
 
 In settings it has to report the first wrong key, by the order of docs/SETTINGS.md. In a script or a
-trace it has to report the first wrong line, by its number.
+trace it has to report the first wrong line, by its number. Before that it says where each wrong key,
+or that line, is wrong, and why.
 """
 import os
 import subprocess
@@ -300,6 +301,77 @@ EXPLAINED = [
 ]
 
 
+# A change of the settings with two stations, and what `check` says of it before the fault's own line.
+POINTED = [
+    ("link = 1", "link = 3", "2:8: line.link = 3: wanted 1 to 2\n"),
+    ("cause = 1", 'cause = "1"', '3:9: line.cause = "1" is a text: write 1 without quotation marks\n'),
+    ("link = 1\n", "", "1:7: line.link is missing: wanted 1 to 2\n"),
+    # All faults of a file, a misspelt key before the one that is missing for that.
+    ("link = 1\ncause = 1", "lnik = 1\ncause = 9",
+     "2:1: no such key: line.lnik; is line.link meant?\n1:7: line.link is missing: wanted 1 to 2\n3:9: line.cause = 9: wanted 1 to 2\n"),
+    ("address = 2\nca = 2", "address = 1\nca = 1",
+     "11:11: station.address = 1: the station at line 8 has this number\n12:6: station.ca = 1: the station at line 9 has this number\n"),
+    ("[line]", "retries = 2\n[line]", "1:1: no such key: retries; is line.retries meant?\n"),
+    ("[line]", "[tpc]\nk = 1\n[line]", "1:1: no such key: tpc; is tcp meant?\n"),
+    ("queue = 100", "colour = 1", "6:1: no such key: line.colour\n"),
+    ("[line]", "tcp = 1\n[line]", "1:7: tcp = 1: wanted a table\n"),
+    ("[[station]]", "[tcp]\nt1_ms = 5000\n[[station]]",
+     "7:6: tcp.t2_ms is 10000 by default: wanted 1 to t1_ms - 1\n"),
+]
+
+# Scripts and traces, and what `sim` and `replay` say of their first wrong line before the fault's own.
+POINTED_SCRIPTS = [
+    ("turns 1\nreport 3 1 00", "2:8: no such station is in the settings\n"),
+    ("turns 1\nreport 1 1 000", "2:15: HEX has an odd number of digits\n"),
+    ("turns 1\nreport 1 3 00", "2:10: a class is 1 or 2\n"),
+    ("report 1 1 00\n", "2:1: no line `turns N` stands before\n"),
+    ("turns 1\nturns 2", "2:1: a line before this one says the same\n"),
+    ("turns 1\nat 100 report 1 1 00", "2:1: `telegate stations` alone knows this word\n"),
+    ("turns 1\nlose answer", "2:12: a field is missing here\n"),
+    ("turns 1\ncut 1 2", "2:6: something stands behind the last field\n"),
+    ("turns 1\nforget 1", "2:1: no such word\n"),
+    ("turns 1\r\n", "1:8: a carriage return: a line feed alone ends a line\n"),
+]
+POINTED_TRACES = [
+    ("1 T\n2 X", "2:3: no such letter: S, R, T, O, C and W are known\n"),
+    ("1 S 101", "1:8: HEX has an odd number of digits\n"),
+    ("1 S 0G", "1:6: no hexadecimal digit\n"),
+    ("1 S 68 68", "1:7: something stands behind the octets\n"),
+    ("1 S " + 1025 * "00", "1:2053: more than 1,024 octets\n"),
+    ("1000000000000000 T", "1:1: a moment has 1 to 15 digits\n"),
+    ("1 T 68", "1:4: nothing may stand behind this letter\n"),
+    ("1  T", "1:3: a second space: one stands between two fields\n"),
+    ("1 > S 68", "1:3: an action: a trace has events alone\n"),
+    ("1 T\r\n", "1:4: a carriage return: a line feed alone ends a line\n"),
+]
+
+
+def pointed(count, program, folder):
+    """Where a file is wrong, and why, with its name, before the fault's own line. `sim` and `replay`
+    say the same of settings as `check` does."""
+    config, second = (os.path.join(folder, name) for name in ("config.toml", "second"))
+
+    def judge(words, text, path, want):
+        with open(path, "w", encoding="utf-8", newline="") as file:
+            file.write(text)
+        done = subprocess.run([program, *words], capture_output=True, text=True, timeout=60)
+        said = "".join(done.stderr.splitlines(True)[:-1])
+        want = "".join(f"{path}:{line}\n" for line in want.splitlines())
+        count.judge(f"{words[0]} points at {text!r:.200}", (said, done.returncode) == (want, 1), f"wanted {want!r}, got {done.stderr!r}")
+
+    for before, after, want in POINTED:
+        if before not in TWO:
+            raise ValueError(f"there is no {before!r} to change")
+        for words in (["check", config], ["sim", config, os.devnull], ["replay", config, os.devnull]):
+            judge(words, TWO.replace(before, after, 1), config, want)
+    with open(config, "w", encoding="utf-8") as file:
+        file.write(TWO)
+    for script, want in POINTED_SCRIPTS:
+        judge(["sim", config, second], script, second, want)
+    for trace, want in POINTED_TRACES:
+        judge(["replay", config, second], trace, second, want)
+
+
 def settings():
     """Files of settings, and what `check` prints of each."""
     for before, after, want in CHANGES:
@@ -364,9 +436,9 @@ def first_faults(count, program, folder):
             with open(path, "wb") as file:
                 file.write(text)
         done = subprocess.run([program, command, *files], capture_output=True, text=True, timeout=60)
-        holds = printed in (None, done.stdout) and [done.stderr, done.returncode] == [said, status]
+        holds = printed in (None, done.stdout) and [frame.bare(done.stderr), done.returncode] == [said, status]
         count.judge(name, holds, f"status {done.returncode}, {done.stderr}\n{done.stdout}")
 
 
 if __name__ == "__main__":
-    frame.main(first_faults, explanations)
+    frame.main(first_faults, explanations, pointed)

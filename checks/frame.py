@@ -16,6 +16,7 @@ nothing failed and something was judged or skipped. Otherwise it is 1.
 import argparse
 import errno
 import os
+import re
 import sys
 import tempfile
 import threading
@@ -80,6 +81,11 @@ class Count:
 def reason(what, place, number):
     """The line that says why the system refused something, by the number of its error."""
     return f"error: {what} {place}: {os.strerror(number)} (os error {number})\n"
+
+
+def bare(said):
+    """Standard error without the lines that say where a file is wrong or odd, and why (checks/faults.py has those)."""
+    return re.sub(r"^[^:\n]+:\d+:\d+: .*\r?\n", "", said, flags=re.M)
 
 
 def unread(name, number=errno.ENOENT, what="file"):

@@ -120,7 +120,7 @@ def ran(program, words, folder, out, **how):
             [program, *words.split()], cwd=folder, stdin=subprocess.DEVNULL, stdout=out or file, stderr=subprocess.PIPE, timeout=60, **how
         )
         file.seek(0)
-        return done.returncode, file.read().decode(), done.stderr.decode()
+        return done.returncode, file.read().decode(), frame.bare(done.stderr.decode())
 
 
 def wanted(lines, octets):

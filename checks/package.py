@@ -147,7 +147,7 @@ def judge_starts(count, program, folder):
             before = before.replace("/usr/local/bin/telegate", program).replace("/etc/", f"{root}/etc/")
             for words, want in tried:
                 ran = run([part for word in shlex.split(before) for part in (words if word == "$TELEGATE_OPTIONS" else [word])])
-                count.case((ran.stdout, ran.stderr, ran.returncode) == (*want, 1), f"{name}, {key} with {words}: {ran.stdout!r} {ran.stderr!r}")
+                count.case((ran.stdout, frame.bare(ran.stderr), ran.returncode) == (*want, 1), f"{name}, {key} with {words}: {ran.stdout!r} {ran.stderr!r}")
 
 
 def make_package(program, into):

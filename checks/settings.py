@@ -114,7 +114,7 @@ class Judge:
 
     def run(self, *words):
         ran = subprocess.run([self.program, *words], capture_output=True, text=True, timeout=60, stdin=subprocess.DEVNULL)
-        return ran.returncode, ran.stdout, ran.stderr
+        return ran.returncode, ran.stdout, frame.bare(ran.stderr)
 
     def put(self, name, text):
         path = os.path.join(self.folder, name)

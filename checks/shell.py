@@ -384,7 +384,7 @@ def words_and_files(count, program, folder):
         done = ran([program, *words.split()], folder)
         is_right = done.returncode == status
         is_right &= out is None or text(done.stdout) == out
-        is_right &= err is None or text(done.stderr) == err
+        is_right &= err is None or frame.bare(text(done.stderr)) == err
         is_right &= out is not None or done.stdout != b""
         is_right &= err is not None or done.stderr != b""
         count.judge(words or "no words", is_right, done)
@@ -431,7 +431,7 @@ def pipes(count, program, folder):
     )
     for words, given, out, err, status in rows:
         done = subprocess.run([program, *words.split()], cwd=folder, input=given.encode(), capture_output=True, timeout=SECONDS)
-        is_right = (text(done.stdout), text(done.stderr), done.returncode) == (out, err, status)
+        is_right = (text(done.stdout), frame.bare(text(done.stderr)), done.returncode) == (out, err, status)
         count.judge(f"{words}, piped", is_right, done)
     captured = [
         subprocess.run([program, "capture", "good.toml", name], cwd=folder, input=RECORD.encode(), capture_output=True, timeout=SECONDS)
@@ -607,7 +607,7 @@ def looks(count, program, folder):
     count.judge(f"{part + 9} calls, nobody looks", (done.returncode, done.stderr) == (0, b""), (done.returncode, done.stderr))
     for words, told, status in (("replay good.toml none.script", b"trace: line 1\r\n", 1), ("check good.toml", b"", 0)):
         seen, done = looked_at(program, words, folder)
-        count.judge(f"{words} looked at", (seen, done.returncode) == (told, status), (seen, done))
+        count.judge(f"{words} looked at", (frame.bare(text(seen)), done.returncode) == (text(told), status), (seen, done))
 
 
 def free_place():
@@ -820,7 +820,7 @@ def unproved_scripts(count, program, folder):
     for words, output, fault, status in rows:
         done = ran([script, *words.split()], folder)
         is_right = done.returncode == status and output in (None, text(done.stdout))
-        is_right &= text(done.stderr) == fault or (output is None and text(done.stderr).startswith(fault))
+        is_right &= frame.bare(text(done.stderr)) == fault or (output is None and text(done.stderr).startswith(fault))
         count.judge(f"unproved: {words}", is_right, done)
     done = ran([script, "check", "good  one.toml"], folder)
     count.judge("unproved: a word with blanks", (done.returncode, done.stdout, done.stderr) == (0, b"ok\n", b""), done)

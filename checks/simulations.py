@@ -324,7 +324,7 @@ def runs(count, program, folder):
             with open(path, "w", newline="") as file:
                 file.write(text)
         done = subprocess.run([program, command, *files], capture_output=True, text=True, timeout=60)
-        holds = [done.stdout, done.stderr, done.returncode] == want
+        holds = [done.stdout, frame.bare(done.stderr), done.returncode] == want
         count.judge(name, holds, f"status {done.returncode}, {done.stderr}\n{done.stdout}")
 
 

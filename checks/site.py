@@ -293,7 +293,7 @@ class Files:
     def ends(self, *words):
         """Standard output, standard error and the status of a call with these words."""
         done = subprocess.run([self.program, *words], cwd=self.folder, stdin=subprocess.DEVNULL, capture_output=True, text=True, timeout=ends.PATIENCE)
-        return done.stdout, done.stderr, done.returncode
+        return done.stdout, frame.bare(done.stderr), done.returncode
 
 
 def judged(count, program, folder):

@@ -11,7 +11,7 @@ reports, once each, though an answer was lost; a command of its is confirmed on 
 An answer that the script delays comes late, with its own octets, while others are heard and answered. Behind a cut, or where a later
 answer is delayed, it doesn't come. `telegate run` waits for it if `answer_ms` is longer than the delay, and else repeats the request.
 
-A station that restarts is silent until its link is reset.
+It prints where it listens, who comes and goes, and with --words each frame. A station that restarts is silent until its link is reset.
 
 In time: a report of `at` comes once, and not before its moment; one of `every` comes in each period; the time begins with the first
 connection. A station that confirms or refuses gives what docs/STATIONS.md says to each kind of command. Wrong lines are told by their
@@ -51,7 +51,7 @@ CONFIRMED = b"\xE5"
 class Played:
     """`telegate stations` at a place, over a script."""
 
-    def __init__(self, program, folder, place, script, answer_ms=200, more=SECOND):
+    def __init__(self, program, folder, place, script, answer_ms=200, more=SECOND, flags=()):
         self.place, self.listener = place, ends.free_port()
         self.config, named = os.path.join(folder, "config.toml"), os.path.join(folder, "one.script")
         with open(self.config, "w") as file:
@@ -59,7 +59,7 @@ class Played:
         with open(named, "w") as file:
             file.write(script)
         self.process = subprocess.Popen(
-            [program, "stations", self.config, named], stdin=subprocess.DEVNULL, stdout=subprocess.PIPE, stderr=subprocess.PIPE
+            [program, "stations", *flags, self.config, named], stdin=subprocess.DEVNULL, stdout=subprocess.PIPE, stderr=subprocess.PIPE
         )
 
     def __enter__(self):
@@ -473,8 +473,12 @@ def wrong_lines(count, program, folder):
     for number, (script, line) in enumerate(WRONG, 1):
         with Played(program, folder, f"tcp:127.0.0.1:{ends.free_port()}", script) as played:
             out, err = played.process.communicate(timeout=ends.PATIENCE)
+            told, last = err.splitlines()[:-1], err.splitlines(True)[-1]
             wanted = (b"", b"script: line %d\n" % line, 1)
-            count.compare(f"wrong script {number}", (out, err, played.process.returncode), wanted)
+            count.compare(f"wrong script {number}", (out, last, played.process.returncode), wanted)
+            # Before that it says where the line is wrong, and why.
+            place = b"one.script:%d:" % line
+            count.judge(f"wrong script {number}: why", len(told) == 1 and place in told[0], err)
     # The edges of the ranges, comments between them, and 1,000 lines are right.
     own = f"at 10 {REPORT}\nevery 86400000 {REPORT}\nconfirm 2\nrefuse 1\ndelay answer 0 10\ndelay answer 1 86400000\n"
     right = f"# at 1\n{own}lose answer 1\nspoil answer 1 1\n" + f"at 10 {REPORT}\n" * 993 + "at 86400000 restart 2"
@@ -486,7 +490,9 @@ def wrong_lines(count, program, folder):
             with open(named, "w") as file:
                 file.write(f"turns 1\n{word}\n")
             made = subprocess.run([program, "sim", played.config, named], capture_output=True, timeout=ends.PATIENCE)
-            count.compare(f"sim: {word}", (made.stdout, made.stderr, made.returncode), (b"", b"script: line 2\n", 1))
+            last = made.stderr.splitlines(True)[-1]
+            count.compare(f"sim: {word}", (made.stdout, last, made.returncode), (b"", b"script: line 2\n", 1))
+            count.judge(f"sim: {word}: why", b"`telegate stations` alone knows this word" in made.stderr, made.stderr)
 
 
 def by_example(count, program, folder):
@@ -544,6 +550,30 @@ def restarts(count, program, folder):
                 stream.settimeout(ends.PATIENCE)
 
 
+def told(count, program, folder):
+    """What passes is printed: where it listens, who comes and goes, and with --words each frame."""
+    for flags in ((), ("--words",)):
+        place = f"tcp:127.0.0.1:{ends.free_port()}"
+        with Played(program, folder, place, "report 1 2 %s\n" % POINT.hex(), flags=flags) as played:
+            with played.met() as stream:
+                exchange(count, f"told {flags}: status", stream, ends.fixed(0x49, 1), UP)
+                exchange(count, f"told {flags}: reset", stream, ends.fixed(0x40, 1), CONFIRMED)
+                exchange(count, f"told {flags}: poll", stream, ends.fixed(0x7B, 1), ends.data(0x08, 1, POINT))
+            time.sleep(0.3)
+            played.process.kill()
+            out, err = played.process.communicate(timeout=ends.PATIENCE)
+        passed = [
+            "gateway > outstation  link status to 1",
+            "outstation > gateway  link status from 1",
+            "gateway > outstation  reset link to 1",
+            "outstation > gateway  ACK (E5)",
+            "gateway > outstation  poll class 2 to 1 (FCB 1)",
+            "outstation > gateway  user data from 1  M_SP_NA_1 spontaneous  CA 1  100 = on",
+        ]
+        wanted = [f"listening at {place}", "a gateway has come from 127.0.0.1", *(passed if flags else []), "the gateway has gone"]
+        count.compare(f"told {flags}", (out.decode().splitlines(), err), (wanted, b""))
+
+
 def taken(count, program, folder):
     """A port at which somebody listens ends the command; nothing is printed."""
     with socket.create_server(("127.0.0.1", 0)) as server:
@@ -555,4 +585,4 @@ def taken(count, program, folder):
 
 
 if __name__ == "__main__":
-    frame.main(at_a_port, at_a_socket, late, late_to_a_gateway, with_a_gateway, in_time, full, replied, wrong_lines, restarts, by_example, taken)
+    frame.main(at_a_port, at_a_socket, late, late_to_a_gateway, with_a_gateway, in_time, full, replied, wrong_lines, restarts, told, by_example, taken)

@@ -80,7 +80,7 @@ def ran(program, folder, trace, **how):
     done = subprocess.run(
         [program, "replay", "config.toml", trace], cwd=folder, stdout=subprocess.PIPE, stderr=subprocess.PIPE, timeout=120, **how
     )
-    return done.returncode, done.stdout.decode(), done.stderr.decode()
+    return done.returncode, done.stdout.decode(), frame.bare(done.stderr.decode())
 
 
 def texts():
@@ -107,7 +107,7 @@ def audited(program, folder, record, **how):
     done = subprocess.run(
         [program, "audit", "config.toml", record], cwd=folder, stdout=subprocess.PIPE, stderr=subprocess.PIPE, timeout=120, **how
     )
-    return done.returncode, done.stdout.decode(), done.stderr.decode()
+    return done.returncode, done.stdout.decode(), frame.bare(done.stderr.decode())
 
 
 def records():

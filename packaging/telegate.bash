@@ -9,9 +9,9 @@ _telegate() {
         check) COMPREPLY=($(compgen -W "--live --explain --site --help" -- "$word")) ;;
         replay) COMPREPLY=($(compgen -W "--left --counts --words --color --help" -- "$word")) ;;
         run) COMPREPLY=($(compgen -W "--redial --log --record --state --state-or-stop --allow --status --site --log-severity --help" -- "$word")) ;;
-        show101 | show104) COMPREPLY=($(compgen -W "--words --help" -- "$word")) ;;
+        show101 | show104 | stations) COMPREPLY=($(compgen -W "--words --help" -- "$word")) ;;
         sim) COMPREPLY=($(compgen -W "--words --color --help" -- "$word")) ;;
-        audit | capture | stations) COMPREPLY=($(compgen -W "--help" -- "$word")) ;;
+        audit | capture) COMPREPLY=($(compgen -W "--help" -- "$word")) ;;
         state) COMPREPLY=($(compgen -W "--help" -- "$word")) ;;
         centre) COMPREPLY=($(compgen -W "--tagged --json --wait --help" -- "$word")) ;;
         status) COMPREPLY=($(compgen -W "--json --help" -- "$word")) ;;

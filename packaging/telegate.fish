@@ -24,6 +24,7 @@ complete -c telegate -n "__fish_seen_subcommand_from check" -l site -r -F -d "ju
 complete -c telegate -n "__fish_seen_subcommand_from replay" -l left -d "what was not acknowledged"
 complete -c telegate -n "__fish_seen_subcommand_from replay" -l counts -d "what was counted"
 complete -c telegate -n "__fish_seen_subcommand_from replay sim" -l words -d "events and actions in words"
+complete -c telegate -n "__fish_seen_subcommand_from stations" -l words -d "frames in words"
 complete -c telegate -n "__fish_seen_subcommand_from replay sim" -l color -d "in colours"
 complete -c telegate -n "__fish_seen_subcommand_from status" -l json -d "JSON in place of the table"
 complete -c telegate -n "__fish_seen_subcommand_from centre" -l tagged -d "gives a command a time tag"

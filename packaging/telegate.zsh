@@ -52,7 +52,7 @@ case $words[2] in
         ;;
     state) _arguments '--help[tells what the command does]' '2:directory:_files -/' '3:settings:_files' ;;
     audit | capture) _arguments '--help[tells what the command does]' '2:settings:_files' '3:record:_files' ;;
-    stations) _arguments '--help[tells what the command does]' '2:settings:_files' '3:script:_files' ;;
+    stations) _arguments '--words[frames in words]' '--help[tells what the command does]' '2:settings:_files' '3:script:_files' ;;
     centre)
         _arguments '--tagged[gives a command a time tag]' '--json[prints JSON objects, one a line]' \
             '--wait[how many seconds an answer may take]:seconds:' \

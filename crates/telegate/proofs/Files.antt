@@ -185,12 +185,12 @@ module _ (has : Text → List ℕ → Type 0) (lacks : Text → Type 0) where
         new exit)
         (sym is) h
 
-    pub have_played : (request : CommandRequest) (config script : Bor Text)
+    pub have_played : (request : CommandRequest) (config script : Bor Text) (words : Bool)
         (known : Option (List ℕ))
-        (exit : ℕ) → request ≡ Stations config script
+        (exit : ℕ) → request ≡ Stations config script words
         → PlayFiles has lacks played config.now script.now exit
         → Responds has lacks ran answered silent played stands colours request known known exit
-    have_played request config script known exit is h =
+    have_played request config script words known exit is h =
         subst (λ (r : CommandRequest). Responds has lacks ran answered silent played stands colours
         r known
         known

@@ -115,6 +115,26 @@ replay_is config trace left counts words color x y u v p q c t l n w o a b d e f
   );
 }
 
+-- two words and a flag
+pub stations_are : (config script : Text) (words : Bool) (x y p : Option Text) (c t : Bor Text)
+    (w : Bool) → x ≡ Some config → y ≡ Some script → p ≡ Some (flag_text words)
+    → Agree ((codes "stations" ≡ codes "stations") × (x ≡ Some c.now) × (y ≡ Some t.now)
+    × IsFlagOf p w)
+    ((c.now ≡ config) × (t.now ≡ script) × (w ≡ words))
+stations_are config script words x y p c t w a b f = record {
+  there = λ h. (
+    (word_is config x c.now a).there h.1,
+    (word_is script y t.now b).there h.2,
+    (flag_is words p w f).there h.3,
+  );
+  back = λ same. (
+    refl,
+    (word_is config x c.now a).back same.0,
+    (word_is script y t.now b).back same.1,
+    (flag_is words p w f).back same.2,
+  );
+}
+
 -- two words and two flags
 pub sim_is : (config script : Text) (words color : Bool) (x y p q : Option Text) (c t : Bor Text)
     (w o : Bool)

@@ -95,7 +95,8 @@ abbrev pub capture : App
 capture = command (codes "capture") (word (codes "CONFIG") ∷ word (codes "RECORD") ∷ [])
 
 abbrev pub stations : App
-stations = command (codes "stations") (word (codes "CONFIG") ∷ word (codes "SCRIPT") ∷ [])
+stations = command (codes "stations") (word (codes "CONFIG") ∷ word (codes "SCRIPT")
+    ∷ flag (codes "words") ∷ [])
 
 abbrev pub centre : App
 centre = command (codes "centre") (word (codes "PLACE") ∷ further_word (codes "CONFIG")
@@ -208,8 +209,9 @@ AsksFor name rows (State directory config) = (name ≡ codes "state")
     × IsGiven rows (codes "DIR") directory.now × IsNamed rows (codes "CONFIG") (text_of config)
 AsksFor name rows (Capture config text) = (name ≡ codes "capture")
     × IsGiven rows (codes "CONFIG") config.now × IsGiven rows (codes "RECORD") text.now
-AsksFor name rows (Stations config script) = (name ≡ codes "stations")
+AsksFor name rows (Stations config script words) = (name ≡ codes "stations")
     × IsGiven rows (codes "CONFIG") config.now × IsGiven rows (codes "SCRIPT") script.now
+    × IsFlag rows (codes "words") words
 AsksFor name rows (Centre words) = (name ≡ codes "centre") × AreCentreWords rows words
 
 -- the request, or none if none is asked for

@@ -9,7 +9,7 @@ use Rattle.telegate.specs.Shell.{status_of_kind}
 use Rattle.telegate.specs.declared.command_line.CommandRequest.{CommandRequest}
 use Rattle.telegate.specs.declared.command_line.CommandRequest.TheVariants.{Check}
 use Rattle.telegate.specs.declared.command_line.CommandRequest.TheVariants.{Replay, Sim}
-use Rattle.telegate.specs.declared.command_line.CommandRequest.TheVariants.{Status, State}
+use Rattle.telegate.specs.declared.command_line.CommandRequest.TheVariants.{Stations, Status, State}
 
 -- the command that these words behind the program's name name, with what they give for it
 abbrev pub named_by : List Text → Option (Text × List Row)
@@ -53,6 +53,11 @@ AskReplay words config trace left counts in_words color = (c t : Bor Text) (l n 
 abbrev pub AskSim : List Text → (config script : Text) → (in_words color : Bool) → Type 0
 AskSim words config script in_words color = (c s : Bor Text) (w o : Bool) →
     Ask words (Sim c s w o) ((c.now ≡ config) × (s.now ≡ script) × (w ≡ in_words) × (o ≡ color))
+
+-- for outstations to play, in words
+abbrev pub AskStations : List Text → (config script : Text) → (in_words : Bool) → Type 0
+AskStations words config script in_words = (c s : Bor Text) (w : Bool) →
+    Ask words (Stations c s w) ((c.now ≡ config) × (s.now ≡ script) × (w ≡ in_words))
 
 -- how a live run stands
 abbrev pub AskStatus : List Text → (place : Text) → (json : Bool) → Type 0

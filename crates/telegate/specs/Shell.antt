@@ -69,7 +69,7 @@ files_of (Run config words) = site_files (text_of words.site) ++ config.now ∷ 
 files_of (Status place json) = []
 files_of (State directory config) = site_files (text_of config)
 files_of (Capture config text) = config.now ∷ text.now ∷ []
-files_of (Stations config script) = config.now ∷ script.now ∷ []
+files_of (Stations config script words) = config.now ∷ script.now ∷ []
 files_of (Centre words) = []
 
 -- this is the first of the files that can't be read
@@ -301,7 +301,7 @@ pub record IsShownOrPiped (hex : Text) (IsShown IsPiped : Type 0) : Type 0 where
   pub shown : (hex ≡ input → ⊥) → IsShown
 
 -- What a command is to do if its files can be read. A live run prints nothing but its record, which
--- the host writes.
+-- the host writes, as it writes what passes at outstations that are played.
 abbrev pub IsDone : (has : Text → List ℕ → Type 0) → (lacks : Text → Type 0)
     → (ran : List ℕ → Wishes → Result (Unit {0}) Fault → Type 0)
     → (answered : Text → List ℕ → List ℕ → Type 0) → (silent : Text → Type 0)
@@ -333,7 +333,8 @@ IsDone has lacks ran answered silent played stands colours (State directory conf
     HasShownState has lacks stands directory.now (text_of config) old new exit
 IsDone has lacks ran answered silent played stands colours (Capture config text) old new exit =
     HasCaptured has config.now text.now old new exit
-IsDone has lacks ran answered silent played stands colours (Stations config script) old new exit =
+IsDone has lacks ran answered silent played stands colours (Stations config script words) old new
+    exit =
     HavePlayedFiles has played config.now script.now exit × Keeps old new
 IsDone has lacks ran answered silent played stands colours (Centre words) old new exit =
     EndsAsSaid words.json old new exit

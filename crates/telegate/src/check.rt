@@ -9,6 +9,7 @@ use crate::answer::CommandAnswer;
 use crate::fault::{DONE, Fault};
 use crate::living::read_live;
 use crate::performing::{give, write_fault};
+use crate::pointing::{NamedText, point_keys, warn_of};
 use gateway::Config;
 use settings::{ConfigFault, explain, explain_site, is_here};
 use std::alloc::{AllocError, Global};
@@ -26,24 +27,28 @@ pub struct Checking {
 
 /// Judges a file of settings, and answers the exit status. `ok` is printed, or the first fault is
 /// written, with what is wrong and where behind it on `out`, if that is asked for. As for a live
-/// run it is written too if the line is on another machine.
+/// run it is written too if the line is on another machine. Each wrong key is written with its
+/// place before a fault, and what is odd in settings that are good, or in the file of a site beside
+/// them.
 pub(crate) fn check<W: Write, E: Write>(
     alloc: Global,
-    config: &[u8],
+    config: NamedText<'_>,
+    site: Option<NamedText<'_>>,
     how: Checking,
     out: &mut W,
     err: &mut E,
 ) -> u8
-    ensures { IsCheckDone config.now how (W.contents out.old) (W.contents out.new) result }
+    ensures { IsCheckDone config.octets.now how (W.contents out.old) (W.contents out.new) result }
 {
-    match judge(alloc, config, how.live) {
+    match judge(alloc, config.octets, how.live) {
         Ok(is_here) => {
             if !is_here {
                 warn(err);
             }
+            warn_of(alloc, config, site, err);
             give(&good(alloc), out, err)
         }
-        Err(fault) => refuse(alloc, config, &fault, how.explain, out, err),
+        Err(fault) => refuse(alloc, config, &fault, how, out, err),
     }
 }
 
@@ -79,16 +84,18 @@ fn warn<E: Write>(err: &mut E) {
 /// that is asked for. Answers the exit status.
 pub(crate) fn refuse<W: Write, E: Write>(
     alloc: Global,
-    text: &[u8],
+    file: NamedText<'_>,
     fault: &Fault,
-    explains: bool,
+    how: Checking,
     out: &mut W,
     err: &mut E,
 ) -> u8
-    ensures { IsRefusalAnswered explains text.now fault.now (W.contents out.old)
+    ensures { IsRefusalAnswered how.explain file.octets.now fault.now (W.contents out.old)
         (W.contents out.new) result }
 {
-    if !explains {
+    point_keys(alloc, file, how.live, fault, err);
+    let text = file.octets;
+    if !how.explain {
         return write_fault(fault, err);
     }
     match fault {

@@ -76,10 +76,11 @@ pub(crate) enum CommandRequest<'m, 'a> {
         config: &'a str,
         text: &'a str,
     },
-    /// The names of two files.
+    /// The names of two files, and whether frames are printed in words.
     Stations {
         config: &'a str,
         script: &'a str,
+        words: bool,
     },
     /// Where a gateway is, and what is to be done there.
     Centre {
@@ -373,6 +374,7 @@ fn stations<'a>(alloc: Global) -> Result<Command<'a>, AllocError>
             "A file of settings, whose key `live.line` says where to listen",
         ),
         CommandWord::Needed("SCRIPT", "A file of reports and losses, one a line"),
+        CommandWord::Flag("words", "Prints each frame of the line in words"),
     ];
     with_words(alloc, command, &words)
 }
@@ -605,6 +607,7 @@ fn stations_of<'m, 'a>(matches: &'m ArgMatches<'a>) -> Option<CommandRequest<'m,
     Some(CommandRequest::Stations {
         config: given(matches, "CONFIG")?,
         script: given(matches, "SCRIPT")?,
+        words: is_given(matches, "words"),
     })
 }
 

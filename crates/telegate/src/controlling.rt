@@ -6,10 +6,11 @@ use crate::asking::write_unknown;
 use crate::fault::{Fault, USAGE};
 use crate::host::Host;
 use crate::performing::write_fault;
+use crate::pointing::{NamedText, point_keys};
 use crate::shell::read_file;
 use crate::site::tell_refused;
 use centre::{
-    Centre, Desk, Outcome, Style, Terms, Untold, Wish, converse, end_line, errand_of, is_wish_word,
+    Centre, Desk, Outcome, Style, Terms, Untold, Wish, end_line, errand_of, is_wish_word, pursue,
     read_wish, tag_of,
 };
 use live::{LineDialler, RunClock, SystemClock};
@@ -139,7 +140,15 @@ fn addresses_of<H: Host, E: Write>(
     let octets = read_file(host, name, err)?;
     let config = match read_config(alloc, octets.as_slice(), false) {
         Ok(config) => config,
-        Err(fault) => return Err(write_fault(&Fault::Config(fault), err)),
+        Err(fault) => {
+            let file = NamedText {
+                name,
+                octets: octets.as_slice(),
+            };
+            let fault = Fault::Config(fault);
+            point_keys(alloc, file, false, &fault, err);
+            return Err(write_fault(&fault, err));
+        }
     };
     for station in config.stations() {
         if addresses.push(station.ca).is_err() {
@@ -221,7 +230,7 @@ pub(crate) fn control_at<W: Write>(
         return Err(Uncontrolled::Failed(Fault::NoMemory));
     };
     let mut desk = Desk::new(alloc, errands.style, stream, centre);
-    match converse(&mut clock, &mut desk, out) {
+    match pursue(alloc, &mut clock, errands.style, &mut desk, out) {
         Ok(outcome) => Ok(outcome),
         Err(Untold::NoMemory) => Err(Uncontrolled::Failed(Fault::NoMemory)),
         Err(Untold::Device) => Err(Uncontrolled::Failed(Fault::Device)),

@@ -6,14 +6,18 @@ pub(crate) const VERSION: &str = "1.0.0 (rattle, logic dac8208d650f15bf)";
 pub(crate) const PROGRAM: &str = "\
 `telegate COMMAND --help` says what the files of a command hold.
 Exit status: 0 done, 1 a bad frame or a file with wrong content, 2 usage, 3 a file or a device
-failed, 4 no memory. A fault is one line on standard error.";
+failed, 4 no memory. A fault is one line on standard error, the last one. Before that of a file
+lines `FILE:LINE:COLUMN: WHY` say where it is.";
 
 pub(crate) const CHECK: &str = "\
-Printed: `ok`. A fault is one line on standard error: the first that there is. With --site the file
+Printed: `ok`. The last line on standard error is the first fault that there is; lines before it,
+`FILE:LINE:COLUMN: WHY`, have each fault. With --site the file
 of the site is judged first, as `run --site` does, and CONFIG only if it is good. With --explain
 standard output then says where the fault is (line and column in its file with the value as it is
 written, or below which line a missing key belongs), what is wanted, and where another station has
-the same number. With --live a warning on standard error says if the line is on another machine.
+the same number. Warnings on standard error say if a key of `live` is wrong, if no other machine can
+connect, if SITE names a station that CONFIG doesn't have, and with --live if the line is on another
+machine.
 Exit status: 0 good, 1 wrong settings or site, 2 usage, 3 a file or the output failed, 4 no memory";
 
 pub(crate) const REPLAY: &str = "\
@@ -120,20 +124,23 @@ SCRIPT has the lines of a script of `sim`. Those of the outstations count:
 Other lines are known here alone, with MS from 10 ms to a day:
   at MS report S CLASS HEX     once MS ms have passed since a gateway came first
   every MS report S CLASS HEX  and again each MS ms
+  at MS restart S              the station is switched off and on: its reports are gone
+  every MS restart S           the same again each MS ms
   confirm S             station S confirms commands, and says when they are done
   refuse S              station S refuses them
   delay answer N MS     the answer to the Nth request goes out MS ms late
-`turns` is required once, and means nothing here, as `ack`, `cut`, `wall` and `send` do. The command
-listens at `live.line` of CONFIG (tcp:HOST:PORT or unix:PATH), where `run` finds the outstations,
-and goes on until it is ended. A station that neither confirms nor refuses commands takes them on
-the link alone. Nothing is printed.
+`turns`, `ack`, `cut`, `wall` and `send` mean nothing here. The command listens at `live.line` of
+CONFIG (tcp:HOST:PORT or unix:PATH), where `run` finds the outstations, and goes on until it is
+ended. A station that neither confirms nor refuses commands takes them on the link alone. Printed:
+where it listens, who comes and goes, and with --words each frame of the line.
 Exit status: 1 wrong settings or script, 2 usage, 3 a file can't be read, or listening failed, \
 4 no memory";
 
 pub(crate) const CENTRE: &str = "\
 Without WHAT each station is interrogated, and what passes is printed until the connection ends.
 Otherwise the answers are waited for, and the last line says what became of it. WHAT is one of:
-  interrogate [CA]      station interrogation: of CA, of the stations of CONFIG, or of all
+  interrogate [CA]      station interrogation: of CA, of the stations of CONFIG, or of all (65535:
+                        then each station of CONFIG has to answer)
   counters [CA]         counter interrogation, the same
   clock [CA]            sets clocks to this machine's UTC time
   select CA/IOA VALUE   or execute; operate is both, and deactivate takes a select back

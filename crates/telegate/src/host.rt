@@ -23,6 +23,7 @@ use crate::living::{read_live, run_out};
 use crate::playing::{play_behind, scenario_of};
 use crate::site::{Notes, Process, tell_refused};
 use crate::source::Source;
+use crate::telling::{Teller, ToldListener};
 use centre::Outcome;
 use gateway::{Config, History};
 use live::{AllowList, SystemClock};
@@ -133,7 +134,8 @@ pub(crate) trait Host {
 
     /// Plays the outstations of a script, at the place where a live run with settings of these
     /// octets looks for its line.
-    fn play(&self, config: &[u8], script: &[u8]) -> Result<(), Fault>
+    /// What passes there is printed, with each frame in words if that is asked for.
+    fn play(&self, config: &[u8], script: &[u8], words: bool) -> Result<(), Fault>
         ensures { played self.now config.now script.now result };
 
     /// Is a control centre of a gateway, and prints what passes. Answers what became of its errand.
@@ -246,12 +248,12 @@ impl<S: Starts, N: Notes + Drop> Host for System<'_, S, N> {
         Ok(run_process(self, &settings, &places, config, wishes)?)
     }
 
-    fn play(&self, config: &[u8], script: &[u8]) -> Result<(), Fault>
+    fn play(&self, config: &[u8], script: &[u8], words: bool) -> Result<(), Fault>
         ensures { ArePlayedBy config.now script.now result }
     {
         let (settings, places) = read_live(self.rt.alloc(), config)?;
         let scenario = scenario_of(self.rt.alloc(), &settings, script)?;
-        play_at(self.rt, &settings, scenario, places.line.as_str())
+        play_at(self.rt, &settings, scenario, places.line.as_str(), words)
     }
 
     fn control<W: Write>(
@@ -297,6 +299,7 @@ fn play_at(
     settings: &Config,
     scenario: Scenario,
     place: &str,
+    words: bool,
 ) -> Result<(), Fault>
     requires { FitsScenario settings.now scenario }
     ensures { ArePlayed result }
@@ -309,7 +312,12 @@ fn play_at(
         return Err(Fault::Device);
     };
     match LineListener::listen(rt, place) {
-        Ok(listener) => play_behind(rt, rt.alloc(), settings, scenario, &mut clock, listener),
+        Ok(listener) => {
+            let teller = Teller::new(rt, rt.alloc(), settings, words);
+            teller.tell_listening(place);
+            let listener = ToldListener::new(teller, listener);
+            play_behind(rt, rt.alloc(), settings, scenario, &mut clock, listener)
+        }
         Err(fault) if fault.kind() == io::ErrorKind::OutOfMemory => Err(Fault::NoMemory),
         Err(fault) => {
             tell_refused(rt, "line", place, &fault);

@@ -44,6 +44,7 @@ mod performing;
 mod piping;
 mod place;
 mod playing;
+mod pointing;
 mod printed;
 mod recorded;
 mod replay;
@@ -58,6 +59,7 @@ mod site;
 mod size_laws;
 mod source;
 mod stood;
+mod telling;
 mod wishes;
 mod word_laws;
 

@@ -7,6 +7,7 @@ ghost use Rattle.telegate.specs.Given.{IsGiven};
 use crate::answer::CommandAnswer;
 use crate::fault::{DONE, Fault};
 use crate::job::Job;
+use crate::pointing::{NamedText, point_script};
 use crate::showing::{show101, show104};
 use crate::simulating::simulate;
 use std::alloc::Global;
@@ -17,11 +18,13 @@ use traces::print;
 /// status: 0 done, 1 a bad frame or a file with wrong content, 3 if the output can't be written
 /// (what was written is then a beginning of the answer's text), 4 if memory was refused. A run over
 /// a script prints while it goes on. So after 4 a beginning of its lines may have been written, and
-/// if it is watched it says on `err` how far it has come. The others print when all is there.
+/// if it is watched it says on `err` how far it has come. The others print when all is there. A
+/// fault of a file is told by the names of settings and script.
 pub fn perform<W: Write, E: Write>(
     alloc: Global,
     job: &Job<'_>,
     is_watched: bool,
+    names: (&str, &str),
     out: &mut W,
     err: &mut E,
 ) -> u8
@@ -35,7 +38,18 @@ pub fn perform<W: Write, E: Write>(
         Job::Sim(config, script, manner) => {
             match simulate(alloc, *config, *script, *manner, is_watched, out, err) {
                 Ok(()) => DONE,
-                Err(fault) => write_fault(&fault, err),
+                Err(fault) => {
+                    let config = NamedText {
+                        name: names.0,
+                        octets: *config,
+                    };
+                    let script = NamedText {
+                        name: names.1,
+                        octets: *script,
+                    };
+                    point_script(alloc, config, script, false, &fault, err);
+                    write_fault(&fault, err)
+                }
             }
         }
     }

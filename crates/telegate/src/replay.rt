@@ -36,7 +36,8 @@ const STRIDE: u64 = 33_554_432;
 /// What is asked of a replay.
 #[derive(Clone, Copy)]
 pub(crate) struct AskedReplay<'a> {
-    /// The octets of the file of settings.
+    /// The file of settings: its name, and its octets.
+    pub(crate) name: &'a str,
     pub(crate) config: &'a [u8],
     pub(crate) manner: Manner,
     pub(crate) closing: Closing,

@@ -27,9 +27,10 @@ use crate::controlling::be_centre;
 use crate::fault::{DEVICE_FAILED, DONE, Fault, USAGE};
 use crate::host::{Host, HostFile, INPUT, Unread, Wishes};
 use crate::job::Job;
-use crate::manner::manner_of;
+use crate::manner::{Manner, manner_of};
 use crate::performing::{give, perform, write_fault};
 use crate::piping::{Piped, end_pipe, pipe};
+use crate::pointing::{NamedText, point_keys, point_line, point_record, point_script};
 use crate::replay::{AskedReplay, replay};
 use crate::run_words::RunWords;
 use crate::source::{HeldText, Source};
@@ -41,6 +42,19 @@ use settings::Site;
 use std::alloc::Global;
 use std::io;
 use std::io::Write;
+
+/// Those of a command that reads no file.
+const NO_NAMES: (&str, &str) = ("", "");
+
+/// The octets of a file with its name.
+fn named<'a>(name: &'a str, octets: &'a Vec<u8>) -> NamedText<'a>
+    ensures { result.octets.now ≡ octets.now.items }
+{
+    NamedText {
+        name,
+        octets: octets.as_slice(),
+    }
+}
 
 /// Does what the words of a process ask for, of which the first is the program's name. Answers the
 /// exit status: that of the command, or 2 if the words are wrong, and 0 for help and the version.
@@ -124,13 +138,14 @@ pub(crate) fn respond<H: Host, W: Write, E: Write>(
                 return pipe_line(alloc, host, *sizes, *words, out, err);
             }
             let job = Job::Show101(*sizes, *hex, *words);
-            perform(alloc, &job, is_watched, out, err)
+            perform(alloc, &job, is_watched, NO_NAMES, out, err)
         }
         CommandRequest::Show104 { hex, words } => {
             if *hex == INPUT {
                 return pipe_frames(alloc, host, Piped::Connection, *words, out, err);
             }
-            perform(alloc, &Job::Show104(*hex, *words), is_watched, out, err)
+            let job = Job::Show104(*hex, *words);
+            perform(alloc, &job, is_watched, NO_NAMES, out, err)
         }
         CommandRequest::Check {
             config,
@@ -152,9 +167,10 @@ pub(crate) fn respond<H: Host, W: Write, E: Write>(
             words,
             color,
         } => match read_file(host, *config, err) {
-            Ok(config) => {
+            Ok(octets) => {
                 let asked = AskedReplay {
-                    config: config.as_slice(),
+                    name: *config,
+                    config: octets.as_slice(),
                     manner: manner_of(*words, *color, has_colours),
                     closing: Closing {
                         left: *left,
@@ -172,15 +188,15 @@ pub(crate) fn respond<H: Host, W: Write, E: Write>(
             words,
             color,
         } => match read_files(host, *config, *script, err) {
-            Ok((config, script)) => {
+            Ok((octets, text)) => {
                 let manner = manner_of(*words, *color, has_colours);
-                let job = Job::Sim(config.as_slice(), script.as_slice(), manner);
-                perform(alloc, &job, is_watched, out, err)
+                let job = Job::Sim(octets.as_slice(), text.as_slice(), manner);
+                perform(alloc, &job, is_watched, (*config, *script), out, err)
             }
             Err(status) => status,
         },
         CommandRequest::Audit { config, text } => match read_file(host, *config, err) {
-            Ok(config) => audit_file(alloc, host, *text, config.as_slice(), out, err),
+            Ok(octets) => audit_file(alloc, host, *text, named(*config, &octets), out, err),
             Err(status) => status,
         },
         CommandRequest::Run { config, words } => run_wished(alloc, host, *config, words, err),
@@ -189,10 +205,14 @@ pub(crate) fn respond<H: Host, W: Write, E: Write>(
             show_state(alloc, host, *directory, *config, out, err)
         }
         CommandRequest::Capture { config, text } => match read_file(host, *config, err) {
-            Ok(config) => capture_file(alloc, host, *text, config.as_slice(), out, err),
+            Ok(octets) => capture_file(alloc, host, *text, named(*config, &octets), out, err),
             Err(status) => status,
         },
-        CommandRequest::Stations { config, script } => play_files(host, *config, *script, err),
+        CommandRequest::Stations {
+            config,
+            script,
+            words,
+        } => play_files(alloc, host, *config, *script, *words, err),
         CommandRequest::Centre { words } => be_centre(alloc, host, words, out, err),
     }
 }
@@ -212,12 +232,15 @@ fn check_behind<H: Host, W: Write, E: Write>(
         (W.contents out.old) (W.contents out.new) result }
 {
     let Some(name) = site else {
-        return check_file(alloc, host, config, how, out, err);
+        return check_file(alloc, host, config, None, how, out, err);
     };
     match read_file(host, name, err) {
         Ok(octets) => match judge_site(alloc, octets.as_slice()) {
-            Ok(()) => check_file(alloc, host, config, how, out, err),
-            Err(fault) => refuse(alloc, octets.as_slice(), &fault, how.explain, out, err),
+            Ok(()) => {
+                let site = Some(named(name, &octets));
+                check_file(alloc, host, config, site, how, out, err)
+            }
+            Err(fault) => refuse(alloc, named(name, &octets), &fault, how, out, err),
         },
         Err(status) => status,
     }
@@ -228,6 +251,7 @@ fn check_file<H: Host, W: Write, E: Write>(
     alloc: Global,
     host: &H,
     config: &str,
+    site: Option<NamedText<'_>>,
     how: Checking,
     out: &mut W,
     err: &mut E,
@@ -236,7 +260,7 @@ fn check_file<H: Host, W: Write, E: Write>(
         (W.contents out.old) (W.contents out.new) result }
 {
     match read_file(host, config, err) {
-        Ok(octets) => check(alloc, octets.as_slice(), how, out, err),
+        Ok(octets) => check(alloc, named(config, &octets), site, how, out, err),
         Err(status) => status,
     }
 }
@@ -321,7 +345,16 @@ fn replay_text<S: Source, W: Write, E: Write>(
             let _ = write_unreadable(name, err);
             DEVICE_FAILED
         }
-        Err(fault) => write_fault(&fault, err),
+        Err(fault) => {
+            let config = NamedText {
+                name: asked.name,
+                octets: asked.config,
+            };
+            point_keys(alloc, config, false, &fault, err);
+            let as_record = matches!(asked.manner, Manner::Words { .. });
+            point_line(alloc, name, text, as_record, &fault, err);
+            write_fault(&fault, err)
+        }
     }
 }
 
@@ -331,19 +364,25 @@ fn audit_file<H: Host, W: Write, E: Write>(
     alloc: Global,
     host: &H,
     name: &str,
-    config: &[u8],
+    config: NamedText<'_>,
     out: &mut W,
     err: &mut E,
 ) -> u8
-    ensures { AuditsFile (H.has host.now) name.now config.now
+    ensures { AuditsFile (H.has host.now) name.now config.octets.now
         (W.contents out.old) (W.contents out.new) result }
 {
-    match audit_alone(alloc, config, &HostFile { host, name }) {
+    match audit_alone(alloc, config.octets, &HostFile { host, name }) {
         Err(Fault::Unread) => {
             let _ = write_unreadable(name, err);
             DEVICE_FAILED
         }
-        answer => give(&answer, out, err),
+        answer => {
+            if let Err(fault) = &answer {
+                point_keys(alloc, config, false, fault, err);
+                point_record(alloc, host, name, fault, err);
+            }
+            give(&answer, out, err)
+        }
     }
 }
 
@@ -353,20 +392,24 @@ fn capture_file<H: Host, W: Write, E: Write>(
     alloc: Global,
     host: &H,
     name: &str,
-    config: &[u8],
+    config: NamedText<'_>,
     out: &mut W,
     err: &mut E,
 ) -> u8
-    ensures { Runs (IsCapturedBy config.now (H.has host.now name.now))
+    ensures { Runs (IsCapturedBy config.octets.now (H.has host.now name.now))
         (W.contents out.old) (W.contents out.new) result }
 {
-    match capture(alloc, config, &HostFile { host, name }, out) {
+    match capture(alloc, config.octets, &HostFile { host, name }, out) {
         Ok(()) => DONE,
         Err(Fault::Unread) => {
             let _ = write_unreadable(name, err);
             DEVICE_FAILED
         }
-        Err(fault) => write_fault(&fault, err),
+        Err(fault) => {
+            point_keys(alloc, config, false, &fault, err);
+            point_record(alloc, host, name, &fault, err);
+            write_fault(&fault, err)
+        }
     }
 }
 
@@ -435,24 +478,44 @@ fn show_directory<H: Host, W: Write, E: Write>(
 
 /// Plays the outstations of a script by settings, each the octets of a file, and answers the exit
 /// status.
-fn play_files<H: Host, E: Write>(host: &H, config: &str, script: &str, err: &mut E) -> u8
+fn play_files<H: Host, E: Write>(
+    alloc: Global,
+    host: &H,
+    config: &str,
+    script: &str,
+    words: bool,
+    err: &mut E,
+) -> u8
     ensures { PlayFiles (H.has host.now) (H.lacks host.now) (H.played host.now) config.now
         script.now result }
 {
     match read_files(host, config, script, err) {
-        Ok((config, script)) => play_live(host, config.as_slice(), script.as_slice(), err),
+        Ok((octets, text)) => {
+            let files = (named(config, &octets), named(script, &text));
+            play_live(alloc, host, files, words, err)
+        }
         Err(status) => status,
     }
 }
 
 /// Plays the outstations of a script of these octets by settings of these, and answers the exit
 /// status.
-fn play_live<H: Host, E: Write>(host: &H, config: &[u8], script: &[u8], err: &mut E) -> u8
-    ensures { HaveEnded (H.played host.now) config.now script.now result }
+fn play_live<H: Host, E: Write>(
+    alloc: Global,
+    host: &H,
+    files: (NamedText<'_>, NamedText<'_>),
+    words: bool,
+    err: &mut E,
+) -> u8
+    ensures { HaveEnded (H.played host.now) files.0.octets.now files.1.octets.now result }
 {
-    match host.play(config, script) {
+    let (config, script) = files;
+    match host.play(config.octets, script.octets, words) {
         Ok(()) => DONE,
-        Err(fault) => write_fault(&fault, err),
+        Err(fault) => {
+            point_script(alloc, config, script, true, &fault, err);
+            write_fault(&fault, err)
+        }
     }
 }
 
@@ -494,7 +557,10 @@ fn site_of<H: Host, E: Write>(
     match read_file(host, name, err) {
         Ok(octets) => match site_in(alloc, octets.as_slice()) {
             Ok(site) => Ok(site),
-            Err(fault) => Err(write_fault(&fault, err)),
+            Err(fault) => {
+                point_keys(alloc, named(name, &octets), false, &fault, err);
+                Err(write_fault(&fault, err))
+            }
         },
         Err(status) => Err(status),
     }
@@ -515,31 +581,46 @@ fn run_at_site<H: Host, E: Write>(
         (H.ran host.old host.new) config.now words.now site.now result }
 {
     match wishes_of(alloc, words, site) {
-        Ok(wishes) => run_file(host, config, wishes, err),
+        Ok(wishes) => run_file(alloc, host, config, wishes, err),
         Err(fault) => write_fault(&fault, err),
     }
 }
 
 /// Runs the gateway live by the settings of a file, and answers the exit status.
-fn run_file<H: Host, E: Write>(host: &mut H, config: &str, wishes: Wishes<'_>, err: &mut E) -> u8
+fn run_file<H: Host, E: Write>(
+    alloc: Global,
+    host: &mut H,
+    config: &str,
+    wishes: Wishes<'_>,
+    err: &mut E,
+) -> u8
     ensures runs { RunsFile (H.has host.old) (H.lacks host.old) (H.ran host.old host.new)
         config.now wishes.entry result }
     ensures alone { (host.new ≡ host.old) ⊎ HasRunLive (H.has host.old)
         (H.ran host.old host.new) config.now wishes.entry result }
 {
     match read_file(host, config, err) {
-        Ok(config) => run_live(host, config.as_slice(), wishes, err),
+        Ok(octets) => run_live(alloc, host, named(config, &octets), wishes, err),
         Err(status) => status,
     }
 }
 
 /// Runs the gateway live by settings of these octets.
-fn run_live<H: Host, E: Write>(host: &mut H, config: &[u8], wishes: Wishes<'_>, err: &mut E) -> u8
-    ensures { HasEndedLive (H.ran host.old host.new) config.now wishes.entry result }
+fn run_live<H: Host, E: Write>(
+    alloc: Global,
+    host: &mut H,
+    config: NamedText<'_>,
+    wishes: Wishes<'_>,
+    err: &mut E,
+) -> u8
+    ensures { HasEndedLive (H.ran host.old host.new) config.octets.now wishes.entry result }
 {
-    match host.run(config, wishes) {
+    match host.run(config.octets, wishes) {
         Ok(()) => DONE,
-        Err(fault) => write_fault(&fault, err),
+        Err(fault) => {
+            point_keys(alloc, config, true, &fault, err);
+            write_fault(&fault, err)
+        }
     }
 }
 

@@ -2,9 +2,8 @@
 ghost use Rattle.std.specs.Prelude.{◌≡◌, ◌∷◌, ◌==◌, [], List, codes, true, false, Some, None};
 ghost use Rattle.clap.specs.Words.{Row, Text};
 ghost use Rattle.telegate.specs.Examples.{AskCheck, AskReplay, AskSim, AskState, AskStatus};
-ghost use Rattle.telegate.specs.Examples.{AskTwo};
+ghost use Rattle.telegate.specs.Examples.{AskStations, AskTwo};
 ghost use Rattle.telegate.specs.declared.command_line.CommandRequest.TheVariants.{Audit, Capture};
-ghost use Rattle.telegate.specs.declared.command_line.CommandRequest.TheVariants.{Stations};
 
 /// Each path from the root (`/`, 47) is taken as it stands: whatever it is, it is the file, the
 /// directory or the place that its word says, and the second one never stands for the first. The
@@ -15,7 +14,7 @@ pub fn paths_are_taken_as_they_stand()
     ensures files { (a b : Text) →
         AskTwo (codes "audit" ∷ (47 ∷ a) ∷ (47 ∷ b) ∷ []) Audit (47 ∷ a) (47 ∷ b)
         × AskTwo (codes "capture" ∷ (47 ∷ a) ∷ (47 ∷ b) ∷ []) Capture (47 ∷ a) (47 ∷ b)
-        × AskTwo (codes "stations" ∷ (47 ∷ a) ∷ (47 ∷ b) ∷ []) Stations (47 ∷ a) (47 ∷ b) }
+        × AskStations (codes "stations" ∷ (47 ∷ a) ∷ (47 ∷ b) ∷ []) (47 ∷ a) (47 ∷ b) false }
     ensures checks { (a b : Text) →
         AskCheck (codes "check" ∷ (47 ∷ a) ∷ []) (47 ∷ a) None false false
         × AskCheck (codes "check" ∷ codes "--site" ∷ (47 ∷ b) ∷ (47 ∷ a) ∷ codes "--live" ∷ [])

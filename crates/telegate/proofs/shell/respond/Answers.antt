@@ -69,12 +69,12 @@ returns-in-Ok-clause-responds g c =
     (g.H.Host.stands c.args.host.now) (g.H.Host.colours c.args.host.now)
     c.args.request.now c.in-Replay.config c.in-Replay.trace c.in-Replay.left c.in-Replay.counts
     c.in-Replay.words
-    c.in-Replay.color c.in-Ok.config.items (g.W.Write.contents c.args.out.now)
+    c.in-Replay.color c.in-Ok.octets.items (g.W.Write.contents c.args.out.now)
     (g.W.Write.contents c.replay_file.new.out) c.replay_file.result c.in-Replay.is
     c.in-Ok.ensures.read
     (subst (λ (manner : Manner). ReplaysFile (g.H.Host.has c.args.host.now)
     (g.H.Host.lacks c.args.host.now)
-    c.in-Replay.trace.now c.in-Ok.config.items manner
+    c.in-Replay.trace.now c.in-Ok.octets.items manner
     (record { left = c.in-Replay.left; counts = c.in-Replay.counts })
     (g.W.Write.contents c.args.out.now)
     (g.W.Write.contents c.replay_file.new.out) c.replay_file.result)
@@ -107,7 +107,7 @@ returns-in-Stations-clause-responds g c =
     (g.H.Host.ran c.args.host.now c.args.host.now) (g.H.Host.answered c.args.host.now)
     (g.H.Host.silent c.args.host.now) (g.H.Host.played c.args.host.now)
     (g.H.Host.stands c.args.host.now) (g.H.Host.colours c.args.host.now)
-    c.args.request.now c.in-Stations.config c.in-Stations.script
+    c.args.request.now c.in-Stations.config c.in-Stations.script c.in-Stations.words
     (g.W.Write.contents c.args.out.now) c.play_files.result c.in-Stations.is c.play_files.ensures
 
 pub returns-in-State-clause-responds : goal.returns-in-State-clause-responds

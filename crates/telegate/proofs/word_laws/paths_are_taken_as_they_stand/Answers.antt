@@ -2,7 +2,8 @@ use Rattle.std.proofs.Common.{true, false, [], ◌∷◌, Some, None, refl}
 use Rattle.std.specs.Prelude.{codes}
 use Rattle.clap.specs.Walk.{bundle_met, walked}
 use Rattle.clap.specs.Faults.{flags_fault, walk_fault, defaults_fault}
-use Rattle.telegate.proofs.Worded.{check_is, replay_is, sim_is, state_is, status_is, two_are}
+use Rattle.telegate.proofs.Worded.{check_is, replay_is, sim_is, state_is, stations_are}
+use Rattle.telegate.proofs.Worded.{status_is, two_are}
 use Rattle.telegate.proofs.word_laws.paths_are_taken_as_they_stand.Goals as goal
 
 pub returns-clause-states : goal.returns-clause-states
@@ -17,7 +18,7 @@ unfolding bundle_met walked flags_fault walk_fault defaults_fault
 returns-clause-files c a b = (
   λ one other. (refl, two_are (codes "audit") (47 ∷ a) (47 ∷ b) _ _ one other refl refl),
   λ one other. (refl, two_are (codes "capture") (47 ∷ a) (47 ∷ b) _ _ one other refl refl),
-  λ one other. (refl, two_are (codes "stations") (47 ∷ a) (47 ∷ b) _ _ one other refl refl),
+  λ x y w. (refl, stations_are (47 ∷ a) (47 ∷ b) false _ _ _ x y w refl refl refl),
 )
 
 pub returns-clause-checks : goal.returns-clause-checks
