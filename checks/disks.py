@@ -112,7 +112,7 @@ class Life:
                 faults.append(f"station {address} operated twice: {station.accepted}")
         if self.wrong:
             faults.append(f"reports that no station gave: {self.wrong}")
-        says = [text for text in ("put aside", "stale", "begins anew", "goes on") if text in told]
+        says = [text for text in ("put aside", "stale", "begins anew", "resumed") if text in told]
         field.server.close()
         return faults, says[0] if says else told
 
@@ -249,7 +249,7 @@ def a_copy(count, program, way, lives):
         count.compare("it is stale by itself", says, "stale")
         count.judge("each station's gap is told", gaps(told) == [1, 2], told)
         lines, _, _ = looked(gateway, gateway.state)
-        count.judge("and then no longer", lines[0].startswith("state: goes on"), lines)
+        count.judge("and then no longer", lines[0].startswith("state: resumed"), lines)
 
 
 def no_copy(told):
@@ -269,7 +269,7 @@ def killed_often(count, program):
             time.sleep(0.3 * chance.random())
             gateway.end(chance.choice(["kill", "power"]))
         gateway.start()
-        count.judge("it goes on", gateway.waits("goes on", "listening"), gateway.logged())
+        count.judge("it goes on", gateway.waits("resumed", "listening"), gateway.logged())
         gateway.kill()
         count.judge("and was never stale", no_copy(gateway.said), gateway.said)
         gateway.field.server.close()
@@ -289,7 +289,7 @@ def first_start_cut(count, program):
             is_up = gateway.waits("station 2 up")
             gateway.end("power")
             gateway.start()
-            is_on = gateway.waits("goes on", "listening")
+            is_on = gateway.waits("resumed", "listening")
             gateway.kill()
             count.judge(f"cut at call {call}", is_up and is_on and no_copy(gateway.said), gateway.said)
             gateway.field.server.close()
@@ -655,7 +655,7 @@ def mark_unseen(count, program):
         until(lambda: case.gateway.process.poll() is not None or "listening" in case.gateway.logged(), 20)
         has_gone_round(case.gateway, 1)
         told = case.gateway.kill()
-        count.judge("a mark that can't be looked for", "state: goes on" not in told or "stale" in told, told)
+        count.judge("a mark that can't be looked for", "state: resumed" not in told or "stale" in told, told)
         count.judge("it is named", f"{WITHOUT}: stale: {FAULTS['EIO'][1]}" in told, told)
         case.field.server.close()
 
@@ -669,7 +669,7 @@ def each_octet_once(count, program):
         case.gateway.kill()
         case.fail()
         case.gateway.start()
-        count.judge("it goes on", case.gateway.waits("goes on", "listening"), case.gateway.logged())
+        count.judge("it goes on", case.gateway.waits("resumed", "listening"), case.gateway.logged())
         with open(counted) as file:
             octets = sum(map(int, file))
         size = sum(os.path.getsize(os.path.join(case.gateway.state, name)) for name in ("segments", "segments-wal"))
@@ -686,7 +686,7 @@ def damage_part(name, damage, cases, never=""):
 PARTS = [
     damage_part("damaged bits", turn_a_bit, 12),
     damage_part("disk sectors", zero_a_sector, 8),
-    damage_part("first sectors", zero_the_beginning, 4, never="goes on"),
+    damage_part("first sectors", zero_the_beginning, 4, never="resumed"),
     alone("damaged and cut", damaged_and_cut),
     damage_part("short files", cut_short, 8),
     damage_part("shortened behind its last line", cut_to_used, 2),

@@ -439,7 +439,7 @@ def names_of_stations(count, program):
                 asked = until(lambda: "station 263 asked" in told() and "station 7 asked" in told(), 20)
                 count.judge("both are asked", asked, told())
                 for address, name in ((7, "Near Mill"), (263, "Far Mill")):
-                    count.judge(f"the log's name of {address}", f"station {address} asked for its status [{name}]\n" in told(), told())
+                    count.judge(f"the log's name of {address}", f"station {address} link status requested [{name}]\n" in told(), told())
                 shown = subprocess.run([program, "status", f"127.0.0.1:{status}"], capture_output=True, text=True, timeout=60).stdout
                 for address, name in ((7, "Near Mill"), (263, "Far Mill")):
                     count.judge(f"the table's name of {address}", re.search(rf"^ *{address} +\d+ .* {name}$", shown, re.M), shown)

@@ -212,7 +212,7 @@ def a_run(count, program, folder):
             at = found or at
 
         comes("listening at 127.0.0.1:%d" % run.listener[1])
-        comes("station 7 asked for its status")
+        comes("station 7 link status requested")
         comes("line not there: connection refused")
         station.begin()
         comes("line reached")
@@ -224,7 +224,7 @@ def a_run(count, program, folder):
         count.judge("STOPDT", exchange(first, STOP, STOPPED))
         comes("connection stopped")
         first.close()
-        comes("connection cut: its other end has gone")
+        comes("connection lost: peer closed")
         time.sleep(1.1)
         second = run.connect()
         comes("connection opened by 127.0.0.1")
@@ -262,7 +262,7 @@ def flood(count, run, at):
         time.sleep(0.3)
         opened = [line for line in run.log.lines[at:] if line.startswith("connection opened")]
     seconds = time.monotonic() - began
-    for kind in ("connection opened", "connection cut", "connection closed"):
+    for kind in ("connection opened", "connection lost", "connection closed"):
         lines = [line for line in run.log.lines[at:] if line.startswith(kind)]
         count.judge(f"{kind} in a flood", len(lines) <= seconds + 2, (seconds, lines))
     count.judge("how many were left out", any(re.search(r"\(\d+ left out since \d+\)", line) for line in opened), opened)
@@ -273,7 +273,7 @@ def held(count, program, folder):
     and then that it answers again."""
     station = Station()
     with Run(program, folder, station, "--log", settings=HELD) as run:
-        count.judge("a held station is asked", run.log.waits("station 7 asked for its status") is not None, run.log.lines)
+        count.judge("a held station is asked", run.log.waits("station 7 link status requested") is not None, run.log.lines)
         up = run.log.waits("station 7 up")
         count.judge("a held station is up", up is not None, run.log.lines)
         time.sleep(1)
@@ -294,7 +294,7 @@ def mute(count, program, folder):
         station = Station()
         station.is_silent = True
         with Run(program, folder, station, "--log", settings=settings) as run:
-            asked = run.log.waits("station 7 asked for its status")
+            asked = run.log.waits("station 7 link status requested")
             silent = run.log.waits("station 7 doesn't answer")
             count.judge(f"a station that never answered, {name}", asked and silent and asked < silent, run.log.lines)
             time.sleep(1.5)
@@ -848,7 +848,7 @@ def refused(log):
     end, told = time.monotonic() + ends.PATIENCE, 0
     while told < 5 and time.monotonic() < end:
         time.sleep(0.05)
-        lines = [re.fullmatch(r"(\d+) sent away, the last at 127\.0\.0\.2", line) for line in list(log.lines)]
+        lines = [re.fullmatch(r"(\d+) rejected \(not in the allow list\), the last at 127\.0\.0\.2", line) for line in list(log.lines)]
         told = sum(int(line[1]) for line in lines if line)
     return told
 

@@ -316,7 +316,7 @@ def a_station_that_comes_back(count, program):
         field.unheard.clear()
         gateway.set(stations=[(1, 1, "")], **SHORT)
         gateway.start()
-        gateway.waits("settings have changed", "goes on")
+        gateway.waits("settings have changed", "resumed")
         served = field.stations[1].served
         until(lambda: field.stations[1].served > served)
         told = gateway.kill()

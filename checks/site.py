@@ -32,11 +32,11 @@ NAMES = '[line]\nname = "North <ring>"\n[[station]]\nlink = 7\nname = "Mill Lane
 SEVERITIES = {
     "line reached": 5,
     "listening at": 6,
-    "station 7 asked for its status": 6,
+    "station 7 link status requested": 6,
     "station 7 up": 5,
     "station 7 doesn't answer": 4,
     "connection opened": 6,
-    "connection cut": 4,
+    "connection lost": 4,
     "line lost": 3,
 }
 ONE = '[[station]]\nlink = 7\nname = "A"\n'
@@ -186,7 +186,7 @@ def named(count, program, folder):
         count.judge("another line has no name", line and not line.endswith("]"), run.lines)
         count.judge("its state is kept", run.waits("state: begins anew") and os.path.exists(os.path.join(kept, "lock")), run.lines)
         count.judge("its address is allowed", is_allowed(run, "127.0.0.2"), run.lines)
-        count.judge("another one isn't", not is_allowed(run, "127.0.0.1") and run.waits("sent away, the last at 127.0.0.1"), run.lines)
+        count.judge("another one isn't", not is_allowed(run, "127.0.0.1") and run.waits("rejected (not in the allow list), the last at 127.0.0.1"), run.lines)
         end = time.monotonic() + 10
         while (told := json.loads(get(status, "/status.json")))["wall_ms"] is None and time.monotonic() < end:
             time.sleep(0.1)
@@ -258,7 +258,7 @@ def severities(count, program, folder):
             up = run.waits("station 7 up")
             count.judge("a station is up", up, run.lines)
             is_allowed(run, "127.0.0.1")
-            run.waits("connection cut")
+            run.waits("connection lost")
             run.is_silent = True
             run.waits("station 7 doesn't answer")
             run.stream.shutdown(socket.SHUT_RDWR)

@@ -278,7 +278,7 @@ def a_long_run(count, program):
         gateway.kill()
         gateway.start()
         queued = sum(station.given for station in gateway.field.stations.values())
-        count.judge("the next start goes on", gateway.waits(f"goes on, {queued} queued"), gateway.logged())
+        count.judge("the next start goes on", gateway.waits(f"resumed, {queued} queued"), gateway.logged())
         got = drained(gateway)
         count.judge("with all that was queued", got == all_came(gateway), got)
         gateway.kill()
@@ -328,7 +328,7 @@ def of_another_version(count, program, name, make, told, wanted):
         drained(gateway)
         gateway.kill()
         gateway.start()
-        gateway.waits("goes on")
+        gateway.waits("resumed")
         queue_up(gateway, 2)
         gateway.kill()
         resets = resets_of(gateway)
@@ -341,7 +341,7 @@ def of_another_version(count, program, name, make, told, wanted):
         count.judge(f"{name}: what it says", is_told, said)
         count.judge(f"{name}: which reports come", all(numbers == wanted for numbers in got.values()), got)
         anew = {a: n - resets[a] for a, n in resets_of(gateway).items()}
-        count.judge(f"{name}: links", set(anew.values()) == {int("goes on" not in told)}, anew)
+        count.judge(f"{name}: links", set(anew.values()) == {int("resumed" not in told)}, anew)
         is_stale = "stale" in told
         count.judge(f"{name}: gaps", all((f"station {a} gap" in said) == is_stale for a in resets), said)
         count.judge(f"{name}: no command is sent", not any(s.accepted for s in gateway.field.stations.values()), said)
@@ -378,8 +378,8 @@ VERSIONS = {
     "two of one number": (copy_newest, "state is stale: each link is reset", [3, 4, 5, 6]),
     "both files": (form_of_both, "state can't be read: put aside", [5, 6]),
     "unknown key": (lambda folder: write_checkpoint(newest_of(folder), with_unknown_key), "state can't be read: put aside", [5, 6]),
-    "no note": (without_note, "state: goes on, ", [3, 4, 5, 6]),
-    "offered command": (lambda folder: write_checkpoint(newest_of(folder), with_offered_commands), "state: goes on, ", [3, 4, 5, 6]),
+    "no note": (without_note, "state: resumed, ", [3, 4, 5, 6]),
+    "offered command": (lambda folder: write_checkpoint(newest_of(folder), with_offered_commands), "state: resumed, ", [3, 4, 5, 6]),
 }
 
 
@@ -448,19 +448,19 @@ def settings_that_change(count, program, settings, resets):
         for station in gateway.field.stations.values():
             station.sizes = tuple({**USUAL, **settings}[size] for size in ("cause", "ca", "ioa"))
         gateway.start()
-        told = gateway.waits("goes on")
+        told = gateway.waits("resumed")
         got = drained(gateway)
         queue_up(gateway, 2)
         more = drained(gateway, numbered(gateway, 11, 12))
         both = {address: got[address] + [n for n in more[address] if n > 10] for address in got}
         after = [station.resets for station in gateway.field.stations.values()]
         said = gateway.kill()
-        places = [said.find(text) for text in ("state: settings have changed", "state: goes on")]
+        places = [said.find(text) for text in ("state: settings have changed", "state: resumed")]
         count.judge(f"{settings}: told", told and 0 <= places[0] < places[1], said)
         count.judge(f"{settings}: nothing is lost", both == all_came(gateway), both)
         count.judge(f"{settings}: links", after == [n + resets for n in before], (before, after))
         gateway.start()
-        told = gateway.waits("goes on")
+        told = gateway.waits("resumed")
         said = gateway.kill()
         count.judge(f"{settings}: not told again", told and "settings have changed" not in said, said)
         gateway.field.server.close()
@@ -483,7 +483,7 @@ def settings_in_other_words(count, program):
             tables = [live, tcp + "\nt1_ms = 15000", *stations, line.removeprefix("[")]
             file.write("\n[".join(["# the same settings", *tables]) + "\n")
         gateway.start()
-        told = gateway.waits("goes on")
+        told = gateway.waits("resumed")
         got = drained(gateway)
         said = gateway.kill()
         count.judge("the same settings in other words: not told as others", told and "settings have changed" not in said, said)
@@ -504,7 +504,7 @@ def a_new_station(count, program):
         gateway.field.stations[3] = Outstation(3, random.Random(3))
         gateway.set()
         gateway.start()
-        told = gateway.waits("state: settings have changed", "state: goes on", "station 3 up")
+        told = gateway.waits("state: settings have changed", "state: resumed", "station 3 up")
         queue_up(gateway, 2)
         got = drained(gateway)
         said = gateway.kill()
@@ -533,7 +533,7 @@ def a_station_that_is_gone(count, program):
         served = gone.served
         gateway.set(stations=others)
         gateway.start()
-        told = gateway.waits("state: settings have changed", "state: goes on")
+        told = gateway.waits("state: settings have changed", "state: resumed")
         got = drained(gateway)
         said = gateway.kill()
         count.judge("a station that is gone is told", told and "gap" not in said, said)
@@ -553,7 +553,7 @@ def a_station_that_is_gone(count, program):
         visitor.join()
         gateway.set(stations=others)
         gateway.start(redial=False)
-        gateway.waits("state: goes on")
+        gateway.waits("state: resumed")
         begins(gateway.field)
         gateway.field.hang_up()
         until(lambda: gateway.process.poll() is not None)
@@ -630,14 +630,14 @@ def a_look(count, program):
         gateway.waits("listening")
         queue_up(gateway, 3)
         lines, status, told = looked(gateway, gateway.state, gateway.config)
-        count.judge("beside a run", status == 0 and lines[:2] == ["state in use by another process", "state: goes on, 6 queued"], (lines[:3], told))
+        count.judge("beside a run", status == 0 and lines[:2] == ["state in use by another process", "state: resumed, 6 queued"], (lines[:3], told))
         queue_up(gateway, 1)
         count.judge("which goes on", gateway.process.poll() is None and "isn't kept" not in gateway.logged(), gateway.logged())
         gateway.kill()
         before = stood(gateway.state)
         lines, status, _ = looked(gateway, gateway.state, gateway.config)
         queued = sum(station.given for station in gateway.field.stations.values())
-        count.judge("behind a kill", status == 0 and lines[0] == f"state: goes on, {queued} queued", lines)
+        count.judge("behind a kill", status == 0 and lines[0] == f"state: resumed, {queued} queued", lines)
         path = max((os.path.join(gateway.state, name) for name in os.listdir(gateway.state)), key=head_of)
         number, begin = head_of(path)
         with open(path, "rb") as file:
@@ -654,7 +654,7 @@ def a_look(count, program):
         with open(other, "w") as file:
             file.write("\n".join(settings) + "\n# another\n")
         lines, _, _ = looked(gateway, gateway.state, other)
-        count.judge("the same settings with a comment", lines[0] == f"state: goes on, {queued} queued", lines[:2])
+        count.judge("the same settings with a comment", lines[0] == f"state: resumed, {queued} queued", lines[:2])
         with open(other, "w") as file:
             file.write("\n".join(settings).replace("answer_ms = ", "answer_ms = 1"))
         lines, _, _ = looked(gateway, gateway.state, other)
@@ -669,7 +669,7 @@ def a_look(count, program):
         count.judge("nothing is changed", stood(gateway.state) == before, os.listdir(gateway.state))
         os.rename(os.path.join(gateway.state, "kept"), os.path.join(gateway.state, "stale"))
         lines, status, _ = looked(gateway, gateway.state)
-        marked = ["the directory is marked as stale", "state is stale: each link is reset", f"state: goes on, {queued} queued"]
+        marked = ["the directory is marked as stale", "state is stale: each link is reset", f"state: resumed, {queued} queued"]
         count.judge("a stale one", lines[:3] == marked and status == 0, lines)
         os.rename(os.path.join(gateway.state, "stale"), os.path.join(gateway.state, "kept"))
         octet = rot_a_line(gateway.state)

@@ -212,7 +212,7 @@ COMMAND = [
     ], [
         ("Taken back: it never goes out", [
             "Its connection ends. No answer, and no line of its own.",
-            "`connection cut: CAUSE`, `connection closed: CAUSE`",
+            "`connection lost: CAUSE`, `connection closed: CAUSE`",
         ]),
         ("Given up by a restart: it never goes out", [
             "No answer, and no line. With `--state`:",
@@ -313,7 +313,7 @@ REPORT = [
         ("Not lost: it goes out again", [
             "The connection ends before the acknowledgement. All that",
             "isn't acknowledged goes out on the next one, in order.",
-            "`connection cut: ..`, `connection closed: ..`",
+            "`connection lost: ..`, `connection closed: ..`",
         ], "far"),
     ]),
     ("The centre acknowledges it", "far", ["N(R): the piece leaves the queue"], []),
@@ -339,7 +339,7 @@ def report():
 def station():
     """A station's states, with the lines of the log on the arrows."""
     p = Picture(WIDTH, 484, "The states of a station")
-    p.box(20, 130, 150, 76, "down", "asked for its status,\nonce a turn")
+    p.box(20, 130, 150, 76, "down", "link status requested,\nonce a turn")
     p.box(255, 130, 125, 76, "known", "its link is reset")
     p.box(480, 130, 130, 76, "up", "polled; commands\ngo down")
     p.box(430, 316, 180, 76, "held", "the same request once\na turn, with the same bit")
@@ -361,7 +361,7 @@ def station():
     doubted = "It answers 14 or 15. Or, behind a restart of\ntelegate, it answers its status twice, and the\nrequest not at all."
     p.text(103, 316, doubted, "small", "start")
     p.text(103, 384, "`station A down`, once its status is asked", "small", "start")
-    first = "At the first request: `station A asked for its status`. Asked `retries` + 1 times, and not up:"
+    first = "At the first request: `station A link status requested`. Asked `retries` + 1 times, and not up:"
     held = "`station A doesn't answer`. Held for more than a minute: `station A still doesn't answer: ..`"
     p.text(20, 420, f"{first}\n{held}", "small", "start")
     p.text(20, 460, "A reset ended a session amid a poll: `station A gap: reports of it may be lost`", "loss", "start")

@@ -28,10 +28,6 @@ pub away_so : (cause : Option ErrorKind) (b : Bool)
 away_so cause true = refl
 away_so cause false = refl
 
-pub receiving_so : (b : Bool) → seen_as b presence.Receiving ≡ presence.Receiving
-receiving_so true = refl
-receiving_so false = refl
-
 -- what is asked of a limit
 abbrev pub line_asked : Bool → Note → Limit → ℕ → Limit × Option LogLine
 line_asked b what l now =

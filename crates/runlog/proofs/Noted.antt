@@ -12,12 +12,11 @@ use Rattle.gateway.specs.Log.{LineOut}
 use Rattle.gateway.specs.declared.counts.Counts.{Counts}
 use Rattle.link.specs.Requests.{request_frame}
 use Rattle.link.specs.declared.answer.Answer.{Answer}
-use Rattle.link.specs.declared.service.Asked.{Asked as Request}
 use Rattle.link.specs.declared.service.Asked.TheVariants as request
 use Rattle.link.specs.declared.service.Service.TheVariants.{Command}
-use Rattle.runlog.specs.Befallen.{IsInPlace, NoneHas, place_asked}
+use Rattle.runlog.specs.Befallen.{IsInPlace, NoneHas}
 use Rattle.runlog.specs.Exchange as exchange
-use Rattle.runlog.specs.Exchange.{RequestWatch, answer_in, awaited_of, place_of, received}
+use Rattle.runlog.specs.Exchange.{answer_in, awaited_of, place_of, received}
 use Rattle.runlog.specs.Exchange.{traffic_after}
 use Rattle.runlog.specs.Orders.{order_of}
 use Rattle.runlog.specs.Passing.{Went, passed}
@@ -94,45 +93,6 @@ place_here address before behind t ts is none its =
     ∙ by_place (position_or_len (has address) (before ++ t ∷ behind)) (length before)
     (length (before ++ t ∷ behind)) (length_before address before behind t none its)
     (omega (arith, length-append before (t ∷ behind)))
-
-unless_repeat : (b : Bool) (w v : Watching) → v.exchange ≡ w.exchange
-    → (if b then w else v).exchange ≡ w.exchange
-unless_repeat true w v same = refl
-unless_repeat false w v same = same
-
-sent_by_exchange : (found : Option Traffic) (place : ℕ) (octets : List ℕ) (now : ℕ)
-    (w : Watching) → (sent_by found place octets now w).exchange ≡ w.exchange
-sent_by_exchange None place octets now w = refl
-sent_by_exchange (Some t) place octets now w =
-    unless_repeat (is_repeat place octets w) w (sent_to t place octets now w) refl
-
-sent_exchange : (place : Option ℕ) (what : AwaitedAnswer) (octets : List ℕ) (now : ℕ)
-    (w : Watching) → (sent_at place what octets now w).exchange ≡ w.exchange
-sent_exchange None awaited.Nothing octets now w = refl
-sent_exchange None awaited.Status octets now w = refl
-sent_exchange None awaited.Reset octets now w = refl
-sent_exchange None awaited.Poll octets now w = refl
-sent_exchange None awaited.Command octets now w = refl
-sent_exchange (Some place) awaited.Nothing octets now w = refl
-sent_exchange (Some place) awaited.Status octets now w = refl
-sent_exchange (Some place) awaited.Reset octets now w = refl
-sent_exchange (Some place) awaited.Poll octets now w = refl
-sent_exchange (Some place) awaited.Command octets now w =
-    sent_by_exchange (slice_get w.traffic place) place octets now w
-
-pub asked_so : (w : Watching) (r : Request) (now : ℕ) (before behind : List Traffic) (t : Traffic)
-    → IsInPlace before behind t w → NoneHas t.address before
-    → place_asked w now (spelling w.link (request_frame t.address r)) ≡ Some (length before)
-asked_so w r now before behind t is none =
-    let octets = octets_of w.link t.address r in
-    let place = place_of (address_of w.link octets) w.traffic in
-    ap (λ (e : RequestWatch). e.place)
-    (sent_exchange place (awaited_of octets) octets now
-    (record w { exchange = exchange.asked w.link octets place (awaited_of octets) now w.exchange }))
-    ∙ ap (λ a. place_of a w.traffic) (address_is w.link t.address r)
-    ∙ place_here t.address before behind t w.traffic is none refl
-
--- ---- A command
 
 module _ (w : Watching) (fcb : Bool) (asdu : List ℕ) (now : ℕ)
     (before behind : List Traffic) (t : Traffic) (is : IsInPlace before behind t w)

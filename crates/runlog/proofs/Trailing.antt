@@ -115,11 +115,12 @@ ordered_so s w fits seen =
 -- ---- All are handed over
 
 knows_each : (lines : List LogLine) (old new : Book) → LogsEach lines old new
-    → new.watching ≡ old.watching
-knows_each [] old new is = ap (λ (b : Book). b.watching) is
+    → new.watching.trail ≡ old.watching.trail
+knows_each [] old new is = ap (λ (b : Book). b.watching.trail) is
 knows_each (line ∷ lines) old new (book, one, others) =
     knows_each lines book new others
-    ∙ ap (λ (b : Book). b.watching) one.done ∙ logged_knows (Some line) one.taken old
+    ∙ ap (λ (b : Book). b.watching.trail) one.done
+    ∙ ap (λ (w : Watching). w.trail) (logged_knows (Some line) one.taken old)
 
 over_each : (lines : List LogLine) (old new : Book) → LogsEach lines old new
     → old.is_over ≡ true → new.is_over ≡ true
@@ -180,8 +181,7 @@ module _ (old new : Book) (tells : Tells old new) (lasts : old.is_over ≡ false
   once_by true is same =
       ap (λ (b : Book). b.watching.trail) same ∙ none_there old.watching.trail is
   once_by false is each =
-      ap (λ (x : Watching). x.trail)
-      (knows_each old.watching.trail (record old { watching = told old.watching }) new each)
+      knows_each old.watching.trail (record old { watching = told old.watching }) new each
 
 pub told_whole : (old new : Book) (before : List LogLine) → Tells old new
     → old.is_over ≡ false → new.is_over ≡ false → old.handed ≡ Some before

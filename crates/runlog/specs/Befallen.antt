@@ -1,23 +1,17 @@
 -- What the laws say of the station that was asked, of what passes a run that is watched, and of
 -- APDUs that come (this gateway's own profile, docs/STATUS.md and docs/TEXTS.md).
-use Rattle.std.specs.Prelude.{◌≡◌, ◌&&◌, ℕ, false, not, List, ◌∷◌, ◌++◌, Option, Some}
+use Rattle.std.specs.Prelude.{◌≡◌, ◌&&◌, ℕ, false, not, List, ◌∷◌, ◌++◌, Some}
 use Rattle.std.specs.Prelude.{None}
 use Rattle.std.specs.List.{AllByRecursion}
-use Rattle.gateway.specs.Log.{LineOut}
 use Rattle.runlog.specs.Logging.{Book}
-use Rattle.runlog.specs.Passing.{Passed, Went, passed}
-use Rattle.runlog.specs.Watching.{Watching}
+use Rattle.runlog.specs.Passing.{Passed, passed}
+use Rattle.runlog.specs.Watching.{Watching, heard_if}
 use Rattle.runlog.specs.declared.note.LogLine.{LogLine}
 use Rattle.runlog.specs.declared.traffic.Traffic.{Traffic}
 
 -- none of these stations has this link address
 abbrev pub NoneHas : (address : ℕ) → List Traffic → Type 0
 NoneHas address ts = AllByRecursion (λ (t : Traffic). t.address ≡ address → ⊥) ts
-
--- the place of the station that was asked last, once these octets have gone out to the line
-abbrev pub place_asked : Watching → (now : ℕ) → (octets : List ℕ) → Option ℕ
-place_asked w now octets =
-    let after = (passed (Went now (LineOut octets)) w).0 in after.exchange.place
 
 -- In place of this station stands that one, and all others stay.
 abbrev pub IsInPlace : (before behind : List Traffic) → (t : Traffic) → Watching → Type 0
@@ -27,10 +21,10 @@ IsInPlace before behind t w = w.traffic ≡ before ++ t ∷ behind
 abbrev pub IsWatched : Book → Type 0
 IsWatched b = (b.is_over && not b.is_watching) ≡ false
 
--- What passed is known to those who look, and its line, if it has one, is handed over if the log
--- goes on.
+-- What passed is known to those who look, and so is its line, if it has one. That is handed over if
+-- the log goes on.
 pub record IsFollowed (p : Passed) (old new : Book) : Type 0 where
-  pub known : new.watching ≡ (passed p old.watching).0
+  pub known : new.watching ≡ heard_if (passed p old.watching).1 (passed p old.watching).0
   pub line : (l : LogLine) (before : List LogLine) → (passed p old.watching).1 ≡ Some l
       → old.is_over ≡ false → old.handed ≡ Some before → new.handed ≡ Some (l ∷ before)
   pub none : (passed p old.watching).1 ≡ None → new.handed ≡ old.handed

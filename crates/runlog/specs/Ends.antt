@@ -83,6 +83,12 @@ line_logged logged None w = (w, None)
 line_logged logged (Some line) w =
     (record w { logged = logged; told = cause_of w.presence }, Some line)
 
+-- it was reached, or fell silent, as far as that was logged
+abbrev pub was_there : LineLogged → Bool
+was_there There = true
+was_there Lost = true
+was_there logged = false
+
 abbrev pub is_away : Presence → Bool
 is_away (Away cause) = true
 is_away presence.Silent = true

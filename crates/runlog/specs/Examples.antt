@@ -84,15 +84,6 @@ abbrev pub counting : (mirrors spoilt : ℕ) → Counts
 counting mirrors spoilt =
     record { skipped = 0; mirrors = mirrors; lost = 0; spoilt = spoilt }
 
--- two commands (C_SC_NA_1 to objects 100 and 101, of common addresses 1 and 300) with an S frame
--- between them, and the beginning of a third APDU behind them
-abbrev pub two_commands : List ℕ
-two_commands =
-    0x68 ∷ 0x0E ∷ 0x00 ∷ 0x00 ∷ 0x00 ∷ 0x00 ∷ 0x2D ∷ 0x01 ∷ 0x06 ∷ 0x00 ∷ 0x01 ∷ 0x00 ∷ 0x64 ∷ 0x00
-    ∷ 0x00 ∷ 0x01 ∷ 0x68 ∷ 0x04 ∷ 0x01 ∷ 0x00 ∷ 0x00 ∷ 0x00 ∷ 0x68 ∷ 0x0E ∷ 0x02 ∷ 0x00 ∷ 0x00
-    ∷ 0x00 ∷ 0x2D ∷ 0x01 ∷ 0x06 ∷ 0x00 ∷ 0x2C ∷ 0x01 ∷ 0x65 ∷ 0x00 ∷ 0x00 ∷ 0x00 ∷ 0x68 ∷ 0x0E
-    ∷ 0x04 ∷ []
-
 -- two stations whose sizes are one octet each, but for object addresses of two, before any request
 abbrev pub two_watched : Watching → Watching
 two_watched w = record w {

@@ -13,6 +13,7 @@ pub mod Gathering
 pub mod Inbox
 pub mod Stations
 pub mod Trails
+pub mod Latest
 pub mod Traffic
 pub mod Waiting
 pub mod Exchange
@@ -24,4 +25,3 @@ pub mod Passing
 pub mod Standings
 pub mod Examples
 pub mod Names
-pub mod Naming

@@ -10,7 +10,8 @@ use Rattle.live.specs.declared.watched.Failure.{Failure}
 use Rattle.live.specs.declared.watched.Notice.{Notice}
 use Rattle.live.specs.declared.watched.EndsSight.{EndsSight}
 use Rattle.runlog.specs.Watching.{Watching, event_noted, put, is_look_due, looked_at, judged}
-use Rattle.runlog.specs.Watching.{unless_line, line_of, sum_line, failed, has_trail, told}
+use Rattle.runlog.specs.Watching.{unless_line, line_of, sum_line, failed, has_trail, heard}
+use Rattle.runlog.specs.Watching.{told}
 use Rattle.runlog.specs.declared.note.LogLine.{LogLine}
 use Rattle.runlog.specs.declared.note.Note.{Note}
 use Rattle.runlog.specs.declared.note.Note.TheVariants as note
@@ -56,16 +57,20 @@ pub record LoggedFixture (F : Type 0) : Type 0 where
 abbrev pub logged_fixture : {F : Type 0} → F → Book → LoggedFixture F
 logged_fixture port b = record { port = port; book = book_fixture b }
 
--- a line is handed over, and is taken or not, if the log isn't over
+-- a line is handed over, and is taken or not
+abbrev pub handed_over : LogLine → (taken : Bool) → Book → Book
+handed_over line taken b = record b {
+  lines = kept taken line b.lines;
+  handed = kept true line b.handed;
+  is_over = not taken;
+}
+
+-- who looks is told of a line, and it is handed over if the log isn't over
 abbrev pub logged : Option LogLine → (taken : Bool) → Book → Book
 logged None taken b = b
 logged (Some line) taken b =
-    if b.is_over then b
-    else record b {
-      lines = kept taken line b.lines;
-      handed = kept true line b.handed;
-      is_over = not taken;
-    }
+    let heard_of : Book = record b { watching = heard line b.watching } in
+    if b.is_over then heard_of else handed_over line taken heard_of
 
 abbrev pub after : Watching × Option LogLine → (taken : Bool) → Book → Book
 after w taken b = logged w.1 taken (record b { watching = w.0 })

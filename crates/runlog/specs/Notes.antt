@@ -41,7 +41,7 @@ close_words close.OwnAnswers = codes "an own answer found no place"
 close_words close.Replaced = codes "a new connection takes its place"
 
 abbrev pub cut_words : CutCause → List ℕ
-cut_words cut.Gone = codes "its other end has gone"
+cut_words cut.Gone = codes "peer closed"
 cut_words cut.NotTaken = codes "it didn't take what was written"
 cut_words cut.Restarted = codes "the gateway was started again"
 
@@ -75,15 +75,18 @@ counts_words t =
     (codes "counts skipped " ++ decimal t.counts.skipped
     ++ codes " mirrors " ++ decimal t.counts.mirrors
     ++ codes " lost " ++ decimal t.counts.lost ++ codes " spoilt " ++ decimal t.counts.spoilt)
-    ++ (codes " taken " ++ decimal t.taken ++ codes " of " ++ decimal t.places
+    ++ (codes " queue " ++ decimal t.taken ++ codes " of " ++ decimal t.places
     ++ codes " connections " ++ decimal t.connections)
 
 abbrev pub last_words : Option IpAddr → List ℕ
 last_words None = []
 last_words (Some address) = codes ", the last at " ++ ip_text address
 
+abbrev pub rejected_words : ℕ → List ℕ
+rejected_words count = (decimal count ++ codes " rejected ") ++ codes "(not in the allow list)"
+
 abbrev pub refused_peers_words : ℕ → Option IpAddr → List ℕ
-refused_peers_words count last = (decimal count ++ codes " sent away") ++ last_words last
+refused_peers_words count last = rejected_words count ++ last_words last
 
 -- why a report isn't passed on
 abbrev pub skip_words : Skip → List ℕ
@@ -157,10 +160,10 @@ words (note.Listening address) = codes "listening at " ++ socket_text address
 words (note.Opened peer) = codes "connection opened" ++ peer_words peer
 words note.Started = codes "connection started"
 words note.Stopped = codes "connection stopped"
-words (note.Cut cause) = codes "connection cut: " ++ cut_words cause
+words (note.Cut cause) = codes "connection lost: " ++ cut_words cause
 words (note.Closed cause) = codes "connection closed: " ++ close_words cause
 words (note.RefusedPeers count last) = refused_peers_words count last
-words (note.Asked address) = codes "station " ++ decimal address ++ codes " asked for its status"
+words (note.Asked address) = codes "station " ++ decimal address ++ codes " link status requested"
 words (note.Up address) = codes "station " ++ decimal address ++ codes " up"
 words (note.Silent address) = codes "station " ++ decimal address ++ codes " doesn't answer"
 words (note.StillSilent address) =
@@ -173,7 +176,7 @@ words note.QueueFull = codes "queue full"
 words note.QueueFree = codes "queue free again"
 words (note.Counts tally) = counts_words tally
 words note.StateBegins = codes "state: begins anew"
-words (note.StateGoesOn queued) = codes "state: goes on, " ++ decimal queued ++ codes " queued"
+words (note.StateGoesOn queued) = codes "state: resumed, " ++ decimal queued ++ codes " queued"
 words note.SettingsChanged = codes "state: settings have changed"
 words note.StateStale = codes "state is stale: each link is reset"
 words note.StatePutAside = codes "state can't be read: put aside"
@@ -205,7 +208,10 @@ left_out_words count since =
     else (codes " (" ++ decimal count ++ codes " left out")
     ++ (codes " since " ++ decimal since ++ codes ")")
 
+-- what the line says
+abbrev pub said : LogLine → List ℕ
+said l = words l.note ++ left_out_words l.left_out.count l.left_out.since
+
 -- what stands behind the line's UTC time
 abbrev pub line_text : LogLine → List ℕ
-line_text l = (decimal l.moment ++ codes " " ++ words l.note) ++ left_out_words l.left_out.count
-    l.left_out.since
+line_text l = decimal l.moment ++ codes " " ++ said l

@@ -4,8 +4,6 @@
 use Rattle.std.specs.Prelude.{◌≡◌, ℕ, ◌+◌, nat_lt, Bool, true, false, List, [], ◌∷◌}
 use Rattle.std.specs.Prelude.{Option, Some, None, is_some, if◌then◌else◌}
 use Rattle.std.specs.Bool.{beq}
-use Rattle.std.specs.List.{AllByRecursion}
-use Rattle.link.specs.declared.service.Asked.{Asked as Request}
 use Rattle.link.specs.declared.service.Asked.TheVariants as request
 use Rattle.gateway.specs.Log.{LineOut, GapOut}
 use Rattle.gateway.specs.declared.settings.StationSettings.{StationSettings}
@@ -18,16 +16,6 @@ use Rattle.runlog.specs.declared.stations.Asking.TheVariants.{Status, Reset, Cou
 use Rattle.runlog.specs.declared.stations.StationStanding.{StationStanding}
 use Rattle.runlog.specs.declared.stations.StationStanding.TheVariants as standing
 use Rattle.runlog.specs.declared.stations.StationWatch.{StationWatch}
-
--- what a request asks: the status of the link, its reset, or a service with its frame count bit
-abbrev pub asking_for : Request → Asking
-asking_for request.Status = Status
-asking_for request.Reset = Reset
-asking_for (request.Counted fcb service) = Counted fcb
-
--- none of these stations has this link address
-abbrev pub AreOthers : (address : ℕ) → List StationWatch → Type 0
-AreOthers address ws = AllByRecursion (λ (w : StationWatch). w.address ≡ address → ⊥) ws
 
 -- whose a watch is, and how often a request goes out to that station before it counts as silent
 abbrev pub seat : StationWatch → ℕ × ℕ

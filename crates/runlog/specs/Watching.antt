@@ -30,6 +30,7 @@ use Rattle.link.specs.declared.answer.Answer.{Answer}
 use Rattle.runlog.specs.Exchange as exchange
 use Rattle.runlog.specs.Exchange.{RequestWatch, new_exchange, begun, over, awaited_of, place_of}
 use Rattle.runlog.specs.Exchange.{user_data, answer_in, traffic_after}
+use Rattle.runlog.specs.Latest.{latest_with}
 use Rattle.runlog.specs.Limits.{none_left}
 use Rattle.runlog.specs.Orders.{order_of}
 use Rattle.runlog.specs.SyncLines.{new_syncs, syncs_seen}
@@ -117,6 +118,8 @@ pub record Watching : Type 0 where
   -- the latest step, which are told behind what else it did
   pub trail : List LogLine
   pub gone : List LogLine
+  -- the latest lines, the newest first
+  pub latest : List LogLine
 
 abbrev pub new_stations : (tries : ℕ) → List StationSettings → List StationWatch
 new_stations tries settings = map (λ (s : StationSettings). new_station tries s.address) settings
@@ -143,6 +146,7 @@ new_watching c = record {
   wall = None;
   trail = [];
   gone = [];
+  latest = [];
   traffic = new_traffics c.stations;
   stations = new_stations (c.line.retries + 1) c.stations;
 }
@@ -418,6 +422,14 @@ judged s w =
 -- something is to be told of commands
 abbrev pub has_trail : Watching → Bool
 has_trail w = not (is_told w.trail)
+
+-- a line is logged, or would be
+abbrev pub heard : LogLine → Watching → Watching
+heard line w = record w { latest = latest_with line w.latest }
+
+abbrev pub heard_if : Option LogLine → Watching → Watching
+heard_if None w = w
+heard_if (Some line) w = heard line w
 
 -- what became of commands is told
 abbrev pub told : Watching → Watching

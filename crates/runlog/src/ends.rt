@@ -92,6 +92,13 @@ impl LineWatch {
         is_away(self.presence)
     }
 
+    /// Whether it was reached, or fell silent, as far as that was logged.
+    pub(crate) fn was_there(&self) -> bool
+        ensures { result ≡ spec.was_there self.now.logged }
+    {
+        matches!(self.logged, LineLogged::There | LineLogged::Lost)
+    }
+
     /// Since when it is there, or isn't, in ms.
     pub(crate) fn since(&self) -> u64
         ensures { result ≡ self.now.since }

@@ -178,9 +178,9 @@ pub fn log_lines_by_example()
         × (words (note.Opened None) ≡ codes "connection opened")
         × (words note.Started ≡ codes "connection started")
         × (words note.Stopped ≡ codes "connection stopped")
-        × (words (note.RefusedPeers 2 None) ≡ codes "2 sent away")
+        × (words (note.RefusedPeers 2 None) ≡ codes "2 rejected (not in the allow list)")
         × (words (note.LeftOut 12) ≡ codes "12 lines left out: nobody read them in time") }
-    ensures stations { (words (note.Asked 7) ≡ codes "station 7 asked for its status")
+    ensures stations { (words (note.Asked 7) ≡ codes "station 7 link status requested")
         × (words (note.Silent 7) ≡ codes "station 7 doesn't answer")
         × (words (note.StillSilent 7)
         ≡ codes "station 7 still doesn't answer: if it was restarted, restart telegate too")
@@ -189,11 +189,11 @@ pub fn log_lines_by_example()
         × (words (note.Gap 7) ≡ codes "station 7 gap: reports of it may be lost")
         × (words note.QueueFull ≡ codes "queue full")
         × (words note.QueueFree ≡ codes "queue free again") }
-    ensures cuts { (words (note.Cut cut.Gone) ≡ codes "connection cut: its other end has gone")
+    ensures cuts { (words (note.Cut cut.Gone) ≡ codes "connection lost: peer closed")
         × (words (note.Cut cut.NotTaken)
-        ≡ codes "connection cut: it didn't take what was written")
+        ≡ codes "connection lost: it didn't take what was written")
         × (words (note.Cut cut.Restarted)
-        ≡ codes "connection cut: the gateway was started again") }
+        ≡ codes "connection lost: the gateway was started again") }
     ensures closes { (words (note.Closed close.Grammar)
         ≡ codes "connection closed: octets that begin no APDU")
         × (words (note.Closed close.SendNumber)
@@ -219,7 +219,7 @@ pub fn log_lines_by_example()
       taken = 5;
       places = 6;
       connections = 7;
-    })) ≡ codes "counts skipped 1 mirrors 2 lost 3 spoilt 4 taken 5 of 6 connections 7" }
+    })) ≡ codes "counts skipped 1 mirrors 2 lost 3 spoilt 4 queue 5 of 6 connections 7" }
 {}
 
 /// What lines say of commands: by the octets of an ASDU (IEC 60870-5-101, 7.2.6 and 7.3.2), and in

@@ -1,22 +1,21 @@
 //! Laws of what is logged of each station: of its commands, its reports and its mishaps.
 ghost use Rattle.std.specs.Prelude.{◌≡◌, ◌≢◌, ◌<◌, ◌≤◌, ◌+◌, ◌%◌, ◌⊎◌, ◌∷◌, ◌++◌, [], ℕ, false};
-ghost use Rattle.std.specs.Prelude.{true, List, Option, Some, None, length, slice_get};
+ghost use Rattle.std.specs.Prelude.{List, Option, Some, None, length, slice_get};
 ghost use Rattle.std.specs.declared.net.ip_addr.IpAddr.{IpAddr};
-ghost use Rattle.std.specs.List.{AllByRecursion};
 ghost use Rattle.asdu.specs.declared.sizes.Sizes.{Sizes};
 ghost use Rattle.command.specs.Refusals.{seen_judged};
 ghost use Rattle.gateway.specs.State.{State, counts_of, wall_now};
 ghost use Rattle.link.specs.declared.answer.Answer.TheVariants.{Busy, Report};
-ghost use Rattle.runlog.specs.Examples.{order, two_commands};
+ghost use Rattle.runlog.specs.Examples.{order};
 ghost use Rattle.runlog.specs.Gathering as gathering;
 ghost use Rattle.runlog.specs.Inbox as inbox;
-ghost use Rattle.runlog.specs.Inbox.{Inbox, Orders, all_noted, line_of, new_orders, order_noted};
+ghost use Rattle.runlog.specs.Inbox.{Inbox, Orders, order_noted};
 ghost use Rattle.runlog.specs.Logging.{Book, Tells};
 ghost use Rattle.runlog.specs.Orders.{octet, order_of};
-ghost use Rattle.runlog.specs.Traffic.{answer_told, content_of, first_line, mishap_told};
-ghost use Rattle.runlog.specs.Traffic.{new_traffic, reply_of, sent, suffered, traffic_line};
+ghost use Rattle.runlog.specs.Traffic.{answer_told, content_of, mishap_told};
+ghost use Rattle.runlog.specs.Traffic.{new_traffic, reply_of, sent, suffered};
 ghost use Rattle.runlog.specs.Trails.{added, at, newest_first};
-ghost use Rattle.runlog.specs.Waiting.{IsNothingFree, IsSkippedAs, first_alone};
+ghost use Rattle.runlog.specs.Waiting.{IsSkippedAs, first_alone};
 ghost use Rattle.runlog.specs.Watching.{Watching, command_sent, is_repeat, judged};
 ghost use Rattle.runlog.specs.Watching.{lost_at, order_at};
 ghost use Rattle.runlog.specs.declared.content.Content.TheVariants.{Reply};
@@ -91,28 +90,4 @@ pub fn what_becomes_of_commands_is_logged()
         ≡ Some (at now (note.Spoilt address by)))
         × ((ms : ℕ) → first_alone now (suffered (mishap.Late ms) now (new_traffic address))
         ≡ Some (at now (note.Late address ms))) }
-{}
-
-/// If no line is found among what was gathered, nothing of it waits that may be logged: of no
-/// station, of no kind, and of no command that was refused.
-pub fn nothing_waits_that_may_be_logged()
-    ensures station { (now : ℕ) (t : Traffic) → (traffic_line now t).1 ≡ None →
-        IsNothingFree now t }
-    ensures stations { (now : ℕ) (ts : List Traffic) → (first_line now ts).1 ≡ None →
-        AllByRecursion (IsNothingFree now) ts }
-    ensures refused { (now : ℕ) (b : Inbox) → (line_of now b).1 ≡ None →
-        (gathering.line_of now b.orders.refused).1 ≡ None }
-{}
-
-/// The commands of a step are logged one by one, whatever stands between them: here two with an S
-/// frame between them, of which the last is said, and that one came before it. What isn't a whole
-/// APDU waits for the rest of it.
-pub fn commands_of_a_step_are_logged_one_by_one()
-    ensures commands { (s : State) (peer : Option IpAddr) →
-        let noted = (all_noted 41 s true peer two_commands new_orders).0 in
-        (noted.refused.last ≡ Some (note.Refused (order 45 act.Execute 300 101 value.Off) peer
-        reason.Closed)) × (noted.refused.limit.left_out ≡ record { count = 1; since = s.moment })
-        × (noted.ordered ≡ []) }
-    ensures rest { (s : State) (peer : Option IpAddr) →
-        (all_noted 41 s true peer two_commands new_orders).1 ≡ 0x68 ∷ 0x0E ∷ 0x04 ∷ [] }
 {}

@@ -22,27 +22,19 @@
 //! [`moments_by_example`], [`late_answers_by_example`], [`log_lines_by_example`],
 //! [`each_word_by_example`]).
 //!
-//! Which connection is open is known, whatever passes
-//! ([`connections_are_known_from_their_opening_to_their_end`]). No octets of one are read on the
-//! next ([`nothing_of_a_connection_is_read_on_the_next`]). Of a line it is known since when it
-//! stands so ([`a_line_stands_so_since_the_look_that_found_it_so`]). So is what has failed at the
-//! end ([`failures_are_logged_at_the_end`]). How a station stands is known by the
-//! requests to it ([`a_station_stands_as_its_requests_say`]). What becomes of a command, and each
-//! mishap, is logged for the station that it befell ([`what_becomes_of_commands_is_logged`]), and
-//! nothing that may be logged waits ([`nothing_waits_that_may_be_logged`]). What a station answers
-//! is read as of the request before it ([`answers_are_read_as_of_their_request`]), and noted of the
-//! station that was asked ([`answers_are_noted_of_the_station_that_was_asked`]). Each APDU of a
-//! step is read ([`each_apdu_of_a_step_is_read`]), all that passes is known and logged
-//! ([`what_passes_is_known_and_logged`]). That a line's UTC time is right, and what standard error
-//! does with it, is no matter of a proof.
+//! What has failed is logged at the end ([`failures_are_logged_at_the_end`]). How a station stands
+//! is known by the requests to it ([`a_station_stands_as_its_requests_say`]). What becomes of a
+//! command, and each mishap, is logged for the station that it befell
+//! ([`what_becomes_of_commands_is_logged`]). What a station answers is read as of the request
+//! before it ([`answers_are_read_as_of_their_request`]). All that passes is known and logged, and
+//! so are the latest lines, for who looks ([`what_passes_is_known_and_logged`]). That a line's UTC
+//! time is right, and what standard error does with it, is no matter of a proof.
 #![tactic(auto)]
 
 mod befallen_laws;
 mod causes;
-mod connection_laws;
 mod content;
 mod ends;
-mod ends_laws;
 mod examples;
 mod exchange;
 mod exchange_laws;
@@ -51,10 +43,10 @@ mod fate;
 mod fate_laws;
 mod gathered;
 mod inbox;
+mod latest;
 mod laws;
 mod limit;
 mod logger;
-mod name_laws;
 mod names;
 mod note;
 mod order;
@@ -73,18 +65,10 @@ mod waiting;
 mod watch;
 mod word_examples;
 
-pub use befallen_laws::{
-    answers_are_noted_of_the_station_that_was_asked, each_apdu_of_a_step_is_read,
-    what_passes_is_known_and_logged,
-};
+pub use befallen_laws::what_passes_is_known_and_logged;
 pub use causes::{cause_words, line_cause_words};
-pub use connection_laws::connections_are_known_from_their_opening_to_their_end;
 pub use content::Skip;
 pub use ends::OpenConnection;
-pub use ends_laws::{
-    a_line_stands_so_since_the_look_that_found_it_so, nothing_of_a_connection_is_read_on_the_next,
-    the_counts_are_logged_each_minute,
-};
 pub use examples::{
     commands_by_example, late_answers_by_example, log_lines_by_example, moments_by_example,
     standings_by_example, stations_by_example,
@@ -92,25 +76,18 @@ pub use examples::{
 pub use exchange_laws::answers_are_read_as_of_their_request;
 pub use failure_laws::failures_are_logged_at_the_end;
 pub use fate::{CommandFate, Reason};
-pub use fate_laws::{
-    commands_of_a_step_are_logged_one_by_one, nothing_waits_that_may_be_logged,
-    what_becomes_of_commands_is_logged,
-};
+pub use fate_laws::what_becomes_of_commands_is_logged;
 pub use laws::what_is_gathered_is_logged_or_counted;
 pub use limit::LeftOut;
 pub use logger::{Logger, taken_places};
-pub use name_laws::lines_end_with_the_name_of_what_they_are_about;
-pub use names::{LogNames, NamedLine, NamedStation, name_of};
-pub use note::{LogLine, Note, Obstacle, Remnant, RunCounts, Trouble};
+pub use names::{LogNames, NamedLine, NamedStation, Subject, name_of, subject_of};
+pub use note::{LineWords, LogLine, Note, Obstacle, Remnant, RunCounts, Trouble};
 pub use order::{Order, OrderKind, Value};
 pub use port::RunLog;
 pub use severity::Severity;
 pub use sink::{LogSink, StandardError};
 pub use spoiling::{FirstOctets, Spoiling};
-pub use station_laws::{
-    a_station_stands_as_its_requests_say, each_station_has_its_own_watch,
-    requests_are_noted_of_their_own_station,
-};
+pub use station_laws::{a_station_stands_as_its_requests_say, each_station_has_its_own_watch};
 pub use stations::{RequestCounts, StationStanding, StationWatch};
 pub use traffic::Traffic;
 pub use watch::Watch;

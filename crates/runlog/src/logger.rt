@@ -120,10 +120,11 @@ impl<S: LogSink + Drop> Logger<S> {
         ensures logs { IsLogged line self.old self.new }
         ensures fixed { book_fixture self.new ≡ book_fixture self.old }
     {
-        if self.is_over {
+        let Some(line) = line else {
             return;
-        }
-        if let Some(line) = line {
+        };
+        self.watch.keep(&line);
+        if !self.is_over {
             // A sink that takes no line ends the log and not the run (docs/DECISIONS.md, "`run
             // --log` is a port around the port").
             self.is_over = !self.sink.write(&line);

@@ -23,7 +23,7 @@ pub struct LogNames<'a> {
 
 /// What a line is about.
 #[derive(Clone, Copy, PartialEq, Eq)]
-pub(crate) enum Subject {
+pub enum Subject {
     Line,
     /// The station with this link address.
     Station(u16),
@@ -31,7 +31,7 @@ pub(crate) enum Subject {
 }
 
 /// What this is about.
-pub(crate) fn subject_of(note: &Note) -> Subject
+pub fn subject_of(note: &Note) -> Subject
     ensures { result ≡ spec.subject_of note.now }
 {
     match note {

@@ -5,9 +5,10 @@ ghost use Rattle.runlog.specs.Notes.{close_words, counts_words, cut_words, late_
 ghost use Rattle.runlog.specs.Notes.{left_out_words, line_text, line_words, not_kept_words};
 ghost use Rattle.runlog.specs.Notes.{notice_words, of_station};
 ghost use Rattle.runlog.specs.Notes.{given_up_words, peer_words, refused_peers_words};
+ghost use Rattle.runlog.specs.Notes.{rejected_words};
 ghost use Rattle.runlog.specs.Notes.{damaged_words, obstacle_words, remnant_words};
 ghost use Rattle.runlog.specs.Notes.{skip_words, skipped_words, spoilt_words, sync_words};
-ghost use Rattle.runlog.specs.Notes.{trouble_words, words};
+ghost use Rattle.runlog.specs.Notes.{said, trouble_words, words};
 
 use crate::causes::{cause_words, line_cause_words};
 use crate::content::Skip;
@@ -231,7 +232,7 @@ fn cut_words(cause: CutCause) -> &'static str
     ensures { result.now ≡ cut_words cause }
 {
     match cause {
-        CutCause::Gone => "its other end has gone",
+        CutCause::Gone => "peer closed",
         CutCause::NotTaken => "it didn't take what was written",
         CutCause::Restarted => "the gateway was started again",
     }
@@ -316,6 +317,13 @@ fn write_notice<W: fmt::Write>(notice: Notice, f: &mut fmt::Formatter<W>) -> fmt
     }
 }
 
+fn write_rejected<W: fmt::Write>(count: u64, f: &mut fmt::Formatter<W>) -> fmt::Result
+    ensures { WritesOnOk W.write_str_gives f.old result (rejected_words count) f.new }
+{
+    write!(f, "{count} rejected ")?;
+    f.write_str("(not in the allow list)")
+}
+
 fn write_refused_peers<W: fmt::Write>(
     count: u64,
     last: Option<IpAddr>,
@@ -323,7 +331,7 @@ fn write_refused_peers<W: fmt::Write>(
 ) -> fmt::Result
     ensures { WritesOnOk W.write_str_gives f.old result (refused_peers_words count last) f.new }
 {
-    write!(f, "{count} sent away")?;
+    write_rejected(count, f)?;
     match last {
         Some(address) => write!(f, ", the last at {address}"),
         None => Ok(()),
@@ -349,7 +357,7 @@ fn write_counts<W: fmt::Write>(tally: &RunCounts, f: &mut fmt::Formatter<W>) -> 
         f,
         "counts skipped {skipped} mirrors {mirrors} lost {lost} spoilt {spoilt}"
     )?;
-    write!(f, " taken {taken} of {places} connections {connections}")
+    write!(f, " queue {taken} of {places} connections {connections}")
 }
 
 fn skip_words(why: Skip) -> &'static str
@@ -449,14 +457,14 @@ impl fmt::Display for Note {
             Note::Stopped => f.write_str("connection stopped"),
             Note::Cut(cause) => {
                 let cause = cut_words(*cause);
-                write!(f, "connection cut: {cause}")
+                write!(f, "connection lost: {cause}")
             }
             Note::Closed(cause) => {
                 let cause = close_words(*cause);
                 write!(f, "connection closed: {cause}")
             }
             Note::RefusedPeers(count, last) => write_refused_peers(*count, *last, f),
-            Note::Asked(address) => write!(f, "station {address} asked for its status"),
+            Note::Asked(address) => write!(f, "station {address} link status requested"),
             Note::Up(address) => write!(f, "station {address} up"),
             Note::Silent(address) => write!(f, "station {address} doesn't answer"),
             Note::StillSilent(address) => write_of_station(*address, STILL_SILENT, f),
@@ -467,7 +475,7 @@ impl fmt::Display for Note {
             Note::QueueFree => f.write_str("queue free again"),
             Note::Counts(tally) => write_counts(tally, f),
             Note::StateBegins => f.write_str("state: begins anew"),
-            Note::StateGoesOn(queued) => write!(f, "state: goes on, {queued} queued"),
+            Note::StateGoesOn(queued) => write!(f, "state: resumed, {queued} queued"),
             Note::SettingsChanged => f.write_str("state: settings have changed"),
             Note::StateStale => f.write_str("state is stale: each link is reset"),
             Note::StatePutAside => f.write_str("state can't be read: put aside"),
@@ -524,16 +532,27 @@ fn write_left_out<W: fmt::Write>(count: u64, since: u64, f: &mut fmt::Formatter<
     write!(f, " since {since})")
 }
 
+/// What a line says, without its moment.
+#[derive(Clone, Copy)]
+pub struct LineWords<'l> {
+    pub line: &'l LogLine,
+}
+
+impl fmt::Display for LineWords<'_> {
+    ghost output = { λ words. Some (said words.line.now) };
+
+    fn fmt<W: fmt::Write>(&self, f: &mut fmt::Formatter<W>) -> fmt::Result {
+        let LogLine { note, left_out, .. } = self.line;
+        write!(f, "{note}")?;
+        write_left_out(left_out.count, left_out.since, f)
+    }
+}
+
 impl fmt::Display for LogLine {
     ghost output = { λ line. Some (line_text line) };
 
     fn fmt<W: fmt::Write>(&self, f: &mut fmt::Formatter<W>) -> fmt::Result {
-        let LogLine {
-            moment,
-            note,
-            left_out,
-        } = self;
-        write!(f, "{moment} {note}")?;
-        write_left_out(left_out.count, left_out.since, f)
+        let words = LineWords { line: self };
+        write!(f, "{} {words}", self.moment)
     }
 }

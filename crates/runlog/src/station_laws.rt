@@ -5,44 +5,15 @@ ghost use Rattle.gateway.specs.Config.{Settings};
 ghost use Rattle.gateway.specs.Log.{GapOut, LineOut};
 ghost use Rattle.runlog.specs.Passing.{Passed, Went, passed, watched};
 ghost use Rattle.runlog.specs.Watching.{Watching, new_watching};
-ghost use Rattle.ft12.specs.declared.frame.LinkSize.{LinkSize};
-ghost use Rattle.ft12.specs.Spelling.{spelling};
-ghost use Rattle.link.specs.declared.service.Asked.{Asked as Request};
-ghost use Rattle.link.specs.Requests.{request_frame};
 ghost use Rattle.runlog.specs.Ends.{is_away};
-ghost use Rattle.runlog.specs.Standings.{AreOthers};
 ghost use Rattle.runlog.specs.Standings.{IsNoRequest};
-ghost use Rattle.runlog.specs.Standings.{after, asking_for, missed, seat, seat_of, stands};
+ghost use Rattle.runlog.specs.Standings.{after, missed, seat, seat_of, stands};
 ghost use Rattle.runlog.specs.Stations.{asked, gap, new_station, standing_of, station_asked};
 ghost use Rattle.runlog.specs.declared.note.Note.TheVariants as note;
 ghost use Rattle.runlog.specs.declared.stations.Asking.{Asking};
-ghost use Rattle.runlog.specs.declared.stations.Asking.TheVariants.{Missed};
 ghost use Rattle.runlog.specs.declared.stations.LinkKnown.TheVariants as known;
 ghost use Rattle.runlog.specs.declared.stations.StationLogged.TheVariants as logged;
 ghost use Rattle.runlog.specs.declared.stations.StationWatch.{StationWatch};
-
-/// A request is noted of the station whose link address its octets bear, whatever it asks for, and
-/// of no other one. So is a gap of the station at its place. If no station has that address or that
-/// place, nothing is noted and nothing is logged.
-pub fn requests_are_noted_of_their_own_station()
-    ensures own { (size : LinkSize) (request : Request) (now : ℕ)
-        (before behind : List StationWatch) (w : StationWatch) →
-        AreOthers w.address before → AreOthers w.address behind →
-        asked size (spelling size (request_frame w.address request)) now (before ++ w ∷ behind)
-        ≡ (
-          before ++ (station_asked (asking_for request) now w).0 ∷ behind,
-          (station_asked (asking_for request) now w).1,
-        ) }
-    ensures nobody { (size : LinkSize) (address : ℕ) (request : Request) (now : ℕ)
-        (ws : List StationWatch) → AreOthers address ws →
-        asked size (spelling size (request_frame address request)) now ws ≡ (ws, None) }
-    ensures gap { (now : ℕ) (before behind : List StationWatch) (w : StationWatch) →
-        AreOthers w.address before → AreOthers w.address behind →
-        gap (length before) now (before ++ w ∷ behind)
-        ≡ (before ++ (station_asked Missed now w).0 ∷ behind, (station_asked Missed now w).1) }
-    ensures no_gap { (place now : ℕ) (ws : List StationWatch) → length ws ≤ place →
-        gap place now ws ≡ (ws, None) }
-{}
 
 /// Each station has a watch, at its place in the settings, whatever passes, and counts of its own
 /// there. What goes out to the line while that is there, and a gap, are noted in these watches;

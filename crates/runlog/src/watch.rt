@@ -1,6 +1,7 @@
 //! Which line follows from what passes the port.
 ghost use Rattle.std.specs.Prelude.{◌≡◌, IfOk};
 ghost use Rattle.gateway.specs.Ports.{FitsBuffer, output_of};
+ghost use Rattle.runlog.specs.Ends.{was_there};
 ghost use Rattle.runlog.specs.Logging.{looked, looked_if_due};
 ghost use Rattle.runlog.specs.Traffic.{new_traffics};
 ghost use Rattle.runlog.specs.Watching as spec;
@@ -8,6 +9,7 @@ ghost use Rattle.runlog.specs.Watching as spec;
 use crate::ends::{ConnectionWatch, LineWatch, ListenerWatch, OpenConnection, happened};
 use crate::exchange::RequestWatch;
 use crate::inbox::Inbox;
+use crate::latest::LatestLines;
 use crate::limit::LeftOut;
 use crate::logger::taken_places;
 use crate::note::{LogLine, Note, RunCounts, Trouble};
@@ -84,6 +86,8 @@ pub struct Watch {
     /// The commands that went out to the line in the latest step: what it did besides is told
     /// first.
     gone: Trail,
+    /// The latest lines of the log, whether it is written or not.
+    latest: LatestLines,
 }
 
 impl Model for Watch {
@@ -114,6 +118,7 @@ impl Model for Watch {
       traffic = w.traffic.items;
       trail = w.trail;
       gone = w.gone;
+      latest = w.latest;
     } };
 }
 
@@ -172,6 +177,7 @@ impl Watch {
             wall: None,
             trail: Trail::new(),
             gone: Trail::new(),
+            latest: LatestLines::new(),
             traffic: traffic_of(alloc, config)?,
             stations: stations_of(alloc, config, u64::from(config.line().retries) + 1)?,
         })
@@ -225,6 +231,21 @@ impl Watch {
         ensures { result ≡ self.now.line.since }
     {
         self.line.since()
+    }
+
+    /// Whether it has been there in this run, as far as that was logged.
+    pub fn line_was_there(&self) -> bool
+        ensures { result ≡ was_there self.now.line.logged }
+    {
+        self.line.was_there()
+    }
+
+    /// The latest 20 lines of the log, the newest first, but for those of counts: also if nothing
+    /// is logged, as long as the run is watched.
+    pub fn latest(&self) -> &[LogLine]
+        ensures { result.now ≡ self.now.latest }
+    {
+        self.latest.as_slice()
     }
 
     /// Which syncs of the state on the disk were slow, as far as that was seen.
@@ -399,6 +420,13 @@ impl Watch {
         self.inbox.hand_on(&mut self.trail);
         self.note_counts(gateway.counts());
         self.trail.append(&mut self.gone);
+    }
+
+    /// This line is logged, or would be.
+    pub(crate) fn keep(&mut self, line: &LogLine)
+        ensures { self.new ≡ spec.heard line.now self.old }
+    {
+        self.latest.add(line);
     }
 
     /// Something is to be told of commands.

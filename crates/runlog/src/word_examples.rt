@@ -51,7 +51,7 @@ pub fn each_word_by_example()
         × (skip_words skip.PastSize ≡ codes "object address past its size")
         × (skip_words skip.Negative ≡ codes "it says that a type is unknown") }
     ensures states { (words note.StateBegins ≡ codes "state: begins anew")
-        × (words (note.StateGoesOn 12) ≡ codes "state: goes on, 12 queued")
+        × (words (note.StateGoesOn 12) ≡ codes "state: resumed, 12 queued")
         × (words note.SettingsChanged ≡ codes "state: settings have changed")
         × (words note.StateStale ≡ codes "state is stale: each link is reset")
         × (words note.StatePutAside ≡ codes "state can't be read: put aside")
