@@ -8,7 +8,11 @@ and what they cost.
   what the stations did.
 - Then comes the listener itself: any path, any method, garbage, octets one at a time, a request of 10
   KB, a hundred connections at once, readers that read nothing, and readers that read slowly.
-- What is wrong stands first, and dead stations before the others.
+- What is wrong stands first, no fact twice, and dead stations before the others. A line that wasn't
+  there yet isn't lost.
+- The latest 20 lines of the log stand on the page and in the JSON, as the log has them.
+- The queue's chart has its scale, and a mark for each quarter of an hour in UTC.
+- On a telephone each standing of 32 stations is seen, and nothing is cut off on the way to the side.
 - Settings of 32 stations fit a page.
 - The syncs of a slow disk stand on each page, with their times.
 - Python reads the JSON and the HTML. Prometheus' own `promtool` reads the metrics. Headless
@@ -19,6 +23,8 @@ and what they cost.
 With --listener the script judges only the listener, of whatever listens there. All of it is on the
 loopback.
 """
+import datetime
+import html
 import html.parser
 import json
 import os
@@ -340,8 +346,13 @@ class Run:
         raise RuntimeError(f"the status listener doesn't open: {self.process.communicate()[1].decode()}")
 
     def __exit__(self, *_):
+        if not self.process.stderr.closed:
+            self.end()
+
+    def end(self):
+        """What it wrote to standard error until it is killed now."""
         self.process.kill()
-        self.process.communicate()
+        return self.process.communicate()[1].decode()
 
     def json(self):
         return json.loads(get(self.status, "/status.json").body)
@@ -422,15 +433,17 @@ def a_run(count, program, folder):
 
 def lost(count, program, folder):
     """What is wrong stands first, the cause of all else before it, under the line's name."""
-    stations = types.SimpleNamespace(stations=[1], server=types.SimpleNamespace(getsockname=lambda: ("", ends.free_port())))
+    port = ends.free_port()
+    stations = types.SimpleNamespace(stations=[1], server=types.SimpleNamespace(getsockname=lambda: ("", port)))
     site = os.path.join(folder, "lost.toml")
     with open(site, "w") as file:
         file.write('[line]\nname = "North <ring>"\n')
     with Run(program, folder, stations, "--site", site) as run:
         cause = "connection refused"
         count.judge("the JSON has the cause", run.waits(lambda s: s["line"]["cause"] == cause), run.json())
-        first = f"CRITICAL: line lost: {cause}; control centre not connected; 0 of 1 stations up, line away"
-        count.judge("the JSON's summary", run.json()["summary"].startswith(first), run.json())
+        # No fact stands there twice (docs/STATUS.md, "The judgement").
+        first = f"CRITICAL: line not there yet: {cause}; control centre not connected; 0 of 1 stations up, queue 0 of 1000, state none"
+        count.judge("the JSON's summary", run.json()["summary"] == first, run.json())
         count.judge("the table", get(run.status, "/status.txt").body.decode().startswith(first), "")
         page = get(run.status, "/").body.decode()
         begins = re.search(r"<body>\n(.*)\n(.*)\n", page)
@@ -439,6 +452,88 @@ def lost(count, program, folder):
         count.judge("title and heading", heads == ["North &lt;ring&gt;"] * 2, heads)
         with socket.create_connection(run.listener, timeout=ends.PATIENCE):
             count.judge("a control centre comes", run.waits(lambda s: "not connected" not in s["summary"]), run.json())
+            count.judge("and is told of once", run.waits(lambda s: s["summary"].count("control centre connected") == 1), run.json())
+        with socket.create_server(("127.0.0.1", port)):
+            count.judge("the line comes", run.waits(lambda s: s["line"]["there"], 40), run.json())
+            count.judge("and is told of once, too", run.json()["summary"].count("line") == 1, run.json())
+        count.judge("a line that was there is lost", run.waits(lambda s: ": line lost: " in s["summary"], 40), run.json())
+        rows = [row for row in Page(get(run.status, "/").body.decode()).rows if row[:1] == ["line"]]
+        count.judge("the row of the line", rows and rows[0][1].startswith("North <ring>, lost for "), rows)
+
+
+SEVERITIES = {"3": "error", "4": "warning", "5": "notice", "6": "info"}
+
+
+def events(count, program, folder):
+    """The latest 20 lines of the log stand on the page and in the JSON, the newest first, as the log
+    has them, each with its UTC time, its severity and its name; and also if no log is wished."""
+    site = os.path.join(folder, "events.toml")
+    with open(site, "w") as file:
+        file.write('[line]\nname = "Ring <1>"\n[[station]]\nlink = 1\nname = "Mill & Lane"\n')
+    for flags in (["--log", "--log-severity"], []):
+        stations = Stations([1, 2])
+        with Run(program, folder, stations, "--site", site, *flags) as run:
+            up = run.waits(lambda s: all(station["standing"] == "up" for station in s["stations"]))
+            count.judge("both stations are up", up, run.json())
+            for _ in range(8):
+                with socket.create_connection(run.listener, timeout=ends.PATIENCE) as centre:
+                    centre.sendall(ends.START)
+                    centre.recv(6)
+                time.sleep(1.1)
+            stations.silent.add(1)
+            silent = run.waits(lambda s: "station 1 doesn't answer" in [event["line"] for event in s["latest"]])
+            count.judge("station 1 falls silent", silent, run.json())
+            time.sleep(1.5)
+            latest = run.json()["latest"]
+            page = get(run.status, "/").body.decode()
+            log = run.end().splitlines()
+        count.judge("20 lines", len(latest) == 20, latest)
+        rows = re.findall(r'<tr class="(\w+)"><td class="n">([\d:]+)</td><td class="n">\S.*?</td><td class="e">(.*?)</td></tr>', page)
+        rows = [(severity, clock, html.unescape(words)) for severity, clock, words in rows]
+        told = [(event["severity"], with_name(event["line"], event["name"])) for event in latest]
+        count.judge("the page has what the JSON has", [(row[0], row[2]) for row in rows] == told, (rows, told))
+        if not flags:
+            kinds = ("connection opened by 127.0.0.1", "connection started", "connection lost: peer closed")
+            count.judge("without a log, too", all(told.count(("warning" if "lost" in kind else "info", kind)) >= 5 for kind in kinds), told)
+            continue
+        lines = [re.fullmatch(r"<(\d)>(\S+)Z (\d+) (.*)", line) for line in log]
+        lines = [line for line in lines if line and not line[4].startswith("counts ")][:-21:-1]
+        wanted = [(SEVERITIES[line[1]], line[4]) for line in lines]
+        count.judge("the JSON has the log's lines, the newest first", told == wanted, (told, wanted))
+        moments = [event["moment_ms"] for event in latest]
+        count.judge("with their moments", moments == [int(line[3]) for line in lines], (moments, log[-20:]))
+        for (_, clock, words), event, line in zip(rows, latest, lines):
+            written = datetime.datetime.fromisoformat(line[2] + "+00:00").timestamp()
+            count.judge(f"the time of {words}", abs(event["wall_ms"] / 1000 - written) < 2, (event, line[0]))
+            shown = datetime.datetime.fromtimestamp(event["wall_ms"] // 1000, datetime.timezone.utc)
+            count.judge(f"its time of day: {words}", clock == f"{shown:%H:%M:%S}", (clock, event))
+
+
+def with_name(words, name):
+    return f"{words} [{name}]" if name else words
+
+
+def chart(count, program, folder):
+    """The queue's chart ends now at its right. It has its scale, and a mark for each quarter of an hour in UTC."""
+    stations = Stations([1])
+    with Run(program, folder, stations) as run:
+        wall = run.json()["wall_ms"]
+        while wall % 60_000 > 50_000:
+            time.sleep(1)
+            wall = run.json()["wall_ms"]
+        page = get(run.status, "/").body.decode()
+        now = wall // 60_000
+        count.judge("the clock is this machine's", abs(wall / 1000 - time.time()) < 5, wall)
+        wanted = [minute for minute in range(now - 59, now + 1) if minute % 15 == 0]
+        marks = [
+            f'<span{" class=" + chr(34) + "h" + chr(34) if minute % 60 == 0 else ""} style="left:{(60 - (now - minute)) * 100 // 60}%">'
+            f"{minute // 60 % 24:02}:{minute % 60:02}</span>"
+            for minute in wanted
+        ]
+        found = re.findall(r"<span.*?</span>", page)
+        count.judge("a mark for each quarter of an hour", found == marks, (found, marks))
+        count.judge("the scale", "<b>1000</b><b>0</b>" in page, page)
+        count.judge("a bar a minute, the last one at the right", re.search(r'<path d="M59 100V100h1V100z"/>', page), page)
 
 
 SYNCS = re.compile(r"(\d+), the last (\d+) ms, the longest (\d+) ms")
@@ -496,10 +591,44 @@ def taken_port(count, program, folder):
         count.judge("a status port that is taken", ran.returncode == 3 and b"status port can't be used" in ran.stderr, (ran.returncode, ran.stderr))
 
 
+# What of a page is seen on a screen: how wide it is, and for each standing whether it stands there whole and uncovered.
+SEEN = """<script>document.title = JSON.stringify({
+  width: innerWidth, wide: document.documentElement.scrollWidth,
+  seen: [...document.querySelectorAll("tr > td.s")].map(cell => { cell.scrollIntoView({block: "center"});
+    const box = cell.getBoundingClientRect(), range = document.createRange(); range.selectNodeContents(cell);
+    const text = range.getBoundingClientRect();
+    return 0 <= text.left && text.right <= innerWidth && cell.contains(document.elementFromPoint((text.left + text.right) / 2, (box.top + box.bottom) / 2)); })
+})</script>"""
+
+
+def telephone(count, listener, folder):
+    """What is seen of a page 390 pixels wide."""
+    program = shutil.which("chromium") or shutil.which("chromium-browser")
+    if program is None:
+        print("skipped: chromium isn't there (Debian's package chromium)")
+        return
+    place = os.path.join(folder, "telephone.html")
+    with open(place, "w", encoding="utf-8") as file:
+        file.write(get(listener, "/").body.decode().replace('<meta http-equiv="refresh" content="5">', "").replace("</body>", SEEN + "</body>"))
+    command = [program, "--headless", "--no-sandbox", "--disable-gpu", f"--user-data-dir={folder}/chromium", "--window-size=390,800", "--dump-dom", f"file://{place}"]
+    shown = subprocess.run(command, capture_output=True, timeout=120)
+    title = re.search("<title>(.*?)</title>", shown.stdout.decode())
+    told = json.loads(html.unescape(title[1])) if title else {}
+    count.judge("390 pixels: the page isn't wider", told.get("wide", 1e9) <= told.get("width", 0), told)
+    count.judge("390 pixels: each standing is seen", told.get("seen") == [True] * 32, told)
+
+
 def largest(count, program, folder):
-    """32 stations."""
+    """32 stations with names of 34 letters."""
     stations = Stations(range(1, 33))
-    with Run(program, folder, stations) as run:
+    site = os.path.join(folder, "largest.toml")
+    with open(site, "w") as file:
+        for address in stations.stations:
+            file.write(f'[[station]]\nlink = {address}\nname = "Substation Northfield feeder bay {address:02}"\n'.replace("bay ", "bay"))
+    stations.silent |= {7, 30}
+    with Run(program, folder, stations, "--site", site) as run:
+        count.judge("two are silent", run.waits(lambda s: sum(station["standing"] in ("silent", "down") for station in s["stations"]) == 2, 60), run.json())
+        telephone(count, run.status, folder)
         for path in PATHS:
             answer = get(run.status, path)
             count.judge(f"the largest {path}", answer.code() == 200, answer.status)
@@ -560,7 +689,7 @@ def a_listener(count, _program, _folder):
 if __name__ == "__main__":
     is_elsewhere = any(word.startswith("--listener") for word in sys.argv)
     frame.main(
-        *((a_listener,) if is_elsewhere else (a_run, lost, largest, taken_port, slow_disk, passage)),
+        *((a_listener,) if is_elsewhere else (a_run, lost, events, chart, largest, taken_port, slow_disk, passage)),
         needs_program=not is_elsewhere,
         words={"--listener": {"metavar": "HOST:PORT", "help": "judge what listens there, and nothing else"}},
     )

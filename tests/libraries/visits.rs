@@ -14,6 +14,7 @@ fn snapshot() -> Snapshot<'static> {
         name: "",
         line: LineView {
             is_there: true,
+            was_there: true,
             since_ms: 0,
             cause: None,
         },
@@ -32,6 +33,7 @@ fn snapshot() -> Snapshot<'static> {
         lost_by: None,
         syncs: SlowSyncs::none(),
         stations: &[],
+        latest: &[],
         settings: &[],
     }
 }

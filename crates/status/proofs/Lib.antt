@@ -5,6 +5,7 @@ pub mod JudgeLaws
 pub mod VisitLemmas
 pub mod ReadingLemmas
 pub mod ReplyLemmas
+pub mod Heard
 pub mod Rows
 pub mod Settings
 pub mod LookLaws

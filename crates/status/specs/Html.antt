@@ -1,13 +1,16 @@
 -- The snapshot as a page for a person (this gateway's own profile).
-use Rattle.std.specs.Prelude.{ℕ, ◌-◌, ◌*◌, ◌/◌, ◌==◌, min, Bool, true, false, List, [], ◌∷◌, length}
-use Rattle.std.specs.Prelude.{codes, if◌then◌else◌}
+use Rattle.std.specs.Prelude.{ℕ, ◌+◌, ◌-◌, ◌*◌, ◌/◌, ◌%◌, ◌==◌, Bool, true, false, List, [], ◌∷◌}
+use Rattle.std.specs.Prelude.{length, Option, Some, None, codes, if◌then◌else◌}
 use Rattle.std.specs.Bool.{beq}
 use Rattle.std.specs.Fmt.{decimal}
 use Rattle.status.specs.Judge.{is_silent, judgement_of, unfilled}
-use Rattle.status.specs.Labels.{judgement_text, keeping_text, standing_text}
-use Rattle.status.specs.Texts.{age_or, age_text, comma_behind, summary, syncs_text}
-use Rattle.status.specs.Words.{escaped, escaped_or, joined, rows}
-use Rattle.status.specs.declared.html.TheConstants.{HEAD, STYLE, SYNCS, STATIONS, SETTINGS, END}
+use Rattle.status.specs.Events.{name_about, time_of, time_text}
+use Rattle.status.specs.Labels.{judgement_text, keeping_text, severity_text, standing_text}
+use Rattle.status.specs.Texts.{age_or, age_text, line_text, summary, syncs_text}
+use Rattle.status.specs.Words.{escaped, escaped_or, joined, rows, two_digits}
+use Rattle.status.specs.declared.html.TheConstants.{HEAD, STYLE, LINE, SYNCS, STATIONS, EVENTS}
+use Rattle.status.specs.declared.html.TheConstants.{HOUR, SETTINGS, END}
+use Rattle.status.specs.declared.snapshot.EventView.{EventView}
 use Rattle.status.specs.declared.words.Marks.TheVariants.{Html}
 use Rattle.status.specs.declared.snapshot.Setting.{Setting}
 use Rattle.status.specs.declared.snapshot.StationView.{StationView}
@@ -50,9 +53,10 @@ text_of_setting s = joined (
     codes "<tr><th>" ∷ escaped Html s.key.now ∷ codes "</th><td>" ∷ escaped Html s.value.now
     ∷ codes "</td></tr>\n" ∷ [])
 
--- how far from the top the number of taken places is, in percent of the height
+-- how far from the top the number of taken places is, in whole percents of the height, so that one
+-- piece is seen, too
 abbrev pub depth : (places taken : ℕ) → ℕ
-depth places taken = if places == 0 then 100 else 100 - min taken places * 100 / places
+depth places taken = if places == 0 then 100 else (places - taken) * 100 / places
 
 -- a step of a path: down to that, and one to the right (SVG, 9.3)
 abbrev pub text_of_step : (places taken : ℕ) → List ℕ
@@ -68,29 +72,19 @@ head_text s = joined (
     ∷ STYLE.now ∷ escaped Html s.name.now ∷ if_nameless s.name.now
     ∷ codes "</h1>\n<p class=\"" ∷ judgement_text (judgement_of s) ∷ codes "\">" ∷ [])
 
-abbrev pub line_text : Snapshot → List ℕ
-line_text s = joined (
-    codes "</td></tr>\n<tr><th>line</th><td>" ∷ escaped Html s.name.now
-    ∷ comma_behind s.name.now
-    ∷ (if s.line.is_there then codes "there" else codes "away") ∷ codes " for " ∷ [])
-
 abbrev pub centre_text : Snapshot → List ℕ
 centre_text s = joined (
     codes "</td></tr>\n<tr><th>control centre</th><td>"
     ∷ escaped_or Html s.centre.peer (codes "not connected")
     ∷ (if s.centre.is_started then codes ", started" else codes "") ∷ codes " for " ∷ [])
 
--- what the control centre hasn't acknowledged, and the state
 abbrev pub state_text : Snapshot → List ℕ
-state_text s = joined (
-    codes "</td></tr>\n<tr><th>unacknowledged</th><td>" ∷ decimal s.centre.unacknowledged
-    ∷ codes "</td></tr>\n<tr><th>state</th><td>" ∷ keeping_text s.keeping ∷ [])
+state_text s = joined (codes "</td></tr>\n<tr><th>state</th><td>" ∷ keeping_text s.keeping ∷ [])
 
 -- less than 80 % of the places
 abbrev pub good_queue : (places : ℕ) → ℕ
 good_queue places = places * 4 / 5 - 1
 
--- the queue, with what stands before the last hour
 abbrev pub queue_parts : Snapshot → List (List ℕ)
 queue_parts s =
     codes "</td></tr>\n<tr><th>queue</th><td>" ∷ decimal s.queue.taken
@@ -99,9 +93,7 @@ queue_parts s =
     ∷ codes "\" high=\"" ∷ decimal (unfilled s.queue)
     ∷ codes "\" max=\"" ∷ decimal s.queue.places
     ∷ codes "\" value=\"" ∷ decimal s.queue.taken
-    ∷ codes "\"></meter></td></tr>\n</table>\n<h2>Queue in the last hour</h2>\n"
-    ∷ codes "<svg viewBox=\"0 0 60 100\" preserveAspectRatio=\"none\">"
-    ∷ codes "<path d=\"M0 100" ∷ []
+    ∷ codes "\"></meter></td></tr>\n" ∷ []
 
 abbrev pub queue_text : Snapshot → List ℕ
 queue_text s = joined (queue_parts s)
@@ -121,14 +113,81 @@ version_text s = joined (
     SETTINGS.now ∷ codes "<tr><th>telegate</th><td>" ∷ escaped Html s.version.now
     ∷ codes "</td></tr>\n" ∷ [])
 
+-- the name of what a line is about behind its words, if that has one
+abbrev pub name_text : (name : List ℕ) → List ℕ
+name_text name = joined (
+    (if length name == 0 then codes "" else codes " [") ∷ escaped Html name
+    ∷ (if length name == 0 then codes "" else codes "]") ∷ codes "</td></tr>\n" ∷ [])
+
+-- a line of the log as a row
+abbrev pub event_parts : Snapshot → EventView → List (List ℕ)
+event_parts s event =
+    joined (codes "<tr class=\"" ∷ severity_text event.severity ∷ codes "\"><td class=\"n\">" ∷ [])
+    ∷ time_text (time_of s event.moment_ms) ∷ cell ∷ age_text 0 s.now_ms event.moment_ms
+    ∷ joined (codes "</td><td class=\"e\">" ∷ escaped Html event.text.bytes ∷ [])
+    ∷ name_text (name_about s event.about) ∷ []
+
+abbrev pub text_of_event : Snapshot → EventView → List ℕ
+text_of_event s event = joined (event_parts s event)
+
+abbrev pub event_list : Snapshot → List (List ℕ)
+event_list s = EVENTS.now ∷ rows (text_of_event s) s.latest.now ∷ []
+
+abbrev pub events_text : Snapshot → List ℕ
+events_text s = joined (event_list s)
+
+-- a mark below the chart, at this minute since 1970, so many minutes before now
+abbrev pub mark_at : (marked passed : ℕ) → List ℕ
+mark_at marked passed = joined (
+    codes "<span" ∷ (if marked % 60 == 0 then codes " class=\"h\"" else codes "")
+    ∷ codes " style=\"left:" ∷ decimal ((60 - passed) * 100 / 60) ∷ codes "%\">"
+    ∷ two_digits (marked / 60 % 24) ∷ codes ":" ∷ two_digits (marked % 60)
+    ∷ codes "</span>" ∷ [])
+
+-- the latest quarter of an hour, or one so many minutes before that
+abbrev pub mark_text : (minute before : ℕ) → List ℕ
+mark_text minute before = mark_at (minute - (minute % 15 + before)) (minute % 15 + before)
+
+abbrev pub mark_parts : (minute : ℕ) → List (List ℕ)
+mark_parts minute =
+    mark_text minute 45 ∷ mark_text minute 30 ∷ mark_text minute 15 ∷ mark_text minute 0 ∷ []
+
+-- a mark for each quarter of the hour before this minute
+abbrev pub quarters_text : (minute : ℕ) → List ℕ
+quarters_text minute = joined (mark_parts minute)
+
+-- the same of the last hour, if the time is known
+abbrev pub marks_text : Option ℕ → List ℕ
+marks_text None = []
+marks_text (Some wall) = quarters_text (wall / 60000)
+
+-- how full the queue was in the last hour, up to now at the right
+abbrev pub hour_parts : Snapshot → List (List ℕ)
+hour_parts s =
+    joined (HOUR.now ∷ decimal (60 - length s.queue.hour.now) ∷ codes " 100" ∷ [])
+    ∷ rows (text_of_step s.queue.places) s.queue.hour.now
+    ∷ joined (
+    codes "V100z\"/></svg><b>" ∷ decimal s.queue.places ∷ codes "</b><b>0</b>" ∷ [])
+    ∷ marks_text s.wall_ms ∷ []
+
+abbrev pub hour_text : Snapshot → List ℕ
+hour_text s = joined (hour_parts s)
+
+-- how all is, row by row
+abbrev pub whole_parts : Snapshot → List (List ℕ)
+whole_parts s =
+    codes "</p>\n<table>\n<tr><th>running for</th><td>" ∷ age_text 0 s.now_ms s.started_ms
+    ∷ LINE.now ∷ line_text Html s ∷ age_text 0 s.now_ms s.line.since_ms
+    ∷ centre_text s ∷ age_text 0 s.now_ms s.centre.since_ms ∷ state_text s
+    ∷ syncs_text SYNCS.now s.syncs ∷ queue_text s ∷ []
+
+abbrev pub whole_text : Snapshot → List ℕ
+whole_text s = joined (whole_parts s)
+
 abbrev pub html_parts : Snapshot → List (List ℕ)
 html_parts s =
-    head_text s ∷ summary s ∷ codes "</p>\n<table>\n<tr><th>running for</th><td>"
-    ∷ age_text 0 s.now_ms s.started_ms ∷ line_text s ∷ age_text 0 s.now_ms s.line.since_ms
-    ∷ centre_text s ∷ age_text 0 s.now_ms s.centre.since_ms ∷ state_text s
-    ∷ syncs_text SYNCS.now s.syncs ∷ queue_text s
-    ∷ rows (text_of_step s.queue.places) s.queue.hour.now ∷ codes "V100z\"/></svg>\n"
-    ∷ stations_text s ∷ version_text s ∷ rows text_of_setting s.settings.now ∷ END.now ∷ []
+    head_text s ∷ summary s ∷ whole_text s ∷ stations_text s ∷ events_text s ∷ hour_text s
+    ∷ version_text s ∷ rows text_of_setting s.settings.now ∷ END.now ∷ []
 
 abbrev pub html_of : Snapshot → List ℕ
 html_of s = joined (html_parts s)

@@ -2,11 +2,13 @@
 use Rattle.std.specs.Prelude.{ℕ, List, [], ◌∷◌, Bool, Option, Some, None, codes, if◌then◌else◌}
 use Rattle.std.specs.Fmt.{decimal}
 use Rattle.std.specs.Borrow.{Bor}
+use Rattle.status.specs.Events.{name_about, time_of}
 use Rattle.status.specs.Words.{escaped, joined, number_or, listed}
 use Rattle.status.specs.Judge.{judgement_of}
-use Rattle.status.specs.Labels.{judgement_text, keeping_text, standing_text}
+use Rattle.status.specs.Labels.{judgement_text, keeping_text, severity_text, standing_text}
 use Rattle.status.specs.Texts.{summary}
 use Rattle.status.specs.declared.words.Marks.TheVariants.{Json}
+use Rattle.status.specs.declared.snapshot.EventView.{EventView}
 use Rattle.status.specs.declared.snapshot.StationView.{StationView}
 use Rattle.status.specs.declared.snapshot.Setting.{Setting}
 use Rattle.status.specs.declared.snapshot.Snapshot.{Snapshot}
@@ -14,9 +16,13 @@ use Rattle.status.specs.declared.snapshot.Snapshot.{Snapshot}
 abbrev pub flag : Bool → List ℕ
 flag b = if b then codes "true" else codes "false"
 
--- a text as a string, or null
+-- a text as a string
+abbrev pub json_string : List ℕ → List ℕ
+json_string text = joined (codes "\"" ∷ escaped Json text ∷ codes "\"" ∷ [])
+
+-- the same, or null
 abbrev pub json_of_text : Option (Bor (List ℕ)) → List ℕ
-json_of_text (Some text) = joined (codes "\"" ∷ escaped Json text.now ∷ codes "\"" ∷ [])
+json_of_text (Some text) = json_string text.now
 json_of_text None = codes "null"
 
 abbrev pub station_parts : StationView → List (List ℕ)
@@ -43,6 +49,22 @@ json_of_setting s = joined (
     codes "\"" ∷ escaped Json s.key.now ∷ codes "\":\"" ∷ escaped Json s.value.now
     ∷ codes "\"" ∷ [])
 
+-- a line of the log as an object
+abbrev pub event_head : EventView → (wall : Option ℕ) → List ℕ
+event_head event wall = joined (
+    codes "{\"moment_ms\":" ∷ decimal event.moment_ms
+    ∷ codes ",\"wall_ms\":" ∷ number_or wall (codes "null")
+    ∷ codes ",\"severity\":\"" ∷ severity_text event.severity ∷ codes "\"" ∷ [])
+
+abbrev pub event_parts : Snapshot → EventView → List (List ℕ)
+event_parts s event =
+    event_head event (time_of s event.moment_ms)
+    ∷ codes ",\"line\":" ∷ json_string event.text.bytes
+    ∷ codes ",\"name\":" ∷ json_string (name_about s event.about) ∷ codes "}" ∷ []
+
+abbrev pub json_of_event : Snapshot → EventView → List ℕ
+json_of_event s event = joined (event_parts s event)
+
 -- what stands before the summary, which has none of the octets that mean something else
 abbrev pub json_before_summary : Snapshot → List ℕ
 json_before_summary s = joined (
@@ -57,6 +79,7 @@ parts_before_cause s =
     ∷ codes ",\"wall_ms\":" ∷ number_or s.wall_ms (codes "null")
     ∷ codes ",\"line\":{\"name\":\"" ∷ escaped Json s.name.now
     ∷ codes "\",\"there\":" ∷ flag s.line.is_there
+    ∷ codes ",\"was_there\":" ∷ flag s.line.was_there
     ∷ codes ",\"since_ms\":" ∷ decimal s.line.since_ms ∷ codes ",\"cause\":" ∷ []
 
 abbrev pub json_before_cause : Snapshot → List ℕ
@@ -88,6 +111,7 @@ json_parts s =
     ∷ codes "},\"centre\":{\"peer\":" ∷ json_of_text s.centre.peer
     ∷ json_before_hour s ∷ listed decimal s.queue.hour.now
     ∷ json_before_stations s ∷ listed json_of_station s.stations.now
+    ∷ codes "],\"latest\":[" ∷ listed (json_of_event s) s.latest.now
     ∷ codes "],\"settings\":{" ∷ listed json_of_setting s.settings.now ∷ codes "}}\n" ∷ []
 
 abbrev pub json_of : Snapshot → List ℕ

@@ -19,6 +19,13 @@ use Rattle.status.specs.declared.snapshot.Snapshot.{Snapshot}
 abbrev pub is_lost : LineView → (now : ℕ) → Bool
 is_lost line now = not line.is_there && nat_le 60000 (now - line.since_ms)
 
+-- it was there, and isn't any more; or it hasn't been there yet
+abbrev pub has_gone : LineView → Bool
+has_gone line = not line.is_there && line.was_there
+
+abbrev pub is_awaited : LineView → Bool
+is_awaited line = not line.is_there && not line.was_there
+
 -- fewer places are free than a report may take
 abbrev pub is_full : Queue → Bool
 is_full queue = nat_lt (queue.places - queue.taken) 3
@@ -57,6 +64,11 @@ abbrev pub keeps : Keeping → Bool
 keeps Off = false
 keeps Kept = true
 keeps NotKept = false
+
+abbrev pub is_off : Keeping → Bool
+is_off Off = true
+is_off Kept = false
+is_off NotKept = false
 
 abbrev pub may_answer : StationView → Bool
 may_answer station = not (is_silent station)

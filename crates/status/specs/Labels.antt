@@ -1,5 +1,7 @@
 -- The words for how things stand (this gateway's own profile).
 use Rattle.std.specs.Prelude.{ℕ, ◌/◌, List, Option, Some, None, codes, if◌then◌else◌}
+use Rattle.runlog.specs.declared.severity.Severity.{Severity}
+use Rattle.runlog.specs.declared.severity.Severity.TheVariants as severity
 use Rattle.status.specs.Judge.{is_up}
 use Rattle.status.specs.declared.judging.Judgement.{Judgement}
 use Rattle.status.specs.declared.judging.Judgement.TheVariants as judgement
@@ -45,6 +47,12 @@ value_of count.Repeats s = s.requests.repeats
 value_of count.Unanswered s = s.requests.unanswered
 value_of count.Spoilt s = s.spoilt
 value_of count.Late s = s.late
+
+abbrev pub severity_text : Severity → List ℕ
+severity_text severity.Error = codes "error"
+severity_text severity.Warning = codes "warning"
+severity_text severity.Notice = codes "notice"
+severity_text severity.Info = codes "info"
 
 abbrev pub keeping_text : Keeping → List ℕ
 keeping_text Off = codes "none"

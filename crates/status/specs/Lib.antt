@@ -1,5 +1,6 @@
 pub mod Answer
 pub mod Hour
+pub mod Events
 pub mod Html
 pub mod Json
 pub mod Judge

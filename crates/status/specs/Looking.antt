@@ -8,10 +8,12 @@ use Rattle.std.specs.declared.net.ip_addr.IpAddr.{IpAddr}
 use Rattle.gateway.specs.Config.{Settings}
 use Rattle.gateway.specs.State.{State}
 use Rattle.live.specs.declared.watched.Notice.{Notice}
-use Rattle.status.specs.Shown.{AreKnown, AreRows, IsCentre, in_force, chosen_as, is_there}
+use Rattle.status.specs.Shown.{AreEvents, AreKnown, AreRows, IsCentre, in_force, chosen_as}
+use Rattle.status.specs.Shown.{is_there}
 use Rattle.status.specs.Shown.{keeping_after, lost_after, text_or_none, viewed_as, why_away}
 use Rattle.status.specs.declared.lookout.ShownRun.{ShownRun}
 use Rattle.runlog.specs.Causes.{cause_words}
+use Rattle.runlog.specs.Ends.{was_there}
 use Rattle.runlog.specs.Logging.{taken_in}
 use Rattle.runlog.specs.Watching.{Watching, wall_of}
 use Rattle.runlog.specs.declared.names.LogNames.{LogNames}
@@ -105,6 +107,7 @@ pub record IsSnapshotOf (shown : ShownRun) (w : Watching) (s : Snapshot) : Type 
   pub wall : s.wall_ms ≡ wall_of w
   pub name : s.name.now ≡ string_bytes shown.name
   pub there : s.line.is_there ≡ is_there w.line.presence
+  pub was : s.line.was_there ≡ was_there w.line.logged
   pub since : s.line.since_ms ≡ w.line.since
   pub cause : option_map (λ c. c.now) s.line.cause ≡ why_away w.line.presence
   pub centre : IsCentre w.connection.opening (string_bytes shown.peer) shown.gone_since shown.taken
@@ -116,8 +119,10 @@ pub record IsSnapshotOf (shown : ShownRun) (w : Watching) (s : Snapshot) : Type 
   pub lost_by : option_map (λ c. c.now) s.lost_by ≡ option_map cause_words shown.lost_by
   pub syncs : s.syncs ≡ w.syncs
 
--- all that is shown: these numbers, a row for each station, and the settings in force
+-- all that is shown: these numbers, a row for each station, the latest lines of the log, and the
+-- settings in force
 pub record IsShown (shown : ShownRun) (w : Watching) (s : Snapshot) : Type 0 where
   pub numbers : IsSnapshotOf shown w s
   pub rows : AreRows 32 shown.known.items w.stations w.traffic s.stations.now
+  pub latest : AreEvents (take 20 w.latest) s.latest.now
   pub settings : map viewed_as s.settings.now ≡ take 16 (map chosen_as shown.chosen.items)

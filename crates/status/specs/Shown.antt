@@ -1,6 +1,7 @@
 -- What of a run is shown (this gateway's own profile).
 use Rattle.std.specs.Prelude.{◌≡◌, ℕ, zero, suc, Bool, true, false, List, [], ◌∷◌, map}
-use Rattle.std.specs.Prelude.{Option, Some, None, option_map}
+use Rattle.std.specs.Prelude.{◌⊎◌, Option, Some, None, option_map}
+use Rattle.std.specs.List.{AllZip}
 use Rattle.std.specs.Prelude.{codes, string_bytes}
 use Rattle.std.specs.Fmt.{decimal}
 use Rattle.gateway.specs.Config.{Settings}
@@ -9,9 +10,12 @@ use Rattle.gateway.specs.declared.settings.Silence.TheVariants as silence
 use Rattle.gateway.specs.declared.settings.StationSettings.{StationSettings as Setting}
 use Rattle.std.specs.declared.io.ErrorKind.{ErrorKind}
 use Rattle.runlog.specs.Causes.{line_cause_words}
-use Rattle.runlog.specs.Names.{name_in}
+use Rattle.runlog.specs.Names.{name_in, subject_of}
+use Rattle.runlog.specs.Notes.{said}
+use Rattle.runlog.specs.Severities.{severity_of}
 use Rattle.runlog.specs.Stations as stations
 use Rattle.runlog.specs.declared.names.NamedStation.{NamedStation}
+use Rattle.runlog.specs.declared.note.LogLine.{LogLine}
 use Rattle.runlog.specs.declared.stations.StationStanding.{StationStanding}
 use Rattle.runlog.specs.declared.stations.StationStanding.TheVariants as stands
 use Rattle.runlog.specs.declared.stations.StationWatch.{StationWatch}
@@ -22,6 +26,7 @@ use Rattle.status.specs.declared.lookout.known.Known.{Known}
 use Rattle.status.specs.declared.lookout.setting.ChosenSetting.{ChosenSetting}
 use Rattle.runlog.specs.declared.ends.OpenConnection.{OpenConnection}
 use Rattle.status.specs.declared.snapshot.CentreView.{CentreView}
+use Rattle.status.specs.declared.snapshot.EventView.{EventView}
 use Rattle.status.specs.declared.snapshot.Setting.{Setting as SettingView}
 use Rattle.status.specs.declared.snapshot.LinkState.{LinkState}
 use Rattle.status.specs.declared.snapshot.LinkState.TheVariants as standing
@@ -90,6 +95,21 @@ AreRows (suc n) (k ∷ known) (w ∷ watches) [] rows = rows ≡ []
 AreRows (suc n) (k ∷ known) (w ∷ watches) (t ∷ traffics) [] = ⊥
 AreRows (suc n) (k ∷ known) (w ∷ watches) (t ∷ traffics) (row ∷ rows) =
     IsStationRow k w t row × AreRows n known watches traffics rows
+
+-- the words of a line of the log, or nothing if they find no room
+abbrev pub IsTextOf : LogLine → (text : List ℕ) → Type 0
+IsTextOf line text = (text ≡ said line) ⊎ (text ≡ [])
+
+-- a line of the log as it is shown
+pub record IsEvent (line : LogLine) (view : EventView) : Type 0 where
+  pub moment : view.moment_ms ≡ line.moment
+  pub severity : view.severity ≡ severity_of line.note
+  pub about : view.about ≡ subject_of line.note
+  pub text : IsTextOf line view.text.bytes
+
+-- each of these lines in its place
+abbrev pub AreEvents : List LogLine → List EventView → Type 0
+AreEvents = AllZip IsEvent
 
 -- a key, and the text of its value
 pub record Pair : Type 0 where

@@ -1,11 +1,13 @@
 -- The snapshot as a table for a terminal (this gateway's own profile).
-use Rattle.std.specs.Prelude.{ℕ, ◌/◌, List, [], ◌∷◌, length, count_by, codes, if◌then◌else◌}
+use Rattle.std.specs.Prelude.{ℕ, ◌/◌, Bool, true, false, List, [], ◌∷◌, length, count_by, codes}
+use Rattle.std.specs.Prelude.{if◌then◌else◌}
+use Rattle.std.specs.Bool.{beq}
 use Rattle.std.specs.Fmt.{decimal}
-use Rattle.status.specs.Judge.{is_up, unfilled}
+use Rattle.status.specs.Judge.{is_silent, is_up, unfilled}
 use Rattle.status.specs.Labels.{keeping_text, wide_text}
-use Rattle.status.specs.Texts.{age_or, age_text, comma_behind, summary, syncs_text}
+use Rattle.status.specs.Texts.{age_or, age_text, line_text, summary, syncs_text}
 use Rattle.status.specs.Words.{escaped, escaped_or, joined, right, rows}
-use Rattle.status.specs.declared.table.TheConstants.{SYNCS, STATIONS}
+use Rattle.status.specs.declared.table.TheConstants.{LINE, SYNCS, STATIONS}
 use Rattle.status.specs.declared.words.Marks.TheVariants.{Plain}
 use Rattle.status.specs.declared.snapshot.StationView.{StationView}
 use Rattle.status.specs.declared.snapshot.Snapshot.{Snapshot}
@@ -33,6 +35,10 @@ row_parts now s =
 abbrev pub text_of_row : (now : ℕ) → StationView → List ℕ
 text_of_row now s = joined (row_parts now s)
 
+-- the same of a station that doesn't answer, or else of one that does
+abbrev pub row_if : (is_so : Bool) → (now : ℕ) → StationView → List ℕ
+row_if is_so now s = if beq (is_silent s) is_so then text_of_row now s else []
+
 -- numbers for a monitor (Nagios, performance data)
 abbrev pub performance_parts : Snapshot → List (List ℕ)
 performance_parts s =
@@ -48,12 +54,6 @@ abbrev pub version_text : Snapshot → List ℕ
 version_text s = joined (
     codes "\n\nversion         " ∷ escaped Plain s.version.now ∷ codes "\nrunning for     " ∷ [])
 
-abbrev pub line_text : Snapshot → List ℕ
-line_text s = joined (
-    codes "\nline            " ∷ escaped Plain s.name.now ∷ comma_behind s.name.now
-    ∷ (if s.line.is_there then codes "there" else codes "away")
-    ∷ codes " for " ∷ [])
-
 abbrev pub centre_text : Snapshot → List ℕ
 centre_text s = joined (
     codes "\ncontrol centre  " ∷ escaped_or Plain s.centre.peer (codes "not connected")
@@ -61,8 +61,7 @@ centre_text s = joined (
 
 abbrev pub queue_parts : Snapshot → List (List ℕ)
 queue_parts s =
-    codes "\nunacknowledged  " ∷ decimal s.centre.unacknowledged
-    ∷ codes "\nqueue           " ∷ decimal s.queue.taken ∷ codes " of " ∷ decimal s.queue.places
+    codes "\nqueue           " ∷ decimal s.queue.taken ∷ codes " of " ∷ decimal s.queue.places
     ∷ codes "\nstate           " ∷ keeping_text s.keeping ∷ []
 
 abbrev pub queue_text : Snapshot → List ℕ
@@ -71,10 +70,10 @@ queue_text s = joined (queue_parts s)
 abbrev pub table_parts : Snapshot → List (List ℕ)
 table_parts s =
     summary s ∷ performance s ∷ version_text s ∷ age_text 0 s.now_ms s.started_ms
-    ∷ line_text s ∷ age_text 0 s.now_ms s.line.since_ms
+    ∷ LINE.now ∷ line_text Plain s ∷ age_text 0 s.now_ms s.line.since_ms
     ∷ centre_text s ∷ age_text 0 s.now_ms s.centre.since_ms
     ∷ queue_text s ∷ syncs_text SYNCS.now s.syncs ∷ STATIONS.now
-    ∷ rows (text_of_row s.now_ms) s.stations.now ∷ []
+    ∷ rows (row_if true s.now_ms) s.stations.now ∷ rows (row_if false s.now_ms) s.stations.now ∷ []
 
 abbrev pub table_of : Snapshot → List ℕ
 table_of s = joined (table_parts s)

@@ -4,9 +4,11 @@ use Rattle.std.specs.Prelude.{Option, Some, None, codes, if◌then◌else◌}
 use Rattle.std.specs.Option.{is_some}
 use Rattle.std.specs.Fmt.{decimal}
 use Rattle.live.specs.declared.syncs.SlowSyncs.{SlowSyncs}
-use Rattle.status.specs.Words.{escaped_behind, joined, right}
-use Rattle.status.specs.Judge.{cannot_keep, is_full, judgement_of, is_up}
-use Rattle.status.specs.Labels.{judgement_text, keeping_text}
+use Rattle.status.specs.Words.{escaped, escaped_behind, joined, right}
+use Rattle.status.specs.Judge.{cannot_keep, has_gone, is_awaited, is_full, is_off, is_up}
+use Rattle.status.specs.Judge.{judgement_of, keeps}
+use Rattle.status.specs.Labels.{judgement_text}
+use Rattle.status.specs.declared.words.Marks.{Marks}
 use Rattle.status.specs.declared.words.Marks.TheVariants.{Plain}
 use Rattle.status.specs.declared.snapshot.Snapshot.{Snapshot}
 
@@ -18,7 +20,8 @@ text_if is_so text = if is_so then text else codes ""
 abbrev pub trouble_parts : Snapshot → List (List ℕ)
 trouble_parts s =
     judgement_text (judgement_of s) ∷ codes ": "
-    ∷ text_if (not s.line.is_there) (codes "line lost")
+    ∷ text_if (has_gone s.line) (codes "line lost")
+    ∷ text_if (is_awaited s.line) (codes "line not there yet")
     ∷ escaped_behind Plain (codes ": ") s.line.cause
     ∷ text_if (not s.line.is_there) (codes "; ")
     ∷ (if is_some s.centre.peer then codes "" else codes "control centre not connected; ")
@@ -30,15 +33,16 @@ trouble_parts s =
 abbrev pub troubles : Snapshot → List ℕ
 troubles s = joined (trouble_parts s)
 
--- how all stands
+-- how all stands: what is wrong stands before it
 abbrev pub standings : Snapshot → List ℕ
 standings s = joined (
     decimal (count_by is_up s.stations.now)
-    ∷ codes " of " ∷ decimal (length s.stations.now) ∷ codes " stations up, line "
-    ∷ (if s.line.is_there then codes "there" else codes "away") ∷ codes ", control centre "
-    ∷ (if is_some s.centre.peer then codes "connected" else codes "not connected")
+    ∷ codes " of " ∷ decimal (length s.stations.now) ∷ codes " stations up"
+    ∷ text_if s.line.is_there (codes ", line there")
+    ∷ text_if (is_some s.centre.peer) (codes ", control centre connected")
     ∷ codes ", queue " ∷ decimal s.queue.taken ∷ codes " of " ∷ decimal s.queue.places
-    ∷ codes ", state " ∷ keeping_text s.keeping ∷ [])
+    ∷ text_if (keeps s.keeping) (codes ", state kept")
+    ∷ text_if (is_off s.keeping) (codes ", state none") ∷ [])
 
 -- one line in words
 abbrev pub summary_parts : Snapshot → List (List ℕ)
@@ -47,16 +51,25 @@ summary_parts s = troubles s ∷ standings s ∷ []
 abbrev pub summary : Snapshot → List ℕ
 summary s = joined (summary_parts s)
 
+-- what stands behind a name, if there is one
+abbrev pub comma_behind : (name : List ℕ) → List ℕ
+comma_behind name = if length name == 0 then [] else codes ", "
+
+-- how the line is, with what stands before since when
+abbrev pub line_text : Marks → Snapshot → List ℕ
+line_text marks s = joined (
+    escaped marks s.name.now ∷ comma_behind s.name.now
+    ∷ text_if s.line.is_there (codes "there")
+    ∷ text_if (has_gone s.line) (codes "lost")
+    ∷ text_if (is_awaited s.line) (codes "not there yet")
+    ∷ codes " for " ∷ [])
+
 -- which syncs of the state were slow, behind this, if any was
 abbrev pub syncs_text : (before : List ℕ) → SlowSyncs → List ℕ
 syncs_text before s =
     if s.count == 0 then [] else joined (
     before ∷ decimal s.count ∷ codes ", the last " ∷ decimal s.last_ms
     ∷ codes " ms, the longest " ∷ decimal s.longest_ms ∷ codes " ms" ∷ [])
-
--- what stands behind a name, if there is one
-abbrev pub comma_behind : (name : List ℕ) → List ℕ
-comma_behind name = if length name == 0 then [] else codes ", "
 
 -- whole seconds between two moments in ms
 abbrev pub seconds : (now since : ℕ) → ℕ

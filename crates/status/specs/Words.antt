@@ -10,8 +10,9 @@ use Rattle.status.specs.declared.words.Word.{Word}
 use Rattle.status.specs.declared.words.Word.TheVariants.{Text, Escaped, Number, Address, NumberOr}
 use Rattle.status.specs.declared.words.Word.TheVariants.{Right, Either, EscapedOr, Stands, Wide}
 use Rattle.status.specs.declared.words.Word.TheVariants.{Counted, Keeps, Judged, Thousandths}
-use Rattle.status.specs.declared.words.Word.TheVariants.{EscapedBehind}
-use Rattle.status.specs.Labels.{judgement_text, keeping_text, standing_text, wide_text, value_of}
+use Rattle.status.specs.declared.words.Word.TheVariants.{EscapedBehind, Severe, TwoDigits}
+use Rattle.status.specs.Labels.{judgement_text, keeping_text, severity_text, standing_text}
+use Rattle.status.specs.Labels.{wide_text, value_of}
 
 -- a hexadecimal digit (RFC 8259, section 7)
 abbrev pub digit_of : ℕ → ℕ
@@ -79,11 +80,19 @@ thousandth_parts n =
 abbrev pub thousandths : ℕ → List ℕ
 thousandths n = joined (thousandth_parts n)
 
+-- the last two digits
+abbrev pub two_digit_parts : ℕ → List (List ℕ)
+two_digit_parts n = decimal (n / 10 % 10) ∷ decimal (n % 10) ∷ []
+
+abbrev pub two_digits : ℕ → List ℕ
+two_digits n = joined (two_digit_parts n)
+
 abbrev pub word_text : Word → List ℕ
 word_text (Text text) = text.now
 word_text (Escaped marks text) = escaped marks text.now
 word_text (Number n) = decimal n
 word_text (Thousandths n) = thousandths n
+word_text (TwoDigits n) = two_digits n
 word_text (Address n) = decimal n
 word_text (NumberOr n other) = number_or n other.now
 word_text (Right width n) = right width n
@@ -94,6 +103,7 @@ word_text (Stands standing) = standing_text standing
 word_text (Wide standing) = wide_text standing
 word_text (Counted count station) = decimal (value_of count station.now)
 word_text (Keeps keeping) = keeping_text keeping
+word_text (Severe severity) = severity_text severity
 word_text (Judged judgement) = judgement_text judgement
 
 abbrev pub text_of : List Word → List ℕ

@@ -8,6 +8,9 @@ ghost use Rattle.status.specs.Table as table;
 ghost use Rattle.status.specs.Texts.{syncs_text};
 ghost use Rattle.status.specs.Words.{thousandths};
 ghost use Rattle.status.specs.declared.html.TheConstants.{STATIONS};
+ghost use Rattle.runlog.specs.declared.names.Subject.TheVariants as subject;
+ghost use Rattle.runlog.specs.declared.severity.Severity.TheVariants as severity;
+ghost use Rattle.status.specs.declared.snapshot.EventView.{EventView};
 ghost use Rattle.status.specs.declared.snapshot.Keeping.TheVariants.{NotKept};
 ghost use Rattle.status.specs.declared.snapshot.LinkState.TheVariants as stands;
 ghost use Rattle.status.specs.declared.snapshot.Snapshot.{Snapshot};
@@ -16,7 +19,7 @@ ghost use Rattle.status.specs.declared.words.Marks.TheVariants.{Html};
 
 /// Which number stands under which name, in JSON and for Prometheus: of a station, and of all
 /// else; and a station's row in the table and on the page for a person, with the heads of the
-/// latter. Each number is another one.
+/// latter, a line of the log there, and marks of the chart. Each number is another one.
 pub fn pages_by_example()
     ensures station { (s : StationView) → s.name.now ≡ codes "A<\"B\\" →
         json_of_station (record s {
@@ -141,8 +144,21 @@ pub fn pages_by_example()
         ++ codes "<td class=\"n\">7 s  </td><td class=\"n\">6 s  </td>"
         ++ codes "<td class=\"n\">5</td><td class=\"n\">6</td><td class=\"n\">7</td>"
         ++ codes "<td class=\"n\">8</td></tr>\n" }
+    ensures event { (s : Snapshot) (e : EventView) → s.name.now ≡ codes "A<" →
+        e.text.bytes ≡ codes "line lost" →
+        html.text_of_event (record s { now_ms = 10000; wall_ms = Some 86399000 }) (record e {
+          moment_ms = 9000;
+          severity = severity.Error;
+          about = subject.Line;
+        })
+        ≡ codes "<tr class=\"error\"><td class=\"n\">23:59:58</td><td class=\"n\">1 s  </td>"
+        ++ codes "<td class=\"e\">line lost [A&lt;]</td></tr>\n" }
+    // At 13:42 the chart has 13:30 where 12 minutes have passed, and 13:00 as a full hour.
+    ensures marks { (html.mark_text 822 0 ≡ codes "<span style=\"left:80%\">13:30</span>")
+        × (html.mark_text 822 30 ≡ codes "<span class=\"h\" style=\"left:30%\">13:00</span>") }
     ensures heads { STATIONS.now
-        ≡ codes "<h2>Stations</h2>\n<div class=\"scroll\"><table>\n<tr><th>name</th>"
+        ≡ codes "</table>\n<h2>Stations</h2>\n<p class=\"more\">more columns: to the side</p>\n"
+        ++ codes "<div class=\"scroll\"><table class=\"stations\">\n<tr><th>name</th>"
         ++ codes "<th>address</th><th>common address</th><th>standing</th><th>since</th>"
         ++ codes "<th>last report</th><th>reports</th><th>skipped</th><th>gaps</th>"
         ++ codes "<th>commands</th></tr>\n" }

@@ -5,9 +5,10 @@ ghost use Rattle.status.specs.TextPage.{put};
 ghost use Rattle.status.specs.Json as spec;
 
 use crate::judging::judge;
+use crate::latest::{name_about, time_of};
 use crate::lists::{Form, put_listed};
 use crate::page::TextPage;
-use crate::snapshot::{Setting, Snapshot, StationView};
+use crate::snapshot::{EventView, Setting, Snapshot, StationView};
 use crate::texts::put_summary;
 use crate::words::{Marks, Word, put_words};
 
@@ -91,19 +92,63 @@ impl Form<Setting<'_>> for SettingForm {
     }
 }
 
+/// A line of the log as an object.
+#[derive(Drop)]
+struct EventForm<'s> {
+    snapshot: &'s Snapshot<'s>,
+}
+
+/// Puts what stands before the words of a line.
+fn put_event_head(page: &mut TextPage, event: &EventView, wall_ms: Option<u64>)
+    ensures { page.new ≡ put (spec.event_head event.now wall_ms) page.old }
+{
+    put_words(
+        page,
+        &[
+            Word::Text("{\"moment_ms\":"),
+            Word::Number(event.moment_ms),
+            Word::Text(",\"wall_ms\":"),
+            Word::NumberOr(wall_ms, "null"),
+            Word::Text(",\"severity\":\""),
+            Word::Severe(event.severity),
+            Word::Text("\""),
+        ],
+    );
+}
+
+impl Form<EventView> for EventForm<'_> {
+    ghost text = { λ form event. spec.json_of_event form.snapshot.now event };
+
+    fn put(&self, page: &mut TextPage, event: &EventView) {
+        put_event_head(page, event, time_of(self.snapshot, event.moment_ms));
+        page.put(b",\"line\":");
+        put_string(page, event.text.as_str());
+        page.put(b",\"name\":");
+        put_string(page, name_about(self.snapshot, event.about));
+        page.put(b"}");
+    }
+}
+
+/// Puts a text as a string.
+fn put_string(page: &mut TextPage, text: &str)
+    ensures { page.new ≡ put (spec.json_string text.now) page.old }
+{
+    put_words(
+        page,
+        &[
+            Word::Text("\""),
+            Word::Escaped(Marks::Json, text),
+            Word::Text("\""),
+        ],
+    );
+}
+
 /// Puts a text as a string, or null.
 fn put_text(page: &mut TextPage, text: Option<&str>)
     ensures { page.new ≡ put (spec.json_of_text text.entry) page.old }
 {
     match text {
-        Some(text) => put_words(
-            page,
-            &[
-                Word::Text("\""),
-                Word::Escaped(Marks::Json, text),
-                Word::Text("\""),
-            ],
-        ),
+        Some(text) => put_string(page, text),
         None => page.put(b"null"),
     }
 }
@@ -139,6 +184,8 @@ fn put_before_cause(page: &mut TextPage, snapshot: &Snapshot<'_>)
             Word::Escaped(Marks::Json, snapshot.name),
             Word::Text("\",\"there\":"),
             Word::Either(snapshot.line.is_there, "true", "false"),
+            Word::Text(",\"was_there\":"),
+            Word::Either(snapshot.line.was_there, "true", "false"),
             Word::Text(",\"since_ms\":"),
             Word::Number(snapshot.line.since_ms),
             Word::Text(",\"cause\":"),
@@ -200,6 +247,8 @@ pub(crate) fn put_json(page: &mut TextPage, snapshot: &Snapshot<'_>)
     put_listed(page, &NumberForm, snapshot.queue.hour);
     put_before_stations(page, snapshot);
     put_listed(page, &StationForm, snapshot.stations);
+    page.put(b"],\"latest\":[");
+    put_listed(page, &EventForm { snapshot }, snapshot.latest);
     page.put(b"],\"settings\":{");
     put_listed(page, &SettingForm, snapshot.settings);
     page.put(b"}}\n");

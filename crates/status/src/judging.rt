@@ -28,6 +28,20 @@ fn is_lost(line: &LineView, now_ms: u64) -> bool
     !line.is_there && LINE_MS <= now_ms.saturating_sub(line.since_ms)
 }
 
+/// It was there, and isn't any more.
+pub(crate) fn has_gone(line: &LineView) -> bool
+    ensures { result ≡ spec.has_gone line.now }
+{
+    !line.is_there && line.was_there
+}
+
+/// It hasn't been there yet.
+pub(crate) fn is_awaited(line: &LineView) -> bool
+    ensures { result ≡ spec.is_awaited line.now }
+{
+    !line.is_there && !line.was_there
+}
+
 /// How many places may be taken while a report still finds room.
 pub(crate) fn unfilled(queue: &Queue<'_>) -> u64
     ensures { result ≡ spec.unfilled queue.now }
@@ -96,6 +110,13 @@ pub(crate) fn keeps(keeping: Keeping) -> bool
     ensures { result ≡ spec.keeps keeping }
 {
     matches!(keeping, Keeping::Kept)
+}
+
+/// The state isn't to be kept on the disk.
+pub(crate) fn is_off(keeping: Keeping) -> bool
+    ensures { result ≡ spec.is_off keeping }
+{
+    matches!(keeping, Keeping::Off)
 }
 
 /// Reports don't get through, or would be lost.

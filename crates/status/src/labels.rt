@@ -4,6 +4,7 @@ ghost use Rattle.status.specs.Labels as spec;
 
 use crate::judging::Judgement;
 use crate::snapshot::{Keeping, LinkState};
+use runlog::Severity;
 
 /// How a station stands.
 pub(crate) fn standing_text(standing: LinkState) -> &'static str
@@ -28,6 +29,18 @@ pub(crate) fn wide_text(standing: LinkState) -> &'static str
         LinkState::Up => "up           ",
         LinkState::Silent => "silent       ",
         LinkState::Down => "down         ",
+    }
+}
+
+/// How severe a line is.
+pub(crate) fn severity_text(severity: Severity) -> &'static str
+    ensures { result.now ≡ spec.severity_text severity }
+{
+    match severity {
+        Severity::Error => "error",
+        Severity::Warning => "warning",
+        Severity::Notice => "notice",
+        Severity::Info => "info",
     }
 }
 

@@ -31,6 +31,7 @@ mod html;
 mod json;
 mod judging;
 mod labels;
+mod latest;
 mod laws;
 mod lists;
 mod lookout;
@@ -64,7 +65,7 @@ pub use reading_laws::texts_are_read_back;
 pub use reply::{UNKNOWN, body_of, exit_status};
 pub use reply_laws::{each_path_has_its_page, each_request_has_its_answer};
 pub use snapshot::{
-    CentreView, Keeping, LineView, LinkState, Queue, Setting, Snapshot, StationView,
+    CentreView, EventView, Keeping, LineView, LinkState, Queue, Setting, Snapshot, StationView,
 };
 pub use sockets::{VisitorListener, VisitorSocket};
 pub use streams::{Stream, StreamLook, StreamSource, Took};

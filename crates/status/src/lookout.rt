@@ -17,6 +17,7 @@ ghost use Rattle.status.specs.Looking.{IsFreshLookout, IsPeerText, IsShown, IsSn
 ghost use Rattle.status.specs.Visits.{IsRound, place};
 ghost use Rattle.status.specs.declared.snapshot.Snapshot.{Snapshot};
 
+mod heard;
 mod known;
 mod setting;
 mod shown;
@@ -27,6 +28,7 @@ pub use self::sight_laws::{
     the_centre_is_shown_as_it_is, the_queue_is_shown_as_it_is,
 };
 use crate::hour::Hour;
+use crate::lookout::heard::events_of;
 use crate::lookout::known::{Known, known_of};
 use crate::lookout::setting::{ChosenSetting, chosen_of, settings_of};
 use crate::lookout::shown::{centre_of, keeping_after, line_of, lost_after, rows_of, said_by};
@@ -286,6 +288,7 @@ fn snapshot_of<'a>(shown: &'a ShownRun, watch: &Watch) -> Snapshot<'a>
         lost_by: said_by(shown.lost_by),
         syncs: watch.syncs(),
         stations: &[],
+        latest: &[],
         settings: &[],
     }
 }
@@ -300,9 +303,11 @@ fn turn<D: StreamSource + Drop>(visitors: &mut Visitors<D>, shown: &ShownRun, wa
 {
     let rows = rows_of(shown.known.as_slice(), watch);
     let settings = settings_of(shown.chosen.as_slice());
+    let latest = events_of(watch.latest());
     let snapshot = Snapshot {
         stations: rows.as_slice(),
         settings: settings.as_slice(),
+        latest: latest.as_slice(),
         ..snapshot_of(shown, watch)
     };
     visitors.turn(snapshot.now_ms, &snapshot);

@@ -1,7 +1,8 @@
 //! What a page shows: plain data that the caller fills in and lends.
 
+use arrayvec::ArrayString;
 use live::SlowSyncs;
-use runlog::RequestCounts;
+use runlog::{RequestCounts, Severity, Subject};
 
 /// How a station stands.
 #[derive(Clone, Copy, Default, PartialEq, Eq)]
@@ -50,6 +51,8 @@ pub struct StationView<'a> {
 #[derive(Clone, Copy)]
 pub struct LineView {
     pub is_there: bool,
+    /// It has been there since this process began.
+    pub was_there: bool,
     /// Since when it is there or away.
     pub since_ms: u64,
     /// Why it is away, if that is known.
@@ -67,6 +70,30 @@ pub struct CentreView<'a> {
     pub since_ms: u64,
     /// How many pieces it hasn't acknowledged.
     pub unacknowledged: u64,
+}
+
+/// A line of the log.
+#[derive(Clone, Copy)]
+pub struct EventView {
+    /// Its moment of the run, in ms.
+    pub moment_ms: u64,
+    pub severity: Severity,
+    /// What it is about, whose name stands behind its words.
+    pub about: Subject,
+    /// Its words; empty if they find no room.
+    pub text: ArrayString<256>,
+}
+
+/// What stands in a place of a list that isn't used.
+impl Default for EventView {
+    fn default() -> EventView {
+        EventView {
+            moment_ms: 0,
+            severity: Severity::Info,
+            about: Subject::Other,
+            text: ArrayString::new(),
+        }
+    }
 }
 
 /// The queue of pieces that no connection has acknowledged.
@@ -118,5 +145,7 @@ pub struct Snapshot<'a> {
     /// Which syncs of the state on the disk were slow since this process began.
     pub syncs: SlowSyncs,
     pub stations: &'a [StationView<'a>],
+    /// The latest lines of the log, the newest first.
+    pub latest: &'a [EventView],
     pub settings: &'a [Setting<'a>],
 }

@@ -2,13 +2,17 @@
 ghost use Rattle.std.specs.Prelude.{◌≡◌};
 ghost use Rattle.status.specs.TextPage.{put};
 ghost use Rattle.status.specs.Table as spec;
+ghost use Rattle.status.specs.Words.{rows};
 
-use crate::judging::unfilled;
+use crate::judging::{is_silent, unfilled};
 use crate::lists::{Form, put_rows};
 use crate::page::TextPage;
 use crate::snapshot::{Snapshot, StationView};
-use crate::texts::{count_up, put_age, put_age_or, put_summary, put_syncs};
+use crate::texts::{count_up, put_age, put_age_or, put_line, put_summary, put_syncs};
 use crate::words::{Marks, Word, put_words};
+
+/// What stands before how the line is.
+const LINE: &str = "\nline            ";
 
 /// What stands before the slow syncs.
 const SYNCS: &str = "\nslow syncs      ";
@@ -18,10 +22,11 @@ const STATIONS: &str =
     "\n\naddress     ca  standing       since   last report  reports  skipped  gaps  \
 commands  name\n";
 
-/// A station as a row.
+/// A station as a row, if it doesn't answer, or else if it does.
 #[derive(Drop)]
 struct RowForm {
     now_ms: u64,
+    is_silent: bool,
 }
 
 /// Puts whose row it is.
@@ -62,36 +67,23 @@ fn put_row_counts(page: &mut TextPage, station: &StationView<'_>)
 }
 
 impl Form<StationView<'_>> for RowForm {
-    ghost text = { λ form station. spec.text_of_row form.now_ms station };
+    ghost text = { λ form station. spec.row_if form.is_silent form.now_ms station };
 
     fn put(&self, page: &mut TextPage, station: &StationView<'_>) {
-        put_row_head(page, station);
-        put_age(page, 6, self.now_ms, station.since_ms);
-        put_age_or(
-            page,
-            10,
-            self.now_ms,
-            station.last_report_ms,
-            "         -    ",
-        );
-        put_row_counts(page, station);
+        if is_silent(station) == self.is_silent {
+            put_row(page, self.now_ms, station);
+        }
     }
 }
 
-/// Puts how the line is, with what stands before since when.
-fn put_line(page: &mut TextPage, snapshot: &Snapshot<'_>)
-    ensures { page.new ≡ put (spec.line_text snapshot.now) page.old }
+/// Puts a station as a row.
+fn put_row(page: &mut TextPage, now_ms: u64, station: &StationView<'_>)
+    ensures { page.new ≡ put (spec.text_of_row now_ms station.now) page.old }
 {
-    put_words(
-        page,
-        &[
-            Word::Text("\nline            "),
-            Word::Escaped(Marks::Plain, snapshot.name),
-            Word::Either(snapshot.name.is_empty(), "", ", "),
-            Word::Either(snapshot.line.is_there, "there", "away"),
-            Word::Text(" for "),
-        ],
-    );
+    put_row_head(page, station);
+    put_age(page, 6, now_ms, station.since_ms);
+    put_age_or(page, 10, now_ms, station.last_report_ms, "         -    ");
+    put_row_counts(page, station);
 }
 
 /// The same of the control centre.
@@ -116,8 +108,6 @@ fn put_queue(page: &mut TextPage, snapshot: &Snapshot<'_>)
     put_words(
         page,
         &[
-            Word::Text("\nunacknowledged  "),
-            Word::Number(snapshot.centre.unacknowledged),
             Word::Text("\nqueue           "),
             Word::Number(snapshot.queue.taken),
             Word::Text(" of "),
@@ -174,15 +164,21 @@ pub(crate) fn put_table(page: &mut TextPage, snapshot: &Snapshot<'_>)
     put_performance(page, snapshot);
     put_version(page, snapshot);
     put_age(page, 0, snapshot.now_ms, snapshot.started_ms);
-    put_line(page, snapshot);
+    page.put(LINE.as_bytes());
+    put_line(page, Marks::Plain, snapshot);
     put_age(page, 0, snapshot.now_ms, snapshot.line.since_ms);
     put_centre(page, snapshot);
     put_age(page, 0, snapshot.now_ms, snapshot.centre.since_ms);
     put_queue(page, snapshot);
     put_syncs(page, SYNCS, &snapshot.syncs);
     page.put(STATIONS.as_bytes());
-    let form = RowForm {
-        now_ms: snapshot.now_ms,
-    };
-    put_rows(page, &form, snapshot.stations);
+    for_silence(page, snapshot.now_ms, true, snapshot.stations);
+    for_silence(page, snapshot.now_ms, false, snapshot.stations);
+}
+
+/// Puts the rows of those stations that don't answer, or of the others.
+fn for_silence(page: &mut TextPage, now_ms: u64, is_silent: bool, stations: &[StationView<'_>])
+    ensures { page.new ≡ put (rows (spec.row_if is_silent now_ms) stations.now) page.old }
+{
+    put_rows(page, &RowForm { now_ms, is_silent }, stations);
 }

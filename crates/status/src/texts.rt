@@ -5,7 +5,7 @@ ghost use Rattle.status.specs.Judge.{is_up as is_up_of};
 ghost use Rattle.status.specs.TextPage.{put};
 ghost use Rattle.status.specs.Texts as spec;
 
-use crate::judging::{cannot_keep, is_full, is_up, judge};
+use crate::judging::{cannot_keep, has_gone, is_awaited, is_full, is_off, is_up, judge, keeps};
 use crate::page::TextPage;
 use crate::snapshot::{Snapshot, StationView};
 use crate::words::{Marks, Word, put_words};
@@ -30,7 +30,8 @@ fn put_troubles(page: &mut TextPage, snapshot: &Snapshot<'_>)
         &[
             Word::Judged(judge(snapshot)),
             Word::Text(": "),
-            Word::Either(is_away, "line lost", ""),
+            Word::Either(has_gone(&snapshot.line), "line lost", ""),
+            Word::Either(is_awaited(&snapshot.line), "line not there yet", ""),
             Word::EscapedBehind(Marks::Plain, ": ", snapshot.line.cause),
             Word::Either(is_away, "; ", ""),
             Word::Either(is_connected, "", "control centre not connected; "),
@@ -54,7 +55,7 @@ pub(crate) fn put_summary(page: &mut TextPage, snapshot: &Snapshot<'_>)
     put_standings(page, snapshot);
 }
 
-/// Puts how all stands.
+/// Puts how all stands: what is wrong stands before it.
 fn put_standings(page: &mut TextPage, snapshot: &Snapshot<'_>)
     ensures { page.new ≡ put (spec.standings snapshot.now) page.old }
 {
@@ -65,16 +66,33 @@ fn put_standings(page: &mut TextPage, snapshot: &Snapshot<'_>)
             Word::Number(count_up(snapshot.stations)),
             Word::Text(" of "),
             Word::Number(snapshot.stations.len() as u64),
-            Word::Text(" stations up, line "),
-            Word::Either(snapshot.line.is_there, "there", "away"),
-            Word::Text(", control centre "),
-            Word::Either(is_connected, "connected", "not connected"),
+            Word::Text(" stations up"),
+            Word::Either(snapshot.line.is_there, ", line there", ""),
+            Word::Either(is_connected, ", control centre connected", ""),
             Word::Text(", queue "),
             Word::Number(snapshot.queue.taken),
             Word::Text(" of "),
             Word::Number(snapshot.queue.places),
-            Word::Text(", state "),
-            Word::Keeps(snapshot.keeping),
+            Word::Either(keeps(snapshot.keeping), ", state kept", ""),
+            Word::Either(is_off(snapshot.keeping), ", state none", ""),
+        ],
+    );
+}
+
+/// Puts how the line is, with what stands before since when.
+pub(crate) fn put_line(page: &mut TextPage, marks: Marks, snapshot: &Snapshot<'_>)
+    ensures { page.new ≡ put (spec.line_text marks snapshot.now) page.old }
+{
+    let line = &snapshot.line;
+    put_words(
+        page,
+        &[
+            Word::Escaped(marks, snapshot.name),
+            Word::Either(snapshot.name.is_empty(), "", ", "),
+            Word::Either(line.is_there, "there", ""),
+            Word::Either(has_gone(line), "lost", ""),
+            Word::Either(is_awaited(line), "not there yet", ""),
+            Word::Text(" for "),
         ],
     );
 }

@@ -4,13 +4,14 @@ ghost use Rattle.std.specs.Fmt.{decimal};
 ghost use Rattle.status.specs.Labels.{seconds_of, value_of};
 ghost use Rattle.status.specs.TextPage.{put};
 ghost use Rattle.status.specs.Words.{digit_of, escaped, mark_of, right, text_of, thousandths};
-ghost use Rattle.status.specs.Words.{word_text};
+ghost use Rattle.status.specs.Words.{two_digits, word_text};
 
 use crate::judging::{Judgement, is_up};
-use crate::labels::{judgement_text, keeping_text, standing_text, wide_text};
+use crate::labels::{judgement_text, keeping_text, severity_text, standing_text, wide_text};
 use crate::page::TextPage;
 use crate::snapshot::{Keeping, LinkState, StationView};
 use itoa::Buffer;
+use runlog::Severity;
 
 /// What the text stands in, so which octets mean something else there.
 #[derive(Clone, Copy, PartialEq, Eq)]
@@ -57,6 +58,8 @@ pub(crate) enum Word<'a> {
     Number(u64),
     /// So many thousandths in decimal.
     Thousandths(u64),
+    /// Its last two digits.
+    TwoDigits(u64),
     /// An address in decimal.
     Address(u16),
     /// A number in decimal, or a text if there is none.
@@ -70,6 +73,7 @@ pub(crate) enum Word<'a> {
     Wide(LinkState),
     Counted(Count, &'a StationView<'a>),
     Keeps(Keeping),
+    Severe(Severity),
     Judged(Judgement),
 }
 
@@ -170,6 +174,14 @@ fn put_thousandths(page: &mut TextPage, number: u64)
     put_number(page, number % 10);
 }
 
+/// Puts the last two digits of a number.
+fn put_two_digits(page: &mut TextPage, number: u64)
+    ensures { page.new ≡ put (two_digits number) page.old }
+{
+    put_number(page, number / 10 % 10);
+    put_number(page, number % 10);
+}
+
 /// Puts a number in decimal, with spaces before it up to a width.
 fn put_right(page: &mut TextPage, width: usize, number: u64)
     ensures { page.new ≡ put (right width number) page.old }
@@ -231,6 +243,7 @@ fn put_word(page: &mut TextPage, word: &Word<'_>)
         Word::EscapedOr(_, None, text) => page.put(text.as_bytes()),
         Word::Number(number) => put_number(page, number),
         Word::Thousandths(number) => put_thousandths(page, number),
+        Word::TwoDigits(number) => put_two_digits(page, number),
         Word::Address(address) => put_number(page, u64::from(address)),
         Word::NumberOr(None, text) => page.put(text.as_bytes()),
         Word::NumberOr(Some(number), _) => put_number(page, number),
@@ -240,6 +253,7 @@ fn put_word(page: &mut TextPage, word: &Word<'_>)
         Word::Wide(standing) => page.put(wide_text(standing).as_bytes()),
         Word::Counted(count, station) => put_counted(page, count, station),
         Word::Keeps(keeping) => page.put(keeping_text(keeping).as_bytes()),
+        Word::Severe(severity) => page.put(severity_text(severity).as_bytes()),
         Word::Judged(judgement) => page.put(judgement_text(judgement).as_bytes()),
     }
 }

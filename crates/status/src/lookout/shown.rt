@@ -1,6 +1,7 @@
 //! Stations, line and control centre as they are shown.
 ghost use Rattle.std.specs.Prelude.{◌≡◌, option_map};
 ghost use Rattle.runlog.specs.Causes.{cause_words};
+ghost use Rattle.runlog.specs.Ends.{was_there};
 ghost use Rattle.status.specs.Shown as spec;
 
 use crate::lookout::known::Known;
@@ -99,12 +100,14 @@ fn why_away(presence: Presence) -> Option<&'static str>
 /// The line.
 pub(crate) fn line_of(watch: &Watch) -> LineView
     ensures there { result.is_there ≡ spec.is_there watch.now.line.presence }
+    ensures was { result.was_there ≡ was_there watch.now.line.logged }
     ensures since { result.since_ms ≡ watch.now.line.since }
     ensures cause { option_map (λ c. c.now) result.cause ≡ spec.why_away watch.now.line.presence }
 {
     let presence = watch.line_presence();
     LineView {
         is_there: is_there(presence),
+        was_there: watch.line_was_there(),
         since_ms: watch.line_since(),
         cause: why_away(presence),
     }

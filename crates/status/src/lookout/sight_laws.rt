@@ -2,7 +2,7 @@
 ghost use Rattle.std.specs.Borrow.{Bor};
 ghost use Rattle.std.specs.List.{AllByRecursion};
 ghost use Rattle.std.specs.Prelude.{◌≡◌, ◌≢◌, ◌<◌, ◌≤◌, Bool, true, false, List, [], ◌∷◌, ◌++◌};
-ghost use Rattle.std.specs.Prelude.{codes, length, Option, Some, None, option_map, ℕ};
+ghost use Rattle.std.specs.Prelude.{codes, length, take, Option, Some, None, option_map, ℕ};
 ghost use Rattle.std.specs.declared.io.ErrorKind.{ErrorKind};
 ghost use Rattle.runlog.specs.Causes.{line_cause_words};
 ghost use Rattle.gateway.specs.Config.{Settings};
@@ -17,6 +17,7 @@ ghost use Rattle.runlog.specs.declared.names.LogNames.{LogNames};
 ghost use Rattle.runlog.specs.declared.stations.StationWatch.{StationWatch};
 ghost use Rattle.runlog.specs.declared.traffic.Traffic.{Traffic};
 ghost use Rattle.status.specs.Labels.{keeping_text};
+ghost use Rattle.status.specs.Shown.{AreEvents};
 ghost use Rattle.status.specs.LastHour.{after};
 ghost use Rattle.status.specs.declared.snapshot.Snapshot.{Snapshot};
 ghost use Rattle.status.specs.declared.snapshot.StationView.{StationView};
@@ -96,7 +97,7 @@ pub fn the_queue_is_shown_as_it_is()
 /// and the run began at the first one. The state is shown as kept or not by the latest report of
 /// it. Before the first report it is shown as kept if it is to be. Its slow syncs are those of the
 /// latest sight. Each setting stands under its name. The version is the one that the run was begun
-/// with.
+/// with. The latest lines of the log are those of the watch, in their order and in their own words.
 pub fn line_state_and_settings_are_shown_as_they_are()
     ensures there { (c : Settings) (names : LogNames) (keeps : Bool) (looks : List Look)
         (last : Look) (s : Snapshot) → IsSight c names keeps looks last s →
@@ -144,6 +145,9 @@ pub fn line_state_and_settings_are_shown_as_they_are()
     ensures not_to_be_kept { (c : Settings) (names : LogNames) (looks : List Look)
         (last : Look) (s : Snapshot) → IsSight c names false looks last s →
         AllByRecursion IsSilent (looks ++ last ∷ []) → keeping_text s.keeping ≡ codes "none" }
+    ensures latest { (c : Settings) (names : LogNames) (keeps : Bool) (looks : List Look)
+        (last : Look) (s : Snapshot) → IsSight c names keeps looks last s →
+        AreEvents (take 20 last.watch.latest) s.latest.now }
     ensures syncs { (c : Settings) (names : LogNames) (keeps : Bool) (looks : List Look)
         (last : Look) (s : Snapshot) → IsSight c names keeps looks last s →
         s.syncs ≡ last.watch.syncs }

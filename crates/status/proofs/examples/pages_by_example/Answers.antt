@@ -44,3 +44,11 @@ returns-clause-cells c s name = rw name
 
 pub returns-clause-heads : goal.returns-clause-heads
 returns-clause-heads c = refl
+
+pub returns-clause-event : goal.returns-clause-event
+unfolding digits
+returns-clause-event c s e name text = rw (name, text)
+
+pub returns-clause-marks : goal.returns-clause-marks
+unfolding digits
+returns-clause-marks c = (refl, refl)

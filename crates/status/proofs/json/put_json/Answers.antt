@@ -5,6 +5,8 @@ use Rattle.status.proofs.json.put_json.Goals as goal
 pub returns : goal.returns
 returns c =
     rw (
+      c.put-4.ensures,
+      c.put_listed-4.ensures,
       c.put-3.ensures,
       c.put_listed-3.ensures,
       c.put-2.ensures,

@@ -1,14 +1,20 @@
 use Rattle.std.proofs.Common.{List, ◌∙◌, ap, map, subst, sym, take}
-use Rattle.status.specs.Shown.{AreRows, chosen_as, viewed_as}
+use Rattle.runlog.specs.declared.note.LogLine.{LogLine}
+use Rattle.status.specs.Shown.{AreEvents, AreRows, chosen_as, viewed_as}
 use Rattle.status.specs.declared.lookout.known.Known.{Known}
 use Rattle.status.specs.declared.lookout.setting.ChosenSetting.{ChosenSetting}
+use Rattle.status.specs.declared.snapshot.EventView.{EventView}
 use Rattle.status.specs.declared.snapshot.Setting.{Setting}
 use Rattle.status.specs.declared.snapshot.StationView.{StationView}
 use Rattle.status.proofs.lookout.turn.Goals as goal
 
 pub returns : goal.returns
 returns g c = (
-  record c.snapshot_of.result { stations = c.as_slice-3.result; settings = c.as_slice-4.result },
+  record c.snapshot_of.result {
+    stations = c.as_slice-3.result;
+    settings = c.as_slice-4.result;
+    latest = c.as_slice-5.result;
+  },
   record {
     numbers = record {
       version = c.snapshot_of.ensures.version;
@@ -17,6 +23,7 @@ returns g c = (
       wall = c.snapshot_of.ensures.wall;
       name = c.snapshot_of.ensures.name;
       there = c.snapshot_of.ensures.there;
+      was = c.snapshot_of.ensures.was;
       since = c.snapshot_of.ensures.since;
       cause = c.snapshot_of.ensures.cause;
       centre = c.snapshot_of.ensures.centre;
@@ -35,6 +42,10 @@ returns g c = (
         (λ (known : List Known). AreRows 32 known c.args.watch.now.stations
         c.args.watch.now.traffic c.rows_of-rows.result.items)
         c.as_slice.ensures.value c.rows_of-rows.ensures);
+    latest = subst (λ (l : List EventView). AreEvents (take 20 c.args.watch.now.latest) l)
+        (sym c.as_slice-5.ensures.value)
+        (subst (λ (l : List LogLine). AreEvents (take 20 l) c.events_of-latest.result.items)
+        c.latest.ensures c.events_of-latest.ensures);
     settings = ap (λ (l : List Setting). map viewed_as l) c.as_slice-4.ensures.value
         ∙ c.settings_of-settings.ensures
         ∙ ap (λ (l : List ChosenSetting). take 16 (map chosen_as l)) c.as_slice-2.ensures.value;

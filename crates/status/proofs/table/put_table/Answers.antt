@@ -5,15 +5,18 @@ use Rattle.status.proofs.table.put_table.Goals as goal
 pub returns : goal.returns
 returns c =
     rw (
-      c.put_rows.ensures,
-      c.put.ensures,
-      c.as_bytes.ensures.value,
+      c.for_silence-2.ensures,
+      c.for_silence.ensures,
+      c.put-2.ensures,
+      c.as_bytes-2.ensures.value,
       c.put_syncs.ensures,
       c.put_queue.ensures,
       c.put_age-3.ensures,
       c.put_centre.ensures,
       c.put_age-2.ensures,
       c.put_line.ensures,
+      c.put.ensures,
+      c.as_bytes.ensures.value,
       c.put_age.ensures,
       c.put_version.ensures,
       c.put_performance.ensures,

@@ -7,5 +7,7 @@ returns c =
       ← c.is_some-is_connected.ensures,
       ← c.cannot_keep-is_lost.ensures,
       ← c.is_full.ensures,
+      ← c.has_gone.ensures,
+      ← c.is_awaited.ensures,
     )
     c.put_words.ensures

@@ -1,8 +1,7 @@
-use Rattle.status.specs.Table.{row_parts}
-use Rattle.status.proofs.WordLemmas.{puts_joined}
+use Rattle.std.proofs.Common.{sym}
+use Rattle.status.proofs.WordLemmas.{put_nothing}
 use Rattle.status.proofs.table.RowFormFormStationView.put.Goals as goal
 
-pub returns : goal.returns
-returns c =
-    rw (c.put_row_counts.ensures, c.put_age_or.ensures, c.put_age.ensures, c.put_row_head.ensures)
-    (puts_joined (row_parts c.args.self.now.now_ms c.args.station.now) c.args.page.now)
+pub returns-else-is_silent-self : goal.returns-else-is_silent-self
+returns-else-is_silent-self c =
+    rw (← c.is_silent.ensures, c.if-is_silent-self.false) (sym (put_nothing c.args.page.now))
