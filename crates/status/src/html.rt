@@ -46,7 +46,8 @@ path { fill: var(--soft) }\n\
 .hour span { top: 0; width: 3rem; margin-left: -1.5rem; padding-top: 5.2rem; text-align: center;\
  background: linear-gradient(var(--line), var(--line)) 50% 0 / 1px 5.1rem no-repeat }\n\
 .hour .h { font-weight: 600; background-size: 3px 5.1rem }\n\
-@media (max-width: 40rem) {\n\
+@media (max-width: 75rem) { th { white-space: normal } td:first-child { white-space: normal } }\n\
+@media (max-width: 48rem) {\n\
 th, td { white-space: normal; padding-right: .5rem } td.n { white-space: nowrap }\n\
 .stations td, .stations th { background: Canvas }\n\
 .stations :is(td, th):first-child { min-width: 8rem; position: sticky; left: 0 }\n\
