@@ -92,9 +92,15 @@ place_lines s = segment_line s ++ unread_line (nat_lt s.events s.lines) s.events
     ++ note_line (note_of_damage s.damage)
 
 -- the log that a run would go on with
+abbrev pub found_lines : (is_moved : Bool) → Seen → List ℕ
+found_lines is_moved s = notes_lines is_moved s ++ place_lines s ++ standing_lines s
+
+-- what stands before the settings under which it was kept
+abbrev pub settings_title : List ℕ
+settings_title = codes "kept under these settings:" ++ 10 ∷ []
+
 abbrev pub log_lines : (is_moved : Bool) → Seen → List ℕ
-log_lines is_moved s = notes_lines is_moved s ++ place_lines s ++ standing_lines s
-    ++ codes "kept under these settings:" ++ 10 ∷ []
+log_lines is_moved s = found_lines is_moved s ++ settings_title
 
 -- with the settings at its head
 abbrev pub seen_lines : (is_moved : Bool) → Option Seen → List ℕ

@@ -177,15 +177,30 @@ fn push_place(text: &mut String, seen: &Seen) -> Result<(), AllocError>
     push_note(text, note_of_damage(seen.damage))
 }
 
+/// The lines of a log that counts.
+fn push_found(text: &mut String, seen: &Seen, is_moved: bool) -> Result<(), AllocError>
+    ensures { OnOk result (string_bytes text.new ≡ string_bytes text.old
+        ++ spec.found_lines is_moved seen.now) }
+{
+    push_notes(text, seen, is_moved)?;
+    push_place(text, seen)?;
+    push_standing(text, seen)
+}
+
+/// What stands before the settings.
+fn push_title(text: &mut String) -> Result<(), AllocError>
+    ensures { OnOk result (string_bytes text.new ≡ string_bytes text.old ++ spec.settings_title) }
+{
+    text.push_str("kept under these settings:\n")
+}
+
 /// The lines of a log that counts, before the settings.
 fn push_seen(text: &mut String, seen: &Seen, is_moved: bool) -> Result<(), AllocError>
     ensures { OnOk result (string_bytes text.new ≡ string_bytes text.old
         ++ spec.log_lines is_moved seen.now) }
 {
-    push_notes(text, seen, is_moved)?;
-    push_place(text, seen)?;
-    push_standing(text, seen)?;
-    text.push_str("kept under these settings:\n")
+    push_found(text, seen, is_moved)?;
+    push_title(text)
 }
 
 /// The lines before those of a log.
