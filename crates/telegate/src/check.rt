@@ -38,7 +38,8 @@ pub(crate) fn check<W: Write, E: Write>(
     out: &mut W,
     err: &mut E,
 ) -> u8
-    ensures { IsCheckDone config.octets.now how (W.contents out.old) (W.contents out.new) result }
+    ensures { IsCheckDone config.entry.octets.now how (W.contents out.old)
+        (W.contents out.new) result }
 {
     match judge(alloc, config.octets, how.live) {
         Ok(is_here) => {
@@ -90,7 +91,7 @@ pub(crate) fn refuse<W: Write, E: Write>(
     out: &mut W,
     err: &mut E,
 ) -> u8
-    ensures { IsRefusalAnswered how.explain file.octets.now fault.now (W.contents out.old)
+    ensures { IsRefusalAnswered how.explain file.entry.octets.now fault.now (W.contents out.old)
         (W.contents out.new) result }
 {
     point_keys(alloc, file, how.live, fault, err);

@@ -368,7 +368,7 @@ fn audit_file<H: Host, W: Write, E: Write>(
     out: &mut W,
     err: &mut E,
 ) -> u8
-    ensures { AuditsFile (H.has host.now) name.now config.octets.now
+    ensures { AuditsFile (H.has host.now) name.now config.entry.octets.now
         (W.contents out.old) (W.contents out.new) result }
 {
     match audit_alone(alloc, config.octets, &HostFile { host, name }) {
@@ -396,7 +396,7 @@ fn capture_file<H: Host, W: Write, E: Write>(
     out: &mut W,
     err: &mut E,
 ) -> u8
-    ensures { Runs (IsCapturedBy config.octets.now (H.has host.now name.now))
+    ensures { Runs (IsCapturedBy config.entry.octets.now (H.has host.now name.now))
         (W.contents out.old) (W.contents out.new) result }
 {
     match capture(alloc, config.octets, &HostFile { host, name }, out) {
@@ -507,7 +507,8 @@ fn play_live<H: Host, E: Write>(
     words: bool,
     err: &mut E,
 ) -> u8
-    ensures { HaveEnded (H.played host.now) files.0.octets.now files.1.octets.now result }
+    ensures { HaveEnded (H.played host.now) files.entry.0.octets.now
+        files.entry.1.octets.now result }
 {
     let (config, script) = files;
     match host.play(config.octets, script.octets, words) {
@@ -613,7 +614,7 @@ fn run_live<H: Host, E: Write>(
     wishes: Wishes<'_>,
     err: &mut E,
 ) -> u8
-    ensures { HasEndedLive (H.ran host.old host.new) config.octets.now wishes.entry result }
+    ensures { HasEndedLive (H.ran host.old host.new) config.entry.octets.now wishes.entry result }
 {
     match host.run(config.octets, wishes) {
         Ok(()) => DONE,
