@@ -56,13 +56,18 @@ size_lines a b =
     link_line a.link b.link ++ cause_line a.sizes.cause b.sizes.cause
     ++ ca_size_line a.sizes.ca b.sizes.ca ++ ioa_line a.sizes.ioa b.sizes.ioa
 
-abbrev pub polling_lines : (kept now : LineSettings) → List ℕ
-polling_lines a b =
+abbrev pub answer_lines : (kept now : LineSettings) → List ℕ
+answer_lines a b =
     number_line (codes "line.answer_ms") a.answer_ms b.answer_ms
     ++ number_line (codes "line.retries") a.retries b.retries
-    ++ silence_line a.silence b.silence
-    ++ number_line (codes "line.burst") a.burst b.burst
+
+abbrev pub queue_lines : (kept now : LineSettings) → List ℕ
+queue_lines a b =
+    number_line (codes "line.burst") a.burst b.burst
     ++ number_line (codes "line.queue") a.queue b.queue
+
+abbrev pub polling_lines : (kept now : LineSettings) → List ℕ
+polling_lines a b = answer_lines a b ++ silence_line a.silence b.silence ++ queue_lines a b
 
 abbrev pub connection_lines : (kept now : TcpSettings) → List ℕ
 connection_lines a b =

@@ -101,10 +101,17 @@ abbrev pub place_lines : Seen → List ℕ
 place_lines s = segment_line s ++ unread_line (nat_lt s.events s.lines) s.events s.lines
     ++ note_line (note_of_damage s.damage)
 
--- the log that a run would go on with, with these dates and with this text
+-- what a log that counts has, with these dates
+abbrev pub found_lines : (is_moved : Bool) → (dates : List ℕ) → Seen → List ℕ
+found_lines is_moved dates s = notes_lines is_moved s ++ place_lines s ++ standing_lines dates s
+
+-- this text, before the settings
+abbrev pub end_lines : (compared : List ℕ) → List ℕ
+end_lines compared = compared ++ codes "kept under these settings:" ++ 10 ∷ []
+
+-- the log that a run would go on with, with this text behind
 abbrev pub log_lines : (is_moved : Bool) → (dates compared : List ℕ) → Seen → List ℕ
-log_lines is_moved dates compared s = notes_lines is_moved s ++ place_lines s
-    ++ standing_lines dates s ++ compared ++ codes "kept under these settings:" ++ 10 ∷ []
+log_lines is_moved dates compared s = found_lines is_moved dates s ++ end_lines compared
 
 -- with the settings at its head
 abbrev pub seen_lines : (is_moved : Bool) → (dates compared : List ℕ) → Option Seen → List ℕ

@@ -126,11 +126,7 @@ fn push_silence(text: &mut String, kept: Silence, now: Silence) -> Result<(), Al
 }
 
 /// The lines of the sizes.
-fn push_sizes(
-    text: &mut String,
-    kept: &LineSettings,
-    now: &LineSettings,
-) -> Result<(), AllocError>
+fn push_sizes(text: &mut String, kept: &LineSettings, now: &LineSettings) -> Result<(), AllocError>
     ensures { OnOk result (string_bytes text.new ≡ string_bytes text.old
         ++ spec.size_lines kept.now now.now) }
 {
@@ -140,7 +136,34 @@ fn push_sizes(
     push_ioa(text, kept.sizes.ioa, now.sizes.ioa)
 }
 
-/// The lines of the other keys of the line.
+/// The lines of `answer_ms` and `retries`.
+fn push_answers(
+    text: &mut String,
+    kept: &LineSettings,
+    now: &LineSettings,
+) -> Result<(), AllocError>
+    ensures { OnOk result (string_bytes text.new ≡ string_bytes text.old
+        ++ spec.answer_lines kept.now now.now) }
+{
+    push_number(text, "line.answer_ms", kept.answer_ms, now.answer_ms)?;
+    push_number(
+        text,
+        "line.retries",
+        kept.retries.into(),
+        now.retries.into(),
+    )
+}
+
+/// The lines of `burst` and `queue`.
+fn push_queues(text: &mut String, kept: &LineSettings, now: &LineSettings) -> Result<(), AllocError>
+    ensures { OnOk result (string_bytes text.new ≡ string_bytes text.old
+        ++ spec.queue_lines kept.now now.now) }
+{
+    push_number(text, "line.burst", kept.burst.into(), now.burst.into())?;
+    push_number(text, "line.queue", kept.queue.into(), now.queue.into())
+}
+
+/// The lines of the keys of the line that are no sizes.
 fn push_polling(
     text: &mut String,
     kept: &LineSettings,
@@ -149,11 +172,9 @@ fn push_polling(
     ensures { OnOk result (string_bytes text.new ≡ string_bytes text.old
         ++ spec.polling_lines kept.now now.now) }
 {
-    push_number(text, "line.answer_ms", kept.answer_ms, now.answer_ms)?;
-    push_number(text, "line.retries", kept.retries.into(), now.retries.into())?;
+    push_answers(text, kept, now)?;
     push_silence(text, kept.silence, now.silence)?;
-    push_number(text, "line.burst", kept.burst.into(), now.burst.into())?;
-    push_number(text, "line.queue", kept.queue.into(), now.queue.into())
+    push_queues(text, kept, now)
 }
 
 /// The lines of the connection.
@@ -342,11 +363,7 @@ fn push_all_stations(text: &mut String, kept: &Config, now: &Config) -> Result<(
 }
 
 /// A line for each key that differs: the values that were kept, and those of now.
-pub(crate) fn push_changes(
-    text: &mut String,
-    kept: &Config,
-    now: &Config,
-) -> Result<(), AllocError>
+pub(crate) fn push_changes(text: &mut String, kept: &Config, now: &Config) -> Result<(), AllocError>
     ensures { OnOk result (string_bytes text.new ≡ string_bytes text.old
         ++ spec.changed_lines kept.now now.now) }
 {

@@ -265,6 +265,25 @@ fn compared(
     Ok(text)
 }
 
+/// What a log that counts has, with these dates.
+fn push_found(text: &mut String, seen: &Seen, is_moved: bool, dates: &str) -> Result<(), AllocError>
+    ensures { OnOk result (string_bytes text.new ≡ string_bytes text.old
+        ++ spec.found_lines is_moved dates.now seen.now) }
+{
+    push_notes(text, seen, is_moved)?;
+    push_place(text, seen)?;
+    push_standing(text, seen, dates)
+}
+
+/// What stands between that and the settings: this text.
+fn push_end(text: &mut String, compared: &str) -> Result<(), AllocError>
+    ensures { OnOk result (string_bytes text.new ≡ string_bytes text.old
+        ++ spec.end_lines compared.now) }
+{
+    text.push_str(compared)?;
+    text.push_str("kept under these settings:\n")
+}
+
 /// The lines of a log that counts, before the settings, with these dates and with this text.
 fn push_seen(
     text: &mut String,
@@ -276,11 +295,8 @@ fn push_seen(
     ensures { OnOk result (string_bytes text.new ≡ string_bytes text.old
         ++ spec.log_lines is_moved dates.now compared.now seen.now) }
 {
-    push_notes(text, seen, is_moved)?;
-    push_place(text, seen)?;
-    push_standing(text, seen, dates)?;
-    text.push_str(compared)?;
-    text.push_str("kept under these settings:\n")
+    push_found(text, seen, is_moved, dates)?;
+    push_end(text, compared)
 }
 
 /// The lines before those of a log.
