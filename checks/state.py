@@ -25,6 +25,7 @@ centre goes and comes.
 All of it is on the loopback. No case depends on how fast the machine is: an outstation that is late
 doesn't answer, and what a case waits for may take a minute.
 """
+import datetime
 import os
 import random
 import re
@@ -616,6 +617,63 @@ def fits(row, station):
     return int(bit) in bits and int(session) == station.resets and (gap is None) == (poll is None)
 
 
+def dated(ms):
+    """A moment of the wall clock as RFC 3339 has it, with milliseconds, in UTC."""
+    moment = datetime.datetime.fromtimestamp(ms // 1000, datetime.timezone.utc)
+    return f"{moment:%Y-%m-%dT%H:%M:%S}.{ms % 1000:03}Z"
+
+
+# Each key has another value than that of `kept.SETTINGS`, or than its default (docs/SETTINGS.md).
+OTHER_SETTINGS = """[line]
+link = 2
+cause = 2
+ca = 2
+ioa = 3
+answer_ms = 7
+retries = 9
+silence = "reset"
+burst = 255
+queue = 65535
+[tcp]
+k = 11
+w = 2
+t1_ms = 14000
+t2_ms = 9000
+t3_ms = 19000
+select_ms = 29000
+max_age_ms = 9000
+[[station]]
+address = 2
+ca = 20
+select = true
+[[station]]
+address = 300
+ca = 301
+"""
+
+DIFFERENCES = [
+    "line.link: kept 1, now 2",
+    "line.cause: kept 1, now 2",
+    "line.ca: kept 1, now 2",
+    "line.ioa: kept 2, now 3",
+    "line.answer_ms: kept 1000, now 7",
+    "line.retries: kept 2, now 9",
+    "line.silence: kept hold, now reset",
+    "line.burst: kept 8, now 255",
+    "line.queue: kept 200, now 65535",
+    "tcp.k: kept 12, now 11",
+    "tcp.w: kept 1, now 2",
+    "tcp.t1_ms: kept 15000, now 14000",
+    "tcp.t2_ms: kept 10000, now 9000",
+    "tcp.t3_ms: kept 20000, now 19000",
+    "tcp.select_ms: kept 30000, now 29000",
+    "tcp.max_age_ms: kept 10000, now 9000",
+    "station.address: kept 1 2, now 2 300",
+    "station 2, ca: kept 2, now 20",
+    "station 2, select: kept false, now true",
+]
+
+
 def a_look(count, program):
     """What `telegate state` shows is what the next start tells, and it changes nothing."""
     with tempfile.TemporaryDirectory() as folder:
@@ -644,7 +702,17 @@ def a_look(count, program):
             written = file.read()[begin:].split(b"\0")[0].split(b"\n")[:-1]
         events = sum(not is_seal(line) for line in written)
         count.judge("the segment", lines[1] == f"segment {number} in {os.path.basename(path)}, events behind its head: {events}", (lines, number, path, events))
-        count.judge("the clock", re.fullmatch(r"moment in ms \d+, wall clock in ms 1\d{12} at moment \d+", lines[2]), lines[2])
+        clock = re.fullmatch(r"moment in ms (\d+), wall clock in ms (1\d{12}) at moment (\d+)", lines[2])
+        count.judge("the clock", clock, lines[2])
+        moment, wall, told_at = map(int, clock.groups())
+        count.compare("the dates", lines[3], f"latest event {dated(wall + moment - told_at)}, wall clock told {dated(wall)}")
+        count.judge("nothing queued is told unasked", not [line for line in lines if line.startswith("queued")], lines)
+        asked, _, _ = looked(gateway, "--reports", gateway.state)
+        queued_lines = [line for line in asked if line.startswith("queued")]
+        # Each station gives its reports in the order of their numbers (checks/outstations.py): the number is the address, and the value is on.
+        given = {a: [f"queued of station {a}  M_SP_NA_1 spontaneous  CA {a}  {n} = on" for n in range(1, s.given + 1)] for a, s in gateway.field.stations.items()}
+        count.judge("each station's reports", all([line for line in queued_lines if f"station {a} " in line] == told for a, told in given.items()), (queued_lines, given))
+        count.compare("and no other", (len(queued_lines), len(asked)), (queued, len(lines) + queued))
         stations = gateway.field.stations
         count.judge("the stations", all(fits(row_of(lines, a), stations[a]) for a in stations), (lines, [(s.bit, s.resets) for s in stations.values()]))
         with open(gateway.config) as file:
@@ -659,6 +727,15 @@ def a_look(count, program):
             file.write("\n".join(settings).replace("answer_ms = ", "answer_ms = 1"))
         lines, _, _ = looked(gateway, gateway.state, other)
         count.judge("other settings", lines[0] == "state: settings have changed", lines[:2])
+        at = lines.index("kept under these settings:")
+        count.compare("and which", lines[at - 1], f"line.answer_ms: kept {USUAL['answer_ms']}, now 1{USUAL['answer_ms']}")
+        count.judge("and no other", ": kept " not in lines[at - 2], lines)
+        with open(other, "w") as file:
+            file.write(OTHER_SETTINGS)
+        lines, _, _ = looked(gateway, gateway.state, other)
+        at = lines.index("kept under these settings:")
+        count.compare("each key", lines[at - len(DIFFERENCES) : at], DIFFERENCES)
+        count.judge("and no key more", ": kept " not in lines[at - len(DIFFERENCES) - 1], lines)
         with open(other, "w") as file:
             file.write("no settings")
         lines, _, _ = looked(gateway, gateway.state, other)

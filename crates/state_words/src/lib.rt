@@ -2,14 +2,17 @@
 //! directory.
 //!
 //! [`describe_state`] puts into lines what `state::look` has found: how a run would begin, in the
-//! words that it would log then; the segment that counts; and how the links stand behind its
-//! events, with what a start would give up. Proved: the text is this function of what was found
-//! ([`describe_state`]'s contract), and the link of a station is shown as a request without an
-//! answer so far leaves it.
+//! words that it would log then; the segment that counts; the date of its latest event; how the
+//! links stand behind its events, with what a start would give up; what is queued; and the settings
+//! that differ. Proved: the text is this function of what was found ([`describe_state`]'s
+//! contract), and the link of a station is shown as a request without an answer so far leaves it.
 #![tactic(auto)]
 
+mod changes;
+mod dates;
 mod laws;
 mod notes;
+mod reports;
 mod stations;
 mod text;
 

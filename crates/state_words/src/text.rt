@@ -1,14 +1,18 @@
 //! What a directory of a state has, in lines.
-ghost use Rattle.std.specs.Prelude.{◌≡◌, ◌++◌, IfOk, OnOk, Some, false, option_map, string_bytes};
+ghost use Rattle.std.specs.Prelude.{◌≡◌, ◌++◌, IfOk, OnOk, Some, false, option_map};
+ghost use Rattle.std.specs.Prelude.{string_bytes};
 ghost use Rattle.std.specs.Prelude.{true};
 ghost use Rattle.state_words.specs.Text as spec;
 
+use crate::changes::push_changes;
+use crate::dates::dates_of;
 use crate::notes::{note_of, note_of_damage, note_of_given_up, note_of_queue, note_of_settings};
+use crate::reports::push_reports;
 use crate::stations::push_stations;
-use gateway::{Gateway, Wall};
+use gateway::{Config, Gateway, StationSettings, Wall};
 use runlog::{Note, Trouble};
 use segments::Side;
-use state::{GivenUp, Seen, Sight, are_changed};
+use state::{GivenUp, Seen, Sight, are_changed, settings_said};
 use std::alloc::{AllocError, Global};
 
 /// Appends the words of the log, if there is anything to say.
@@ -126,13 +130,23 @@ fn push_wall(text: &mut String, wall: Option<Wall>) -> Result<(), AllocError>
     }
 }
 
-fn push_gateway(text: &mut String, gateway: &Gateway) -> Result<(), AllocError>
+/// The moments of a gateway.
+fn push_moments(text: &mut String, gateway: &Gateway) -> Result<(), AllocError>
     ensures { OnOk result (string_bytes text.new ≡ string_bytes text.old
-        ++ spec.gateway_lines gateway.now) }
+        ++ spec.moments gateway.now) }
 {
     let moment = gateway.moment();
     write!(text, "moment in ms {moment}")?;
-    push_wall(text, gateway.last_wall())?;
+    push_wall(text, gateway.last_wall())
+}
+
+/// A gateway, with the line of these dates behind its moments.
+fn push_gateway(text: &mut String, gateway: &Gateway, dates: &str) -> Result<(), AllocError>
+    ensures { OnOk result (string_bytes text.new ≡ string_bytes text.old
+        ++ spec.gateway_lines dates.now gateway.now) }
+{
+    push_moments(text, gateway)?;
+    text.push_str(dates)?;
     push_stations(text, gateway.line())
 }
 
@@ -150,11 +164,11 @@ fn push_given_up(text: &mut String, given_up: &[GivenUp]) -> Result<(), AllocErr
 }
 
 /// The gateway, and what a start would give up of the connection.
-fn push_standing(text: &mut String, seen: &Seen) -> Result<(), AllocError>
+fn push_standing(text: &mut String, seen: &Seen, dates: &str) -> Result<(), AllocError>
     ensures { OnOk result (string_bytes text.new ≡ string_bytes text.old
-        ++ spec.standing_lines seen.now) }
+        ++ spec.standing_lines dates.now seen.now) }
 {
-    push_gateway(text, &seen.gateway)?;
+    push_gateway(text, &seen.gateway, dates)?;
     push_given_up(text, &seen.given_up)
 }
 
@@ -177,30 +191,112 @@ fn push_place(text: &mut String, seen: &Seen) -> Result<(), AllocError>
     push_note(text, note_of_damage(seen.damage))
 }
 
-/// The lines of a log that counts.
-fn push_found(text: &mut String, seen: &Seen, is_moved: bool) -> Result<(), AllocError>
+/// The pieces that are queued, if they are wanted, with the stations of these settings.
+fn push_wanted(
+    alloc: Global,
+    text: &mut String,
+    are_wanted: bool,
+    stations: &[StationSettings],
+    gateway: &Gateway,
+) -> Result<(), AllocError>
     ensures { OnOk result (string_bytes text.new ≡ string_bytes text.old
-        ++ spec.found_lines is_moved seen.now) }
+        ++ spec.reports_of are_wanted stations.now gateway.now) }
+{
+    if are_wanted {
+        push_reports(alloc, text, stations, gateway)
+    } else {
+        Ok(())
+    }
+}
+
+/// What stands before the settings that were kept: what is queued, and the settings that differ.
+fn push_compared(
+    alloc: Global,
+    text: &mut String,
+    are_wanted: bool,
+    kept: &Option<Config>,
+    now: &Option<Config>,
+    gateway: &Gateway,
+) -> Result<(), AllocError>
+    ensures { OnOk result (string_bytes text.new ≡ string_bytes text.old
+        ++ spec.compared_lines are_wanted kept.now now.now gateway.now) }
+{
+    match (kept, now) {
+        (Some(kept), Some(now)) => {
+            push_wanted(alloc, text, are_wanted, kept.stations(), gateway)?;
+            push_changes(text, kept, now)
+        }
+        (Some(kept), None) => push_wanted(alloc, text, are_wanted, kept.stations(), gateway),
+        (None, _) => push_wanted(alloc, text, are_wanted, &[], gateway),
+    }
+}
+
+/// The settings that a text says, if it says any.
+fn said_by(alloc: Global, text: &[u8]) -> Result<Option<Config>, AllocError>
+    ensures { IfOk result (spec.IsSaidBy text.now) }
+{
+    settings_said(alloc, text)
+}
+
+/// The settings that are given, if any are.
+fn settings_given(alloc: Global, given: Option<&[u8]>) -> Result<Option<Config>, AllocError>
+    ensures { IfOk result (spec.AreGiven (option_map (λ t. t.now) given.entry)) }
+{
+    match given {
+        Some(text) => said_by(alloc, text),
+        None => Ok(None),
+    }
+}
+
+/// What is told beside the log of a state, as a text.
+fn compared(
+    alloc: Global,
+    are_wanted: bool,
+    given: Option<&[u8]>,
+    seen: &Seen,
+) -> Result<String, AllocError>
+    ensures { IfOk result (λ text. spec.IsCompared are_wanted
+        (option_map (λ t. t.now) given.entry) seen.now (string_bytes text)) }
+{
+    let kept = said_by(alloc, &seen.settings)?;
+    let now = settings_given(alloc, given)?;
+    let mut text = String::new(alloc);
+    push_compared(alloc, &mut text, are_wanted, &kept, &now, &seen.gateway)?;
+    Ok(text)
+}
+
+/// What a log that counts has, with these dates.
+fn push_found(text: &mut String, seen: &Seen, is_moved: bool, dates: &str) -> Result<(), AllocError>
+    ensures { OnOk result (string_bytes text.new ≡ string_bytes text.old
+        ++ spec.found_lines is_moved dates.now seen.now) }
 {
     push_notes(text, seen, is_moved)?;
     push_place(text, seen)?;
-    push_standing(text, seen)
+    push_standing(text, seen, dates)
 }
 
-/// What stands before the settings.
-fn push_title(text: &mut String) -> Result<(), AllocError>
-    ensures { OnOk result (string_bytes text.new ≡ string_bytes text.old ++ spec.settings_title) }
+/// What stands between that and the settings: this text.
+fn push_end(text: &mut String, compared: &str) -> Result<(), AllocError>
+    ensures { OnOk result (string_bytes text.new ≡ string_bytes text.old
+        ++ spec.end_lines compared.now) }
 {
+    text.push_str(compared)?;
     text.push_str("kept under these settings:\n")
 }
 
-/// The lines of a log that counts, before the settings.
-fn push_seen(text: &mut String, seen: &Seen, is_moved: bool) -> Result<(), AllocError>
+/// The lines of a log that counts, before the settings, with these dates and with this text.
+fn push_seen(
+    text: &mut String,
+    seen: &Seen,
+    is_moved: bool,
+    dates: &str,
+    compared: &str,
+) -> Result<(), AllocError>
     ensures { OnOk result (string_bytes text.new ≡ string_bytes text.old
-        ++ spec.log_lines is_moved seen.now) }
+        ++ spec.log_lines is_moved dates.now compared.now seen.now) }
 {
-    push_found(text, seen, is_moved)?;
-    push_title(text)
+    push_found(text, seen, is_moved, dates)?;
+    push_end(text, compared)
 }
 
 /// The lines before those of a log.
@@ -230,16 +326,17 @@ fn is_moved(alloc: Global, given: Option<&[u8]>, seen: &Seen) -> Result<bool, Al
 }
 
 /// The lines for who looks at a directory in which this was found, with whether a run has it,
-/// whether it is marked as stale, and the file of settings that a run is to have, if one is given.
-/// Only want of memory is answered by an `Err`.
+/// whether it is marked as stale, whether what is queued is wanted, and the file of settings that a
+/// run is to have, if one is given. Only want of memory is answered by an `Err`.
 pub fn describe_state(
     alloc: Global,
     is_held: bool,
     is_stale: bool,
+    are_wanted: bool,
     given: Option<&[u8]>,
     sight: &Sight,
 ) -> Result<Vec<u8>, AllocError>
-    ensures { IfOk result (λ text. spec.IsStateText is_held is_stale
+    ensures { IfOk result (λ text. spec.IsStateText is_held is_stale are_wanted
         (option_map (λ t. t.now) given.entry) sight.now text.items) }
 {
     let mut text = String::new(alloc);
@@ -247,7 +344,9 @@ pub fn describe_state(
     match &sight.seen {
         Some(seen) => {
             let is_moved = is_moved(alloc, given, seen)?;
-            push_seen(&mut text, seen, is_moved)?;
+            let dates = dates_of(alloc, &seen.gateway)?;
+            let compared = compared(alloc, are_wanted, given, seen)?;
+            push_seen(&mut text, seen, is_moved, &dates, &compared)?;
             let mut lines = text.into_bytes();
             lines.extend_from_slice(&seen.settings)?;
             Ok(lines)

@@ -202,10 +202,11 @@ module _ (has : Text → List ℕ → Type 0) (lacks : Text → Type 0) where
         ])
 
     pub has_shown : (request : CommandRequest) (directory : Bor Text) (config : Option (Bor Text))
-        (old new : Option (List ℕ)) (exit : ℕ) → request ≡ State directory config
-        → ShowsState has lacks stands directory.now (text_of config) old new exit
+        (reports : Bool) (old new : Option (List ℕ)) (exit : ℕ)
+        → request ≡ State directory config reports
+        → ShowsState has lacks stands directory.now (text_of config) reports old new exit
         → Responds has lacks ran answered silent played stands colours request old new exit
-    has_shown request directory config old new exit is h =
+    has_shown request directory config reports old new exit is h =
         subst (λ (r : CommandRequest). Responds has lacks ran answered silent played stands colours
         r old
         new exit)

@@ -167,12 +167,22 @@ status_is place json x u p j a b = record {
   back = λ same. (refl, (word_is place x p.now a).back same.0, (flag_is json u j b).back same.1);
 }
 
--- a word, and one that may be left out
-pub state_is : (directory : Text) (config : Option Text) (x y : Option Text) (d : Bor Text)
-    (c : Option (Bor Text)) → x ≡ Some directory → y ≡ config
-    → Agree ((codes "state" ≡ codes "state") × (x ≡ Some d.now) × (text_of c ≡ y))
-    ((d.now ≡ directory) × (text_of c ≡ config))
-state_is directory config x y d c a b = record {
-  there = λ asked. ((word_is directory x d.now a).there asked.1, asked.2 ∙ b);
-  back = λ same. (refl, (word_is directory x d.now a).back same.0, same.1 ∙ sym b);
+-- a word, one that may be left out, and a flag
+pub state_is : (directory : Text) (config : Option Text) (reports : Bool) (x y u : Option Text)
+    (d : Bor Text) (c : Option (Bor Text)) (r : Bool) → x ≡ Some directory → y ≡ config
+    → u ≡ Some (flag_text reports)
+    → Agree ((codes "state" ≡ codes "state") × (x ≡ Some d.now) × (text_of c ≡ y) × IsFlagOf u r)
+    ((d.now ≡ directory) × (text_of c ≡ config) × (r ≡ reports))
+state_is directory config reports x y u d c r a b f = record {
+  there = λ asked. (
+    (word_is directory x d.now a).there asked.1,
+    asked.2 ∙ b,
+    (flag_is reports u r f).there asked.3,
+  );
+  back = λ same. (
+    refl,
+    (word_is directory x d.now a).back same.0,
+    same.1 ∙ sym b,
+    (flag_is reports u r f).back same.2,
+  );
 }

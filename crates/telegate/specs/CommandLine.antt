@@ -89,7 +89,8 @@ abbrev pub status : App
 status = command (codes "status") (word (codes "PLACE") ∷ flag (codes "json") ∷ [])
 
 abbrev pub state : App
-state = command (codes "state") (word (codes "DIR") ∷ further_word (codes "CONFIG") ∷ [])
+state = command (codes "state") (word (codes "DIR") ∷ further_word (codes "CONFIG")
+    ∷ flag (codes "reports") ∷ [])
 
 abbrev pub capture : App
 capture = command (codes "capture") (word (codes "CONFIG") ∷ word (codes "RECORD") ∷ [])
@@ -205,8 +206,9 @@ AsksFor name rows (Run config words) =
     (name ≡ codes "run") × IsGiven rows (codes "CONFIG") config.now × AreRunWords rows words
 AsksFor name rows (Status place json) = (name ≡ codes "status")
     × IsGiven rows (codes "PLACE") place.now × IsFlag rows (codes "json") json
-AsksFor name rows (State directory config) = (name ≡ codes "state")
+AsksFor name rows (State directory config reports) = (name ≡ codes "state")
     × IsGiven rows (codes "DIR") directory.now × IsNamed rows (codes "CONFIG") (text_of config)
+    × IsFlag rows (codes "reports") reports
 AsksFor name rows (Capture config text) = (name ≡ codes "capture")
     × IsGiven rows (codes "CONFIG") config.now × IsGiven rows (codes "RECORD") text.now
 AsksFor name rows (Stations config script words) = (name ≡ codes "stations")

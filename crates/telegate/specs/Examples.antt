@@ -64,7 +64,8 @@ abbrev pub AskStatus : List Text → (place : Text) → (json : Bool) → Type 0
 AskStatus words place json = (p : Bor Text) (j : Bool) →
     Ask words (Status p j) ((p.now ≡ place) × (j ≡ json))
 
--- what a directory has, beside this file of settings, if any
-abbrev pub AskState : List Text → (directory : Text) → (config : Option Text) → Type 0
-AskState words directory config = (d : Bor Text) (c : Option (Bor Text)) →
-    Ask words (State d c) ((d.now ≡ directory) × (text_of c ≡ config))
+-- what a directory has, beside this file of settings, if any, and perhaps with what is queued
+abbrev pub AskState : List Text → (directory : Text) → (config : Option Text) → (reports : Bool)
+    → Type 0
+AskState words directory config reports = (d : Bor Text) (c : Option (Bor Text)) (r : Bool) →
+    Ask words (State d c r) ((d.now ≡ directory) × (text_of c ≡ config) × (r ≡ reports))

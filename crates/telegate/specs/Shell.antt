@@ -197,29 +197,29 @@ IsGivenIn has None given = given ≡ None
 IsGivenIn has (Some name) given =
     (octets : List ℕ) × has name octets × (given ≡ Some octets)
 
--- what stands in the directory of this name was answered, beside these settings; or it can't be
--- read, and nothing was printed
+-- what stands in the directory of this name was answered, beside these settings, with what is
+-- queued if it is wanted; or it can't be read, and nothing was printed
 abbrev pub ShowsDirectory : (lacks : Text → Type 0) → (stands : Text → Stood → Type 0)
-    → (directory : Text) → (given : Option (List ℕ)) → (old new : Option (List ℕ)) → (exit : ℕ)
-    → Type 0
-ShowsDirectory lacks stands directory given old new exit =
-    GivesAnswer (IsStateShown (stands directory) given) old new exit
+    → (directory : Text) → (are_wanted : Bool) → (given : Option (List ℕ))
+    → (old new : Option (List ℕ)) → (exit : ℕ) → Type 0
+ShowsDirectory lacks stands directory are_wanted given old new exit =
+    GivesAnswer (IsStateShown (stands directory) are_wanted given) old new exit
     ⊎ (IsUnanswered lacks directory exit × Keeps old new)
 
 -- the same, by the octets of a file, if one is named
 pub record HasShownState (has : Text → List ℕ → Type 0) (lacks : Text → Type 0)
     (stands : Text → Stood → Type 0) (directory : Text) (config : Option Text)
-    (old new : Option (List ℕ)) (exit : ℕ) : Type 0 where
+    (are_wanted : Bool) (old new : Option (List ℕ)) (exit : ℕ) : Type 0 where
   pub given : Option (List ℕ)
   pub read : IsGivenIn has config given
-  pub shown : ShowsDirectory lacks stands directory given old new exit
+  pub shown : ShowsDirectory lacks stands directory are_wanted given old new exit
 
 -- or that can't be read, and nothing was printed
 abbrev pub ShowsState : (has : Text → List ℕ → Type 0) → (lacks : Text → Type 0)
     → (stands : Text → Stood → Type 0) → (directory : Text) → (config : Option Text)
-    → (old new : Option (List ℕ)) → (exit : ℕ) → Type 0
-ShowsState has lacks stands directory config old new exit =
-    HasShownState has lacks stands directory config old new exit
+    → (are_wanted : Bool) → (old new : Option (List ℕ)) → (exit : ℕ) → Type 0
+ShowsState has lacks stands directory config are_wanted old new exit =
+    HasShownState has lacks stands directory config are_wanted old new exit
     ⊎ (IsNotRead has lacks (site_files config) exit × Keeps old new)
 
 -- The outstations of a script of these octets were played by settings of these, and the exit status
@@ -329,8 +329,9 @@ IsDone has lacks ran answered silent played stands colours (Show104 hex words) o
     (HasPiped Connection words (has input) old new exit)
 IsDone has lacks ran answered silent played stands colours (Status place json) old new exit =
     ShowsStatus answered silent place.now json old new exit
-IsDone has lacks ran answered silent played stands colours (State directory config) old new exit =
-    HasShownState has lacks stands directory.now (text_of config) old new exit
+IsDone has lacks ran answered silent played stands colours (State directory config reports) old new
+    exit =
+    HasShownState has lacks stands directory.now (text_of config) reports old new exit
 IsDone has lacks ran answered silent played stands colours (Capture config text) old new exit =
     HasCaptured has config.now text.now old new exit
 IsDone has lacks ran answered silent played stands colours (Stations config script words) old new

@@ -66,10 +66,12 @@ pub(crate) enum CommandRequest<'m, 'a> {
         place: &'a str,
         json: bool,
     },
-    /// The name of a directory, and that of a file of settings, if one is to be compared.
+    /// The name of a directory, and that of a file of settings, if one is to be compared; and
+    /// whether what is queued is wanted.
     State {
         directory: &'a str,
         config: Option<&'a str>,
+        reports: bool,
     },
     /// The names of two files.
     Capture {
@@ -343,8 +345,9 @@ fn state<'a>(alloc: Global) -> Result<Command<'a>, AllocError>
         ),
         CommandWord::Further(
             "CONFIG",
-            "A file of settings, to tell whether the state was kept under others",
+            "A file of settings, to tell whether the state was kept under others, and which",
         ),
+        CommandWord::Flag("reports", "Prints each report that is queued, in words"),
     ];
     with_words(alloc, command, &words)
 }
@@ -589,6 +592,7 @@ fn state_of<'m, 'a>(matches: &'m ArgMatches<'a>) -> Option<CommandRequest<'m, 'a
     Some(CommandRequest::State {
         directory: given(matches, "DIR")?,
         config: given(matches, "CONFIG"),
+        reports: is_given(matches, "reports"),
     })
 }
 

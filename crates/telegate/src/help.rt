@@ -93,8 +93,9 @@ answers as a live run does, or the output failed, 4 no memory";
 
 pub(crate) const STATE: &str = "\
 Printed: how a run that begins there would go on, in the words that it would log, the segment that
-counts, how many events stand behind its head, the wall clock, how the link to each station stands,
-and the settings under which that was kept. With CONFIG it says too whether they are others.
+counts, how many events stand behind its head, the date of the latest one, how the link to each
+station stands, and the settings under which that was kept. With CONFIG each key whose value is
+another there has its line, and with --reports each report that is queued.
 Nothing in DIR is changed, and a run may have it.
 Exit status: 0 done, 1 what is there can't be read, so that a run would put it aside and begin anew,
 2 usage, 3 a file or the output failed, 4 no memory";

@@ -201,9 +201,11 @@ pub(crate) fn respond<H: Host, W: Write, E: Write>(
         },
         CommandRequest::Run { config, words } => run_wished(alloc, host, *config, words, err),
         CommandRequest::Status { place, json } => ask_status(host, *place, *json, out, err),
-        CommandRequest::State { directory, config } => {
-            show_state(alloc, host, *directory, *config, out, err)
-        }
+        CommandRequest::State {
+            directory,
+            config,
+            reports,
+        } => show_state(alloc, host, *directory, *config, *reports, out, err),
         CommandRequest::Capture { config, text } => match read_file(host, *config, err) {
             Ok(octets) => capture_file(alloc, host, *text, named(*config, &octets), out, err),
             Err(status) => status,
@@ -420,14 +422,15 @@ fn show_state<H: Host, W: Write, E: Write>(
     host: &H,
     directory: &str,
     config: Option<&str>,
+    are_wanted: bool,
     out: &mut W,
     err: &mut E,
 ) -> u8
     ensures { ShowsState (H.has host.now) (H.lacks host.now) (H.stands host.now) directory.now
-        (text_of config.entry) (W.contents out.old) (W.contents out.new) result }
+        (text_of config.entry) are_wanted (W.contents out.old) (W.contents out.new) result }
 {
     match read_given(host, config, err) {
-        Ok(given) => show_directory(alloc, host, directory, given, out, err),
+        Ok(given) => show_directory(alloc, host, directory, are_wanted, given, out, err),
         Err(status) => status,
     }
 }
@@ -454,20 +457,21 @@ fn read_given<H: Host, E: Write>(
 }
 
 /// Shows what stands in the directory of this name, beside these settings, if any are given, and
-/// answers the exit status.
+/// with what is queued, if it is wanted. Answers the exit status.
 fn show_directory<H: Host, W: Write, E: Write>(
     alloc: Global,
     host: &H,
     directory: &str,
+    are_wanted: bool,
     given: Option<Vec<u8>>,
     out: &mut W,
     err: &mut E,
 ) -> u8
-    ensures { ShowsDirectory (H.lacks host.now) (H.stands host.now) directory.now
+    ensures { ShowsDirectory (H.lacks host.now) (H.stands host.now) directory.now are_wanted
         (octets_of given) (W.contents out.old) (W.contents out.new) result }
 {
     match host.look(directory) {
-        Ok(stood) => give(&answer_stood(alloc, stood, given), out, err),
+        Ok(stood) => give(&answer_stood(alloc, stood, are_wanted, given), out, err),
         Err(Unread::Unreadable) => {
             let _ = write_unreadable(directory, err);
             DEVICE_FAILED

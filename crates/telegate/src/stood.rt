@@ -12,13 +12,15 @@ use state_words::describe_state;
 use std::alloc::Global;
 
 /// What a start would find in a directory, in lines, with the exit status: 1 if what is there can't
-/// be read. It is compared with these settings, if any are given.
+/// be read. What is queued is told if it is wanted. It is compared with these settings, if any are
+/// given.
 pub(crate) fn answer_stood(
     alloc: Global,
     stood: Stood,
+    are_wanted: bool,
     given: Option<Vec<u8>>,
 ) -> Result<CommandAnswer, Fault>
-    ensures { IsStoodShown stood (octets_of given) result }
+    ensures { IsStoodShown are_wanted stood (octets_of given) result }
 {
     let Stood {
         files,
@@ -28,7 +30,7 @@ pub(crate) fn answer_stood(
         ..
     } = stood;
     match look(alloc, files, is_stale, &before) {
-        Ok(sight) => answer_sight(alloc, is_held, is_stale, given, sight),
+        Ok(sight) => answer_sight(alloc, is_held, is_stale, are_wanted, given, sight),
         Err(fault) => Err(fault_of(fault)),
     }
 }
@@ -38,12 +40,14 @@ fn answer_sight(
     alloc: Global,
     is_held: bool,
     is_stale: bool,
+    are_wanted: bool,
     given: Option<Vec<u8>>,
     sight: Sight,
 ) -> Result<CommandAnswer, Fault>
-    ensures { IsSightAnswer is_held is_stale (octets_of given) sight result }
+    ensures { IsSightAnswer is_held is_stale are_wanted (octets_of given) sight result }
 {
-    let text = describe_state(alloc, is_held, is_stale, slice_of(&given), &sight)?;
+    let given = slice_of(&given);
+    let text = describe_state(alloc, is_held, is_stale, are_wanted, given, &sight)?;
     Ok(CommandAnswer {
         text,
         status: status_of(sight.beginning),

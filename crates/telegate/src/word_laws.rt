@@ -9,8 +9,9 @@ ghost use Rattle.telegate.specs.declared.command_line.CommandRequest.TheVariants
 /// directory or the place that its word says, and the second one never stands for the first. The
 /// settings beside a directory may be left out, and so may a site.
 pub fn paths_are_taken_as_they_stand()
-    ensures states { (a b : Text) → AskState (codes "state" ∷ (47 ∷ a) ∷ []) (47 ∷ a) None
-        × AskState (codes "state" ∷ (47 ∷ a) ∷ (47 ∷ b) ∷ []) (47 ∷ a) (Some (47 ∷ b)) }
+    ensures states { (a b : Text) → AskState (codes "state" ∷ (47 ∷ a) ∷ []) (47 ∷ a) None false
+        × AskState (codes "state" ∷ (47 ∷ a) ∷ (47 ∷ b) ∷ codes "--reports" ∷ []) (47 ∷ a)
+        (Some (47 ∷ b)) true }
     ensures files { (a b : Text) →
         AskTwo (codes "audit" ∷ (47 ∷ a) ∷ (47 ∷ b) ∷ []) Audit (47 ∷ a) (47 ∷ b)
         × AskTwo (codes "capture" ∷ (47 ∷ a) ∷ (47 ∷ b) ∷ []) Capture (47 ∷ a) (47 ∷ b)

@@ -45,3 +45,4 @@ pub use laws::{
 };
 pub use lines::{push_line_frame, push_line_refusal, words_of_line};
 pub use pipes::{apdu_end, line_end, read_line_of_octets};
+pub use units::push_data;

@@ -19,7 +19,7 @@ use std::alloc::{AllocError, Global};
 
 /// Appends the data of a frame, if it has any, and says whether they are as they should be.
 #[tactic(auto, unfolding(crate::specs::Units::data_words))]
-pub(crate) fn push_data(
+pub fn push_data(
     alloc: Global,
     line: &mut String,
     sizes: Sizes,

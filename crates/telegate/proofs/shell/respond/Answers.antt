@@ -116,7 +116,7 @@ returns-in-State-clause-responds g c =
     (g.H.Host.ran c.args.host.now c.args.host.now) (g.H.Host.answered c.args.host.now)
     (g.H.Host.silent c.args.host.now) (g.H.Host.played c.args.host.now)
     (g.H.Host.stands c.args.host.now) (g.H.Host.colours c.args.host.now)
-    c.args.request.now c.in-State.directory c.in-State.config (g.W.Write.contents c.args.out.now)
+    c.args.request.now c.in-State.directory c.in-State.config c.in-State.reports (g.W.Write.contents c.args.out.now)
     (g.W.Write.contents c.show_state.new.out) c.show_state.result c.in-State.is
     c.show_state.ensures
 

@@ -9,8 +9,8 @@ use Rattle.telegate.proofs.word_laws.paths_are_taken_as_they_stand.Goals as goal
 pub returns-clause-states : goal.returns-clause-states
 unfolding bundle_met walked flags_fault walk_fault defaults_fault
 returns-clause-states c a b = (
-  λ x y. (refl, state_is (47 ∷ a) None _ _ x y refl refl),
-  λ x y. (refl, state_is (47 ∷ a) (Some (47 ∷ b)) _ _ x y refl refl),
+  λ x y r. (refl, state_is (47 ∷ a) None false _ _ _ x y r refl refl refl),
+  λ x y r. (refl, state_is (47 ∷ a) (Some (47 ∷ b)) true _ _ _ x y r refl refl refl),
 )
 
 pub returns-clause-files : goal.returns-clause-files
