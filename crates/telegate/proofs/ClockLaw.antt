@@ -93,7 +93,7 @@ pub clocked_kept : {E D : Type 0} (g : Ghosts D) (settings : Settings) (wishes :
       calls = Some before;
       clocks = Some moments;
     }) new left ended → wishes.state ≡ Some directory
-    → (o : Origin) × StartsIn g wishes settings lineage o × (left.before ≡ o.before.entries)
+    → (o : Origin) × StartsIn g wishes settings lineage o × (left.pen.before ≡ o.before.entries)
     × ((o.beginning ≡ beginnings.GoesOn) ⊎ (o.beginning ≡ beginnings.LinksReset)
     → new.clocks ≡ Some (o.gateway.moment ∷ moments))
     × ((o.beginning ≡ beginnings.Anew) ⊎ (o.beginning ≡ beginnings.PutAside)

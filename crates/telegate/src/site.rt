@@ -179,7 +179,7 @@ pub(crate) trait Notes {
 
 /// The ends that a process has at these places.
 #[derive(Drop)]
-pub(crate) struct Process<'r, S: Starts, N: Notes> {
+pub(crate) struct Process<'r, 'n, S: Starts, N: Notes> {
     pub(crate) rt: &'r HostRuntime,
     pub(crate) places: &'r LiveSettings,
     /// What the line and the stations are called.
@@ -192,7 +192,7 @@ pub(crate) struct Process<'r, S: Starts, N: Notes> {
     pub(crate) starts: S,
     /// What led to the state at the head of the newest log there.
     pub(crate) lineage: History,
-    pub(crate) notes: &'r mut N,
+    pub(crate) notes: &'n mut N,
 }
 
 /// The line of a process.
@@ -248,7 +248,7 @@ impl<L: Reached, A: Reached> Reached for ProcessLine<L, A> {
     }
 }
 
-impl<'r, S: Starts, N: Notes> RunSite for Process<'r, S, N> {
+impl<'r, S: Starts, N: Notes> RunSite for Process<'r, '_, S, N> {
     type Line = SystemLine<'r, HostRuntime>;
 
     type Listener = CentreListener<'r, HostRuntime>;
@@ -379,7 +379,7 @@ fn reached<'r, R: Net<Stream = TcpStream> + Clock>(
     Ok(ProcessLine::Again(Redialled::new(LineDialler::new(rt, place), tries)))
 }
 
-impl<S: Starts, N: Notes> Process<'_, S, N> {
+impl<S: Starts, N: Notes> Process<'_, '_, S, N> {
     /// Why an end can't be had at this place. It is told, unless the log says it.
     fn refusal(&self, trouble: Trouble, end: &str, place: &str, fault: &io::Error) -> EndRefusal {
         let refusal = refusal_by(trouble, fault);
