@@ -208,7 +208,7 @@ def first_of_an_older_version(count, program):
         other = ({"segments", "segments-wal"} - {os.path.basename(path)}).pop()
         os.truncate(os.path.join(life.gateway.state, other), 0)
         faults, says = life.goes_on()
-        count.judge("an empty file beside it is none that was cut", not faults and says == "goes on", (faults, says))
+        count.judge("an empty file beside it is none that was cut", not faults and says == "resumed", (faults, says))
 
 
 def exchange(life, chance, part):

@@ -436,7 +436,7 @@ def names_of_stations(count, program):
             process = subprocess.Popen(words, stdin=subprocess.DEVNULL, stderr=log)
             try:
                 told = lambda: open(log.name).read()
-                asked = until(lambda: "station 263 asked" in told() and "station 7 asked" in told(), 20)
+                asked = until(lambda: "station 263 link status" in told() and "station 7 link status" in told(), 20)
                 count.judge("both are asked", asked, told())
                 for address, name in ((7, "Near Mill"), (263, "Far Mill")):
                     count.judge(f"the log's name of {address}", f"station {address} link status requested [{name}]\n" in told(), told())
