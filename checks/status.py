@@ -472,6 +472,7 @@ def events(count, program, folder):
         file.write('[line]\nname = "Ring <1>"\n[[station]]\nlink = 1\nname = "Mill & Lane"\n')
     for flags in (["--log", "--log-severity"], []):
         stations = Stations([1, 2])
+        began = time.time()
         with Run(program, folder, stations, "--site", site, *flags) as run:
             up = run.waits(lambda s: all(station["standing"] == "up" for station in s["stations"]))
             count.judge("both stations are up", up, run.json())
@@ -496,15 +497,15 @@ def events(count, program, folder):
             kinds = ("connection opened by 127.0.0.1", "connection started", "connection lost: peer closed")
             count.judge("without a log, too", all(told.count(("warning" if "lost" in kind else "info", kind)) >= 5 for kind in kinds), told)
             continue
-        lines = [re.fullmatch(r"<(\d)>(\S+)Z (\d+) (.*)", line) for line in log]
-        lines = [line for line in lines if line and not line[4].startswith("counts ")][:-21:-1]
-        wanted = [(SEVERITIES[line[1]], line[4]) for line in lines]
+        lines = [re.fullmatch(r"<(\d)>(\d+) (.*)", line) for line in log]
+        lines = [line for line in lines if line and not line[3].startswith("counts ")][:-21:-1]
+        wanted = [(SEVERITIES[line[1]], line[3]) for line in lines]
         count.judge("the JSON has the log's lines, the newest first", told == wanted, (told, wanted))
         moments = [event["moment_ms"] for event in latest]
-        count.judge("with their moments", moments == [int(line[3]) for line in lines], (moments, log[-20:]))
+        count.judge("with their moments", moments == [int(line[2]) for line in lines], (moments, log[-20:]))
         for (_, clock, words), event, line in zip(rows, latest, lines):
-            written = datetime.datetime.fromisoformat(line[2] + "+00:00").timestamp()
-            count.judge(f"the time of {words}", abs(event["wall_ms"] / 1000 - written) < 2, (event, line[0]))
+            written = began + event["moment_ms"] / 1000
+            count.judge(f"the time of {words}", abs(event["wall_ms"] / 1000 - written) < 3, (event, line[0]))
             shown = datetime.datetime.fromtimestamp(event["wall_ms"] // 1000, datetime.timezone.utc)
             count.judge(f"its time of day: {words}", clock == f"{shown:%H:%M:%S}", (clock, event))
 
