@@ -316,7 +316,10 @@ fn play_at(
             let teller = Teller::new(rt, rt.alloc(), settings, words);
             teller.tell_listening(place);
             let listener = ToldListener::new(teller, listener);
-            play_behind(rt, rt.alloc(), settings, scenario, &mut clock, listener)
+            match play_behind(rt, rt.alloc(), settings, scenario, &mut clock, listener) {
+                Ok(()) => Ok(()),
+                Err(_) => Err(Fault::NoMemory),
+            }
         }
         Err(fault) if fault.kind() == io::ErrorKind::OutOfMemory => Err(Fault::NoMemory),
         Err(fault) => {
@@ -351,17 +354,37 @@ fn run_process<S: Starts, N: Notes + Drop>(
         return Err(RunFault::EndUnusable);
     };
     let names = named_by(wishes.names, stations.as_slice());
-    let mut site = Process {
+    let lineage = system.lineage.again();
+    let (starts, notes) = (system.starts, &mut system.notes);
+    let mut site = process_of(rt, places, names, &wishes, starts, lineage, notes);
+    run_out(&mut site, settings, text, wishes)
+}
+
+/// A process of this system with these settings and names, and a log as it is wished.
+fn process_of<'r, 'n, S: Starts, N: Notes>(
+    rt: &'r HostRuntime,
+    places: &'r LiveSettings,
+    names: LogNames<'r>,
+    wishes: &Wishes<'_>,
+    starts: S,
+    lineage: History,
+    notes: &'n mut N,
+) -> Process<'r, 'n, S, N>
+    ensures severity { result.has_severity ≡ wishes.now.log_severity }
+    ensures places { result.places.now ≡ places.now }
+    ensures lineage { result.lineage.entries ≡ lineage.entries }
+    ensures notes { result.notes ≡ notes.entry }
+{
+    Process {
         rt,
         places,
         names,
         has_severity: wishes.log_severity,
         is_logged: wishes.log,
-        starts: system.starts,
-        lineage: system.lineage.again(),
-        notes: &mut system.notes,
-    };
-    run_out(&mut site, settings, text, wishes)
+        starts,
+        lineage,
+        notes,
+    }
 }
 
 /// What the line and these stations are called.
