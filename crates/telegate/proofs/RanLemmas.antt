@@ -146,25 +146,26 @@ none_by : (one other new : Asked) (answer : Result (Unit {0}) RunFault) → new.
 none_by one other new (Ok done) same none = none
 none_by one other new (Err fault) same none = (none.0, sym same ∙ none.1)
 
--- a run at a site with these places, of whose notes this is known
-pub come_at : {D : Type 0} (g : Ghosts D) (settings : Settings) (wishes : Wishes)
-    (one lineage : Log) (calls : Option (List SiteCall)) (clocks : Option (List ℕ))
-    (places : Places) (new : Asked) (answer : Result (Unit {0}) RunFault) → one ≡ lineage
-    → HasComeAt (StartsIn g wishes settings one) settings wishes (asked_by one calls clocks places)
-    new answer
+-- a run at a site that was asked for this before
+pub come_at : {D : Type 0} (g : Ghosts D) (settings : Settings) (wishes : Wishes) (old : Asked)
+    (lineage : Log) (calls : Option (List SiteCall)) (clocks : Option (List ℕ)) (places : Places)
+    (new : Asked) (answer : Result (Unit {0}) RunFault)
+    → old ≡ asked_by lineage calls clocks places
+    → HasComeAt (StartsIn g wishes settings old.lineage) settings wishes old new answer
     → HasComeAt (StartsIn g wishes settings lineage) settings wishes
     (asked_by lineage calls clocks places) (asked_by lineage new.calls new.clocks places) answer
-come_at g settings wishes one lineage calls clocks places new answer same came =
-    subst (λ (l : Log). HasComeAt (StartsIn g wishes settings l) settings wishes
-    (asked_by l calls clocks places) (asked_by l new.calls new.clocks places) answer) same
-    (elim came [
-      | inl none ↦ inl (none_by (asked_by one calls clocks places)
-          (asked_by one new.calls new.clocks places) new answer refl none)
-      | inr over ↦ inr (subst (λ (a : Asked). HasCome (StartsIn g wishes settings one) settings
-          wishes (asked_by one calls clocks places) a answer)
-          (asked_so _ settings wishes one calls clocks places new over.left over.ended over.lived)
+come_at g settings wishes old lineage calls clocks places new answer same came =
+    let at : Asked = asked_by lineage calls clocks places in
+    elim (subst (λ (a : Asked). HasComeAt (StartsIn g wishes settings a.lineage) settings wishes a
+    new answer) same came) [
+      | inl none ↦ inl (none_by at (asked_by lineage new.calls new.clocks places) new answer refl
+          none)
+      | inr over ↦ inr (subst (λ (a : Asked). HasCome (StartsIn g wishes settings lineage) settings
+          wishes at a answer)
+          (asked_so _ settings wishes lineage calls clocks places new over.left over.ended
+          over.lived)
           over)
-    ])
+    ]
 
 -- one that had no memory, or no end, before it asked a site for anything
 pub never_at : (begins : Origin → Type 0) (settings : Settings) (wishes : Wishes) (asked : Asked)

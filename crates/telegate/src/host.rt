@@ -38,6 +38,7 @@ use std::alloc::{AllocError, Global};
 use std::fs::File;
 use std::io;
 use std::io::{Read, Write};
+use std::mem;
 use std::rt::Files;
 
 /// The name of standard input.
@@ -163,7 +164,7 @@ pub(crate) trait Host {
 /// The system of a process, in whose directory this stands. What led to the state that a run may
 /// find there only proofs know.
 #[derive(Drop)]
-pub(crate) struct System<'r, S: Starts, N: Notes + Drop> {
+pub(crate) struct System<'r, S: Starts, N: Notes + Default + Drop> {
     pub(crate) rt: &'r HostRuntime,
     /// Whether its standard error is a terminal, and its standard output isn't.
     pub(crate) is_watched: bool,
@@ -177,7 +178,7 @@ pub(crate) struct System<'r, S: Starts, N: Notes + Drop> {
     pub(crate) notes: N,
 }
 
-impl<S: Starts, N: Notes + Drop> Host for System<'_, S, N> {
+impl<S: Starts, N: Notes + Default + Drop> Host for System<'_, S, N> {
     ghost has = { λ _ _ _. Unit {0} };
 
     ghost lacks = { λ _ _. Unit {0} };
@@ -330,9 +331,9 @@ fn play_at(
 }
 
 /// Runs the gateway live with these settings and places, which were read from this text, in a
-/// process of this system.
+/// process of this system. The process notes for the system what it is asked for.
 #[tactic(auto, using(crate::proofs::RanLemmas::never_at))]
-fn run_process<S: Starts, N: Notes + Drop>(
+fn run_process<S: Starts, N: Notes + Default + Drop>(
     system: &mut System<'_, S, N>,
     settings: &Config,
     places: &LiveSettings,
@@ -354,26 +355,28 @@ fn run_process<S: Starts, N: Notes + Drop>(
         return Err(RunFault::EndUnusable);
     };
     let names = named_by(wishes.names, stations.as_slice());
-    let lineage = system.lineage.again();
-    let (starts, notes) = (system.starts, &mut system.notes);
-    let mut site = process_of(rt, places, names, &wishes, starts, lineage, notes);
-    run_out(&mut site, settings, text, wishes)
+    let (starts, notes) = (system.starts, mem::take(&mut system.notes));
+    let mut site = process_of(rt, places, names, &wishes, starts, &system.lineage, notes);
+    let answer = run_out(&mut site, settings, text, wishes);
+    system.notes = site.notes;
+    answer
 }
 
-/// A process of this system with these settings and names, and a log as it is wished.
-fn process_of<'r, 'n, S: Starts, N: Notes>(
+/// A process of a system with these settings and names, and a log as it is wished. This led to the
+/// state in its directory.
+fn process_of<'r, S: Starts, N: Notes + Drop>(
     rt: &'r HostRuntime,
     places: &'r LiveSettings,
     names: LogNames<'r>,
     wishes: &Wishes<'_>,
     starts: S,
-    lineage: History,
-    notes: &'n mut N,
-) -> Process<'r, 'n, S, N>
+    lineage: &History,
+    notes: N,
+) -> Process<'r, S, N>
     ensures severity { result.has_severity ≡ wishes.now.log_severity }
-    ensures places { result.places.now ≡ places.now }
-    ensures lineage { result.lineage.entries ≡ lineage.entries }
-    ensures notes { result.notes ≡ notes.entry }
+    ensures asked { asked_by result.lineage.entries (N.calls result.notes) (N.clocks result.notes)
+        (places_of result.places.now) ≡ asked_by lineage.now.entries (N.calls notes)
+        (N.clocks notes) (places_of places.now) }
 {
     Process {
         rt,
@@ -382,7 +385,7 @@ fn process_of<'r, 'n, S: Starts, N: Notes>(
         has_severity: wishes.log_severity,
         is_logged: wishes.log,
         starts,
-        lineage,
+        lineage: lineage.again(),
         notes,
     }
 }

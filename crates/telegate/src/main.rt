@@ -90,7 +90,7 @@ impl Starts for AsTheyStand {
 }
 
 /// Notes nothing of what live runs ask for.
-#[derive(Drop)]
+#[derive(Default, Drop)]
 struct Unnoted;
 
 impl Notes for Unnoted {

@@ -179,7 +179,7 @@ pub(crate) trait Notes {
 
 /// The ends that a process has at these places.
 #[derive(Drop)]
-pub(crate) struct Process<'r, 'n, S: Starts, N: Notes> {
+pub(crate) struct Process<'r, S: Starts, N: Notes + Drop> {
     pub(crate) rt: &'r HostRuntime,
     pub(crate) places: &'r LiveSettings,
     /// What the line and the stations are called.
@@ -192,7 +192,7 @@ pub(crate) struct Process<'r, 'n, S: Starts, N: Notes> {
     pub(crate) starts: S,
     /// What led to the state at the head of the newest log there.
     pub(crate) lineage: History,
-    pub(crate) notes: &'n mut N,
+    pub(crate) notes: N,
 }
 
 /// The line of a process.
@@ -248,7 +248,7 @@ impl<L: Reached, A: Reached> Reached for ProcessLine<L, A> {
     }
 }
 
-impl<'r, S: Starts, N: Notes> RunSite for Process<'r, '_, S, N> {
+impl<'r, S: Starts, N: Notes + Drop> RunSite for Process<'r, S, N> {
     type Line = SystemLine<'r, HostRuntime>;
 
     type Listener = CentreListener<'r, HostRuntime>;
@@ -276,8 +276,8 @@ impl<'r, S: Starts, N: Notes> RunSite for Process<'r, '_, S, N> {
     ghost use Rattle.settings.specs.Live.{places_of};
     ghost use Rattle.telegate.specs.Asked.{asked_by};
 
-    ghost asked = { λ process. asked_by process.lineage.entries (N.calls process.notes.now)
-        (N.clocks process.notes.now) (places_of process.places.now) };
+    ghost asked = { λ process. asked_by process.lineage.entries (N.calls process.notes)
+        (N.clocks process.notes) (places_of process.places.now) };
 
     fn alloc(&self) -> Global {
         self.rt.alloc()
@@ -379,7 +379,7 @@ fn reached<'r, R: Net<Stream = TcpStream> + Clock>(
     Ok(ProcessLine::Again(Redialled::new(LineDialler::new(rt, place), tries)))
 }
 
-impl<S: Starts, N: Notes> Process<'_, '_, S, N> {
+impl<S: Starts, N: Notes + Drop> Process<'_, S, N> {
     /// Why an end can't be had at this place. It is told, unless the log says it.
     fn refusal(&self, trouble: Trouble, end: &str, place: &str, fault: &io::Error) -> EndRefusal {
         let refusal = refusal_by(trouble, fault);
