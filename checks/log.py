@@ -727,7 +727,7 @@ def skipped(count, program, folder):
     # Type 2, and a single point in sizes that the settings don't say (three octets of object address).
     for asdu, line in (
         ("0201030164000100000000", "station 7 report skipped, type 2: type not known"),
-        ("0101030164000001", "station 7 report skipped, type 1 M_SP_NA_1: length doesn't fit, look at line.ioa"),
+        ("0101030164000001", "station 7 report skipped, type 1 M_SP_NA_1: length doesn't fit the sizes in [line]"),
     ):
         station = Operated()
         with Run(program, folder, station, "--log", settings=PATIENT) as run:

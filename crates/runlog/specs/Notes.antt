@@ -93,7 +93,7 @@ abbrev pub skip_words : Skip → List ℕ
 skip_words skip.TooShort = codes "too short"
 skip_words skip.TypeUnknown = codes "type not known"
 skip_words skip.NoObjects = codes "no objects"
-skip_words skip.OtherLength = codes "length doesn't fit, look at line.ioa"
+skip_words skip.OtherLength = codes "length doesn't fit the sizes in [line]"
 skip_words skip.PastSize = codes "object address past its size"
 skip_words skip.Negative = codes "it says that a type is unknown"
 

@@ -262,7 +262,7 @@ pub fn commands_by_example()
         ≡ codes "station 7 report skipped, type 2: type not known")
         × (words (note.Skipped 7 1 skip.OtherLength)
         ≡ codes
-        "station 7 report skipped, type 1 M_SP_NA_1: length doesn't fit, look at line.ioa") }
+        "station 7 report skipped, type 1 M_SP_NA_1: length doesn't fit the sizes in [line]") }
     // The first at once; of three more within the second the last, once that is over, with its own
     // moment, and that of the first of the two others.
     ensures gathered { lines_of_calls (Add (note.Up 1) 5 ∷ Look 5 ∷ Add (note.Up 2) 6 ∷ Look 6

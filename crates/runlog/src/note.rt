@@ -367,7 +367,7 @@ fn skip_words(why: Skip) -> &'static str
         Skip::TooShort => "too short",
         Skip::TypeUnknown => "type not known",
         Skip::NoObjects => "no objects",
-        Skip::OtherLength => "length doesn't fit, look at line.ioa",
+        Skip::OtherLength => "length doesn't fit the sizes in [line]",
         Skip::PastSize => "object address past its size",
         Skip::Negative => "it says that a type is unknown",
     }
