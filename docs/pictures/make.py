@@ -399,7 +399,7 @@ USES = {
 AROUND = [
     (25, 100, "A live run", ["live runlog status"],
      ["the_log_has_what_passed", "what_is_gathered_is_logged_or_counted"]),
-    (360, 100, "Its state on the disk", ["state state_files state_words", "segments statetext"],
+    (360, 100, "Its state on the disk", ["state segments statetext"],
      ["nothing_goes_out_before_it_is_on_disk", "Segment::survives"]),
     (25, 196, "Settings", ["settings"],
      ["read_config", "read_site"]),
