@@ -6,7 +6,7 @@
 Text and boxes alone: after a change call it again (checks/documents.py compares). Each picture is 700 wide, as a page shows it, but
 for the deployment, which fits a telephone. No text is below 11 px. A reader with a dark screen gets dark colours.
 Looking at one: `rsvg-convert NAME.svg -o NAME.png`. What stands between backticks is a line of the log, a word of the program or the
-name of a contract, as docs/TEXTS.md and the crates have it.
+name of a contract, as docs/LOG.md and the crates have it.
 """
 import os
 from html import escape
