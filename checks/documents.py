@@ -211,7 +211,7 @@ def pictures(count, _program, _folder):
     for name, text in make.pictures().items():
         path = f"docs/pictures/{name}.svg"
         count.judge(path, os.path.exists(os.path.join(TOP, path)) and read(path) == text, "docs/pictures/make.py makes another one")
-    for shown in sorted(set(re.findall(r"`((?:station A|queue|connection|state|\.\.) [^`]*)`", read("docs/pictures/make.py")))):
+    for shown in sorted(set(re.findall(r"`((?:station A|queue|connection|state|waiting|command without|\.\.) [^`]*)`", read("docs/pictures/make.py")))):
         count.judge(f"docs/pictures: {shown}", any(is_line(shown, row) for row in rows), f"{LOG} has no such line")
 
 
