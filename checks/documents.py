@@ -238,6 +238,9 @@ def log(count, _program, _folder):
         holds = len(told) == len(wanted) and all(re.fullmatch(*both) for both in zip(wanted, told))
         count.judge(f"{LOG}, {heading}: each WHY", holds, f"{told}, and not {wanted}")
     spans = re.findall(r"`([^`\n]+)`", text)
+    for old, new in re.findall(r"^\| `(.*)` \| `(.*)` \|$", read("docs/GLOSSARY.md"), re.M):
+        told = [any(words in span for span in spans) for words in (old, new)]
+        count.judge(f"docs/GLOSSARY.md: {old}", told == [False, True], f"{LOG} has {told}")
     for name in ("act_words", "value_words", "left_out_words"):
         for pattern in (text.removeprefix("\\ ") for text in lines.texts(name) if re.search("[a-z]", text)):
             shown = any(re.fullmatch(pattern, span) for span in spans)
