@@ -18,7 +18,8 @@
 - The program, the man page, CHANGELOG.md and each document that names a version name the same one.
 - Lines of src/, specs/ and tests/ have at most 100 columns, except imports and attributes.
 - An entry of a document that a comment or a document names, as `docs/NAME.md, "HEADING"`, is there.
-- The table of docs/TESTS.md has the scripts of checks/list.txt as those of the gate.
+- The table of docs/TESTS.md has the scripts of checks/list.txt as those of the gate. What begins
+  with `#!` is executable.
 - docs/LOG.md has each line that the log may have, once, in its words and with its severity, each
   reason of a line, and for each error and warning what to do (checks/lines.py).
 - The pictures are those that docs/pictures/make.py makes, and the log's lines on them are lines.
@@ -270,6 +271,9 @@ def lists(count, program, _folder):
     judge_version(count, program, texts)
     judge_crates(count, texts["docs/ARCHITECTURE.md"])
     judge_list(count, texts["docs/TESTS.md"])
+    for name in sorted(glob.glob("**/*.py", root_dir=TOP, recursive=True)):
+        if read(name).startswith("#!"):
+            count.judge(f"{name} can be called", os.access(os.path.join(TOP, name), os.X_OK), "it isn't executable")
 
 
 def printed(count, _program, _folder):
