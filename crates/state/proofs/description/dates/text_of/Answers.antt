@@ -9,7 +9,8 @@ use Rattle.state.specs.Dates.{IsDate, IsInstant}
 use Rattle.state.proofs.description.dates.text_of.Goals as goal
 
 -- by what a printer with these options writes
-abbrev printed : (lowercase : Bool) (separator : ℕ) (precision : Option ℕ) (date : DateTime) → List ℕ
+abbrev printed : (lowercase : Bool) (separator : ℕ) (precision : Option ℕ) (date : DateTime)
+    → List ℕ
 printed lowercase separator precision date =
     datetime_text lowercase separator precision date ++ zulu_text lowercase
 

@@ -1,4 +1,5 @@
-use Rattle.std.proofs.Common.{◌≡◌, ℕ, Bool, IfSome, List, [], ◌++◌, Option, Some, ap, append_assoc, subst, sym, ◌∙◌}
+use Rattle.std.proofs.Common.{◌≡◌, ℕ, Bool, IfSome, List, [], ◌++◌, Option, Some, ap}
+use Rattle.std.proofs.Common.{append_assoc, subst, sym, ◌∙◌}
 use Rattle.state.specs.declared.looking.Seen.{Seen}
 use Rattle.state.specs.declared.looking.Sight.{Sight}
 use Rattle.state.specs.Dates.{IsDated}
