@@ -9,7 +9,7 @@ deactivations are confirmed or refused, by the outstation and by the gateway, an
 end with 2, and without a gateway with 3.
 
 Octet by octet, with values from IEC 60870-5-104, 5 and IEC 60870-5-101, 7.2 and 7.3: each request, its numbers, an S frame behind eight I
-frames and behind ten seconds, both tests, the stop. Each thing that a gateway may not do, or doesn't do in time, ends the connection.
+frames and behind ten seconds, no thirteenth request without one of the gateway's, both tests, the stop. Each thing that a gateway may not do, or doesn't do in time, ends the connection.
 """
 import json
 import os
@@ -306,6 +306,29 @@ def requests(count, program, folder):
             count.compare(f"{name}: end", gateway.ended(), (["confirmed and terminated" if is_waited else "confirmed"], 0))
 
 
+# A value, the type of its command, and its element (IEC 60870-5-101, 7.2.6.6 to 8, 15 to 17 and 39).
+VALUES = [
+    ("on", 45, "01"), ("double:off", 46, "01"), ("up", 47, "02"), ("normalized:0.5", 48, "004000"), ("scaled:-2", 49, "FEFF00"),
+    ("float:1.5", 50, "0000C03F00"),
+]
+
+
+def each_command(count, program, folder):
+    """Each type is selected, executed and deactivated, with a time tag too: then the type is 13 more (7.2.1). The last octet of an element says
+    by its highest bit that it selects."""
+    for value, kind, element in VALUES:
+        for what, cause, bit in (("select", 6, 0x80), ("execute", 6, 0), ("deactivate", 8, 0x80)):
+            octets = bytearray.fromhex(element)
+            octets[-1] |= bit
+            for flags, more in (((), 0), (("--tagged",), 13)):
+                name = " ".join((what, value, *flags))
+                with Gateway(program, what, "1/100", value, *flags) as gateway:
+                    gateway.started(count, name)
+                    asdu = gateway.frame()[6:]
+                    wanted = bytes((kind + more, 1, cause, 0, 1, 0, 100, 0, 0)) + octets
+                    count.compare(f"{name}: the request", (asdu[:len(wanted)], len(asdu) - len(wanted)), (wanted, 7 if more else 0))
+
+
 def all_asked(count, program, folder):
     """An interrogation of all (65535) ends once each station of the settings has terminated it. Of whom nothing came is said, if the
     others' terminations are there and the wait is over. With the common address of all, or without settings, the first one ends it."""
@@ -413,6 +436,22 @@ def acknowledged(count, program, folder):
         count.compare("the gateway ends it", gateway.ended(), (["connection lost: the gateway ended it"], 3))
 
 
+def windowed(count, program, folder):
+    """k is 12 (IEC 60870-5-104, 9.6): of a watch's interrogations the thirteenth waits for an acknowledgement."""
+    config = os.path.join(folder, "many.toml")
+    with open(config, "w") as file:
+        file.write("[line]\nlink = 1\ncause = 1\nca = 1\nioa = 2\n")
+        file.writelines(f"[[station]]\naddress = {n}\nca = {n}\n" for n in range(1, 33))
+    asked = [information(ca - 1, 0, bytes.fromhex("64010600") + ca.to_bytes(2, "little") + bytes.fromhex("00000014")) for ca in range(1, 33)]
+    with Gateway(program, config) as gateway:
+        gateway.started(count, "k")
+        for least, most, acknowledged in ((0, 12, 8), (12, 20, 20), (20, 32, 32)):
+            count.compare(f"k: the requests up to {most}", [gateway.frame() for _ in asked[least:most]], asked[least:most])
+            count.compare(f"k: none behind {most}", gateway.frame(0.3), b"")
+            gateway.stream.sendall(supervisory(acknowledged))
+        count.compare("k: no request more", gateway.frame(0.3), b"")
+
+
 def refused(count, program, folder):
     """What a gateway may not do."""
     rows = [
@@ -476,6 +515,7 @@ def silent(count, program, folder):
 
 if __name__ == "__main__":
     parts = (
-        before_a_run, watched, wrong_words, requests, all_asked, tagged, operated, acknowledged, refused, silent,
+        before_a_run, watched, wrong_words, requests, each_command, all_asked, tagged, operated, acknowledged, windowed, refused,
+        silent,
     )
     frame.main(*parts, side_by_side=True)
