@@ -339,6 +339,9 @@ POINTED_SITES = [
      '1:1: no such key: colour\n2:9: allow = ["::1", "localhost"]: wanted a list of IPv4 and IPv6 addresses\n'),
     ("[[station]]\nlink = 7\n", "1:12: station.name is missing: wanted 1 to 40 printable characters\n"),
     ("log = \n", "1:7: "),
+    # What `run` judges of words and file together.
+    ('allow = ["192.0.2.7:2404"]\n', '1:9: allow = ["192.0.2.7:2404"]: wanted a list of IPv4 and IPv6 addresses\n'),
+    ("state_or_stop = true\n", "1:17: state_or_stop = true: wanted true or false, true only where a directory is named\n"),
 ]
 
 # What stands behind the settings with two stations, from line 13 on, a site's file, and what `check` warns of, of the settings and then of
@@ -371,6 +374,10 @@ POINTED_SCRIPTS = [
     ("turns 1\ncut 1 2", "2:6: something stands behind the last field\n"),
     ("turns 1\nforget 1", "2:1: no such word\n"),
     ("turns 1\r\n", "1:8: a carriage return: a line feed alone ends a line\n"),
+    # Each wrong line; that `turns` is missing is told alone.
+    ("turns x\n# ack 0\nack 0\n\nreport 1 3 00\nack 1\nack 2\n",
+     "1:7: a number has 1 to 9 digits\n3:5: 1 to 32767 is wanted\n5:10: a class is 1 or 2\n7:1: a line before this one says the same\n"),
+    ("cut\n" * 50, "".join(f"{line}:4: a field is missing here\n" for line in range(1, 41))),
 ]
 POINTED_TRACES = [
     ("1 T\n2 X", "2:3: no such letter: S, R, T, O, C and W are known\n"),
@@ -383,6 +390,9 @@ POINTED_TRACES = [
     ("1  T", "1:3: a second space: one stands between two fields\n"),
     ("1 > S 68", "1:3: an action: a trace has events alone\n"),
     ("1 T\r\n", "1:4: a carriage return: a line feed alone ends a line\n"),
+    # Each wrong line.
+    ("1 T\n2 X\n# 3 X\n\n4 T 5\n5 T", "2:3: no such letter: S, R, T, O, C and W are known\n5:4: nothing may stand behind this letter\n"),
+    ("1 X\n" * 50, "".join(f"{line}:3: no such letter: S, R, T, O, C and W are known\n" for line in range(1, 41))),
 ]
 
 
@@ -469,6 +479,13 @@ def refused(count, program, folder):
         judge(f"centre {nobody} interrogate", f"gateway {nobody}: {LOOKED_UP}", f"no answer from {nobody}")
         judge(f"status {shut}", f"status {shut}: {closed}", f"no answer from {shut}")
         judge(f"status {nobody}", f"status {nobody}: {LOOKED_UP}", f"no answer from {nobody}")
+        # It takes connections, and answers nothing.
+        judge(f"status {here}", f"status {here}: timed out", f"no answer from {here}")
+        # A log says so, too.
+        moment = r"\S+Z 0 "
+        judge("run --log taken.toml", f"listener {here}: {in_use}", f"{moment}port in use\ndevice failed")
+        judge("run --log own.toml", f"listener {nobody}: {LOOKED_UP}", f"{moment}port can't be listened at\ndevice failed")
+        judge(f"run --log --status {here} good.toml", f"status {here}: {in_use}", f"{moment}status port can't be used\ndevice failed")
 
 
 # Calls that read a file or a directory that they may not, and which.

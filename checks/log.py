@@ -345,7 +345,7 @@ def causes(count, program, folder):
             count.judge("it is reached then", run.log.waits("line reached", then or 0), run.log.lines)
     os.remove(path)
     with Run(program, folder, Station(is_there=False), "--redial", "--log", place="tcp:no.such.host.invalid:2404") as run:
-        count.judge("no such host", run.log.waits("line not there: ", seconds=20), run.log.lines)
+        count.judge("no such host", run.log.waits("line not there: name unknown", seconds=20), run.log.lines)
 
 
 def second(count, program, folder):
@@ -902,7 +902,9 @@ def troubles(count, program, folder):
             done = subprocess.run([program, "run", "--log", config], capture_output=True, timeout=ends.PATIENCE, cwd=folder)
             said = done.stderr.decode().splitlines()
             words = [line.split(" ", 2)[2] if re.match(r"\S+Z 0 ", line) else line for line in said]
-            is_right = done.returncode == 3 and words == [*listens, why, "device failed"]
+            told = [line for line in words if line.startswith("error: ")]
+            words = [line for line in words if line not in told]
+            is_right = done.returncode == 3 and words == [*listens, why, "device failed"] and len(told) == 1
             count.judge(why, is_right, (done.returncode, said))
 
 

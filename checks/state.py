@@ -740,6 +740,11 @@ def a_look(count, program):
             file.write("no settings")
         lines, _, _ = looked(gateway, gateway.state, other)
         count.judge("no settings", lines[0] == "state: settings have changed", lines[:2])
+        with open(other, "w") as file:
+            file.write("\n".join(settings).replace("link = 1", "link = 3", 1))
+        lines, status, told = looked(gateway, gateway.state, other)
+        is_right = told == f"{other}:2:8: line.link = 3: wanted 1 to 2\n" and (lines[0], status) == ("state: settings have changed", 0)
+        count.judge("wrong settings", is_right, (lines[:2], told, status))
         with open("/dev/full", "w") as full:
             status = subprocess.run([program, "state", gateway.state], stdout=full, stderr=subprocess.DEVNULL, timeout=60).returncode
         count.judge("an output that fails", status == 3, status)

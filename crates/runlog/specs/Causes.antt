@@ -50,6 +50,7 @@ cause_words kind.Uncategorized = codes "input or output error"
 -- why the line can't be reached: a host or a path may not be known
 abbrev pub line_cause_words : ErrorKind → List ℕ
 line_cause_words kind.NotFound = codes "name unknown"
+line_cause_words kind.Uncategorized = codes "name unknown"
 line_cause_words cause = cause_words cause
 
 -- another cause than the one that was told, in words

@@ -60,8 +60,8 @@ pub fn line_cause_words(cause: ErrorKind) -> &'static str
     ensures { result.now ≡ spec.line_cause_words cause }
 {
     match cause {
-        // Of a host, or of the path of a socket.
-        ErrorKind::NotFound => "name unknown",
+        // Of the path of a socket, or of a host: the library has no kind for that.
+        ErrorKind::NotFound | ErrorKind::Uncategorized => "name unknown",
         cause => cause_words(cause),
     }
 }

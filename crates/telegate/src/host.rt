@@ -382,7 +382,6 @@ fn process_of<'r, S: Starts, N: Notes + Drop>(
         places,
         names,
         has_severity: wishes.log_severity,
-        is_logged: wishes.log,
         starts,
         lineage: lineage.again(),
         notes,

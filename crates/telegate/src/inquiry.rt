@@ -26,8 +26,14 @@ pub(crate) fn ask_at<R: Net<Stream = TcpStream>>(
     stream.set_write_timeout(Some(Duration::from_millis(WAIT_MS)))?;
     stream.write_all(request)?;
     let mut answer = Vec::new(alloc);
-    stream.take(MOST).read_to_end(&mut answer)?;
-    Ok(answer)
+    match stream.take(MOST).read_to_end(&mut answer) {
+        Ok(_) => Ok(answer),
+        // So the system says that nothing came in time.
+        Err(fault) if fault.kind() == ErrorKind::WouldBlock => {
+            Err(io::Error::from(ErrorKind::TimedOut))
+        }
+        Err(fault) => Err(fault),
+    }
 }
 
 /// A connection to the first address that answers.

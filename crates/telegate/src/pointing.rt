@@ -11,12 +11,15 @@ use settings::{
     ConfigFault, Remark, Site, config_remarks, listen_remarks, live_remarks, read_live_config,
     site_remarks, stranger_remarks,
 };
-use sim::script_flaw;
+use sim::{TextFault, read_scenario, read_script, script_flaw};
 use std::alloc::{AllocError, Global};
 use std::io::{Read, Write};
 use traces::{Blocks, Flaw, cut, record_flaw, trace_flaw};
 
 const LINE_FEED: u8 = b'\n';
+
+/// So many wrong lines of one text are told at the most.
+const MOST_LINES: usize = 40;
 
 /// A file that was read.
 #[derive(Clone, Copy)]
@@ -48,8 +51,34 @@ pub(crate) fn point_keys<E: Write>(
     }
 }
 
-/// Writes what is wrong with settings, or with a script for them, whose fault this is. One that is
-/// played may have lines for the outstations alone.
+/// The same of a site's file of this name, which is read once more: what words say beside it made
+/// the fault.
+pub(crate) fn point_site<H: Host, E: Write>(
+    alloc: Global,
+    host: &H,
+    name: Option<&str>,
+    fault: &Fault,
+    err: &mut E,
+) {
+    let Some(name) = name else {
+        return;
+    };
+    if let (true, Ok(octets)) = (host.can_reopen(name), host.read(name)) {
+        let octets = octets.as_slice();
+        point_keys(alloc, NamedText { name, octets }, false, fault, err);
+    }
+}
+
+/// Writes all that is wrong with settings that a command only compares, if anything is.
+pub(crate) fn point_settings<E: Write>(alloc: Global, config: NamedText<'_>, err: &mut E) {
+    if let Err(why) = settings::read_config(alloc, config.octets, false) {
+        let remarks = config_remarks(alloc, config.octets, false, &why);
+        put_remarks(config, "", &remarks, err);
+    }
+}
+
+/// Writes what is wrong with settings, or with each line of a script for them, whose fault this is.
+/// One that is played may have lines for the outstations alone.
 pub(crate) fn point_script<E: Write>(
     alloc: Global,
     config: NamedText<'_>,
@@ -65,12 +94,70 @@ pub(crate) fn point_script<E: Write>(
     let Ok(config) = settings::read_config(alloc, config.octets, false) else {
         return;
     };
-    if let Ok(flaw) = script_flaw(alloc, &config, script.octets, *number, is_played) {
-        put_flaw(script.name, *number, flaw, err);
+    let _ = point_lines(alloc, &config, script, *number, is_played, err);
+}
+
+/// Writes what is wrong with each line of a script, from the first wrong one on, which has this
+/// number. A line that was told is passed over then, as a comment is. That `turns` is missing is told
+/// alone, since the line that was meant may be a wrong one.
+fn point_lines<E: Write>(
+    alloc: Global,
+    config: &Config,
+    script: NamedText<'_>,
+    first: u64,
+    is_played: bool,
+    err: &mut E,
+) -> Result<(), AllocError> {
+    let mut text = script.octets.to_vec(alloc)?;
+    let mut next = Some(first);
+    for _ in 0..MOST_LINES {
+        let Some(number) = next else {
+            return Ok(());
+        };
+        let flaw = script_flaw(alloc, config, text.as_slice(), number, is_played)?;
+        let is_there = skip_line(&mut text, number);
+        if is_there || number == first {
+            put_flaw(script.name, number, flaw, err);
+        }
+        next = if is_there {
+            wrong_line(alloc, config, text.as_slice(), is_played)
+        } else {
+            None
+        };
+    }
+    Ok(())
+}
+
+/// The first wrong line of a script.
+fn wrong_line(alloc: Global, config: &Config, text: &[u8], is_played: bool) -> Option<u64> {
+    let fault = if is_played {
+        read_scenario(alloc, config, text).err()
+    } else {
+        read_script(alloc, config, text).err()
+    };
+    match fault {
+        Some(TextFault::Line(number)) => Some(number),
+        _ => None,
     }
 }
 
-/// Writes what is wrong with the wrong line of a trace or a record, which is read once more.
+/// Makes a comment of the line with this number. Answers whether it is there.
+fn skip_line(text: &mut Vec<u8>, number: u64) -> bool {
+    let mut line = 1;
+    for at in 0..text.len() {
+        if line == number {
+            text[at] = b'#';
+            return true;
+        }
+        if text[at] == LINE_FEED {
+            line = u64::saturating_add(line, 1);
+        }
+    }
+    false
+}
+
+/// Writes what is wrong with each wrong line of a trace, or with the first one of a record. The
+/// text is read once more.
 pub(crate) fn point_line<S: Source, E: Write>(
     alloc: Global,
     name: &str,
@@ -85,13 +172,38 @@ pub(crate) fn point_line<S: Source, E: Write>(
     let Ok(text) = text.open() else {
         return;
     };
-    let Some(line) = line_at(alloc, text, *number) else {
-        return;
-    };
-    if as_record {
+    if !as_record {
+        point_trace(alloc, name, text, err);
+    } else if let Some(line) = line_at(alloc, text, *number) {
         put_flaw(name, *number, record_flaw(line.as_slice()), err);
-    } else if let Some(flaw) = trace_flaw(line.as_slice()) {
-        put_flaw(name, *number, flaw, err);
+    }
+}
+
+/// Writes what is wrong with each wrong line of a trace.
+fn point_trace<R: Read + Drop, E: Write>(alloc: Global, name: &str, text: R, err: &mut E) {
+    let mut blocks = Blocks::new(alloc, text);
+    let mut number = 1;
+    let mut told = 0;
+    for _ in 0..u64::MAX {
+        let Ok(true) = blocks.advance() else {
+            return;
+        };
+        let mut left = blocks.lines();
+        for _ in 0..=blocks.lines().len() {
+            let (line, rest) = cut(left, LINE_FEED);
+            if let Some(flaw) = trace_flaw(line) {
+                put_flaw(name, number, flaw, err);
+                told = usize::saturating_add(told, 1);
+            }
+            number = u64::saturating_add(number, 1);
+            if told == MOST_LINES {
+                return;
+            }
+            let Some(behind) = rest else {
+                break;
+            };
+            left = behind;
+        }
     }
 }
 

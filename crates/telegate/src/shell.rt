@@ -31,6 +31,7 @@ use crate::manner::{Manner, manner_of};
 use crate::performing::{give, perform, write_fault};
 use crate::piping::{Piped, end_pipe, pipe};
 use crate::pointing::{NamedText, point_keys, point_line, point_record, point_script};
+use crate::pointing::{point_settings, point_site};
 use crate::replay::{AskedReplay, replay};
 use crate::run_words::RunWords;
 use crate::source::{HeldText, Source};
@@ -430,7 +431,12 @@ fn show_state<H: Host, W: Write, E: Write>(
         (text_of config.entry) are_wanted (W.contents out.old) (W.contents out.new) result }
 {
     match read_given(host, config, err) {
-        Ok(given) => show_directory(alloc, host, directory, are_wanted, given, out, err),
+        Ok(given) => {
+            if let (Some(name), Some(octets)) = (config, &given) {
+                point_settings(alloc, named(name, octets), err);
+            }
+            show_directory(alloc, host, directory, are_wanted, given, out, err)
+        }
         Err(status) => status,
     }
 }
@@ -587,7 +593,10 @@ fn run_at_site<H: Host, E: Write>(
 {
     match wishes_of(alloc, words, site) {
         Ok(wishes) => run_file(alloc, host, config, wishes, err),
-        Err(fault) => write_fault(&fault, err),
+        Err(fault) => {
+            point_site(alloc, host, words.site, &fault, err);
+            write_fault(&fault, err)
+        }
     }
 }
 

@@ -185,8 +185,6 @@ pub(crate) struct Process<'r, S: Starts, N: Notes + Drop> {
     pub(crate) names: LogNames<'r>,
     /// Each line of the log begins with how severe it is.
     pub(crate) has_severity: bool,
-    /// The log says why an end can't be had.
-    pub(crate) is_logged: bool,
     /// What stands in the files of its directory.
     pub(crate) starts: S,
     /// What led to the state at the head of the newest log there.
@@ -379,10 +377,10 @@ fn reached<'r, R: Net<Stream = TcpStream> + Clock>(
 }
 
 impl<S: Starts, N: Notes + Drop> Process<'_, S, N> {
-    /// Why an end can't be had at this place. It is told, unless the log says it.
+    /// Why an end can't be had at this place. It is told in the system's words, too.
     fn refusal(&self, trouble: Trouble, end: &str, place: &str, fault: &io::Error) -> EndRefusal {
         let refusal = refusal_by(trouble, fault);
-        if !refusal.is_memory && !self.is_logged {
+        if !refusal.is_memory {
             tell_refused(self.rt, end, place, fault);
         }
         refusal
