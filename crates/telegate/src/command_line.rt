@@ -170,7 +170,7 @@ fn show101<'a>(alloc: Global) -> Result<Command<'a>, AllocError>
     let words = [
         CommandWord::Needed(
             "SIZES",
-            "Four digits, as 1112: octets of link address, cause, common address and object address",
+            "Four digits, as 1112: octets of link address, cause, common and object address",
         ),
         CommandWord::Needed("HEX", OCTETS),
         CommandWord::Flag("words", IN_WORDS),
@@ -241,7 +241,8 @@ fn sim<'a>(alloc: Global) -> Result<Command<'a>, AllocError>
 {
     let command = Command::new(alloc, "sim")
         .about(
-            "Runs the gateway over a simulated line and control centre, and prints what it puts out",
+            "Runs the gateway over a simulated line and control centre, and prints what it puts \
+            out",
         )
         .after_help(help::SIM);
     let words = [
