@@ -281,7 +281,7 @@ def held(count, program, folder):
         station.is_silent = True
         silent = run.log.waits("station 7 no reply", began)
         time.sleep(1.5)
-        told = [line for line in run.log.lines[began:] if line.startswith("station 7 d")]
+        told = [line for line in run.log.lines[began:] if line.startswith(("station 7 no", "station 7 d"))]
         count.judge("its silence is told once", told == ["station 7 no reply"], run.log.lines)
         count.judge("silence is no late answer", not any(" late" in line for line in run.log.lines), run.log.lines)
         station.is_silent = False
