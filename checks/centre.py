@@ -340,7 +340,7 @@ def all_asked(count, program, folder):
     def reply(ns, cause, ca):
         return information(ns, 1, asked[:2] + bytes([cause]) + asked[3:4] + ca.to_bytes(2, "little") + asked[6:])
 
-    done, silent = (["confirmed and terminated"], 0), (["no answer from common address 2", "no answer in time"], 3)
+    done, silent = (["confirmed and terminated"], 0), (["no reply from common address 2", "no reply in time"], 3)
     # What comes before the stop, each by its cause and common address, and how it ends.
     rows = [
         ("all of them", [config], [(7, 1), (7, 2), (10, 2), (7, 3), (10, 1), (10, 3)], done),
@@ -494,7 +494,7 @@ def silent(count, program, folder):
         count.compare("silent: STOPDT act", gateway.frame(), STOP)
         count.judge("silent: when", 0.9 < time.monotonic() - began < 3, time.monotonic() - began)
         gateway.stream.sendall(STOPPED)
-        count.compare("silent: end", gateway.ended(), (["no answer in time"], 3))
+        count.compare("silent: end", gateway.ended(), (["no reply in time"], 3))
     # A station that gives no termination.
     with Gateway(program, "execute", "1/100", "on") as gateway:
         gateway.started(count, "no termination")
@@ -510,7 +510,7 @@ def silent(count, program, folder):
         second.started(count, "t1")
         second.frame()
         for name, gateway in (("no STARTDT con", first), ("no acknowledgement", second)):
-            count.compare(name, gateway.ended(), (["connection lost: no answer within t1"], 3))
+            count.compare(name, gateway.ended(), (["connection lost: no reply within t1"], 3))
 
 
 if __name__ == "__main__":

@@ -242,7 +242,7 @@ class Hanging(Field):
 
 
 SILENT = "line silent: requests went out and nothing came, it is dialled anew"
-HINT = "station 2 still doesn't answer: if it was restarted, restart telegate too"
+HINT = "station 2 still no reply: if it was restarted, restart telegate too"
 
 
 def a_server_that_hangs(count, program):
@@ -284,7 +284,7 @@ def a_hint(count, program):
         gateway.field.stations[2].forget()
         until(lambda: HINT in gateway.logged(), 80)
         told = gateway.logged()
-        places = [told.find(text) for text in ("station 2 doesn't answer\n", f"{HINT}\n")]
+        places = [told.find(text) for text in ("station 2 no reply\n", f"{HINT}\n")]
         count.judge("the log says what brings a station back", 0 <= places[0] < places[1], told)
         count.judge("and nothing of another one", "station 1 still" not in told, told)
         gateway.kill()

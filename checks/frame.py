@@ -95,7 +95,7 @@ def unread(name, number=errno.ENOENT, what="file"):
 
 def unanswered(what, place, number=errno.ECONNREFUSED):
     """What is told of a place at which nobody answers."""
-    return reason(what, place, number) + f"no answer from {place}\n"
+    return reason(what, place, number) + f"no reply from {place}\n"
 
 
 def listed():

@@ -218,7 +218,7 @@ def a_run(count, program, folder):
         comes("line reached")
         comes("station 7 up")
         first = run.connect()
-        comes("connection opened by 127.0.0.1")
+        comes("connected: 127.0.0.1")
         count.judge("STARTDT", exchange(first, ends.START, ends.STARTED))
         comes("connection started")
         count.judge("STOPDT", exchange(first, STOP, STOPPED))
@@ -227,7 +227,7 @@ def a_run(count, program, folder):
         comes("connection lost: peer closed")
         time.sleep(1.1)
         second = run.connect()
-        comes("connection opened by 127.0.0.1")
+        comes("connected: 127.0.0.1")
         second.sendall(b"\x00")
         comes("connection closed: octets that begin no APDU")
         station.is_silent = True
@@ -260,9 +260,9 @@ def flood(count, run, at):
         time.sleep(1.1)
         run.connect().close()
         time.sleep(0.3)
-        opened = [line for line in run.log.lines[at:] if line.startswith("connection opened")]
+        opened = [line for line in run.log.lines[at:] if line.startswith("connected")]
     seconds = time.monotonic() - began
-    for kind in ("connection opened", "connection lost", "connection closed"):
+    for kind in ("connected", "connection lost", "connection closed"):
         lines = [line for line in run.log.lines[at:] if line.startswith(kind)]
         count.judge(f"{kind} in a flood", len(lines) <= seconds + 2, (seconds, lines))
     count.judge("how many were left out", any(re.search(r"\(\d+ left out since \d+\)", line) for line in opened), opened)
@@ -279,13 +279,13 @@ def held(count, program, folder):
         time.sleep(1)
         began = len(run.log.lines)
         station.is_silent = True
-        silent = run.log.waits("station 7 doesn't answer", began)
+        silent = run.log.waits("station 7 no reply", began)
         time.sleep(1.5)
-        told = [line for line in run.log.lines[began:] if line.startswith("station 7 d")]
-        count.judge("its silence is told once", told == ["station 7 doesn't answer"], run.log.lines)
+        told = [line for line in run.log.lines[began:] if line.startswith(("station 7 no", "station 7 d"))]
+        count.judge("its silence is told once", told == ["station 7 no reply"], run.log.lines)
         count.judge("silence is no late answer", not any(" late" in line for line in run.log.lines), run.log.lines)
         station.is_silent = False
-        count.judge("it answers again", silent and run.log.waits("station 7 answers again", silent), run.log.lines)
+        count.judge("it answers again", silent and run.log.waits("station 7 replies again", silent), run.log.lines)
 
 
 def mute(count, program, folder):
@@ -295,10 +295,10 @@ def mute(count, program, folder):
         station.is_silent = True
         with Run(program, folder, station, "--log", settings=settings) as run:
             asked = run.log.waits("station 7 link status requested")
-            silent = run.log.waits("station 7 doesn't answer")
+            silent = run.log.waits("station 7 no reply")
             count.judge(f"a station that never answered, {name}", asked and silent and asked < silent, run.log.lines)
             time.sleep(1.5)
-            told = run.log.lines.count("station 7 doesn't answer")
+            told = run.log.lines.count("station 7 no reply")
             count.judge(f"it is told once a minute, {name}", told == 1, run.log.lines)
 
 
@@ -572,7 +572,7 @@ class Trail:
             self.bit = bit
         elif octets[1] % 16 == 9:
             if self.latest:
-                self.lines.append((moment, f"{self.latest} given up: station 7 doesn't answer"))
+                self.lines.append((moment, f"{self.latest} given up: no reply from station 7"))
             self.latest = self.bit = None
         elif octets[1] % 16 in (10, 11):
             self.latest, self.bit = None, octets[1] & 0x20
@@ -871,7 +871,7 @@ def allowed(count, program, folder):
         count.judge("the allowed connection stays", exchange(centre, ends.TEST, ends.TESTED))
         # In one line or in several, as they come within a second or not.
         count.judge("it is logged", refused(run.log) == len(others), run.log.lines)
-        opened = [line for line in run.log.lines if line.startswith("connection opened")]
+        opened = [line for line in run.log.lines if line.startswith("connected")]
         count.judge("no other address opened one", len(opened) == 1, opened)
         station.lose()
         count.judge("the line's end", run.process.wait(ends.PATIENCE) == 3, run.process.returncode)

@@ -284,7 +284,7 @@ def one_started_again(count, program, in_a_run):
         before = resets_of(gateway)
         if in_a_run:
             field.stations[2].forget()
-            gateway.waits("station 2 doesn't answer")
+            gateway.waits("station 2 no reply")
             time.sleep(1)
             count.compare("a held link isn't reset amid a run", resets_of(gateway), before)
         gateway.kill()

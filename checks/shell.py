@@ -207,7 +207,7 @@ ROWS = [
     ("sim --words good.toml one.trace", "", "script: line 1\n", 1),
     ("status 127.0.0.1:1", "", unanswered("status", "127.0.0.1:1"), 3),
     ("status --json 127.0.0.1:1", "", unanswered("status", "127.0.0.1:1"), 3),
-    ("status nowhere", "", "error: status nowhere: invalid socket address\nno answer from nowhere\n", 3),
+    ("status nowhere", "", "error: status nowhere: invalid socket address\nno reply from nowhere\n", 3),
     ("replay one.trace good.toml", "", "config: not TOML\n", 1),
     ("replay good.toml none.script", "", "trace: line 1\n", 1),
     ("replay empty one.trace", "", "config: line.link\n", 1),
@@ -485,7 +485,7 @@ def statuses(count, program, folder):
                     asked = visitor.recv(4096).split(b" ")[1]
                     visitor.sendall(answers.get(asked, b""))
             told, fault = run.communicate(timeout=SECONDS)
-            err = f"no answer from {place}\n" if err is None else err
+            err = f"no reply from {place}\n" if err is None else err
             is_right = (text(told), text(fault), run.returncode) == (out, err, status)
             count.judge(f"status {flag}at a listener with {str(answers)[:300]}", is_right, (told[:300], fault, run.returncode))
     # A page that can't be printed is no judgement, however good it is.

@@ -35,8 +35,8 @@ SEVERITIES = {
     "listening at": 6,
     "station 7 link status requested": 6,
     "station 7 up": 5,
-    "station 7 doesn't answer": 4,
-    "connection opened": 6,
+    "station 7 no reply": 4,
+    "connected": 6,
     "connection lost": 4,
     "line lost": 3,
 }
@@ -204,8 +204,8 @@ def named(count, program, folder):
         page = get(status, "/")
         count.judge("the page", "<td>North &lt;ring&gt;, there for " in page and "<td>Mill Lane 20 kV</td>" in page, page)
         run.is_silent = True
-        silent = run.waits("station 7 doesn't answer")
-        count.judge("a silent station", silent and silent.endswith(" station 7 doesn't answer [Mill Lane 20 kV]"), run.lines)
+        silent = run.waits("station 7 no reply")
+        count.judge("a silent station", silent and silent.endswith(" station 7 no reply [Mill Lane 20 kV]"), run.lines)
         count.judge("nothing is recorded", run.process.poll() is None, run.process.poll())
 
 
@@ -261,7 +261,7 @@ def severities(count, program, folder):
             is_allowed(run, "127.0.0.1")
             run.waits("connection lost")
             run.is_silent = True
-            run.waits("station 7 doesn't answer")
+            run.waits("station 7 no reply")
             run.stream.shutdown(socket.SHUT_RDWR)
             run.waits("line lost")
             run.process.wait(timeout=ends.PATIENCE)

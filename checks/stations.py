@@ -570,7 +570,7 @@ def told(count, program, folder):
             "gateway > outstation  poll class 2 to 1 (FCB 1)",
             "outstation > gateway  user data from 1  M_SP_NA_1 spontaneous  CA 1  100 = on",
         ]
-        wanted = [f"listening at {place}", "a gateway has come from 127.0.0.1", *(passed if flags else []), "the gateway has gone"]
+        wanted = [f"listening at {place}", "gateway connected: 127.0.0.1", *(passed if flags else []), "gateway lost"]
         count.compare(f"told {flags}", (out.decode().splitlines(), err), (wanted, b""))
 
 

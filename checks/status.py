@@ -482,7 +482,7 @@ def events(count, program, folder):
                     centre.recv(6)
                 time.sleep(1.1)
             stations.silent.add(1)
-            silent = run.waits(lambda s: "station 1 doesn't answer" in [event["line"] for event in s["latest"]])
+            silent = run.waits(lambda s: "station 1 no reply" in [event["line"] for event in s["latest"]])
             count.judge("station 1 falls silent", silent, run.json())
             time.sleep(1.5)
             latest = run.json()["latest"]
@@ -494,7 +494,7 @@ def events(count, program, folder):
         told = [(event["severity"], with_name(event["line"], event["name"])) for event in latest]
         count.judge("the page has what the JSON has", [(row[0], row[2]) for row in rows] == told, (rows, told))
         if not flags:
-            kinds = ("connection opened by 127.0.0.1", "connection started", "connection lost: peer closed")
+            kinds = ("connected: 127.0.0.1", "connection started", "connection lost: peer closed")
             count.judge("without a log, too", all(told.count(("warning" if "lost" in kind else "info", kind)) >= 5 for kind in kinds), told)
             continue
         lines = [re.fullmatch(r"<(\d)>(\d+) (.*)", line) for line in log]

@@ -34,7 +34,7 @@ complete -c telegate -n "__fish_seen_subcommand_from run" -l redial -d "reaches 
 complete -c telegate -n "__fish_seen_subcommand_from run" -l log -d "tells what happens"
 complete -c telegate -n "__fish_seen_subcommand_from run" -l record -d "prints each event and each action"
 complete -c telegate -n "__fish_seen_subcommand_from run" -l state -r -F -d "keeps the state there"
-complete -c telegate -n "__fish_seen_subcommand_from run" -l state-or-stop -d "ends where it can't be kept"
+complete -c telegate -n "__fish_seen_subcommand_from run" -l state-or-stop -d "ends if it can't be kept"
 complete -c telegate -n "__fish_seen_subcommand_from run" -l allow -x -d "lets in this address"
 complete -c telegate -n "__fish_seen_subcommand_from run" -l status -x -d "shows there how it stands"
 complete -c telegate -n "__fish_seen_subcommand_from run" -l site -r -F -d "what belongs to this site"

@@ -28,10 +28,10 @@ case $words[2] in
             '--help[tells what the command does]' '2:settings:_files'
         ;;
     run)
-        _arguments '--redial[reaches the line again where it ends]' \
+        _arguments '--redial[reaches the line again if it ends]' \
             '--log[tells what happens]' '--record[prints each event and each action]' \
             '--state[keeps the state there]:directory:_files -/' \
-            "--state-or-stop[ends where it can't be kept]" '*--allow[lets in this address]:address:' \
+            "--state-or-stop[ends if it can't be kept]" '*--allow[lets in this address]:address:' \
             '--status[shows there how it stands]:host and port:' \
             '--site[what belongs to this site]:site:_files' \
             '--log-severity[tells how severe each line is]' \

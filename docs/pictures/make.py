@@ -245,7 +245,7 @@ COMMAND = [
             "Or the station answers that its link doesn't work. With",
             "`\"hold\"` also behind a restart, if it answers its status",
             "twice and this not at all. The centre gets no answer.",
-            "`.. given up: station A doesn't answer`",
+            "`.. given up: no reply from station A`",
         ]),
         ("Given up by a restart: it may have taken it", [
             "No repeat, no answer. With `--state` the log of the start has:",
@@ -357,17 +357,17 @@ def station():
     unable = "It answers that its link doesn't work (14, 15). Or, with `silence = \"reset\"`,"
     p.text(342, 24, f"{unable}\nit gives no answer to `retries` + 1 sendings.\n`station A down`", "small")
     p.way([(520, 206), (520, 316)])
-    silent = "with `silence = \"hold\"`, no answer\nto `retries` + 1 sendings\n`station A doesn't answer`"
+    silent = "with `silence = \"hold\"`, no answer\nto `retries` + 1 sendings\n`station A no reply`"
     p.text(512, 244, silent, "small", "end")
     p.way([(580, 316), (580, 206)])
-    p.text(587, 252, "it answers\n`station A`\n`answers again`", "small", "start")
+    p.text(587, 252, "it answers\n`station A`\n`replies again`", "small", "start")
     p.way([(430, 366), (95, 366), (95, 206)])
     doubted = "It answers 14 or 15. Or, behind a restart of\ntelegate, it answers its status twice, and the\nrequest not at all."
     p.text(103, 316, doubted, "small", "start")
     p.text(103, 384, "`station A down`, once its status is asked", "small", "start")
     first = "At the first request: `station A link status requested`. At the first answer to a poll or a command:"
-    silent = "`station A up`. Asked `retries` + 1 times, and not up: `station A doesn't answer`."
-    held = "Held for more than a minute: `station A still doesn't answer: ..`"
+    silent = "`station A up`. Asked `retries` + 1 times, and not up: `station A no reply`."
+    held = "Held for more than a minute: `station A still no reply: ..`"
     p.text(20, 420, f"{first}\n{silent}\n{held}", "small", "start")
     p.text(20, 474, "A reset ended a session amid a poll: `station A gap: reports of it may be lost`", "loss", "start")
     return p

@@ -22,7 +22,7 @@ closed_words close.Grammar = codes "connection lost: octets that begin no APDU"
 closed_words close.SendNumber = codes "connection lost: a wrong N(S)"
 closed_words close.ReceiveNumber = codes "connection lost: a wrong N(R)"
 closed_words close.Stopped = codes "connection lost: an I frame while data transfer is stopped"
-closed_words close.Timeout = codes "connection lost: no answer within t1"
+closed_words close.Timeout = codes "connection lost: no reply within t1"
 closed_words close.OwnAnswers = codes "connection lost"
 closed_words close.Replaced = codes "connection lost"
 
@@ -35,10 +35,10 @@ abbrev pub outcome_words : Outcome → List ℕ
 outcome_words Confirmed = codes "confirmed"
 outcome_words Terminated = codes "confirmed and terminated"
 outcome_words (Refused cause) = refused_words cause
-outcome_words Silent = codes "no answer in time"
+outcome_words Silent = codes "no reply in time"
 outcome_words (Lost why) = lost_words why
 
--- 0 confirmed, 1 refused, 3 no answer or no connection
+-- 0 confirmed, 1 refused, 3 no reply or no connection
 abbrev pub status_of : Outcome → ℕ
 status_of Confirmed = 0
 status_of Terminated = 0

@@ -51,7 +51,7 @@ told style.Json way now a = json_line way now a
 -- ---- Behind all: who gave nothing, and what became of the errand
 
 abbrev pub silent_line : Style → (ca : ℕ) → List ℕ
-silent_line style.Words ca = codes "no answer from common address " ++ (decimal ca ++ codes "\n")
+silent_line style.Words ca = codes "no reply from common address " ++ (decimal ca ++ codes "\n")
 silent_line style.Json ca = codes "{\"silent\":" ++ (decimal ca ++ codes "}\n")
 
 unfoldable pub end_words : Outcome → List ℕ

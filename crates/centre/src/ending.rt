@@ -20,7 +20,7 @@ impl Outcome {
                 47 => "refused: unknown object address",
                 _ => "refused: negative confirmation",
             },
-            Outcome::Silent => "no answer in time",
+            Outcome::Silent => "no reply in time",
             Outcome::Lost(Loss::Gone) => "connection lost: the gateway ended it",
             Outcome::Lost(Loss::Untaken) => "connection lost: the gateway takes nothing",
             Outcome::Lost(Loss::Closed(why)) => match why {
@@ -28,13 +28,13 @@ impl Outcome {
                 Close::SendNumber => "connection lost: a wrong N(S)",
                 Close::ReceiveNumber => "connection lost: a wrong N(R)",
                 Close::Stopped => "connection lost: an I frame while data transfer is stopped",
-                Close::Timeout => "connection lost: no answer within t1",
+                Close::Timeout => "connection lost: no reply within t1",
                 Close::OwnAnswers | Close::Replaced => "connection lost",
             },
         }
     }
 
-    /// The exit status: 0 confirmed, 1 refused, 3 no answer or no connection.
+    /// The exit status: 0 confirmed, 1 refused, 3 no reply or no connection.
     pub fn status(self) -> u8
         ensures { result ≡ status_of self }
     {

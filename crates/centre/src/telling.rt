@@ -152,7 +152,7 @@ pub fn silent_line(alloc: Global, style: Style, ca: u16) -> Result<String, Alloc
     ensures { IfOk result (λ text. string_bytes text ≡ silent_line style ca) }
 {
     match style {
-        Style::Words => format!(in alloc; "no answer from common address {ca}\n"),
+        Style::Words => format!(in alloc; "no reply from common address {ca}\n"),
         Style::Json => format!(in alloc; "{{\"silent\":{ca}}}\n"),
     }
 }

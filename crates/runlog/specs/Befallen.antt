@@ -1,5 +1,5 @@
 -- What the laws say of the station that was asked, of what passes a run that is watched, and of
--- APDUs that come (this gateway's own profile, docs/STATUS.md and docs/TEXTS.md).
+-- APDUs that come (this gateway's own profile, docs/STATUS.md and docs/LOG.md).
 use Rattle.std.specs.Prelude.{◌≡◌, ◌&&◌, ℕ, false, not, List, ◌∷◌, ◌++◌, Some}
 use Rattle.std.specs.Prelude.{None}
 use Rattle.std.specs.List.{AllByRecursion}

@@ -30,6 +30,10 @@ abbrev pub peer_words : Option IpAddr → List ℕ
 peer_words None = []
 peer_words (Some address) = codes " by " ++ ip_text address
 
+abbrev pub connected_words : Option IpAddr → List ℕ
+connected_words None = codes "connected"
+connected_words (Some address) = codes "connected: " ++ ip_text address
+
 -- why the gateway closes a connection (IEC 60870-5-104, 5.1 to 5.3, and this gateway's own causes)
 abbrev pub close_words : Close → List ℕ
 close_words close.Grammar = codes "octets that begin no APDU"
@@ -157,7 +161,7 @@ words (note.LineNotThere cause) = line_words (codes "line not there") cause
 words note.LineSilent =
     codes "line silent: requests went out and nothing came, it is dialled anew"
 words (note.Listening address) = codes "listening at " ++ socket_text address
-words (note.Opened peer) = codes "connection opened" ++ peer_words peer
+words (note.Opened peer) = connected_words peer
 words note.Started = codes "connection started"
 words note.Stopped = codes "connection stopped"
 words (note.Cut cause) = codes "connection lost: " ++ cut_words cause
@@ -165,10 +169,10 @@ words (note.Closed cause) = codes "connection closed: " ++ close_words cause
 words (note.RefusedPeers count last) = refused_peers_words count last
 words (note.Asked address) = codes "station " ++ decimal address ++ codes " link status requested"
 words (note.Up address) = codes "station " ++ decimal address ++ codes " up"
-words (note.Silent address) = codes "station " ++ decimal address ++ codes " doesn't answer"
+words (note.Silent address) = codes "station " ++ decimal address ++ codes " no reply"
 words (note.StillSilent address) =
-    of_station address (codes "still doesn't answer: if it was restarted, restart telegate too")
-words (note.Again address) = codes "station " ++ decimal address ++ codes " answers again"
+    of_station address (codes "still no reply: if it was restarted, restart telegate too")
+words (note.Again address) = codes "station " ++ decimal address ++ codes " replies again"
 words (note.Down address) = codes "station " ++ decimal address ++ codes " down"
 words (note.Gap address) = codes "station " ++ decimal address
     ++ codes " gap: reports of it may be lost"

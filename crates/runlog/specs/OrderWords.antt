@@ -88,4 +88,4 @@ fate_words fate.Terminated station = codes " terminated by station " ++ decimal 
 fate_words fate.Busy station =
     codes " not taken: station " ++ decimal station ++ codes " is busy"
 fate_words fate.GivenUp station =
-    codes " given up: station " ++ decimal station ++ codes " doesn't answer"
+    codes " given up: no reply from station " ++ decimal station

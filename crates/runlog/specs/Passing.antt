@@ -1,5 +1,5 @@
 -- What passes a run that is watched, the newest first; and what an operator knows by it of the
--- connections, of their lines and of the wall clock (docs/TEXTS.md, docs/STATUS.md).
+-- connections, of their lines and of the wall clock (docs/LOG.md, docs/STATUS.md).
 use Rattle.std.specs.Prelude.{◌≢◌, ℕ, ◌+◌, List, [], ◌∷◌}
 use Rattle.std.specs.Prelude.{Option, if◌then◌else◌}
 use Rattle.std.specs.declared.net.ip_addr.IpAddr.{IpAddr}

@@ -1,6 +1,6 @@
 -- How a station stands by the requests that went out to it, and whose a request is (IEC 60870-5-2,
 -- 5.1.2; what is said of a station is this gateway's own profile, docs/STATUS.md and
--- docs/TEXTS.md).
+-- docs/LOG.md).
 use Rattle.std.specs.Prelude.{◌≡◌, ℕ, ◌+◌, nat_lt, Bool, true, false, List, [], ◌∷◌}
 use Rattle.std.specs.Prelude.{Option, Some, None, is_some, if◌then◌else◌}
 use Rattle.std.specs.Bool.{beq}

@@ -160,7 +160,7 @@ pub fn moments_by_example()
         })))) }
 {}
 
-/// The lines behind their UTC time (docs/TEXTS.md has them in words).
+/// The lines behind their UTC time (docs/LOG.md has them in words).
 pub fn log_lines_by_example()
     ensures lines { (line_text (at 10 (note.Up 1)) ≡ codes "10 station 1 up")
         × (line_text (record {
@@ -175,16 +175,16 @@ pub fn log_lines_by_example()
         × (words (note.LineNotThere (Some NotFound)) ≡ codes "line not there: name unknown")
         × (words note.LineSilent
         ≡ codes "line silent: requests went out and nothing came, it is dialled anew")
-        × (words (note.Opened None) ≡ codes "connection opened")
+        × (words (note.Opened None) ≡ codes "connected")
         × (words note.Started ≡ codes "connection started")
         × (words note.Stopped ≡ codes "connection stopped")
         × (words (note.RefusedPeers 2 None) ≡ codes "2 rejected (not in the allow list)")
         × (words (note.LeftOut 12) ≡ codes "12 lines left out: nobody read them in time") }
     ensures stations { (words (note.Asked 7) ≡ codes "station 7 link status requested")
-        × (words (note.Silent 7) ≡ codes "station 7 doesn't answer")
+        × (words (note.Silent 7) ≡ codes "station 7 no reply")
         × (words (note.StillSilent 7)
-        ≡ codes "station 7 still doesn't answer: if it was restarted, restart telegate too")
-        × (words (note.Again 7) ≡ codes "station 7 answers again")
+        ≡ codes "station 7 still no reply: if it was restarted, restart telegate too")
+        × (words (note.Again 7) ≡ codes "station 7 replies again")
         × (words (note.Down 7) ≡ codes "station 7 down")
         × (words (note.Gap 7) ≡ codes "station 7 gap: reports of it may be lost")
         × (words note.QueueFull ≡ codes "queue full")
@@ -255,7 +255,7 @@ pub fn commands_by_example()
         (reason.Rule (refusal.TagOld 3600500)))
         ≡ codes "command C_SC_TA_1 execute 1/7 on refused: time tag 3600 s old")
         × (words (note.Fate (order 49 act.Execute 1 7 (value.Below 12)) 5 fate.GivenUp)
-        ≡ codes "command C_SE_NB_1 execute 1/7 -12 given up: station 5 doesn't answer")
+        ≡ codes "command C_SE_NB_1 execute 1/7 -12 given up: no reply from station 5")
         × (words (note.Fate (order 100 act.Activate 1 0 (value.Number 20)) 5 fate.Confirmed)
         ≡ codes "command C_IC_NA_1 activate 1/0 20 confirmed by station 5")
         × (words (note.Skipped 7 2 skip.TypeUnknown)

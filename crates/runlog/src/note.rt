@@ -1,7 +1,8 @@
 //! What the lines say, and their words.
 ghost use Rattle.std.specs.Prelude.{◌≡◌, Some};
 ghost use Rattle.std.specs.Fmt.{WritesOnOk};
-ghost use Rattle.runlog.specs.Notes.{close_words, counts_words, cut_words, late_words};
+ghost use Rattle.runlog.specs.Notes.{close_words, connected_words, counts_words, cut_words};
+ghost use Rattle.runlog.specs.Notes.{late_words};
 ghost use Rattle.runlog.specs.Notes.{left_out_words, line_text, line_words, not_kept_words};
 ghost use Rattle.runlog.specs.Notes.{notice_words, of_station};
 ghost use Rattle.runlog.specs.Notes.{given_up_words, peer_words, refused_peers_words};
@@ -37,7 +38,7 @@ const UNUSED: &str = "state: its directory can't be used, the run goes on withou
 const ON_BTRFS: &str = "state: its directory is on btrfs, which writes 90 KB a sync";
 
 /// What stands behind a station whose link is held though it doesn't answer.
-const STILL_SILENT: &str = "still doesn't answer: if it was restarted, restart telegate too";
+const STILL_SILENT: &str = "still no reply: if it was restarted, restart telegate too";
 
 /// What was counted since the run began.
 #[derive(Clone, Copy, PartialEq, Eq)]
@@ -211,6 +212,15 @@ fn peer_words<W: fmt::Write>(peer: Option<IpAddr>, f: &mut fmt::Formatter<W>) ->
     match peer {
         Some(address) => write!(f, " by {address}"),
         None => Ok(()),
+    }
+}
+
+fn write_connected<W: fmt::Write>(peer: Option<IpAddr>, f: &mut fmt::Formatter<W>) -> fmt::Result
+    ensures { WritesOnOk W.write_str_gives f.old result (connected_words peer) f.new }
+{
+    match peer {
+        Some(address) => write!(f, "connected: {address}"),
+        None => f.write_str("connected"),
     }
 }
 
@@ -449,10 +459,7 @@ impl fmt::Display for Note {
             Note::LineNotThere(cause) => write_line("line not there", *cause, f),
             Note::LineSilent => f.write_str(SILENT_LINE),
             Note::Listening(address) => write!(f, "listening at {address}"),
-            Note::Opened(peer) => {
-                f.write_str("connection opened")?;
-                peer_words(*peer, f)
-            }
+            Note::Opened(peer) => write_connected(*peer, f),
             Note::Started => f.write_str("connection started"),
             Note::Stopped => f.write_str("connection stopped"),
             Note::Cut(cause) => {
@@ -466,9 +473,9 @@ impl fmt::Display for Note {
             Note::RefusedPeers(count, last) => write_refused_peers(*count, *last, f),
             Note::Asked(address) => write!(f, "station {address} link status requested"),
             Note::Up(address) => write!(f, "station {address} up"),
-            Note::Silent(address) => write!(f, "station {address} doesn't answer"),
+            Note::Silent(address) => write!(f, "station {address} no reply"),
             Note::StillSilent(address) => write_of_station(*address, STILL_SILENT, f),
-            Note::Again(address) => write!(f, "station {address} answers again"),
+            Note::Again(address) => write!(f, "station {address} replies again"),
             Note::Down(address) => write!(f, "station {address} down"),
             Note::Gap(address) => write!(f, "station {address} gap: reports of it may be lost"),
             Note::QueueFull => f.write_str("queue full"),

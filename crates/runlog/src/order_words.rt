@@ -131,6 +131,6 @@ pub(crate) fn write_fate<W: fmt::Write>(
         CommandFate::Denied => write!(f, " refused by station {station}"),
         CommandFate::Terminated => write!(f, " terminated by station {station}"),
         CommandFate::Busy => write!(f, " not taken: station {station} is busy"),
-        CommandFate::GivenUp => write!(f, " given up: station {station} doesn't answer"),
+        CommandFate::GivenUp => write!(f, " given up: no reply from station {station}"),
     }
 }

@@ -1,4 +1,4 @@
-//! The words of lines, word by word (docs/TEXTS.md).
+//! The words of lines, word by word (docs/LOG.md).
 ghost use Rattle.std.specs.Prelude.{◌≡◌, ◌++◌, [], ℕ, codes, Option, None, Some};
 ghost use Rattle.std.specs.Net.Text.{ip_text, socket_text};
 ghost use Rattle.std.specs.declared.io.ErrorKind.TheVariants.{PermissionDenied};
@@ -42,7 +42,7 @@ pub fn each_word_by_example()
         × (fate_words fate.Denied 7 ≡ codes " refused by station 7")
         × (fate_words fate.Terminated 7 ≡ codes " terminated by station 7")
         × (fate_words fate.Busy 7 ≡ codes " not taken: station 7 is busy")
-        × (fate_words fate.GivenUp 7 ≡ codes " given up: station 7 doesn't answer")
+        × (fate_words fate.GivenUp 7 ≡ codes " given up: no reply from station 7")
         × (reason_words reason.Closed ≡ codes "its connection was closed") }
     ensures skips { (skip_words skip.TooShort ≡ codes "too short")
         × (skip_words skip.TypeUnknown ≡ codes "type not known")
@@ -77,6 +77,6 @@ pub fn each_word_by_example()
     ensures addresses { (a : IpAddr) (s : SocketAddr) →
         (words (note.Listening s) ≡ codes "listening at " ++ socket_text s)
         × (peer_words (Some a) ≡ codes " by " ++ ip_text a)
-        × (words (note.Opened (Some a)) ≡ codes "connection opened" ++ peer_words (Some a))
+        × (words (note.Opened (Some a)) ≡ codes "connected: " ++ ip_text a)
         × (last_words (Some a) ≡ codes ", the last at " ++ ip_text a) }
 {}

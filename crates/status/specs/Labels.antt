@@ -15,16 +15,16 @@ use Rattle.status.specs.declared.snapshot.LinkState.TheVariants.{NotAsked, Asked
 use Rattle.status.specs.declared.snapshot.LinkState.TheVariants.{Down}
 
 abbrev pub standing_text : LinkState → List ℕ
-standing_text NotAsked = codes "not asked yet"
-standing_text Asked = codes "asked"
+standing_text NotAsked = codes "not requested"
+standing_text Asked = codes "requested"
 standing_text Up = codes "up"
 standing_text Silent = codes "silent"
 standing_text Down = codes "down"
 
 -- the same with spaces behind it up to the longest text
 abbrev pub wide_text : LinkState → List ℕ
-wide_text NotAsked = codes "not asked yet"
-wide_text Asked = codes "asked        "
+wide_text NotAsked = codes "not requested"
+wide_text Asked = codes "requested    "
 wide_text Up = codes "up           "
 wide_text Silent = codes "silent       "
 wide_text Down = codes "down         "

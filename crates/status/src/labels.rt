@@ -11,8 +11,8 @@ pub(crate) fn standing_text(standing: LinkState) -> &'static str
     ensures { result.now ≡ spec.standing_text standing }
 {
     match standing {
-        LinkState::NotAsked => "not asked yet",
-        LinkState::Asked => "asked",
+        LinkState::NotAsked => "not requested",
+        LinkState::Asked => "requested",
         LinkState::Up => "up",
         LinkState::Silent => "silent",
         LinkState::Down => "down",
@@ -24,8 +24,8 @@ pub(crate) fn wide_text(standing: LinkState) -> &'static str
     ensures { result.now ≡ spec.wide_text standing }
 {
     match standing {
-        LinkState::NotAsked => "not asked yet",
-        LinkState::Asked => "asked        ",
+        LinkState::NotAsked => "not requested",
+        LinkState::Asked => "requested    ",
         LinkState::Up => "up           ",
         LinkState::Silent => "silent       ",
         LinkState::Down => "down         ",

@@ -84,7 +84,7 @@ fn ask<H: Host, E: Write>(host: &H, place: &str, request: &[u8], err: &mut E) ->
 pub(crate) fn write_unknown<E: Write>(place: &str, err: &mut E) -> u8
     ensures { result ≡ 3 }
 {
-    let _ = writeln!(err, "no answer from {place}");
+    let _ = writeln!(err, "no reply from {place}");
     UNKNOWN
 }
 

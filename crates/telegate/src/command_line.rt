@@ -95,10 +95,11 @@ const IN_WORDS: &str = "Prints the frame on one line, in the words of the standa
 
 /// What it does for a run.
 const RUN_IN_WORDS: &str =
-    "Prints a line for each event and each action, with the frame in the words of the standard";
+    "Prints each event and each action on a line, in the words of the standard";
 
 /// What the flag `--color` does.
-const IN_COLORS: &str = "Prints the words in colours, one for each side, also where no terminal is";
+const IN_COLORS: &str =
+    "Prints the words in colours, one for each side, also into a file or a pipe";
 
 /// What octets are.
 const OCTETS: &str = "1 to 1,024 octets in hexadecimal; or - for lines of octets on standard input";
@@ -169,8 +170,7 @@ fn show101<'a>(alloc: Global) -> Result<Command<'a>, AllocError>
     let words = [
         CommandWord::Needed(
             "SIZES",
-            "Four digits: how many octets the link address, the cause, the common address and \
-            the object address have, as 1112",
+            "Four digits, as 1112: octets of link address, cause, common and object address",
         ),
         CommandWord::Needed("HEX", OCTETS),
         CommandWord::Flag("words", IN_WORDS),
@@ -199,7 +199,7 @@ fn check<'a>(alloc: Global) -> Result<Command<'a>, AllocError>
         CommandWord::Needed("CONFIG", "A file of settings"),
         CommandWord::Flag(
             "live",
-            "Judges the keys of `live` as `run` does, and tells where the line is elsewhere",
+            "Judges `live` as `run` does, and warns if the line is on another machine",
         ),
         CommandWord::Flag(
             "explain",
@@ -241,8 +241,8 @@ fn sim<'a>(alloc: Global) -> Result<Command<'a>, AllocError>
 {
     let command = Command::new(alloc, "sim")
         .about(
-            "Runs the gateway over simulated stations and a simulated control centre, and prints \
-            what it puts out",
+            "Runs the gateway over a simulated line and control centre, and prints what it puts \
+            out",
         )
         .after_help(help::SIM);
     let words = [
@@ -283,18 +283,17 @@ fn run<'a>(alloc: Global) -> Result<Command<'a>, AllocError>
         ),
         CommandWord::Flag(
             "redial",
-            "Reaches the line again where it ends, once a second, and goes on",
+            "Reaches the line again if it ends, once a second, and goes on",
         ),
         CommandWord::Flag("log", "Tells on standard error what happens, one line each"),
         CommandWord::Flag("record", "Prints each event and each action"),
         CommandWord::Single(
             "state",
-            "A directory in which the state is kept, from which the run goes on; it is made where \
-            it isn't there",
+            "Keeps the state in this directory (made if need be), and goes on with it",
         ),
         CommandWord::Flag(
             "state-or-stop",
-            "Ends the run where the state can't be kept, in place of going on without it",
+            "Ends the run if the state can't be kept, in place of going on without it",
         ),
         CommandWord::Repeated(
             "allow",
@@ -310,7 +309,7 @@ fn run<'a>(alloc: Global) -> Result<Command<'a>, AllocError>
         ),
         CommandWord::Flag(
             "log-severity",
-            "Begins each line of the log with how severe it is, as systemd's journal takes it",
+            "Begins each line of the log with its severity, for systemd's journal",
         ),
     ];
     with_words(alloc, command, &words)

@@ -95,7 +95,7 @@ fn wait_of(word: Option<&str>) -> Option<u64>
 }
 
 /// Is a control centre as the words say, and answers the exit status: 0 confirmed, 1 refused, 2
-/// wrong words, 3 no answer or no connection, 4 no memory.
+/// wrong words, 3 no reply or no connection, 4 no memory.
 pub(crate) fn be_centre<H: Host, W: Write, E: Write>(
     alloc: Global,
     host: &H,

@@ -11,13 +11,12 @@ lines `FILE:LINE:COLUMN: WHY` say where it is.";
 
 pub(crate) const CHECK: &str = "\
 Printed: `ok`. The last line on standard error is the first fault that there is; lines before it,
-`FILE:LINE:COLUMN: WHY`, have each fault. With --site the file
-of the site is judged first, as `run --site` does, and CONFIG only if it is good. With --explain
-standard output then says where the fault is (line and column in its file with the value as it is
-written, or below which line a missing key belongs), what is wanted, and where another station has
-the same number. Warnings on standard error say if a key of `live` is wrong, if no other machine can
-connect, if SITE names a station that CONFIG doesn't have, and with --live if the line is on another
-machine.
+`FILE:LINE:COLUMN: WHY`, have each fault. With --site the file of the site is judged first, as `run
+--site` does, and CONFIG only if it is good. With --explain standard output then says where the
+fault is (line and column in its file with the value as it is written, or below which line a missing
+key belongs), what is wanted, and where another station has the same number. Warnings on standard
+error say if a key of `live` is wrong, if no other machine can connect, if SITE names a station that
+CONFIG doesn't have, and with --live if the line is on another machine.
 Exit status: 0 good, 1 wrong settings or site, 2 usage, 3 a file or the output failed, 4 no memory";
 
 pub(crate) const REPLAY: &str = "\
@@ -30,7 +29,7 @@ milliseconds (1 to 15 digits), HEX is 1 to 1,024 octets, and one space stands be
   MS C        its connection is cut
   MS W WALL   the wall clock shows WALL, in ms since 1970-01-01 UTC (1 to 15 digits)
 Printed, one action a line: `MS > S HEX` to the line, `MS > T HEX` to the control centre,
-`MS > X CAUSE` where the gateway closes the connection, and `MS > G S K` where session K of the link
+`MS > X CAUSE` when the gateway closes the connection, and `MS > G S K` when session K of the link
 to station S has ended, and its last report may be lost. With --words each event and each action is
 a line: MS, the way, and the frame in words. TRACE may then be a record too (`run --record`): its
 events are run, from the first one on, and the lines of its actions are passed over. The ways are
@@ -57,7 +56,7 @@ RECORD has a line for each event, as a trace has it, and for each action, as rep
 the order in which they came and went out. A last line that was cut short, and one with `!`, are
 left out. Printed: `same, N events, M actions`, or `line N differs`, with the first line that isn't
 the run's.
-Exit status: 0 the same, 1 another, or wrong settings or record, 2 usage, 3 a file or the output \
+Exit status: 0 the same, 1 another, or wrong settings or record, 2 usage, 3 a file or the output
 failed, 4 no memory";
 
 pub(crate) const RUN: &str = "\
@@ -88,7 +87,7 @@ process's or can't be kept there, the line can't be reached, the line ended, or 
 pub(crate) const STATUS: &str = "\
 PLACE is the HOST:PORT of `run --status`. Printed: the table, whose first word is OK, WARNING or
 CRITICAL, or with --json the page that programs read.
-Exit status: by the table, as a monitor wants it (Nagios), 0 ok, 1 warning, 2 critical; 3 nobody \
+Exit status: by the table, as a monitor wants it (Nagios), 0 ok, 1 warning, 2 critical; 3 nobody
 answers as a live run does, or the output failed, 4 no memory";
 
 pub(crate) const STATE: &str = "\
@@ -134,7 +133,7 @@ Other lines are known here alone, with MS from 10 ms to a day:
 CONFIG (tcp:HOST:PORT or unix:PATH), where `run` finds the outstations, and goes on until it is
 ended. A station that neither confirms nor refuses commands takes them on the link alone. Printed:
 where it listens, who comes and goes, and with --words each frame of the line.
-Exit status: 1 wrong settings or script, 2 usage, 3 a file can't be read, or listening failed, \
+Exit status: 1 wrong settings or script, 2 usage, 3 a file can't be read, or listening failed,
 4 no memory";
 
 pub(crate) const CENTRE: &str = "\
@@ -148,5 +147,5 @@ Otherwise the answers are waited for, and the last line says what became of it. 
 VALUE is on or off (a single command), double:on or double:off, up or down (a regulating step
 command), normalized:0.5, scaled:-100 or float:1.5 (a set point).
 A file that has the name of one of these words is ./FILE.
-Exit status: 0 confirmed, 1 refused, or wrong settings, 2 usage, 3 no answer in time, no connection,
+Exit status: 0 confirmed, 1 refused, or wrong settings, 2 usage, 3 no reply in time, no connection,
 or a file or the output failed, 4 no memory";

@@ -94,7 +94,7 @@ impl<'r, R: Print, L: Listener + Drop> Listener for ToldListener<'r, R, L> {
 
     fn accept(&mut self, allow_list: &AllowList) -> Option<Accepted<ToldStream<'r, R, L::Stream>>> {
         let Accepted { address, stream } = self.listener.accept(allow_list)?;
-        let _ = println!(self.teller.rt; "a gateway has come from {address}");
+        let _ = println!(self.teller.rt; "gateway connected: {address}");
         Some(Accepted {
             address,
             stream: ToldStream {
@@ -116,7 +116,7 @@ impl<R: Print, S: OctetStream> OctetStream for ToldStream<'_, R, S> {
         let got = self.stream.read(buf);
         match got {
             Got::Octets(len) => self.teller.tell_octets("gateway > outstation", &buf[..len]),
-            Got::Gone => self.teller.tell("the gateway has gone"),
+            Got::Gone => self.teller.tell("gateway lost"),
             Got::Quiet => {}
         }
         got
@@ -131,7 +131,8 @@ impl<R: Print, S: OctetStream> OctetStream for ToldStream<'_, R, S> {
         if is_taken {
             self.teller.tell_octets("outstation > gateway", octets);
         } else {
-            self.teller.tell("the gateway has gone: it took no answer");
+            self.teller
+                .tell("gateway lost: it didn't take what was written");
         }
         is_taken
     }
