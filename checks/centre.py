@@ -9,7 +9,7 @@ deactivations are confirmed or refused, by the outstation and by the gateway, an
 end with 2, and without a gateway with 3.
 
 Octet by octet, with values from IEC 60870-5-104, 5 and IEC 60870-5-101, 7.2 and 7.3: each request, its numbers, an S frame behind eight I
-frames and behind ten seconds, both tests, the stop. Each thing that a gateway may not do, or doesn't do in time, ends the connection.
+frames and behind ten seconds, no thirteenth request without one of the gateway's, both tests, the stop. Each thing that a gateway may not do, or doesn't do in time, ends the connection.
 """
 import json
 import os
@@ -413,6 +413,22 @@ def acknowledged(count, program, folder):
         count.compare("the gateway ends it", gateway.ended(), (["connection lost: the gateway ended it"], 3))
 
 
+def windowed(count, program, folder):
+    """k is 12 (IEC 60870-5-104, 9.6): of a watch's interrogations the thirteenth waits for an acknowledgement."""
+    config = os.path.join(folder, "many.toml")
+    with open(config, "w") as file:
+        file.write("[line]\nlink = 1\ncause = 1\nca = 1\nioa = 2\n")
+        file.writelines(f"[[station]]\naddress = {n}\nca = {n}\n" for n in range(1, 33))
+    asked = [information(ca - 1, 0, bytes.fromhex("64010600") + ca.to_bytes(2, "little") + bytes.fromhex("00000014")) for ca in range(1, 33)]
+    with Gateway(program, config) as gateway:
+        gateway.started(count, "k")
+        for least, most, acknowledged in ((0, 12, 8), (12, 20, 20), (20, 32, 32)):
+            count.compare(f"k: the requests up to {most}", [gateway.frame() for _ in asked[least:most]], asked[least:most])
+            count.compare(f"k: none behind {most}", gateway.frame(0.3), b"")
+            gateway.stream.sendall(supervisory(acknowledged))
+        count.compare("k: no request more", gateway.frame(0.3), b"")
+
+
 def refused(count, program, folder):
     """What a gateway may not do."""
     rows = [
@@ -476,6 +492,7 @@ def silent(count, program, folder):
 
 if __name__ == "__main__":
     parts = (
-        before_a_run, watched, wrong_words, requests, all_asked, tagged, operated, acknowledged, refused, silent,
+        before_a_run, watched, wrong_words, requests, all_asked, tagged, operated, acknowledged, windowed, refused,
+        silent,
     )
     frame.main(*parts, side_by_side=True)

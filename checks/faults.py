@@ -6,11 +6,20 @@ reports.
 
 In settings it has to report the first wrong key, by the order of docs/SETTINGS.md. In a script or a
 trace it has to report the first wrong line, by its number. Before that it says where each wrong key,
-or that line, is wrong, and why.
+or that line, is wrong, and why. `check` warns of what is odd in good settings and in a site's file.
+
+A file, a port, a line or a gateway that a command can't have is told in the system's words, before
+the fault's own line: what isn't there, what another process has, a name that nobody knows, and what
+the rights forbid. Output that can't be written is `device failed`, if a pipe was closed too.
 """
+import errno
 import os
+import re
+import shutil
+import socket
 import subprocess
 
+import ends
 import frame
 
 
@@ -319,6 +328,37 @@ POINTED = [
      "7:6: tcp.t2_ms is 10000 by default: wanted 1 to t1_ms - 1\n"),
 ]
 
+# Files of a site, and what `check` and `run` say of each before the fault's own line: each wrong key, and who may connect behind them.
+POINTED_SITES = [
+    ('log = 1\nallow = ["192.0.2.7", "192.0.2.256"]\n',
+     '1:7: log = 1: wanted true or false\n2:9: allow = ["192.0.2.7", "192.0.2.256"]: wanted a list of IPv4 and IPv6 addresses\n'),
+    ('lgo = true\nstatus = "nowhere"\n[[station]]\nlink = "7"\nname = ""\n',
+     '1:1: no such key: lgo; is log meant?\n2:10: status = "nowhere": wanted HOST:PORT\n'
+     '4:8: station.link = "7" is a text: write 7 without quotation marks\n5:8: station.name = "": wanted 1 to 40 printable characters\n'),
+    ('colour = 1\nallow = ["::1", "localhost"]\n',
+     '1:1: no such key: colour\n2:9: allow = ["::1", "localhost"]: wanted a list of IPv4 and IPv6 addresses\n'),
+    ("[[station]]\nlink = 7\n", "1:12: station.name is missing: wanted 1 to 40 printable characters\n"),
+    ("log = \n", "1:7: "),
+]
+
+# What stands behind the settings with two stations, from line 13 on, a site's file, and what `check` warns of, of the settings and then of
+# the site. It prints `ok`.
+LIVE = '[live]\nline = "unix:x"\n'
+ALONE = "no other machine can connect"
+WARNED = [
+    ("", "", "", ""),
+    (LIVE + 'listen = "0.0.0.0:2404"\n', "log = true\n", "", ""),
+    (LIVE + 'listen = "192.0.2.2:2404"\n', '[[station]]\nlink = 2\nname = "A"\n', "", ""),
+    (LIVE + 'listen = "127.0.0.1:2404"\n', "", f'15:10: live.listen = "127.0.0.1:2404": {ALONE}\n', ""),
+    (LIVE + 'listen = "localhost:2404"\n', "", f'15:10: live.listen = "localhost:2404": {ALONE}\n', ""),
+    (LIVE, "", "13:7: live.listen is missing: wanted HOST:PORT\n", ""),
+    ('[live]\nline = "tcp:x"\nlisten = "0.0.0.0:2404"\n', "", '14:8: live.line = "tcp:x": wanted tcp:HOST:PORT or unix:PATH\n', ""),
+    ('[live]\nline = "x"\nlisten = "y"\n', "",
+     '14:8: live.line = "x": wanted tcp:HOST:PORT or unix:PATH\n15:10: live.listen = "y": wanted HOST:PORT\n', ""),
+    ("", '[[station]]\nlink = 2\nname = "A"\n[[station]]\nlink = 99\nname = "B"\n', "",
+     "5:8: station.link = 99: the settings have no such station\n"),
+]
+
 # Scripts and traces, and what `sim` and `replay` say of their first wrong line before the fault's own.
 POINTED_SCRIPTS = [
     ("turns 1\nreport 3 1 00", "2:8: no such station is in the settings\n"),
@@ -349,7 +389,7 @@ POINTED_TRACES = [
 def pointed(count, program, folder):
     """Where a file is wrong, and why, with its name, before the fault's own line. `sim` and `replay`
     say the same of settings as `check` does."""
-    config, second = (os.path.join(folder, name) for name in ("config.toml", "second"))
+    config, second, site = (os.path.join(folder, name) for name in ("config.toml", "second", "site.toml"))
 
     def judge(words, text, path, want):
         with open(path, "w", encoding="utf-8", newline="") as file:
@@ -357,7 +397,9 @@ def pointed(count, program, folder):
         done = subprocess.run([program, *words], capture_output=True, text=True, timeout=60)
         said = "".join(done.stderr.splitlines(True)[:-1])
         want = "".join(f"{path}:{line}\n" for line in want.splitlines())
-        count.judge(f"{words[0]} points at {text!r:.200}", (said, done.returncode) == (want, 1), f"wanted {want!r}, got {done.stderr!r}")
+        # Why a text is no document, the reader of TOML says.
+        is_right = said == want if not want.endswith(": \n") else said.startswith(want[:-1]) and said.count("\n") == 1
+        count.judge(f"{words[0]} points at {text!r:.200}", is_right and done.returncode == 1, f"wanted {want!r}, got {done.stderr!r}")
 
     for before, after, want in POINTED:
         if before not in TWO:
@@ -366,10 +408,120 @@ def pointed(count, program, folder):
             judge(words, TWO.replace(before, after, 1), config, want)
     with open(config, "w", encoding="utf-8") as file:
         file.write(TWO)
+    for text, want in POINTED_SITES:
+        for command in ("check", "run"):
+            judge([command, "--site", site, config], text, site, want)
     for script, want in POINTED_SCRIPTS:
         judge(["sim", config, second], script, second, want)
     for trace, want in POINTED_TRACES:
         judge(["replay", config, second], trace, second, want)
+    for live, text, want, of_site in WARNED:
+        for path, written in ((config, TWO + live), (site, text)):
+            with open(path, "w", encoding="utf-8") as file:
+                file.write(written)
+        done = subprocess.run([program, "check", "--site", site, config], capture_output=True, text=True, timeout=60)
+        told = [re.sub(r"^(\d+:\d+: )", rf"{path}:\1warning: ", line) for path, lines in ((config, want), (site, of_site)) for line in lines.splitlines(True)]
+        count.compare(f"check warns of {live!r} {text!r}", (done.stdout, done.stderr, done.returncode), ("ok\n", "".join(told), 0))
+
+
+LOOKED_UP = "failed to lookup address information: .+"
+
+
+def refused(count, program, folder):
+    """What the system refuses, with the place and in its words. What is looked for isn't there, or is another's, or nobody knows its name."""
+
+    def written(name, line, listen):
+        with open(os.path.join(folder, name), "w") as file:
+            file.write(f'{CONFIG}[live]\nline = "{line}"\nlisten = "{listen}"\n')
+
+    def judge(words, why, last, status=3):
+        done = subprocess.run([program, *words.split()], cwd=folder, stdin=subprocess.DEVNULL, capture_output=True, text=True, timeout=60)
+        holds = re.fullmatch(f"error: {why}\n{last}\n", done.stderr) and (done.stdout, done.returncode) == ("", status)
+        count.judge(f"refused: {words}", holds, f"wanted {why!r}, got {done}")
+
+    with open(os.path.join(folder, "one.script"), "w") as file:
+        file.write("turns 1\n")
+    with socket.create_server(("127.0.0.1", 0)) as taken:
+        here, free, shut = f"127.0.0.1:{taken.getsockname()[1]}", f"127.0.0.1:{ends.free_port()}", f"127.0.0.1:{ends.free_port()}"
+        nobody = "no-such-host.invalid:2404"
+        in_use = re.escape(f"{os.strerror(errno.EADDRINUSE)} (os error {errno.EADDRINUSE})")
+        closed = re.escape(f"{os.strerror(errno.ECONNREFUSED)} (os error {errno.ECONNREFUSED})")
+        absent = re.escape(f"{os.strerror(errno.ENOENT)} (os error {errno.ENOENT})")
+        written("good.toml", f"tcp:{here}", free)
+        written("taken.toml", f"tcp:{here}", here)
+        written("shut.toml", f"tcp:{shut}", free)
+        written("host.toml", f"tcp:{nobody}", free)
+        written("path.toml", "unix:nowhere/line", free)
+        written("own.toml", f"tcp:{here}", nobody)
+        judge("run taken.toml", f"listener {here}: {in_use}", "device failed")
+        judge("run shut.toml", f"line tcp:{shut}: {closed}", "device failed")
+        judge("run host.toml", f"line tcp:{nobody}: {LOOKED_UP}", "device failed")
+        judge("run path.toml", f"line unix:nowhere/line: {absent}", "device failed")
+        judge("run own.toml", f"listener {nobody}: {LOOKED_UP}", "device failed")
+        judge(f"run --status {here} good.toml", f"status {here}: {in_use}", "device failed")
+        judge(f"run --redial --status {here} shut.toml", f"status {here}: {in_use}", "device failed")
+        judge("run --status nowhere good.toml", "status nowhere: invalid socket address", "device failed")
+        judge(f"run --status {nobody} good.toml", f"status {nobody}: {LOOKED_UP}", "device failed")
+        judge("stations taken.toml one.script", f"line tcp:{here}: {in_use}", "device failed")
+        judge("stations host.toml one.script", f"line tcp:{nobody}: {LOOKED_UP}", "device failed")
+        judge("stations path.toml one.script", f"line unix:nowhere/line: {absent}", "device failed")
+        judge(f"centre {shut} interrogate", f"gateway {shut}: {closed}", f"no answer from {shut}")
+        judge(f"centre {nobody} interrogate", f"gateway {nobody}: {LOOKED_UP}", f"no answer from {nobody}")
+        judge(f"status {shut}", f"status {shut}: {closed}", f"no answer from {shut}")
+        judge(f"status {nobody}", f"status {nobody}: {LOOKED_UP}", f"no answer from {nobody}")
+
+
+# Calls that read a file or a directory that they may not, and which.
+FORBIDDEN = [
+    ("check secret", "file secret"), ("check --site secret good.toml", "file secret"), ("run secret", "file secret"),
+    ("run --site secret good.toml", "file secret"), ("replay secret x", "file secret"), ("replay good.toml secret", "file secret"),
+    ("sim good.toml secret", "file secret"), ("audit good.toml secret", "file secret"), ("capture good.toml secret", "file secret"),
+    ("stations good.toml secret", "file secret"), ("centre 127.0.0.1:1 ./secret", "file ./secret"), ("state shut", "directory shut"),
+]
+
+
+def forbidden(count, program, folder):
+    """What the rights forbid, to who isn't root."""
+    room = os.path.join(folder, "room")
+    os.makedirs(os.path.join(room, "shut"))
+    shutil.copy(program, os.path.join(room, "telegate"))
+    for name, text in (("good.toml", CONFIG + LIVE + 'listen = "127.0.0.1:1"\n'), ("secret", CONFIG)):
+        with open(os.path.join(room, name), "w") as file:
+            file.write(text)
+    for path, mode in ((folder, 0o755), (room, 0o755), ("telegate", 0o755), ("good.toml", 0o644), ("secret", 0), ("shut", 0)):
+        os.chmod(os.path.join(room, path), mode)
+    as_nobody = {"user": 65534, "group": 65534, "extra_groups": []} if os.geteuid() == 0 else {}
+
+    def judge(words, reason, last):
+        done = subprocess.run(["./telegate", *words.split()], cwd=room, stdin=subprocess.DEVNULL, capture_output=True, text=True, timeout=60, **as_nobody)
+        seen = done.stdout, done.stderr, done.returncode
+        count.compare(f"forbidden: {words}", seen, ("", frame.reason(*reason, errno.EACCES) + last, 3))
+
+    for words, what in FORBIDDEN:
+        judge(words, what.split(), f"cannot read {what.split()[1]}\n")
+    with open("/proc/sys/net/ipv4/ip_unprivileged_port_start") as file:
+        if int(file.read()) > 1:
+            judge("run good.toml", ("listener", "127.0.0.1:1"), "device failed\n")
+
+
+# Calls whose output nobody reads.
+UNREAD = [
+    "show101 1112 E5", "show104 680443000000", "check config.toml", "replay config.toml /dev/null", "sim config.toml one.script",
+    "audit config.toml /dev/null", "capture config.toml /dev/null", "--help", "--version",
+]
+
+
+def closed_pipes(count, program, folder):
+    """The specification makes no exception of a pipe whose reader has gone."""
+    for name, text in (("config.toml", CONFIG), ("one.script", "turns 1\n")):
+        with open(os.path.join(folder, name), "w") as file:
+            file.write(text)
+    for words in UNREAD:
+        out, to = os.pipe()
+        os.close(out)
+        done = subprocess.run([program, *words.split()], cwd=folder, stdin=subprocess.DEVNULL, stdout=to, stderr=subprocess.PIPE, text=True, timeout=60)
+        os.close(to)
+        count.compare(f"closed pipe: {words}", (done.stderr, done.returncode), ("device failed\n", 3))
 
 
 def settings():
@@ -441,4 +593,4 @@ def first_faults(count, program, folder):
 
 
 if __name__ == "__main__":
-    frame.main(first_faults, explanations, pointed)
+    frame.main(first_faults, explanations, pointed, refused, forbidden, closed_pipes)

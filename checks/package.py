@@ -3,8 +3,9 @@
 
     checks/package.py [--program FILE] [--only NAME] [--chroot] [--base FOLDER]
 
-- Anywhere: packaging/install.sh twice into one folder, with an operator's edits between; and
-  `systemd-analyze verify` of both units, if systemd is there.
+- Anywhere: packaging/install.sh twice into one folder, with an operator's edits between; what the
+  package's script calls at an installation and an upgrade; and `systemd-analyze verify` of both
+  units, with what they have to say, if systemd is there.
 - With dpkg-deb and binutils: the package, the same octets twice, and lintian without an error, if
   it is there.
 - With `--chroot`, as root and with debootstrap: the package in a Debian of its own, with one that is
@@ -125,6 +126,12 @@ def judge_units(count, program, folder):
         write(os.path.join(folder, "units", name), text)
         verified = run(["systemd-analyze", "verify", "--man=no", os.path.join(folder, "units", instance)])
         count.case(verified.returncode == 0 and not said(verified), f"systemd-analyze verify {instance}: {said(verified)}")
+        # What a start and a check write bears one name, a signal ends nothing for good, and a reload judges before it restarts.
+        own = "telegate" if name == instance else "telegate-%i"
+        for wanted in (f"SyslogIdentifier={own}", f"StateDirectory={own}", "Restart=always", "RestartPreventExitStatus=1 2", "ExecStartPost=/bin/sleep 1"):
+            count.case(f"\n{wanted}\n" in text, f"{name} has no {wanted}")
+        reloads = re.findall(r"^ExecReload=(.*)$", text, re.M)
+        count.case(len(reloads) == 2 and " check --live " in reloads[0] and "systemctl restart %n" in reloads[1], f"{name}: {reloads}")
     line = read(os.path.join(folder, "units/telegate@.service"))
     count.case(re.search(r"^User=telegate-%i$", line, re.M), "telegate@.service has no user of its own")
     count.case("/etc/telegate/%i/" in line and not re.search(r"/etc/telegate/(?!%i/)", line), "telegate@.service reads settings that aren't its line's")
@@ -150,6 +157,41 @@ def judge_starts(count, program, folder):
                 count.case((ran.stdout, frame.bare(ran.stderr), ran.returncode) == (*want, 1), f"{name}, {key} with {words}: {ran.stdout!r} {ran.stderr!r}")
 
 
+POSTED = """#!/bin/sh
+echo "$(basename "$0") $*" >>{folder}/called
+[ "$1" != try-reload-or-restart ] || exit {status}
+"""
+UPGRADED = "deb-systemd-invoke try-reload-or-restart telegate.service telegate@*.service"
+
+
+def judge_postinst(count, program, folder):
+    """What the package's script calls. A first installation starts nothing. An upgrade has each line that runs judge its files before a
+    restart; if they are wrong it says so, and the upgrade goes on."""
+    folder = os.path.join(folder, "posted")
+    for place in ("bin", "system", "etc", "share"):
+        os.makedirs(os.path.join(folder, place))
+    script = read(os.path.join(TOP, "packaging/debian/postinst"))
+    for there, here in (("/run/systemd/system", "system"), ("/etc/telegate", "etc"), ("/usr/share/telegate", "share")):
+        script = script.replace(there, os.path.join(folder, here))
+    write(os.path.join(folder, "postinst"), script)
+    for name in SETTINGS:
+        write(os.path.join(folder, "share", name), "# to begin with\n")
+    environment = {"PATH": f"{folder}/bin:{os.environ['PATH']}"}
+    for version, status in (("", 0), ("0.9.0", 0), ("0.9.0", 1)):
+        write(os.path.join(folder, "called"), "")
+        for name in ("systemctl", "deb-systemd-invoke"):
+            write(os.path.join(folder, "bin", name), POSTED.format(folder=folder, status=status))
+            os.chmod(os.path.join(folder, "bin", name), 0o755)
+        ran = run(["sh", os.path.join(folder, "postinst"), "configure", version], env=environment)
+        wanted = ["systemctl --system daemon-reload", *([UPGRADED] if version else [])]
+        name = f"postinst, {f'upgrade from {version}' if version else 'first installation'}, {'wrong' if status else 'right'} settings"
+        count.compare(f"{name}: calls", read(os.path.join(folder, "called")).splitlines(), wanted)
+        count.compare(f"{name}: status", ran.returncode, 0)
+        count.judge(f"{name}: it says so", ("runs on with the old program" in ran.stderr) == (status == 1), ran.stderr)
+        if not version:
+            count.compare(f"{name}: files to begin with", sorted(os.listdir(os.path.join(folder, "etc"))), sorted(SETTINGS))
+
+
 def make_package(program, into):
     os.makedirs(into, exist_ok=True)
     made = run([os.path.join(TOP, "packaging/deb"), into], env={**os.environ, "TELEGATE_PROGRAM": program})
@@ -167,6 +209,11 @@ def judge_package(count, program, folder):
     with open(package, "rb") as one, open(again, "rb") as other:
         count.case(one.read() == other.read(), "packaging/deb: two calls make two packages")
     version = run([program, "--version"]).stdout.split()[1]
+    # Without a configuration file dpkg asks nothing at an upgrade, so an unattended one doesn't fail by it.
+    image = os.path.join(folder, "image")
+    run(["dpkg-deb", "-R", package, image])
+    asked = [name for name in ("DEBIAN/conffiles", "etc") if os.path.exists(os.path.join(image, name))]
+    count.case(os.path.isdir(os.path.join(image, "usr")) and not asked, f"packaging/deb: dpkg would ask about {asked}")
     field = run(["dpkg-deb", "-f", package, "Version"]).stdout.strip()
     count.case(field == version, f"packaging/deb: the package is {field}, the program {version}")
     if shutil.which("lintian"):
@@ -328,6 +375,7 @@ if __name__ == "__main__":
         judge_install_script,
         judge_units,
         judge_starts,
+        judge_postinst,
         a_package,
         words={
             "--chroot": {"action": "store_true", "help": "install, upgrade and purge it in a Debian of its own"},

@@ -1,123 +1,67 @@
 #!/usr/bin/env python3
-"""Shows `telegate run` live: an outstation behind the line, which `telegate stations` plays, and a control centre, of which it
-prints what it hears.
+"""Shows `telegate run` live, between outstations that `telegate stations` plays and a control centre that `telegate centre` is.
 
     ./build && python3 examples/live/try.py
 
-It starts `./telegate stations examples/live/config.toml examples/live/outstation.script`, and `./telegate run
-examples/live/config.toml` once that listens. It ends when the gateway does. A report goes through and isn't acknowledged; after a
-cut it comes again; a command goes down, and its confirmation and its termination come back; at last the outstation is ended, and
-the gateway ends with `device failed` and status 3.
+It starts `./telegate stations examples/live/config.toml examples/live/outstation.script`, then `./telegate run --log
+examples/live/config.toml`, and twice `./telegate centre 127.0.0.1:24104`. It ends when the gateway does. A report goes through and isn't
+acknowledged; after a cut it comes again; a command goes down, and its confirmation and its termination come back; at last the
+outstation is ended, and the gateway ends with `device failed` and status 3. A program behind the script's name runs in place of
+`./telegate`.
 """
 import os
-import socket
 import subprocess
-import time
+import sys
 
 ROOT = os.path.dirname(os.path.dirname(os.path.dirname(os.path.abspath(__file__))))
 HERE = os.path.join(ROOT, "examples/live")
-LINE = ("127.0.0.1", 24101)
-LISTENER = ("127.0.0.1", 24104)
-COMMAND = bytes.fromhex("2D0106000100C8000001")  # C_SC_NA_1, activation, common address 1, object 200, on
-CONFIRMED = bytes.fromhex("2D0107000100C8000001")  # its activation confirmation
-DONE = bytes.fromhex("2D010A000100C8000001")  # its activation termination
+PROGRAM = sys.argv[1] if len(sys.argv) > 1 else os.path.join(ROOT, "telegate")
+LISTENER = "127.0.0.1:24104"
+REPORT = "M_SP_NA_1 spontaneous  CA 1  100 = on"
 
 
-def tell(who, octets):
-    print(f"{who:8} {octets.hex().upper()}", flush=True)
+def tell(text):
+    print(text, flush=True)
 
 
-def started(*words):
-    """A `telegate` with these words."""
-    return subprocess.Popen([os.path.join(ROOT, "telegate"), *words])
+def started(*words, **pipes):
+    return subprocess.Popen([PROGRAM, *words], text=True, **pipes)
 
 
-def listening(outstation):
-    """The outstation listens."""
-    while outstation.poll() is None:
-        try:
-            return socket.create_connection(LINE, timeout=5).close()
-        except ConnectionRefusedError:
-            time.sleep(0.05)
-    raise SystemExit("the outstation ended")
-
-
-class Centre:
-    """A control centre on one connection."""
-
-    def __init__(self):
-        self.stream = socket.create_connection(LISTENER, timeout=5)
-        self.received = 0
-        self.sent = 0
-        self.send(bytes.fromhex("680407000000"))
-
-    def send(self, apdu):
-        self.stream.sendall(apdu)
-
-    def hear(self):
-        """The next APDU."""
-        apdu = self.stream.recv(2, socket.MSG_WAITALL)
-        apdu += self.stream.recv(apdu[1], socket.MSG_WAITALL)
-        tell("centre", apdu)
-        if not apdu[2] & 1:
-            self.received += 1
-        return apdu
-
-    def acknowledge(self):
-        count = self.received * 2
-        self.send(bytes([0x68, 4, 1, 0, count & 0xFF, count >> 8]))
-
-    def command(self, asdu):
-        counts = self.sent * 2, self.received * 2
-        self.sent += 1
-        self.send(bytes([0x68, len(asdu) + 4]) + b"".join(n.to_bytes(2, "little") for n in counts) + asdu)
-
-
-def connected(gateway):
-    """A control centre, as soon as the gateway listens."""
-    while gateway.poll() is None:
-        try:
-            return Centre()
-        except ConnectionRefusedError:
-            time.sleep(0.05)
-    raise SystemExit("the gateway ended")
-
-
-def heard(centre, asdu):
-    """The next APDU with this ASDU comes."""
-    while centre.hear()[6:] != asdu:
-        pass
-    centre.acknowledge()
+def waits(stream, text, who):
+    """Prints lines up to the one that has this text."""
+    for line in stream:
+        tell(f"{who:10} {line.rstrip()}")
+        if text in line:
+            return
+    raise SystemExit(f"{who} ended without: {text}")
 
 
 def main():
     config = os.path.join(HERE, "config.toml")
-    outstation = started("stations", config, os.path.join(HERE, "outstation.script"))
-    listening(outstation)
-    gateway = started("run", config)
+    outstation = started("stations", config, os.path.join(HERE, "outstation.script"), stdout=subprocess.PIPE)
+    gateway = watch = None
     try:
-        centre = connected(gateway)
-        centre.hear()
-        first = centre.hear()
-        print("-- cut without an acknowledgement, and connected again", flush=True)
-        centre.stream.close()
-        centre = connected(gateway)
-        centre.hear()
-        again = centre.hear()
-        centre.acknowledge()
-        print("-- acknowledged; a command", flush=True)
-        centre.command(COMMAND)
-        heard(centre, CONFIRMED)
-        heard(centre, DONE)
-        print("-- the outstation is ended", flush=True)
+        waits(outstation.stdout, "listening", "outstation")
+        gateway = started("run", "--log", config, stderr=subprocess.PIPE)
+        waits(gateway.stderr, "listening", "gateway")
+        watch = started("centre", LISTENER, stdout=subprocess.PIPE)
+        waits(watch.stdout, REPORT, "centre")
+        tell("-- cut without an acknowledgement, and connected again with a command")
+        watch.kill()
+        centre = started("centre", LISTENER, "execute", "1/200", "on", stdout=subprocess.PIPE)
+        waits(centre.stdout, REPORT, "centre")
+        waits(centre.stdout, "confirmed and terminated", "centre")
+        tell("-- the outstation is ended")
         outstation.kill()
-        status = gateway.wait(timeout=10)
-        print(f"-- the gateway ended with status {status}")
-        if first[6:] != again[6:] or status != 3:
+        waits(gateway.stderr, "device failed", "gateway")
+        tell(f"-- the gateway ended with status {gateway.wait(timeout=10)}")
+        if (centre.wait(timeout=10), gateway.returncode) != (0, 3):
             raise SystemExit("not as it should be")
     finally:
-        outstation.kill()
-        gateway.kill()
+        for process in (outstation, gateway, watch):
+            if process:
+                process.kill()
 
 
 if __name__ == "__main__":

@@ -3,9 +3,10 @@
 use crate::config::{read_live_table, read_table};
 use crate::fault::ConfigFault;
 use crate::hints::remarks::KeyFault;
-use crate::site::{SITE_ROWS, SiteFault, read_site_table, site_values};
+use crate::site::{SITE_ROWS, Site, SiteFault, read_site_table, site_values};
 use crate::wanted::{ROWS, WantedRow, wanted_values};
 use std::alloc::{AllocError, Global};
+use std::net::IpAddr;
 use toml::Table;
 
 /// A file whose faults are explained.
@@ -53,7 +54,10 @@ impl File {
         match self {
             File::Settings => fault_of(alloc, read_table(alloc, root).err()),
             File::LiveSettings => fault_of(alloc, read_live_table(alloc, root).err()),
-            File::Site => fault_of_site(alloc, read_site_table(alloc, root).err()),
+            File::Site => match read_site_table(alloc, root) {
+                Ok(site) => fault_of_addresses(alloc, &site),
+                Err(fault) => fault_of_site(alloc, fault),
+            },
         }
     }
 }
@@ -72,11 +76,25 @@ fn fault_of(alloc: Global, fault: Option<ConfigFault>) -> Result<Option<KeyFault
 }
 
 /// The fault of a site's file.
-fn fault_of_site(alloc: Global, fault: Option<SiteFault>) -> Result<Option<KeyFault>, AllocError> {
+fn fault_of_site(alloc: Global, fault: SiteFault) -> Result<Option<KeyFault>, AllocError> {
     match fault {
-        Some(SiteFault::Key(path)) => Ok(Some(KeyFault::Wrong(String::from_str(alloc, path)?))),
-        Some(SiteFault::Unknown(path)) => Ok(Some(KeyFault::Unknown(path))),
-        Some(SiteFault::NoMemory) => Err(AllocError),
-        Some(SiteFault::NotToml) | None => Ok(None),
+        SiteFault::Key(path) => Ok(Some(KeyFault::Wrong(String::from_str(alloc, path)?))),
+        SiteFault::Unknown(path) => Ok(Some(KeyFault::Unknown(path))),
+        SiteFault::NoMemory => Err(AllocError),
+        SiteFault::NotToml => Ok(None),
     }
+}
+
+/// That a site names who may connect by a text that is no address, which is judged last. Whether a
+/// directory is named for the state isn't judged here, since the words of a run may name one.
+fn fault_of_addresses(alloc: Global, site: &Site) -> Result<Option<KeyFault>, AllocError> {
+    let Some(words) = &site.places.allow else {
+        return Ok(None);
+    };
+    for word in words {
+        if word.as_str().parse::<IpAddr>().is_err() {
+            return Ok(Some(KeyFault::Wrong(String::from_str(alloc, "allow")?)));
+        }
+    }
+    Ok(None)
 }
