@@ -65,17 +65,19 @@ class Commit:
         differs = self.name and git("diff", "--name-only", self.name, *crates)
         return bool(differs or git("ls-files", "--others", "--exclude-standard", *crates))
 
-    def record(self, program, is_proved):
-        """What to write beside the program that was compiled, for tools/origin."""
-        told = f"proved by {identity()}" if is_proved else "unproved"
-        moment = ""
-        if self.name:
-            # A source may have changed meanwhile.
-            has_changes = self.has_changes or self.is_left()
-            told += f", commit {self.name}{' with changes' if has_changes else ''}"
-            moment = f"moment {self.moment}\n"
-        with open(program, "rb") as file:
-            return f"{told}\n{moment}sha256 {hashlib.sha256(file.read()).hexdigest()}\n"
+
+def note(program, commit, is_proved, more=""):
+    """Writes how a program was made to a file beside it, for tools/origin."""
+    told, moment = f"proved by {identity()}" if is_proved else "unproved", ""
+    if commit.name:
+        # A source may have changed meanwhile.
+        has_changes = commit.has_changes or commit.is_left()
+        told += f", commit {commit.name}{' with changes' if has_changes else ''}"
+        moment = f"moment {commit.moment}\n"
+    with open(program, "rb") as file:
+        sha256 = hashlib.sha256(file.read()).hexdigest()
+    with open(f"{program}.{'' if is_proved else 'un'}proved", "w", encoding="utf-8") as file:
+        file.write(f"{told}\n{moment}sha256 {sha256}\n{more}")
 
 
 def identity():
