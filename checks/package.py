@@ -195,11 +195,10 @@ def judge_postinst(count, program, folder):
             count.compare(f"{name}: files to begin with", sorted(os.listdir(os.path.join(folder, "etc"))), sorted(SETTINGS))
 
 
-def make_package(program, into, *words, **more):
-    """The package of a program, proved or not, and what was said."""
+def make_package(program, into, words=("--unproved",), **more):
+    """The package of a program, which needn't be proved, and what was said."""
     os.makedirs(into, exist_ok=True)
-    words = [os.path.join(TOP, "packaging/deb"), *words, into]
-    made = run(words, env={**os.environ, "TELEGATE_PROGRAM": program, **more})
+    made = run([os.path.join(TOP, "packaging/deb"), *words, into], env={**os.environ, "TELEGATE_PROGRAM": program, **more})
     found = glob.glob(os.path.join(into, "*.deb"))
     return (found[0] if found and made.returncode == 0 else None), said(made)
 
@@ -260,14 +259,14 @@ def judge_origins(count, program, folder):
     own, versions = run([program, "--version"]).stdout.split()[1], {}
     for name, (record, words, behind) in ORIGINS.items():
         copy = placed(program, os.path.join(folder, name, "program"), record)
-        package, told = make_package(copy, os.path.join(folder, name, "made"), *words)
+        package, told = make_package(copy, os.path.join(folder, name, "made"), words)
         count.judge(f"{name}: the package", package, told)
         if package:
             versions[name] = f"{own}{behind}"
             judge_origin(count, name, package, versions[name], (record or ("unproved",))[0])
     for name, record in REFUSED.items():
         copy = placed(program, os.path.join(folder, name, "refused"), record)
-        package, told = make_package(copy, os.path.join(folder, name, "nothing"))
+        package, told = make_package(copy, os.path.join(folder, name, "nothing"), ())
         wanted = (None, f"deb: nothing says that {copy} is proved: run ./build first, or say --unproved")
         count.compare(f"{name}, without the word", (package, told), wanted)
     # A record is of one program. What was compiled since isn't proved.
@@ -362,17 +361,17 @@ def judge_releases(count, program, folder):
     for number, (begins, ends, wanted) in enumerate(rows):
         told = f"{begins}, commit {repository.name()}{ends}"
         copy = placed(program, os.path.join(folder, str(number)), (told, MOMENT))
-        package, said_of = make_package(copy, os.path.join(folder, f"{number}-made"), "--unproved", GIT_DIR=f"{repository.folder}/.git")
+        package, _ = make_package(copy, os.path.join(folder, f"{number}-made"), GIT_DIR=f"{repository.folder}/.git")
         count.compare(f"a release, {told}", package and field_of(package, "Version"), f"{own}{wanted}")
 
 
 def judge_package(count, program, folder):
     """The package itself; answers its file."""
-    package, told = make_package(program, os.path.join(folder, "first"), "--unproved")
+    package, told = make_package(program, os.path.join(folder, "first"))
     count.case(package, f"packaging/deb: {told}")
     if not package:
         return None
-    again, _ = make_package(program, os.path.join(folder, "second"), "--unproved")
+    again, _ = make_package(program, os.path.join(folder, "second"))
     with open(package, "rb") as one, open(again, "rb") as other:
         count.case(one.read() == other.read(), "packaging/deb: two calls make two packages")
     # Without a configuration file dpkg asks nothing at an upgrade, so an unattended one doesn't fail by it.
