@@ -306,6 +306,29 @@ def requests(count, program, folder):
             count.compare(f"{name}: end", gateway.ended(), (["confirmed and terminated" if is_waited else "confirmed"], 0))
 
 
+# A value, the type of its command, and its element (IEC 60870-5-101, 7.2.6.6 to 8, 15 to 17 and 39).
+VALUES = [
+    ("on", 45, "01"), ("double:off", 46, "01"), ("up", 47, "02"), ("normalized:0.5", 48, "004000"), ("scaled:-2", 49, "FEFF00"),
+    ("float:1.5", 50, "0000C03F00"),
+]
+
+
+def each_command(count, program, folder):
+    """Each type is selected, executed and deactivated, with a time tag too: then the type is 13 more (7.2.1). The last octet of an element says
+    by its highest bit that it selects."""
+    for value, kind, element in VALUES:
+        for what, cause, bit in (("select", 6, 0x80), ("execute", 6, 0), ("deactivate", 8, 0x80)):
+            octets = bytearray.fromhex(element)
+            octets[-1] |= bit
+            for flags, more in (((), 0), (("--tagged",), 13)):
+                name = " ".join((what, value, *flags))
+                with Gateway(program, what, "1/100", value, *flags) as gateway:
+                    gateway.started(count, name)
+                    asdu = gateway.frame()[6:]
+                    wanted = bytes((kind + more, 1, cause, 0, 1, 0, 100, 0, 0)) + octets
+                    count.compare(f"{name}: the request", (asdu[:len(wanted)], len(asdu) - len(wanted)), (wanted, 7 if more else 0))
+
+
 def all_asked(count, program, folder):
     """An interrogation of all (65535) ends once each station of the settings has terminated it. Of whom nothing came is said, if the
     others' terminations are there and the wait is over. With the common address of all, or without settings, the first one ends it."""
@@ -492,7 +515,7 @@ def silent(count, program, folder):
 
 if __name__ == "__main__":
     parts = (
-        before_a_run, watched, wrong_words, requests, all_asked, tagged, operated, acknowledged, windowed, refused,
+        before_a_run, watched, wrong_words, requests, each_command, all_asked, tagged, operated, acknowledged, windowed, refused,
         silent,
     )
     frame.main(*parts, side_by_side=True)

@@ -724,13 +724,15 @@ def tagged(distance):
 def skipped(count, program, folder):
     """A report that isn't passed on is logged at once, with its station, its type and the reason;
     and more of them each minute."""
-    # Type 2, and a single point in sizes that the settings don't say (three octets of object address).
-    for asdu, line in (
-        ("0201030164000100000000", "station 7 report skipped, type 2: type not known"),
-        ("0101030164000001", "station 7 report skipped, type 1 M_SP_NA_1: length doesn't fit the sizes in [line]"),
+    fits_none = "station 7 report skipped, type 1 M_SP_NA_1: length doesn't fit the sizes in [line]"
+    # Type 2, and a single point in sizes that the settings don't say: three octets of object address; one octet of cause, if they say two.
+    for asdu, settings, line in (
+        ("0201030164000100000000", PATIENT, "station 7 report skipped, type 2: type not known"),
+        ("0101030164000001", PATIENT, fits_none),
+        ("01010301640001", PATIENT.replace("cause = 1", "cause = 2"), fits_none),
     ):
         station = Operated()
-        with Run(program, folder, station, "--log", settings=PATIENT) as run:
+        with Run(program, folder, station, "--log", settings=settings) as run:
             log = run.log
             count.judge("skipped: the station is up", log.waits("station 7 up") is not None, log.lines)
             station.reports += [bytes.fromhex(asdu)] * 5

@@ -107,6 +107,7 @@ def judge_install_script(count, program, folder):
     write(unit, "an older unit\n")
     second = run([script], env=environment)
     count.case(second.returncode == 0, f"install.sh, again: {said(second)}")
+    count.case("systemctl try-reload-or-restart telegate" in second.stdout, f"install.sh, again: how a line takes the new program: {said(second)}")
     count.case(fresh and read(unit) == fresh, "install.sh, again: the unit isn't the new one")
     judge_own(count, root, "install.sh, again")
     removed = run([script, "--remove"], env=environment)

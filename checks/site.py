@@ -14,6 +14,7 @@ and what the table of docs/SITE.md wants there. Further words beside the file ar
 import json
 import os
 import re
+import signal
 import socket
 import subprocess
 import threading
@@ -274,6 +275,15 @@ def severities(count, program, folder):
         count.judge("without a log it does nothing", run.lines == [], run.lines)
 
 
+def ended_by_a_signal(count, program, folder):
+    """SIGTERM ends a run without a word: what was counted is logged each minute, and when a run ends by itself."""
+    with Run(program, folder, "log = true\n") as run:
+        count.judge("a station is up", run.waits("station 7 up"), run.lines)
+        run.process.terminate()
+        count.compare("SIGTERM: the end", run.process.wait(timeout=ends.PATIENCE), -signal.SIGTERM)
+        count.judge("SIGTERM: no counts", not [line for line in run.lines if " counts " in line], run.lines)
+
+
 def values():
     """What the table of docs/SITE.md wants of each key, without the marks of code."""
     with open(os.path.join(frame.TOP, "docs", "SITE.md"), encoding="utf-8") as file:
@@ -331,4 +341,4 @@ def both_judged(count, program, folder):
 
 
 if __name__ == "__main__":
-    frame.main(judged, both_judged, named, both_named, words_win, nothing_said, recorded, severities)
+    frame.main(judged, both_judged, named, both_named, words_win, nothing_said, recorded, severities, ended_by_a_signal)

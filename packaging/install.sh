@@ -98,4 +98,5 @@ earlier=$root/etc/systemd/system/telegate.service
 echo "installed: $prefix/bin/telegate ($build)"
 echo "next: edit /etc/telegate/gateway.toml (telegate check judges it) and /etc/telegate/site.toml,"
 echo "name the two peers by systemctl edit telegate (IPAddressAllow), then"
-echo "systemctl daemon-reload && systemctl enable --now telegate"
+echo "systemctl daemon-reload && systemctl enable --now telegate; after an upgrade, with files judged first,"
+echo "systemctl daemon-reload && systemctl try-reload-or-restart telegate 'telegate@*'"

@@ -53,7 +53,7 @@ pub(crate) fn read_live(alloc: Global, table: Option<&Table>) -> Result<LiveSett
         (λ s. live_places (members_in table.entry) ≡ Ok (places_of s))
         (IsWrongKeyOf (live_places (members_in table.entry))) }
 {
-    // Only `run` judges the places themselves (docs/DECISIONS.md, "`live.line` and `live.listen`").
+    // Only `run` judges the places themselves.
     let line = line_place(table)?;
     let listen = listen_place(table)?;
     Ok(LiveSettings {
