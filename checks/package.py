@@ -6,8 +6,10 @@
 - Anywhere: packaging/install.sh twice into one folder, with an operator's edits between; what the
   package's script calls at an installation and an upgrade; and `systemd-analyze verify` of both
   units, with what they have to say, if systemd is there.
+- The record beside a program: its commit, whether the crates differ from that, and what BUILD says.
 - With dpkg-deb and binutils: the package, the same octets twice, and lintian without an error, if
-  it is there.
+  it is there. Its version and description say whether the program is proved, and its commit; an
+  unproved one has to be asked for. Records of the script's own stand beside copies of the program.
 - With `--chroot`, as root and with debootstrap: the package in a Debian of its own, with one that is
   a version above it and has other settings and another unit, and with one whose settings are
   configuration files, as they were before. What an operator wrote stays through each step, and dpkg
@@ -351,6 +353,20 @@ def records(count, program, folder):
         kit.TOP = top
 
 
+def installed_origins(count, program, folder):
+    """What install.sh says of the program, and where: in BUILD, which both units name."""
+    for name, record in {"proved": (PROVED, MOMENT), "unproved": (UNPROVED, MOMENT), "unknown": ()}.items():
+        copy, root = placed(program, os.path.join(folder, name), record), os.path.join(folder, name, "root")
+        for step in ("first", "again"):
+            ran = run([os.path.join(TOP, "packaging/install.sh")], env={**os.environ, "DESTDIR": root, "TELEGATE_PROGRAM": copy})
+            told = (record or ("unproved",))[0]
+            count.compare(f"install.sh, {name}, {step}", ran.stdout.splitlines()[:1], [f"installed: /usr/local/bin/telegate ({told})"])
+            count.compare(f"BUILD, {name}, {step}", read(os.path.join(root, "usr/local/share/doc/telegate/BUILD")), f"{told}\n")
+        for unit in ("telegate.service", "telegate@.service"):
+            text = read(os.path.join(root, "usr/local/lib/systemd/system", unit))
+            count.judge(f"{unit}, {name}", "\nDocumentation=man:telegate(1) file:/usr/local/share/doc/telegate/BUILD\n" in text, text)
+
+
 def judge_releases(count, program, folder):
     """The commit with the version's tag is the release, if the program is proved and of no other text."""
     if not shutil.which("git"):
@@ -543,6 +559,7 @@ if __name__ == "__main__":
         judge_starts,
         judge_postinst,
         records,
+        installed_origins,
         a_package,
         words={
             "--chroot": {"action": "store_true", "help": "install, upgrade and purge it in a Debian of its own"},
