@@ -15,6 +15,7 @@ nothing failed and something was judged or skipped. Otherwise it is 1.
 """
 import argparse
 import errno
+import hashlib
 import os
 import re
 import sys
@@ -96,6 +97,14 @@ def unread(name, number=errno.ENOENT, what="file"):
 def unanswered(what, place, number=errno.ECONNREFUSED):
     """What is told of a place at which nobody answers."""
     return reason(what, place, number) + f"no reply from {place}\n"
+
+
+def note_origin(program, told, *lines):
+    """Writes a record beside a program, as ./build and tools/unproved.py do (tools/origin)."""
+    with open(program, "rb") as file:
+        lines = [told, *lines, f"sha256 {hashlib.sha256(file.read()).hexdigest()}"]
+    with open(f"{program}.{re.match('[a-z]+', told)[0]}", "w", encoding="utf-8") as file:
+        file.write("".join(f"{line}\n" for line in lines))
 
 
 def listed():

@@ -6,8 +6,10 @@
 - Anywhere: packaging/install.sh twice into one folder, with an operator's edits between; what the
   package's script calls at an installation and an upgrade; and `systemd-analyze verify` of both
   units, with what they have to say, if systemd is there.
+- The record beside a program: its commit, whether the crates differ from that, and what BUILD says.
 - With dpkg-deb and binutils: the package, the same octets twice, and lintian without an error, if
-  it is there.
+  it is there. Its version and description say whether the program is proved, and its commit; an
+  unproved one has to be asked for. Records of the script's own stand beside copies of the program.
 - With `--chroot`, as root and with debootstrap: the package in a Debian of its own, with one that is
   a version above it and has other settings and another unit, and with one whose settings are
   configuration files, as they were before. What an operator wrote stays through each step, and dpkg
@@ -22,10 +24,13 @@ import re
 import shlex
 import shutil
 import subprocess
+import sys
 
 import frame
 
 TOP = frame.TOP
+sys.path.append(os.path.join(TOP, "tools"))
+import kit
 SUITE = "bookworm"
 # What the first installation copies from usr/share/telegate.
 SETTINGS = ("gateway.toml", "site.toml", "telegate.env")
@@ -193,11 +198,188 @@ def judge_postinst(count, program, folder):
             count.compare(f"{name}: files to begin with", sorted(os.listdir(os.path.join(folder, "etc"))), sorted(SETTINGS))
 
 
-def make_package(program, into):
+def make_package(program, into, words=("--unproved",), **more):
+    """The package of a program, which needn't be proved, and what was said."""
     os.makedirs(into, exist_ok=True)
-    made = run([os.path.join(TOP, "packaging/deb"), into], env={**os.environ, "TELEGATE_PROGRAM": program})
+    made = run([os.path.join(TOP, "packaging/deb"), *words, into], env={**os.environ, "TELEGATE_PROGRAM": program, **more})
     found = glob.glob(os.path.join(into, "*.deb"))
     return (found[0] if found and made.returncode == 0 else None), said(made)
+
+
+# What stands beside a program, the words of packaging/deb, and what its package says: what follows the
+# program's own version, and the line of BUILD. The moment is 2026-02-03 04:05:06 UTC.
+MOMENT = "moment 1770091506"
+PROVED, UNPROVED = "proved by a-kit, commit 0123abc", "unproved, commit 0123abc"
+ORIGINS = {
+    "proved": ((PROVED, MOMENT), (), "+git20260203040506.0123abc"),
+    "proved, a second later": ((PROVED, "moment 1770091507"), (), "+git20260203040507.0123abc"),
+    "proved, an hour later": ((PROVED.replace("0123abc", "00ff"), "moment 1770095106"), (), "+git20260203050506.00ff"),
+    "proved, with changes": ((f"{PROVED} with changes", MOMENT), (), "+git20260203040506.0123abc.changes"),
+    "proved, no commit": (("proved by a-kit",), (), ""),
+    "proved, with a word too many": ((PROVED, MOMENT), ("--unproved",), "+git20260203040506.0123abc"),
+    "unproved": ((UNPROVED, MOMENT), ("--unproved",), "~unproved+git20260203040506.0123abc"),
+    "unproved, with changes": ((f"{UNPROVED} with changes", MOMENT), ("--unproved",), "~unproved+git20260203040506.0123abc.changes"),
+    "unproved, an hour later": ((UNPROVED, "moment 1770095106"), ("--unproved",), "~unproved+git20260203050506.0123abc"),
+    "unknown": ((), ("--unproved",), "~unproved"),
+}
+# Whatever stands beside these, nothing says that they are proved.
+REFUSED = {"unproved": (UNPROVED, MOMENT), "unknown": ()}
+# The order in which dpkg is to sort them: what is behind is an upgrade.
+ORDER = ["unknown", "unproved", "unproved, with changes", "unproved, an hour later", "proved, no commit", "proved", "proved, with changes", "proved, a second later", "proved, an hour later"]
+
+
+def placed(program, folder, record):
+    """A copy of the program with this record beside it."""
+    os.makedirs(folder)
+    copy = shutil.copy2(program, os.path.join(folder, "telegate"))
+    if record:
+        frame.note_origin(copy, *record)
+    return copy
+
+
+def field_of(package, name):
+    return run(["dpkg-deb", "-f", package, name]).stdout.strip()
+
+
+def judge_origin(count, name, package, version, build):
+    """Each place at which a package says whether its program is proved, and of which commit it is."""
+    image = f"{package}-image"
+    run(["dpkg-deb", "-R", package, image])
+    is_proved, told = build.startswith("proved"), field_of(package, "Description")
+    count.compare(f"{name}: version", field_of(package, "Version"), version)
+    count.compare(f"{name}: file", os.path.basename(package), f"telegate_{version}_amd64.deb")
+    count.compare(f"{name}: BUILD", read(os.path.join(image, "usr/share/doc/telegate/BUILD")), f"{build}\n")
+    count.judge(f"{name}: description", told.endswith(f" This program: {build}."), told)
+    count.judge(f"{name}: what it claims", (is_proved, not is_proved) == ("theorems" in told, "isn't proved" in told), told)
+    count.judge(f"{name}: lines of the description", max(map(len, told.splitlines())) <= 80, told)
+    for unit in ("telegate.service", "telegate@.service"):
+        text = read(os.path.join(image, "usr/lib/systemd/system", unit))
+        count.judge(f"{name}: {unit}", "\nDocumentation=man:telegate(1) file:/usr/share/doc/telegate/BUILD\n" in text, text)
+
+
+def judge_origins(count, program, folder):
+    """What a package says of its program, and that one which isn't proved is asked for."""
+    own, versions = run([program, "--version"]).stdout.split()[1], {}
+    for name, (record, words, behind) in ORIGINS.items():
+        copy = placed(program, os.path.join(folder, name, "program"), record)
+        package, told = make_package(copy, os.path.join(folder, name, "made"), words)
+        count.judge(f"{name}: the package", package, told)
+        if package:
+            versions[name] = f"{own}{behind}"
+            judge_origin(count, name, package, versions[name], (record or ("unproved",))[0])
+    for name, record in REFUSED.items():
+        copy = placed(program, os.path.join(folder, name, "refused"), record)
+        package, told = make_package(copy, os.path.join(folder, name, "nothing"), ())
+        wanted = (None, f"deb: nothing says that {copy} is proved: run ./build first, or say --unproved")
+        count.compare(f"{name}, without the word", (package, told), wanted)
+    # A record is of one program. What was compiled since isn't proved.
+    copy = placed(program, os.path.join(folder, "another"), (PROVED, MOMENT))
+    with open(copy, "ab") as file:
+        file.write(b"\0")
+    count.compare("the record of another program", run([os.path.join(TOP, "tools/origin"), copy]).stdout, "unproved\n")
+    for before, behind in zip(ORDER, ORDER[1:]):
+        sorts = run(["dpkg", "--compare-versions", versions[before], "lt", versions[behind]])
+        count.judge(f"{before} sorts before {behind}", sorts.returncode == 0, versions)
+
+
+class Repository:
+    """A repository of one crate, for rows about its commit."""
+
+    def __init__(self, folder):
+        self.folder = folder
+        self.git("init", "--quiet")
+        self.write("crates/a/src/lib.rt", "crates.txt", "docs/A.md")
+        write(os.path.join(folder, ".gitignore"), "out/\n")
+        self.commit()
+
+    def git(self, *words):
+        os.makedirs(self.folder, exist_ok=True)
+        own = ["-c", "user.name=a", "-c", "user.email=a@example.org"]
+        return run(["git", "-C", self.folder, *own, *words]).stdout.strip()
+
+    def write(self, *names, text="a\n"):
+        for name in names:
+            write(os.path.join(self.folder, name), text)
+
+    def commit(self):
+        self.git("add", "--all")
+        self.git("commit", "--quiet", "--message", "a")
+
+    def name(self):
+        return self.git("log", "-1", "--format=%h")
+
+
+SOURCE = "crates/a/src/lib.rt"
+# What is done in a repository before a program is compiled of it and meanwhile, and what is told of its commit.
+COMPILED = {
+    "nothing": (lambda it: None, lambda it: None, ""),
+    "a document": (lambda it: it.write("docs/A.md", text="b\n"), lambda it: None, ""),
+    "what a proof leaves": (lambda it: it.write("crates/a/out/b"), lambda it: None, ""),
+    "a source": (lambda it: it.write(SOURCE, text="b\n"), lambda it: None, " with changes"),
+    "a source, for the next commit": (lambda it: (it.write(SOURCE, text="b\n"), it.git("add", "--all")), lambda it: None, " with changes"),
+    "a new source": (lambda it: it.write("crates/a/src/new.rt"), lambda it: None, " with changes"),
+    "the list of crates": (lambda it: it.write("crates.txt", text="b\n"), lambda it: None, " with changes"),
+    "a source, taken back meanwhile": (lambda it: it.write(SOURCE, text="b\n"), lambda it: it.write(SOURCE), " with changes"),
+    "a source, meanwhile": (lambda it: None, lambda it: it.write(SOURCE, text="b\n"), " with changes"),
+    "a commit of a source, meanwhile": (lambda it: None, lambda it: (it.write(SOURCE, text="b\n"), it.commit()), " with changes"),
+    "a commit of a document, meanwhile": (lambda it: None, lambda it: (it.write("docs/A.md", text="b\n"), it.commit()), ""),
+}
+
+
+def records(count, program, folder):
+    """What is noted of a program that is compiled: the commit at the beginning, and whether its crates are of other text."""
+    if not shutil.which("git"):
+        raise frame.Skipped("no git")
+    top, kit.TOP = kit.TOP, os.path.join(folder, "none")
+    try:
+        copy = placed(program, os.path.join(folder, "program"), ())
+        kit.note(copy, kit.Commit(), is_proved=False)
+        count.compare("no repository", read(f"{copy}.unproved").splitlines()[0], "unproved")
+        for name, (before, meanwhile, told) in COMPILED.items():
+            repository = Repository(os.path.join(folder, name))
+            kit.TOP, commit = repository.folder, repository.name()
+            moment = repository.git("log", "-1", "--format=%ct")
+            before(repository)
+            begun = kit.Commit()
+            meanwhile(repository)
+            kit.note(copy, begun, is_proved=False)
+            noted = run([os.path.join(TOP, "tools/origin"), copy]).stdout.splitlines()[:2]
+            count.compare(f"changed: {name}", noted, [f"unproved, commit {commit}{told}", f"moment {moment}"])
+        if shutil.which("rt"):
+            kit.note(copy, kit.Commit(), is_proved=True)
+            name = run(["rt", "version"]).stdout.split()[0]
+            count.compare("a proved program", read(f"{copy}.proved").splitlines()[0], f"proved by {name}, commit {repository.name()}")
+    finally:
+        kit.TOP = top
+
+
+def installed_origins(count, program, folder):
+    """What install.sh says of the program, and where: in BUILD, which both units name."""
+    for name, record in {"proved": (PROVED, MOMENT), "unproved": (UNPROVED, MOMENT), "unknown": ()}.items():
+        copy, root = placed(program, os.path.join(folder, name), record), os.path.join(folder, name, "root")
+        for step in ("first", "again"):
+            ran = run([os.path.join(TOP, "packaging/install.sh")], env={**os.environ, "DESTDIR": root, "TELEGATE_PROGRAM": copy})
+            told = (record or ("unproved",))[0]
+            count.compare(f"install.sh, {name}, {step}", ran.stdout.splitlines()[:1], [f"installed: /usr/local/bin/telegate ({told})"])
+            count.compare(f"BUILD, {name}, {step}", read(os.path.join(root, "usr/local/share/doc/telegate/BUILD")), f"{told}\n")
+        for unit in ("telegate.service", "telegate@.service"):
+            text = read(os.path.join(root, "usr/local/lib/systemd/system", unit))
+            count.judge(f"{unit}, {name}", "\nDocumentation=man:telegate(1) file:/usr/local/share/doc/telegate/BUILD\n" in text, text)
+
+
+def judge_releases(count, program, folder):
+    """The commit with the version's tag is the release, if the program is proved and of no other text."""
+    if not shutil.which("git"):
+        raise frame.Skipped("no git")
+    own, repository = run([program, "--version"]).stdout.split()[1], Repository(os.path.join(folder, "repository"))
+    repository.git("tag", f"v{own}")
+    behind = f"+git20260203040506.{repository.name()}"
+    rows = (("proved by a-kit", "", ""), ("proved by a-kit", " with changes", f"{behind}.changes"), ("unproved", "", f"~unproved{behind}"))
+    for number, (begins, ends, wanted) in enumerate(rows):
+        told = f"{begins}, commit {repository.name()}{ends}"
+        copy = placed(program, os.path.join(folder, str(number)), (told, MOMENT))
+        package, _ = make_package(copy, os.path.join(folder, f"{number}-made"), GIT_DIR=f"{repository.folder}/.git")
+        count.compare(f"a release, {told}", package and field_of(package, "Version"), f"{own}{wanted}")
 
 
 def judge_package(count, program, folder):
@@ -209,14 +391,11 @@ def judge_package(count, program, folder):
     again, _ = make_package(program, os.path.join(folder, "second"))
     with open(package, "rb") as one, open(again, "rb") as other:
         count.case(one.read() == other.read(), "packaging/deb: two calls make two packages")
-    version = run([program, "--version"]).stdout.split()[1]
     # Without a configuration file dpkg asks nothing at an upgrade, so an unattended one doesn't fail by it.
     image = os.path.join(folder, "image")
     run(["dpkg-deb", "-R", package, image])
     asked = [name for name in ("DEBIAN/conffiles", "etc") if os.path.exists(os.path.join(image, name))]
     count.case(os.path.isdir(os.path.join(image, "usr")) and not asked, f"packaging/deb: dpkg would ask about {asked}")
-    field = run(["dpkg-deb", "-f", package, "Version"]).stdout.strip()
-    count.case(field == version, f"packaging/deb: the package is {field}, the program {version}")
     if shutil.which("lintian"):
         words = ["lintian", "--fail-on", "error", *(["--allow-root"] if os.geteuid() == 0 else []), package]
         looked = run(words)
@@ -366,6 +545,8 @@ def a_package(count, program, folder):
     lacks = [name for name in ("dpkg-deb", "objdump", "strip") if not shutil.which(name)]
     if lacks:
         raise frame.Skipped(f"no {', '.join(lacks)}")
+    judge_origins(count, program, os.path.join(folder, "origins"))
+    judge_releases(count, program, os.path.join(folder, "releases"))
     package = judge_package(count, program, folder)
     if package and (count.options.chroot or count.options.base):
         judge_chroot(count, package, count.options.base, folder)
@@ -377,6 +558,8 @@ if __name__ == "__main__":
         judge_units,
         judge_starts,
         judge_postinst,
+        records,
+        installed_origins,
         a_package,
         words={
             "--chroot": {"action": "store_true", "help": "install, upgrade and purge it in a Debian of its own"},

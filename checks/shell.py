@@ -751,20 +751,19 @@ UNPROVED_RUNS = "telegate: an unproved program runs; ./build makes the proved on
 def copied(count, program, folder):
     """The script ./telegate in a folder of its own, which has no source and no program."""
     copy = os.path.join(folder, "copy")
-    for name in ("crates/telegate/out", ".unproved"):
+    for name in ("crates/telegate/out", ".unproved", "tools"):
         os.makedirs(os.path.join(copy, name))
-    for name in ("telegate", "crates.txt"):
-        shutil.copy(os.path.join(TOP, name), copy)
+    for name in ("telegate", "crates.txt", "tools/origin"):
+        shutil.copy(os.path.join(TOP, name), os.path.join(copy, name))
     return copy
 
 
-def put(program, copy, name, beside, text):
-    """The program, as a script of the copy finds it, and what stands beside it."""
+def put(program, copy, name, told):
+    """The program, as a script of the copy finds it, with a record beside it that tells this."""
     place = os.path.join(copy, name)
     shutil.copy2(program, place)
     os.utime(place)
-    with open(os.path.join(copy, beside), "w") as file:
-        file.write(text)
+    frame.note_origin(place, told)
     return place
 
 
@@ -778,7 +777,7 @@ def scripts(count, program, folder):
         done = ran([script, "run", "good.toml"], folder)
         is_right = (done.returncode, text(done.stdout), text(done.stderr)) == (2, "", RUN_NEEDS)
         count.judge(f"{script} run, nothing built", is_right, done)
-    place = put(program, copy, "crates/telegate/out/telegate", "crates/telegate/out/commit", "0123abc\n")
+    place = put(program, copy, "crates/telegate/out/telegate", "proved by a-kit, commit 0123abc")
     for script in called:
         done = ran([script, "check", "good.toml"], folder)
         is_right = (done.returncode, text(done.stdout), text(done.stderr)) == (0, "ok\n", "")
@@ -796,9 +795,14 @@ def scripts(count, program, folder):
     count.judge("run with a newer source", is_right, done)
     done = ran([called[0], "--version"], folder)
     count.judge("the version of the proved program", text(done.stdout).endswith("\nproved, commit 0123abc\n"), done)
-    os.remove(os.path.join(copy, "crates/telegate/out/commit"))
+    put(program, copy, "crates/telegate/out/telegate", "proved by a-kit, commit 0123abc with changes")
     done = ran([called[0], "--version"], folder)
-    count.judge("the same without a commit", text(done.stdout).endswith("\nproved\n"), done)
+    count.judge("the same, with changes", text(done.stdout).endswith("\nproved, commit 0123abc with changes\n"), done)
+    # What was compiled since is of no commit that is known.
+    with open(place, "ab") as file:
+        file.write(b"\0")
+    done = ran([called[0], "--version"], folder)
+    count.judge("the record of another program", text(done.stdout).endswith("\nproved\n"), done)
 
 
 def unproved_scripts(count, program, folder):
@@ -806,7 +810,7 @@ def unproved_scripts(count, program, folder):
     with the word for it."""
     copy = copied(count, program, folder)
     script = os.path.join(copy, "telegate")
-    put(program, copy, ".unproved/telegate", ".unproved/telegate.unproved", "Nothing is proved.\ncommit 0123abc\n")
+    put(program, copy, ".unproved/telegate", "unproved, commit 0123abc")
     shutil.copy(os.path.join(folder, "good.toml"), os.path.join(folder, "good  one.toml"))
     rows = [
         ("check good.toml", "ok\n", "", 0),

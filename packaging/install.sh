@@ -11,7 +11,8 @@ Installs telegate once ./build has made it, which takes a second, or takes it aw
     DESTDIR=/tmp/image packaging/install.sh     the same under another root, for a package
 
   PREFIX/bin/telegate                   the program (PREFIX is /usr/local)
-  PREFIX/share/doc/telegate/            the documents, the licences and the examples
+  PREFIX/share/doc/telegate/            the documents, the licences and the examples; BUILD says whether
+                                        the program is proved, and of which commit it is
   PREFIX/share/man/man1/telegate.1      the man page, and shell completions
   PREFIX/lib/systemd/system/            telegate.service for one line, telegate@.service for several
   /etc/telegate/gateway.toml            settings to begin with
@@ -56,7 +57,7 @@ put_once() {
 # A unit for the program where it is installed; the second argument changes it further.
 put_unit() {
     install -d "$units"
-    sed -e "s|/usr/local/bin|$prefix/bin|g" -e "$2" "$here/packaging/telegate.service" >"$units/$1"
+    sed -e "s|/usr/local/|$prefix/|g" -e "$2" "$here/packaging/telegate.service" >"$units/$1"
     chmod 644 "$units/$1"
 }
 
@@ -73,6 +74,9 @@ install -D -m 755 "$program" "$root$prefix/bin/telegate"
 (cd "$here" && find ./*.md LICENSE-* docs examples -type f) | sed 's|^\./||' | while read -r file; do
     put 644 "$file" "$share/doc/telegate/$file"
 done
+build=$("$here/tools/origin" "$program" | head -n 1)
+echo "$build" >"$share/doc/telegate/BUILD"
+chmod 644 "$share/doc/telegate/BUILD"
 put 644 packaging/README.md "$share/doc/telegate/packaging/README.md"
 put 644 packaging/telegate.1 "$share/man/man1/telegate.1"
 put 644 packaging/telegate.bash "$share/bash-completion/completions/telegate"
@@ -91,7 +95,7 @@ put_once 644 packaging/telegate.env "$root/etc/telegate/telegate.env"
 earlier=$root/etc/systemd/system/telegate.service
 [ ! -e "$earlier" ] || echo "note: $earlier stands in front of $prefix/lib/systemd/system/telegate.service"
 
-echo "installed: $prefix/bin/telegate"
+echo "installed: $prefix/bin/telegate ($build)"
 echo "next: edit /etc/telegate/gateway.toml (telegate check judges it) and /etc/telegate/site.toml,"
 echo "name the two peers by systemctl edit telegate (IPAddressAllow), then"
 echo "systemctl daemon-reload && systemctl enable --now telegate; after an upgrade, with files judged first,"

@@ -1,6 +1,7 @@
 """The kit's command `rt` as a module, for what ./build and ./telegate need beyond its words: crates
 proved side by side in one checkout, and a program that is compiled with no proof and kept.
 """
+import hashlib
 import importlib.machinery
 import importlib.util
 import os
@@ -45,14 +46,41 @@ def program(rt):
     return rt.rtlib.Crate(PROGRAM, TOP, {})
 
 
-def commit():
-    """The commit that is checked out, with a mark if crates differ from it; empty if git knows
-    none."""
+def git(*words):
+    """What git says of this repository, or nothing."""
+    ran = subprocess.run(["git", "-C", TOP, *words], capture_output=True, text=True)
+    return ran.stdout.strip() if ran.returncode == 0 else ""
 
-    def git(*words):
-        ran = subprocess.run(["git", "-C", TOP, *words], capture_output=True, text=True)
-        return ran.stdout.strip() if ran.returncode == 0 else ""
 
-    name = git("rev-parse", "--short", "HEAD")
-    differs = name and git("status", "--porcelain", "--", "crates", "crates.txt")
-    return f"{name}-dirty" if differs else name
+class Commit:
+    """The commit that is checked out as a program begins to be compiled."""
+
+    def __init__(self):
+        self.name, self.moment = git("log", "-1", "--format=%h %ct").split() or ("", "")
+        self.has_changes = self.is_left()
+
+    def is_left(self):
+        """Whether the crates differ from it by now, whatever is checked out."""
+        crates = ("--", "crates", "crates.txt")
+        differs = self.name and git("diff", "--name-only", self.name, *crates)
+        return bool(differs or git("ls-files", "--others", "--exclude-standard", *crates))
+
+
+def note(program, commit, is_proved, more=""):
+    """Writes how a program was made to a file beside it, for tools/origin."""
+    told, moment = f"proved by {identity()}" if is_proved else "unproved", ""
+    if commit.name:
+        # A source may have changed meanwhile.
+        has_changes = commit.has_changes or commit.is_left()
+        told += f", commit {commit.name}{' with changes' if has_changes else ''}"
+        moment = f"moment {commit.moment}\n"
+    with open(program, "rb") as file:
+        sha256 = hashlib.sha256(file.read()).hexdigest()
+    with open(f"{program}.{'' if is_proved else 'un'}proved", "w", encoding="utf-8") as file:
+        file.write(f"{told}\n{moment}sha256 {sha256}\n{more}")
+
+
+def identity():
+    """The name of the kit."""
+    ran = subprocess.run(["rt", "version"], capture_output=True, text=True, check=True)
+    return ran.stdout.split()[0]
