@@ -1,8 +1,7 @@
 -- How long the oldest report of the queue has waited at least (this gateway's own profile).
 use Rattle.std.specs.Prelude.{ℕ, ◌+◌, ◌-◌, ◌==◌, max, nat_lt, Bool, true, false, List, [], ◌∷◌}
-use Rattle.std.specs.Prelude.{length, count_by, Option, Some, None, if◌then◌else◌}
+use Rattle.std.specs.Prelude.{◌++◌, length, Option, Some, None, if◌then◌else◌}
 use Rattle.std.specs.Io.Iter.{u64_saturate}
-use Rattle.events.specs.Queue.{kept}
 use Rattle.gateway.specs.State.{State}
 use Rattle.runlog.specs.Watching.{Watching}
 use Rattle.runlog.specs.declared.traffic.Traffic.{Traffic}
@@ -17,9 +16,19 @@ come_from n (t ∷ traffic) = come_from (u64_saturate (n + t.reports)) traffic
 abbrev pub ends_report : List ℕ → Bool
 ends_report piece = nat_lt (length piece) 240
 
+-- so many reports, and those of which the last one of these pieces is here
+abbrev pub ended_from : ℕ → List (List ℕ) → ℕ
+ended_from n [] = n
+ended_from n (piece ∷ pieces) =
+    ended_from (if ends_report piece then u64_saturate (n + 1) else n) pieces
+
+-- the pieces that no connection has acknowledged
+abbrev pub pieces_in : State → List (List ℕ)
+pieces_in gateway = gateway.centre.queue.sent ++ gateway.centre.queue.unsent
+
 -- so many reports are queued at least, if any is
 abbrev pub queued : State → ℕ
-queued gateway = max (count_by ends_report (kept gateway.centre.queue)) 1
+queued gateway = max (ended_from 0 (pieces_in gateway)) 1
 
 -- more reports are queued than have come since the mark, so one of them was queued then
 abbrev pub holds : Mark → (come queued : ℕ) → Bool

@@ -15,7 +15,7 @@ use runlog::{Traffic, Watch};
 const FULL: usize = 240;
 
 /// A moment, and how many reports had come by then.
-#[derive(Clone, Copy, PartialEq, Eq)]
+#[derive(Clone, Copy)]
 pub(crate) struct Mark {
     /// In ms of the run.
     moment: u64,
@@ -37,7 +37,12 @@ fn come_from(traffic: &[Traffic]) -> u64
 fn queued(gateway: &Gateway) -> u64
     ensures { result ≡ spec.queued gateway.now }
 {
-    let ended = gateway.kept().filter(|piece| piece.len() < FULL).count() as u64;
+    let mut ended = 0u64;
+    for piece in gateway.kept() {
+        if piece.len() < FULL {
+            ended = ended.saturating_add(1);
+        }
+    }
     ended.max(1)
 }
 
