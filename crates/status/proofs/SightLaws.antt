@@ -87,7 +87,7 @@ said_alike s t (l ∷ looks) is =
     let n = noted l.watch l.notice s.shown in
     said_alike (after_look l s) (noted l.watch l.notice t) looks
     (either said (is_over s.turned l.watch.moment 20) (counted l.gateway l.watch n) n
-    (said n) (counts_nothing l.gateway l.watch.moment n) refl
+    (said n) (counts_nothing l.gateway l.watch n) refl
     ∙ ap (says l.watch l.notice) is)
 
 pub noted_append : (s : ShownRun) (before later : List Look)
@@ -244,7 +244,7 @@ module _ (c : Settings) (names : LogNames) (keeps : Bool) (looks : List Look) (l
       let f : ShownRun → List ℕ = λ x. string_bytes x.name in
       k.seen.numbers.name ∙ ap f k.noted
       ∙ stays f (λ w n x. refl)
-      (λ g now x. either f (is_over x.counted now 1000) _ x (string_bytes x.name) refl refl) start
+      (λ g w x. either f (is_over x.counted w.moment 1000) _ x (string_bytes x.name) refl refl) start
       all
       ∙ k.begins.name
       ∙ ap (λ (o : Option (Bor (List ℕ))). text_or_none (option_map (λ n. n.now) o)) is
@@ -254,7 +254,7 @@ module _ (c : Settings) (names : LogNames) (keeps : Bool) (looks : List Look) (l
       let f : ShownRun → List ℕ = λ x. x.version.now in
       k.seen.numbers.version ∙ ap f k.noted
       ∙ stays f (λ w n x. refl)
-      (λ g now x. either f (is_over x.counted now 1000) _ x x.version.now refl refl) start all
+      (λ g w x. either f (is_over x.counted w.moment 1000) _ x x.version.now refl refl) start all
 
   in_force_is : map viewed_as s.settings.now ≡ in_force c
   in_force_is =
@@ -263,7 +263,7 @@ module _ (c : Settings) (names : LogNames) (keeps : Bool) (looks : List Look) (l
       ∙ ap (take 16)
       (ap f k.noted
       ∙ stays f (λ w n x. refl)
-      (λ g now x. either f (is_over x.counted now 1000) _ x (map chosen_as x.chosen.items) refl
+      (λ g w x. either f (is_over x.counted w.moment 1000) _ x (map chosen_as x.chosen.items) refl
       refl)
       start all
       ∙ k.begins.chosen)
@@ -353,7 +353,7 @@ module _ (c : Settings) (names : LogNames) (keeps : Bool) (looks : List Look) (l
       let f : ShownRun → List Shows = λ x. map known_as x.known.items in
       ap f k.noted
       ∙ stays f (λ w n x. refl)
-      (λ g now x. either f (is_over x.counted now 1000) _ x (map known_as x.known.items) refl refl)
+      (λ g w x. either f (is_over x.counted w.moment 1000) _ x (map known_as x.known.items) refl refl)
       (record { turned = None; shown = k.fresh })
       (looks ++ last ∷ [])
       ∙ k.begins.known
