@@ -12,6 +12,7 @@ and what they cost.
   there yet isn't lost.
 - The latest 20 lines of the log stand on the page and in the JSON, as the log has them.
 - The queue's chart has its scale, and a mark for each quarter of an hour in UTC.
+- How long the oldest queued report has waited at least is true, whether others come or leave.
 - On a telephone each standing of 32 stations is seen, and nothing is cut off on the way to the side.
 - Settings of 32 stations fit a page.
 - The syncs of a slow disk stand on each page, with their times.
@@ -412,7 +413,7 @@ def a_run(count, program, folder):
         wanted = [str(station["address"]) for station in dead_first(run.json()["stations"])]
         count.judge("dead stations stand first", rows == wanted and rows[-1] == "1", (rows, wanted))
         table = get(run.status, "/status.txt").body.decode().splitlines()[0]
-        count.judge("performance data", re.search(r" \| stations_up=1;;;0;3 queue=12;500;997;0;1000$", table), table)
+        count.judge("performance data", re.search(r" \| stations_up=1;;;0;3 queue=12;500;997;0;1000 oldest=\d+s;;;0$", table), table)
         page = get(run.status, "/").body.decode()
         count.judge("a queue below 80 % is good", '<meter min="0" optimum="0" low="799" high="997" max="1000" value="12">' in page, page)
         stations.silent.add(1)
@@ -535,6 +536,48 @@ def chart(count, program, folder):
         count.judge("a mark for each quarter of an hour", found == marks, (found, marks))
         count.judge("the scale", "<b>1000</b><b>0</b>" in page, page)
         count.judge("a bar a minute, the last one at the right", re.search(r'<path d="M59 100V100h1V100z"/>', page), page)
+
+
+def oldest(count, program, folder):
+    """How long the oldest report has waited at least, while others come and leave. The queue is counted
+    once a second, so the mark and the count are each up to a second late."""
+    stations = Stations([1])
+
+    def shown(run):
+        page = re.search(r"<th>queue</th><td>(.*?) <meter", get(run.status, "/").body.decode())[1]
+        return page, metrics_of(get(run.status, "/metrics").body.decode())["telegate_queue_oldest_seconds"]
+
+    with Run(program, folder, stations) as run, socket.create_connection(run.listener, timeout=ends.PATIENCE) as stream:
+        centre = ends.Centre(stream)
+        count.judge("station 1 comes up", run.waits(lambda s: standing(s, 1)["standing"] == "up"), run.json())
+        count.judge("no report waits", run.json()["queue"]["oldest_ms"] is None, run.json()["queue"])
+        count.judge("on no page", shown(run) == ("0 of 1000", 0), shown(run))
+        centre.send(ends.START)
+        begun = time.monotonic()
+        stations.stations[1].report(1)
+        time.sleep(2)
+        later = time.monotonic()
+        stations.stations[1].report(3)
+        time.sleep(3)
+        page, seconds = shown(run)
+        queue, passed = run.json()["queue"], time.monotonic() - begun
+        count.judge("four are queued", queue["taken"] == 4, queue)
+        count.judge("the oldest waits at least", 2000 <= queue["oldest_ms"] <= 1000 * passed, (queue, passed))
+        count.judge("in the metrics", 2 <= seconds <= passed, (seconds, passed))
+        told = re.fullmatch(r"4 of 1000, the oldest for at least (\d+) s *", page)
+        count.judge("on the page", told and 2 <= int(told[1]) <= passed, (page, passed))
+        centre.received = 1
+        centre.acknowledge()
+        gone = run.waits(lambda s: s["queue"]["taken"] == 3)
+        queue, passed = run.json()["queue"], time.monotonic() - later
+        count.judge("of the others the oldest waits less", gone and queue["oldest_ms"] <= 1000 * passed, (queue, passed))
+        time.sleep(3)
+        again, passed = run.json()["queue"], time.monotonic() - later
+        count.judge("and goes on to wait", 1000 + queue["oldest_ms"] <= again["oldest_ms"] <= 1000 * passed, (queue, again, passed))
+        centre.received = 4
+        centre.acknowledge()
+        count.judge("none waits any more", run.waits(lambda s: s["queue"]["taken"] == 0), run.json()["queue"])
+        count.judge("and none is shown", run.json()["queue"]["oldest_ms"] is None and shown(run) == ("0 of 1000", 0), shown(run))
 
 
 SYNCS = re.compile(r"(\d+), the last (\d+) ms, the longest (\d+) ms")
@@ -690,7 +733,7 @@ def a_listener(count, _program, _folder):
 if __name__ == "__main__":
     is_elsewhere = any(word.startswith("--listener") for word in sys.argv)
     frame.main(
-        *((a_listener,) if is_elsewhere else (a_run, lost, events, chart, largest, taken_port, slow_disk, passage)),
+        *((a_listener,) if is_elsewhere else (a_run, lost, events, chart, oldest, largest, taken_port, slow_disk, passage)),
         needs_program=not is_elsewhere,
         words={"--listener": {"metavar": "HOST:PORT", "help": "judge what listens there, and nothing else"}},
     )

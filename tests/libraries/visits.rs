@@ -27,6 +27,7 @@ fn snapshot() -> Snapshot<'static> {
         queue: Queue {
             taken: 0,
             places: 100,
+            oldest_ms: None,
             hour: &[],
         },
         keeping: Keeping::Off,

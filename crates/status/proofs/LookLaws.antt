@@ -151,7 +151,7 @@ counted_by false looks l s c at taken before moment is =
 
 step_by : (b : Bool) (looks : List Look) (l : Look) (s : ShownRun) → IsCountOf looks s
     → let n = noted l.watch l.notice s in
-    IsCountOf (looks ++ l ∷ []) (if b then counted l.gateway l.watch.moment n else n)
+    IsCountOf (looks ++ l ∷ []) (if b then counted l.gateway l.watch n else n)
 step_by true looks l s before =
     let n = noted l.watch l.notice s in
     counted_by (is_over n.counted l.watch.moment 1000) looks l n _ refl refl before
@@ -219,7 +219,7 @@ pub is_counted : (s : Standing) (looks : List Look) (last : Look) → s.shown.co
 is_counted s looks last none due =
     let v = after_looks s looks in
     let n = noted last.watch last.notice v.shown in
-    let c = counted last.gateway last.watch.moment n in
+    let c = counted last.gateway last.watch n in
     let now = last.watch.moment in
     let before : IsCountOf looks v.shown =
     count_steps [] looks s (none_counted s.shown none) in

@@ -10,6 +10,7 @@ use Rattle.gateway.specs.Config.{Settings}
 use Rattle.gateway.specs.State.{State}
 use Rattle.gateway.specs.declared.settings.StationSettings.{StationSettings as Setting}
 use Rattle.live.specs.declared.watched.Notice.{Notice}
+use Rattle.status.specs.Oldest.{marked}
 use Rattle.status.specs.Looking.{counted, first_of, gone_after, is_over, keeping_by}
 use Rattle.status.specs.Looking.{keeping_at_first, noted, turned_after}
 use Rattle.status.specs.Looks.{HasCounted, IsClosed, IsSilent, Look, Standing, after_look}
@@ -47,14 +48,14 @@ either f false one other x is same = same
 
 pub stays : {A : Type 0} (f : ShownRun → A)
     → ((w : Watching) (n : Option Notice) (s : ShownRun) → f (noted w n s) ≡ f s)
-    → ((g : State) (now : ℕ) (s : ShownRun) → f (counted g now s) ≡ f s) → (s : Standing)
+    → ((g : State) (w : Watching) (s : ShownRun) → f (counted g w s) ≡ f s) → (s : Standing)
     → (looks : List Look) → f (after_looks s looks).shown ≡ f s.shown
 stays f notes counts s [] = refl
 stays f notes counts s (l ∷ looks) =
     let n = noted l.watch l.notice s.shown in
     stays f notes counts (after_look l s) looks
-    ∙ either f (is_over s.turned l.watch.moment 20) (counted l.gateway l.watch.moment n) n _
-    (counts l.gateway l.watch.moment n)
+    ∙ either f (is_over s.turned l.watch.moment 20) (counted l.gateway l.watch n) n _
+    (counts l.gateway l.watch n)
     refl
     ∙ notes l.watch l.notice s.shown
 
@@ -76,8 +77,8 @@ says w notice (began, (keeping, (gone_since, was_open))) =
       ),
     )
 
-counts_nothing : (g : State) (now : ℕ) (s : ShownRun) → said (counted g now s) ≡ said s
-counts_nothing g now s = either said (is_over s.counted now 1000) _ s (said s) refl refl
+counts_nothing : (g : State) (w : Watching) (s : ShownRun) → said (counted g w s) ≡ said s
+counts_nothing g w s = either said (is_over s.counted w.moment 1000) _ s (said s) refl refl
 
 pub said_alike : (s : Standing) (t : ShownRun) (looks : List Look) → said s.shown ≡ said t
     → said (after_looks s looks).shown ≡ said (noted_after t looks)
@@ -85,8 +86,8 @@ said_alike s t [] is = is
 said_alike s t (l ∷ looks) is =
     let n = noted l.watch l.notice s.shown in
     said_alike (after_look l s) (noted l.watch l.notice t) looks
-    (either said (is_over s.turned l.watch.moment 20) (counted l.gateway l.watch.moment n) n
-    (said n) (counts_nothing l.gateway l.watch.moment n) refl
+    (either said (is_over s.turned l.watch.moment 20) (counted l.gateway l.watch n) n
+    (said n) (counts_nothing l.gateway l.watch n) refl
     ∙ ap (says l.watch l.notice) is)
 
 pub noted_append : (s : ShownRun) (before later : List Look)
@@ -109,6 +110,7 @@ noted_by : (a b d : Bool) (l : Look) (n : ShownRun) (counts : List QueueLook) (t
     let m : ShownRun = record n {
       counted = Some l.watch.moment;
       taken = taken_in l.gateway;
+      mark = marked l.gateway l.watch (taken_in l.gateway) n.mark;
       hour = hour.noted l.watch.moment (taken_in l.gateway) n.hour;
     } in
     AreNoted (record { turned = t; shown = if a then (if b then m else n) else n })
@@ -168,7 +170,7 @@ module _ (c : Settings) (names : LogNames) (keeps : Bool) (looks : List Look) (l
       let f : ShownRun → ℕ = λ x. x.places in
       k.seen.numbers.places ∙ ap f k.noted
       ∙ stays f (λ w n x. refl)
-      (λ g now x. either f (is_over x.counted now 1000) _ x x.places refl refl) start all
+      (λ g w x. either f (is_over x.counted w.moment 1000) _ x x.places refl refl) start all
       ∙ k.begins.places
 
   counted_by : HasCounted all last.watch.moment k.shown.taken
@@ -242,7 +244,7 @@ module _ (c : Settings) (names : LogNames) (keeps : Bool) (looks : List Look) (l
       let f : ShownRun → List ℕ = λ x. string_bytes x.name in
       k.seen.numbers.name ∙ ap f k.noted
       ∙ stays f (λ w n x. refl)
-      (λ g now x. either f (is_over x.counted now 1000) _ x (string_bytes x.name) refl refl) start
+      (λ g w x. either f (is_over x.counted w.moment 1000) _ x (string_bytes x.name) refl refl) start
       all
       ∙ k.begins.name
       ∙ ap (λ (o : Option (Bor (List ℕ))). text_or_none (option_map (λ n. n.now) o)) is
@@ -252,7 +254,7 @@ module _ (c : Settings) (names : LogNames) (keeps : Bool) (looks : List Look) (l
       let f : ShownRun → List ℕ = λ x. x.version.now in
       k.seen.numbers.version ∙ ap f k.noted
       ∙ stays f (λ w n x. refl)
-      (λ g now x. either f (is_over x.counted now 1000) _ x x.version.now refl refl) start all
+      (λ g w x. either f (is_over x.counted w.moment 1000) _ x x.version.now refl refl) start all
 
   in_force_is : map viewed_as s.settings.now ≡ in_force c
   in_force_is =
@@ -261,7 +263,7 @@ module _ (c : Settings) (names : LogNames) (keeps : Bool) (looks : List Look) (l
       ∙ ap (take 16)
       (ap f k.noted
       ∙ stays f (λ w n x. refl)
-      (λ g now x. either f (is_over x.counted now 1000) _ x (map chosen_as x.chosen.items) refl
+      (λ g w x. either f (is_over x.counted w.moment 1000) _ x (map chosen_as x.chosen.items) refl
       refl)
       start all
       ∙ k.begins.chosen)
@@ -351,7 +353,7 @@ module _ (c : Settings) (names : LogNames) (keeps : Bool) (looks : List Look) (l
       let f : ShownRun → List Shows = λ x. map known_as x.known.items in
       ap f k.noted
       ∙ stays f (λ w n x. refl)
-      (λ g now x. either f (is_over x.counted now 1000) _ x (map known_as x.known.items) refl refl)
+      (λ g w x. either f (is_over x.counted w.moment 1000) _ x (map known_as x.known.items) refl refl)
       (record { turned = None; shown = k.fresh })
       (looks ++ last ∷ [])
       ∙ k.begins.known

@@ -6,7 +6,7 @@ use Rattle.std.specs.Fmt.{decimal}
 use Rattle.status.specs.Judge.{is_silent, judgement_of, unfilled}
 use Rattle.status.specs.Events.{name_about, time_of, time_text}
 use Rattle.status.specs.Labels.{judgement_text, keeping_text, severity_text, standing_text}
-use Rattle.status.specs.Texts.{age_or, age_text, line_text, summary, syncs_text}
+use Rattle.status.specs.Texts.{age_or, age_text, line_text, oldest_text, summary, syncs_text}
 use Rattle.status.specs.Words.{escaped, escaped_or, joined, rows, two_digits}
 use Rattle.status.specs.declared.html.TheConstants.{HEAD, STYLE, LINE, SYNCS, STATIONS, EVENTS}
 use Rattle.status.specs.declared.html.TheConstants.{HOUR, SETTINGS, END}
@@ -85,18 +85,21 @@ state_text s = joined (codes "</td></tr>\n<tr><th>state</th><td>" ∷ keeping_te
 abbrev pub good_queue : (places : ℕ) → ℕ
 good_queue places = places * 4 / 5 - 1
 
-abbrev pub queue_parts : Snapshot → List (List ℕ)
-queue_parts s =
+abbrev pub taken_text : Snapshot → List ℕ
+taken_text s = joined (
     codes "</td></tr>\n<tr><th>queue</th><td>" ∷ decimal s.queue.taken
-    ∷ codes " of " ∷ decimal s.queue.places
-    ∷ codes " <meter min=\"0\" optimum=\"0\" low=\"" ∷ decimal (good_queue s.queue.places)
+    ∷ codes " of " ∷ decimal s.queue.places ∷ [])
+
+abbrev pub meter_parts : Snapshot → List (List ℕ)
+meter_parts s =
+    codes " <meter min=\"0\" optimum=\"0\" low=\"" ∷ decimal (good_queue s.queue.places)
     ∷ codes "\" high=\"" ∷ decimal (unfilled s.queue)
     ∷ codes "\" max=\"" ∷ decimal s.queue.places
     ∷ codes "\" value=\"" ∷ decimal s.queue.taken
     ∷ codes "\"></meter></td></tr>\n" ∷ []
 
-abbrev pub queue_text : Snapshot → List ℕ
-queue_text s = joined (queue_parts s)
+abbrev pub meter_text : Snapshot → List ℕ
+meter_text s = joined (meter_parts s)
 
 -- the stations, those first that don't answer
 abbrev pub station_parts : Snapshot → List (List ℕ)
@@ -179,7 +182,8 @@ whole_parts s =
     codes "</p>\n<table>\n<tr><th>running for</th><td>" ∷ age_text 0 s.now_ms s.started_ms
     ∷ LINE.now ∷ line_text Html s ∷ age_text 0 s.now_ms s.line.since_ms
     ∷ centre_text s ∷ age_text 0 s.now_ms s.centre.since_ms ∷ state_text s
-    ∷ syncs_text SYNCS.now s.syncs ∷ queue_text s ∷ []
+    ∷ syncs_text SYNCS.now s.syncs ∷ taken_text s ∷ oldest_text s.queue.oldest_ms
+    ∷ meter_text s ∷ []
 
 abbrev pub whole_text : Snapshot → List ℕ
 whole_text s = joined (whole_parts s)

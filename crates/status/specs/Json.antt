@@ -92,7 +92,9 @@ parts_before_hour s =
     ∷ codes ",\"since_ms\":" ∷ decimal s.centre.since_ms
     ∷ codes ",\"unacknowledged\":" ∷ decimal s.centre.unacknowledged
     ∷ codes "},\"queue\":{\"taken\":" ∷ decimal s.queue.taken
-    ∷ codes ",\"places\":" ∷ decimal s.queue.places ∷ codes ",\"hour\":[" ∷ []
+    ∷ codes ",\"places\":" ∷ decimal s.queue.places
+    ∷ codes ",\"oldest_ms\":" ∷ number_or s.queue.oldest_ms (codes "null")
+    ∷ codes ",\"hour\":[" ∷ []
 
 abbrev pub json_before_hour : Snapshot → List ℕ
 json_before_hour s = joined (parts_before_hour s)

@@ -8,6 +8,7 @@ pub mod LastHour
 pub mod Law
 pub mod Labels
 pub mod Metrics
+pub mod Oldest
 pub mod TextPage
 pub mod Visits
 pub mod Reading

@@ -18,6 +18,7 @@ use Rattle.runlog.specs.Logging.{taken_in}
 use Rattle.runlog.specs.Watching.{Watching, wall_of}
 use Rattle.runlog.specs.declared.names.LogNames.{LogNames}
 use Rattle.status.specs.Hour as hour
+use Rattle.status.specs.Oldest.{marked, waited}
 use Rattle.status.specs.declared.snapshot.Keeping.{Keeping}
 use Rattle.status.specs.declared.snapshot.Keeping.TheVariants.{Kept, Off}
 use Rattle.status.specs.declared.snapshot.Snapshot.{Snapshot}
@@ -48,6 +49,7 @@ pub record IsFreshLookout (c : Settings) (names : LogNames) (keeps : Bool) (s : 
   pub numbers : s.hour ≡ record { numbers = []; noted_ms = None }
   pub taken : s.taken ≡ 0
   pub counted : s.counted ≡ None
+  pub mark : s.mark ≡ None
   pub opened : s.opened ≡ 0
   pub gone_since : s.gone_since ≡ 0
   pub was_open : s.was_open ≡ false
@@ -78,13 +80,14 @@ pub data IsPeerText (peer : Option IpAddr) : (text : List ℕ) → Type 0 where
   NoMemory : IsPeerText peer []
 
 -- once a second the gateway's pieces are counted
-abbrev pub counted : State → (now : ℕ) → ShownRun → ShownRun
-counted gateway now s =
-    if is_over s.counted now 1000
+abbrev pub counted : State → Watching → ShownRun → ShownRun
+counted gateway w s =
+    if is_over s.counted w.moment 1000
     then record s {
-      counted = Some now;
+      counted = Some w.moment;
       taken = taken_in gateway;
-      hour = hour.noted now (taken_in gateway) s.hour;
+      mark = marked gateway w (taken_in gateway) s.mark;
+      hour = hour.noted w.moment (taken_in gateway) s.hour;
     }
     else s
 
@@ -92,7 +95,7 @@ counted gateway now s =
 abbrev pub looked : (turned : Option ℕ) → State → Watching → Option Notice → ShownRun → ShownRun
 looked turned gateway w notice s =
     if is_over turned w.moment 20
-    then counted gateway w.moment (noted w notice s)
+    then counted gateway w (noted w notice s)
     else noted w notice s
 
 -- when the visitors had their latest turn
@@ -114,6 +117,7 @@ pub record IsSnapshotOf (shown : ShownRun) (w : Watching) (s : Snapshot) : Type 
       s.centre
   pub taken : s.queue.taken ≡ shown.taken
   pub places : s.queue.places ≡ shown.places
+  pub oldest : s.queue.oldest_ms ≡ waited shown.counted shown.mark
   pub hour : s.queue.hour.now ≡ shown.hour.numbers
   pub keeping : s.keeping ≡ shown.keeping
   pub lost_by : option_map (λ c. c.now) s.lost_by ≡ option_map cause_words shown.lost_by

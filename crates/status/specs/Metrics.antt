@@ -4,7 +4,7 @@ use Rattle.std.specs.Option.{is_some}
 use Rattle.std.specs.Fmt.{decimal}
 use Rattle.status.specs.Judge.{cannot_keep, keeps}
 use Rattle.status.specs.Labels.{value_of}
-use Rattle.status.specs.Texts.{seconds}
+use Rattle.status.specs.Texts.{oldest_seconds, seconds}
 use Rattle.status.specs.Words.{escaped, joined, rows, thousandths, word_text}
 use Rattle.status.specs.declared.metrics.Family.{Family}
 use Rattle.status.specs.declared.metrics.Gauge.{Gauge}
@@ -85,7 +85,10 @@ gauge_parts s =
     ∷ gauge_text (codes "telegate_queue_places") (codes "Places that the queue has.")
     (decimal s.queue.places)
     ∷ gauge_text (codes "telegate_queue_taken") (codes "Places of the queue that are taken.")
-    (decimal s.queue.taken) ∷ []
+    (decimal s.queue.taken)
+    ∷ gauge_text (codes "telegate_queue_oldest_seconds")
+    (codes "How long the oldest queued report has waited at least, 0 without one.")
+    (decimal (oldest_seconds s.queue)) ∷ []
 
 abbrev pub gauges_text : Snapshot → List ℕ
 gauges_text s = joined (gauge_parts s)

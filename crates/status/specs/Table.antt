@@ -5,7 +5,8 @@ use Rattle.std.specs.Bool.{beq}
 use Rattle.std.specs.Fmt.{decimal}
 use Rattle.status.specs.Judge.{is_silent, is_up, unfilled}
 use Rattle.status.specs.Labels.{keeping_text, wide_text}
-use Rattle.status.specs.Texts.{age_or, age_text, line_text, summary, syncs_text}
+use Rattle.status.specs.Texts.{age_or, age_text, line_text, oldest_seconds, summary}
+use Rattle.status.specs.Texts.{syncs_text}
 use Rattle.status.specs.Words.{escaped, escaped_or, joined, right, rows}
 use Rattle.status.specs.declared.table.TheConstants.{LINE, SYNCS, STATIONS}
 use Rattle.status.specs.declared.words.Marks.TheVariants.{Plain}
@@ -45,7 +46,8 @@ performance_parts s =
     codes " | stations_up=" ∷ decimal (count_by is_up s.stations.now)
     ∷ codes ";;;0;" ∷ decimal (length s.stations.now)
     ∷ codes " queue=" ∷ decimal s.queue.taken ∷ codes ";" ∷ decimal (s.queue.places / 2)
-    ∷ codes ";" ∷ decimal (unfilled s.queue) ∷ codes ";0;" ∷ decimal s.queue.places ∷ []
+    ∷ codes ";" ∷ decimal (unfilled s.queue) ∷ codes ";0;" ∷ decimal s.queue.places
+    ∷ codes " oldest=" ∷ decimal (oldest_seconds s.queue) ∷ codes "s;;;0" ∷ []
 
 abbrev pub performance : Snapshot → List ℕ
 performance s = joined (performance_parts s)

@@ -1,6 +1,6 @@
 -- Texts that more than one page has (this gateway's own profile).
 use Rattle.std.specs.Prelude.{ℕ, ◌-◌, ◌/◌, ◌==◌, nat_lt, Bool, not, List, [], ◌∷◌, length, count_by}
-use Rattle.std.specs.Prelude.{Option, Some, None, codes, if◌then◌else◌}
+use Rattle.std.specs.Prelude.{Option, Some, None, codes, if◌then◌else◌, unwrap_or}
 use Rattle.std.specs.Option.{is_some}
 use Rattle.std.specs.Fmt.{decimal}
 use Rattle.live.specs.declared.syncs.SlowSyncs.{SlowSyncs}
@@ -10,6 +10,7 @@ use Rattle.status.specs.Judge.{judgement_of, keeps}
 use Rattle.status.specs.Labels.{judgement_text}
 use Rattle.status.specs.declared.words.Marks.{Marks}
 use Rattle.status.specs.declared.words.Marks.TheVariants.{Plain}
+use Rattle.status.specs.declared.snapshot.Queue.{Queue}
 use Rattle.status.specs.declared.snapshot.Snapshot.{Snapshot}
 
 -- a text if that is so
@@ -85,6 +86,19 @@ abbrev pub age_unit : ℕ → List ℕ
 age_unit s =
     if nat_lt s 120 then codes " s  " else if nat_lt s 7200 then codes " min"
     else if nat_lt s 172800 then codes " h  " else codes " d  "
+
+-- for how many whole seconds the oldest report of the queue has waited at least, 0 if none is there
+abbrev pub oldest_seconds : Queue → ℕ
+oldest_seconds q = seconds (unwrap_or q.oldest_ms 0) 0
+
+-- the same behind how many places are taken, if a report is there
+abbrev pub wait_text : (seconds : ℕ) → List ℕ
+wait_text s = joined (
+    codes ", the oldest for at least " ∷ decimal (age_count s) ∷ age_unit s ∷ [])
+
+abbrev pub oldest_text : Option ℕ → List ℕ
+oldest_text None = []
+oldest_text (Some oldest) = wait_text (seconds oldest 0)
 
 -- how long ago a moment is, in a column of this width
 abbrev pub age_text : (width now since : ℕ) → List ℕ

@@ -43,10 +43,10 @@ pub fn pages_by_example()
     ensures centre { (s : Snapshot) →
         json_before_hour (record s {
           centre = record s.centre { is_started = true; since_ms = 1; unacknowledged = 2 };
-          queue = record s.queue { taken = 3; places = 4 };
+          queue = record s.queue { taken = 3; places = 4; oldest_ms = Some 5 };
         })
         ≡ codes ",\"started\":true,\"since_ms\":1,\"unacknowledged\":2},\"queue\":{"
-        ++ codes "\"taken\":3,\"places\":4,\"hour\":[" }
+        ++ codes "\"taken\":3,\"places\":4,\"oldest_ms\":5,\"hour\":[" }
     ensures state { (s : Snapshot) →
         json_before_stations (record s {
           keeping = NotKept;

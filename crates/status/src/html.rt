@@ -9,7 +9,7 @@ use crate::latest::{name_about, put_time, time_of};
 use crate::lists::{Form, put_rows};
 use crate::page::TextPage;
 use crate::snapshot::{EventView, Setting, Snapshot, StationView};
-use crate::texts::{put_age, put_age_or, put_line, put_summary, put_syncs};
+use crate::texts::{put_age, put_age_or, put_line, put_oldest, put_summary, put_syncs};
 use crate::words::{Marks, Word, put_words};
 
 /// What the page begins with. It fits a telephone, is light or dark as its reader has it, and is
@@ -265,18 +265,29 @@ fn good_queue(places: u64) -> u64
     ((u128::from(places) * 4 / 5) as u64).saturating_sub(1)
 }
 
-/// Puts the queue.
-fn put_queue(page: &mut TextPage, snapshot: &Snapshot<'_>)
-    ensures { page.new ≡ put (spec.queue_text snapshot.now) page.old }
+/// Puts how many places of the queue are taken.
+fn put_taken(page: &mut TextPage, snapshot: &Snapshot<'_>)
+    ensures { page.new ≡ put (spec.taken_text snapshot.now) page.old }
 {
-    let places = snapshot.queue.places;
     put_words(
         page,
         &[
             Word::Text("</td></tr>\n<tr><th>queue</th><td>"),
             Word::Number(snapshot.queue.taken),
             Word::Text(" of "),
-            Word::Number(places),
+            Word::Number(snapshot.queue.places),
+        ],
+    );
+}
+
+/// Puts the same as a meter.
+fn put_meter(page: &mut TextPage, snapshot: &Snapshot<'_>)
+    ensures { page.new ≡ put (spec.meter_text snapshot.now) page.old }
+{
+    let places = snapshot.queue.places;
+    put_words(
+        page,
+        &[
             // Its reader has colours for three parts, of which the lowest is the best.
             Word::Text(" <meter min=\"0\" optimum=\"0\" low=\""),
             Word::Number(good_queue(places)),
@@ -463,7 +474,9 @@ fn put_whole(page: &mut TextPage, snapshot: &Snapshot<'_>)
     put_age(page, 0, now_ms, snapshot.centre.since_ms);
     put_state(page, snapshot);
     put_syncs(page, SYNCS, &snapshot.syncs);
-    put_queue(page, snapshot);
+    put_taken(page, snapshot);
+    put_oldest(page, snapshot.queue.oldest_ms);
+    put_meter(page, snapshot);
 }
 
 /// Puts the snapshot as a page for a person.

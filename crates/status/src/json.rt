@@ -209,6 +209,8 @@ fn put_before_hour(page: &mut TextPage, snapshot: &Snapshot<'_>)
             Word::Number(snapshot.queue.taken),
             Word::Text(",\"places\":"),
             Word::Number(snapshot.queue.places),
+            Word::Text(",\"oldest_ms\":"),
+            Word::NumberOr(snapshot.queue.oldest_ms, "null"),
             Word::Text(",\"hour\":["),
         ],
     );

@@ -19,6 +19,7 @@ ghost use Rattle.status.specs.declared.snapshot.Snapshot.{Snapshot};
 
 mod heard;
 mod known;
+mod oldest;
 mod setting;
 mod shown;
 mod sight_laws;
@@ -30,6 +31,7 @@ pub use self::sight_laws::{
 use crate::hour::Hour;
 use crate::lookout::heard::events_of;
 use crate::lookout::known::{Known, known_of};
+use crate::lookout::oldest::{Mark, marked, waited};
 use crate::lookout::setting::{ChosenSetting, chosen_of, settings_of};
 use crate::lookout::shown::{centre_of, keeping_after, line_of, lost_after, rows_of, said_by};
 use crate::snapshot::{Keeping, Queue, Snapshot};
@@ -70,6 +72,8 @@ struct ShownRun {
     taken: u64,
     /// When that was, in ms.
     counted: Option<u64>,
+    /// By then the oldest report had waited since this mark at least.
+    mark: Option<Mark>,
     /// The address of the latest connection's other end, and how many connections there were then.
     peer: String,
     opened: u64,
@@ -141,7 +145,7 @@ impl<D: StreamSource + Drop> Lookout<D> {
             return;
         }
         self.turned = Some(now);
-        self.shown.count(gateway, now);
+        self.shown.count(gateway, watch);
         turn(&mut self.visitors, &self.shown, watch);
     }
 }
@@ -211,6 +215,7 @@ impl ShownRun {
             hour: Hour::new(),
             taken: 0,
             counted: None,
+            mark: None,
             peer: String::with_capacity(alloc, 64)?,
             opened: 0,
             gone_since: 0,
@@ -254,14 +259,16 @@ impl ShownRun {
     }
 
     /// Counts the pieces of the queue, if that is due.
-    fn count(&mut self, gateway: &Gateway, now: u64)
-        ensures { self.new ≡ spec.counted gateway.now now self.old }
+    fn count(&mut self, gateway: &Gateway, watch: &Watch)
+        ensures { self.new ≡ spec.counted gateway.now watch.now self.old }
     {
+        let now = watch.moment();
         if !is_over(self.counted, now, COUNT_MS) {
             return;
         }
         self.counted = Some(now);
         self.taken = taken_places(gateway);
+        self.mark = marked(self.mark, gateway, watch, self.taken);
         self.hour.note(now, self.taken);
     }
 }
@@ -282,6 +289,7 @@ fn snapshot_of<'a>(shown: &'a ShownRun, watch: &Watch) -> Snapshot<'a>
         queue: Queue {
             taken: shown.taken,
             places: shown.places,
+            oldest_ms: waited(shown.counted, shown.mark),
             hour: shown.hour.numbers(),
         },
         keeping: shown.keeping,

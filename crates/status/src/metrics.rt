@@ -7,7 +7,7 @@ use crate::judging::{cannot_keep, keeps};
 use crate::lists::{Form, put_rows};
 use crate::page::TextPage;
 use crate::snapshot::{Snapshot, StationView};
-use crate::texts::seconds;
+use crate::texts::{oldest_seconds, seconds};
 use crate::words::{Count, Marks, Word, put_words};
 
 /// A number of the whole gateway.
@@ -209,6 +209,11 @@ fn put_gauges(page: &mut TextPage, snapshot: &Snapshot<'_>)
             name: "telegate_queue_taken",
             help: "Places of the queue that are taken.",
             value: Word::Number(snapshot.queue.taken),
+        },
+        Gauge {
+            name: "telegate_queue_oldest_seconds",
+            help: "How long the oldest queued report has waited at least, 0 without one.",
+            value: Word::Number(oldest_seconds(&snapshot.queue)),
         },
     ];
     put_rows(page, &GaugeForm, &gauges);

@@ -103,6 +103,8 @@ pub struct Queue<'a> {
     pub taken: u64,
     /// How many places it has.
     pub places: u64,
+    /// For how many ms the oldest report has waited at least; none if none is there.
+    pub oldest_ms: Option<u64>,
     /// How many were taken in the last hour, one number a minute, the oldest first.
     pub hour: &'a [u64],
 }

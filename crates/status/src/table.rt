@@ -8,7 +8,9 @@ use crate::judging::{is_silent, unfilled};
 use crate::lists::{Form, put_rows};
 use crate::page::TextPage;
 use crate::snapshot::{Snapshot, StationView};
-use crate::texts::{count_up, put_age, put_age_or, put_line, put_summary, put_syncs};
+use crate::texts::{
+    count_up, oldest_seconds, put_age, put_age_or, put_line, put_summary, put_syncs,
+};
 use crate::words::{Marks, Word, put_words};
 
 /// What stands before how the line is.
@@ -138,6 +140,9 @@ fn put_performance(page: &mut TextPage, snapshot: &Snapshot<'_>)
             Word::Number(unfilled(&snapshot.queue)),
             Word::Text(";0;"),
             Word::Number(snapshot.queue.places),
+            Word::Text(" oldest="),
+            Word::Number(oldest_seconds(&snapshot.queue)),
+            Word::Text("s;;;0"),
         ],
     );
 }

@@ -7,7 +7,7 @@ ghost use Rattle.status.specs.Texts as spec;
 
 use crate::judging::{cannot_keep, has_gone, is_awaited, is_full, is_off, is_up, judge, keeps};
 use crate::page::TextPage;
-use crate::snapshot::{Snapshot, StationView};
+use crate::snapshot::{Queue, Snapshot, StationView};
 use crate::words::{Marks, Word, put_words};
 use live::SlowSyncs;
 
@@ -148,6 +148,37 @@ pub(crate) fn seconds(now_ms: u64, since_ms: u64) -> u64
     ensures { result ≡ spec.seconds now_ms since_ms }
 {
     now_ms.saturating_sub(since_ms) / 1000
+}
+
+/// For how many whole seconds the oldest report of the queue has waited at least, 0 if none is there.
+pub(crate) fn oldest_seconds(queue: &Queue<'_>) -> u64
+    ensures { result ≡ spec.oldest_seconds queue.now }
+{
+    seconds(queue.oldest_ms.unwrap_or(0), 0)
+}
+
+/// Puts the same behind how many places are taken, if a report is there.
+pub(crate) fn put_oldest(page: &mut TextPage, oldest_ms: Option<u64>)
+    ensures { page.new ≡ put (spec.oldest_text oldest_ms) page.old }
+{
+    match oldest_ms {
+        Some(oldest_ms) => put_wait(page, seconds(oldest_ms, 0)),
+        None => page.put(&[]),
+    }
+}
+
+/// Puts that the oldest report has waited for so many seconds at least.
+fn put_wait(page: &mut TextPage, seconds: u64)
+    ensures { page.new ≡ put (spec.wait_text seconds) page.old }
+{
+    put_words(
+        page,
+        &[
+            Word::Text(", the oldest for at least "),
+            Word::Number(age_count(seconds)),
+            Word::Text(age_unit(seconds)),
+        ],
+    );
 }
 
 /// Puts how long ago a moment is, in a column of this width.

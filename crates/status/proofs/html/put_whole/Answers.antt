@@ -5,7 +5,9 @@ use Rattle.status.proofs.html.put_whole.Goals as goal
 pub returns : goal.returns
 returns c =
     rw (
-      c.put_queue.ensures,
+      c.put_meter.ensures,
+      c.put_oldest.ensures,
+      c.put_taken.ensures,
       c.put_syncs.ensures,
       c.put_state.ensures,
       c.put_age-3.ensures,

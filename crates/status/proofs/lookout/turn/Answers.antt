@@ -29,6 +29,7 @@ returns g c = (
       centre = c.snapshot_of.ensures.centre;
       taken = c.snapshot_of.ensures.taken;
       places = c.snapshot_of.ensures.places;
+      oldest = c.snapshot_of.ensures.oldest;
       hour = c.snapshot_of.ensures.hour;
       keeping = c.snapshot_of.ensures.keeping;
       lost_by = c.snapshot_of.ensures.lost_by;

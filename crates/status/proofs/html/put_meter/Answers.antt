@@ -1,4 +1,4 @@
-use Rattle.status.proofs.html.put_queue.Goals as goal
+use Rattle.status.proofs.html.put_meter.Goals as goal
 
 pub returns : goal.returns
 returns c = rw (← c.good_queue.ensures, ← c.unfilled.ensures) c.put_words.ensures
