@@ -8,8 +8,8 @@
   output, then standard error), and `(status N)` if its exit status isn't 0.
 - The table of docs/ARCHITECTURE.md has the crates of crates.txt, each below the crates that it
   uses.
-- Lines of README.md and of the documents have at most 100 columns. All pages together have at most
-  45,000 words, a crate's README.md at most 30 lines. No sentence of the documents has 30 words or
+- Lines of README.md and of the documents have at most 100 columns, but for rows that begin with a
+  line of the log. All pages together have at most 45,000 words, a crate's README.md at most 30 lines. No sentence of the documents has 30 words or
   more, but for CHANGELOG.md and for what is printed from the sources. Each file that a document
   names is there.
 - docs/PROOFS.md and docs/CALLS.md say of each function what the sources say (tools/laws.py).
@@ -18,8 +18,11 @@
 - The program, the man page, CHANGELOG.md and each document that names a version name the same one.
 - Lines of src/, specs/ and tests/ have at most 100 columns, except imports and attributes.
 - An entry of a document that a comment or a document names, as `docs/NAME.md, "HEADING"`, is there.
-- The table of docs/TESTS.md has the scripts of checks/list.txt as those of the gate.
-- The pictures are those that docs/pictures/make.py makes.
+- The table of docs/TESTS.md has the scripts of checks/list.txt as those of the gate. What begins
+  with `#!` is executable.
+- docs/LOG.md has each line that the log may have, once, in its words and with its severity, each
+  reason of a line, and for each error and warning what to do (checks/lines.py).
+- The pictures are those that docs/pictures/make.py makes, and the log's lines on them are lines.
 """
 import glob
 import os
@@ -29,18 +32,24 @@ import subprocess
 import sys
 
 import frame
+import lines
 
 TOP = frame.TOP
 sys.path.append(os.path.join(TOP, "tools"))
 import laws
 
 COLUMNS = 100
+# A row of a table is one line, and one of docs/LOG.md has a line of the log whole.
+ROW = 165
 SENTENCE = 30
 # How many words all documents may have, and how many lines the README.md of a crate.
 WORDS, LINES = 45000, 30
 # What a sentence names as a file: a path with one of these endings, or in one of these folders.
 NAMED = re.compile(r"`?(?<![\w/])((?:bench|checks|crates|docs|edits|examples|packaging|tests|tools|specs|src|\.ci)/[\w./*-]*\w|[\w-]+\.(?:md|txt|py))`?")
 
+# The page of the log, and a row of it: a line, its severity, what it means, and what to do.
+LOG = "docs/LOG.md"
+LOGGED = re.compile(r"^\| `(.*?)` \| (\d) \| (.*?) \| (.*)\|$", re.M)
 # What cites a demand of another paper: a capital letter with a number (R32 is a type of the
 # standard), or a section or row of a paper that isn't here.
 CITED = re.compile(r"\b(?!R32)[DTRWPQ]\d{1,2}\b|\b(?:our|the|this) papers?\b|\brow \d+\b|\b0[1-4]-[a-z]+\.md\b")
@@ -94,7 +103,7 @@ def judge_crates(judge, text):
 
 def judge_layout(judge, name, text):
     for number, line in enumerate(text.splitlines(), 1):
-        if len(line) > COLUMNS:
+        if len(line) > (ROW if name == LOG and LOGGED.match(line) else COLUMNS):
             judge.case(False, f"{name}:{number} has {len(line)} columns")
     judge.case(text.endswith("\n"), f"{name}: the last line isn't ended")
 
@@ -186,18 +195,57 @@ def judge_list(judge, text):
     judge.case(not unnamed, f"docs/TESTS.md doesn't name {unnamed}")
 
 
+def is_line(shown, row):
+    """Whether a picture shows this line of the log, or its beginning."""
+    shown = re.sub(r"^\.\. ", "command .. ", shown)
+    cut = re.sub(r"(CAUSE|WHY|\.\.)?$", "", shown).rstrip(": ")
+    return row.startswith(cut) or row.endswith("WHY") and shown.startswith(row.removesuffix("WHY"))
+
+
 def pictures(count, _program, _folder):
     """Each picture is what docs/pictures/make.py makes now, and the lines of the log on it are
-    those of docs/TEXTS.md."""
+    those of docs/LOG.md."""
     sys.path.append(os.path.join(TOP, "docs/pictures"))
     import make
 
-    texts = read("docs/TEXTS.md")
+    rows = [row[0] for row in LOGGED.findall(read(LOG))]
     for name, text in make.pictures().items():
         path = f"docs/pictures/{name}.svg"
         count.judge(path, os.path.exists(os.path.join(TOP, path)) and read(path) == text, "docs/pictures/make.py makes another one")
-    for line in sorted(set(re.findall(r"`((?:station A|queue) [^`]*)`", read("docs/pictures/make.py")))):
-        count.judge(f"docs/pictures: {line}", line.rstrip(":. ") in texts, "docs/TEXTS.md has no such line")
+    for shown in sorted(set(re.findall(r"`((?:station A|queue|connection|state|waiting|command without|\.\.) [^`]*)`", read("docs/pictures/make.py")))):
+        count.judge(f"docs/pictures: {shown}", any(is_line(shown, row) for row in rows), f"{LOG} has no such line")
+
+
+def judge_log(count, rows):
+    """The rows are the log's lines, each once and with its severity."""
+    known = lines.lines()
+    for pattern, severity in known:
+        found = [row for row in rows if re.fullmatch(pattern, row[0])]
+        shown = pattern.replace(lines.OPEN, "..").replace("\\", "")
+        count.judge(f"{LOG}: {shown}", [int(row[1]) for row in found] == [severity], f"{found}, and not once with {severity}")
+    for line, severity, means, advice in rows:
+        count.judge(f"{LOG}: {line} is a line", sum(bool(re.fullmatch(pattern, line)) for pattern, _ in known) == 1, "the program has no such line")
+        count.judge(f"{LOG}: {line} is told", means.strip() and (advice.strip() or int(severity) > 4), "it lacks what it means, or what to do")
+
+
+def log(count, _program, _folder):
+    """docs/LOG.md has what the log may have."""
+    text = read(LOG)
+    judge_log(count, LOGGED.findall(text))
+    for heading, name in (("Stations", "skip_words"), ("Commands", "reason_words")):
+        [part] = re.findall(rf"^## {heading}\n(.*?)(?=^## |\Z)", text, re.M | re.S)
+        told = re.findall(r"^\| `(.*?)` \| [^|]+ \| [^|]+ \|$", part, re.M)
+        wanted = lines.texts(name)
+        holds = len(told) == len(wanted) and all(re.fullmatch(*both) for both in zip(wanted, told))
+        count.judge(f"{LOG}, {heading}: each WHY", holds, f"{told}, and not {wanted}")
+    spans = re.findall(r"`([^`\n]+)`", text)
+    for old, new in re.findall(r"^\| `(.*)` \| `(.*)` \|$", read("docs/GLOSSARY.md"), re.M):
+        told = [any(words in span for span in spans) for words in (old, new)]
+        count.judge(f"docs/GLOSSARY.md: {old}", told == [False, True], f"{LOG} has {told}")
+    for name in ("act_words", "value_words", "left_out_words"):
+        for pattern in (text.removeprefix("\\ ") for text in lines.texts(name) if re.search("[a-z]", text)):
+            shown = any(re.fullmatch(pattern, span) for span in spans)
+            count.judge(f"{LOG}: {pattern}", shown, "isn't there")
 
 
 def pages(count, program, _folder):
@@ -223,6 +271,9 @@ def lists(count, program, _folder):
     judge_version(count, program, texts)
     judge_crates(count, texts["docs/ARCHITECTURE.md"])
     judge_list(count, texts["docs/TESTS.md"])
+    for name in sorted(glob.glob("**/*.py", root_dir=TOP, recursive=True)):
+        if read(name).startswith("#!"):
+            count.judge(f"{name} can be called", os.access(os.path.join(TOP, name), os.X_OK), "it isn't executable")
 
 
 def printed(count, _program, _folder):
@@ -250,4 +301,4 @@ def words(count, _program, _folder):
 
 
 if __name__ == "__main__":
-    frame.main(pages, pictures, sources, lists, printed, words)
+    frame.main(pages, log, pictures, sources, lists, printed, words)

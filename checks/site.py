@@ -6,7 +6,7 @@
 A run takes its log, its state, its status listener and who may connect from the file alone. The names of the line and of a station stand at
 the end of the lines of the log, on the status page, in the JSON, the table and the metrics; a station without a name has none there. The
 page tells the wall clock. What words say wins: another directory, another address. A file that gives nothing changes nothing. With
---log-severity, or the key, each line begins with its severity as docs/TEXTS.md has it. All of it is on the loopback.
+--log-severity, or the key, each line begins with its severity as docs/LOG.md has it. All of it is on the loopback.
 
 Of each fault `check --site` and `run --site` tell the same line, before the settings are read, and `check --explain` says where it stands,
 and what the table of docs/SITE.md wants there. Further words beside the file are judged by checks/shell.py.
@@ -28,7 +28,7 @@ SETTINGS = (
     "[[station]]\naddress = 7\nca = 1\n[[station]]\naddress = 8\nca = 2\n"
 )
 NAMES = '[line]\nname = "North <ring>"\n[[station]]\nlink = 7\nname = "Mill Lane 20 kV"\n[[station]]\nlink = 99\nname = "nobody"\n'
-# docs/TEXTS.md, the table of severities.
+# docs/LOG.md.
 SEVERITIES = {
     "line reached": 5,
     "listening at": 6,

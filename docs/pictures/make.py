@@ -6,7 +6,7 @@
 Text and boxes alone: after a change call it again (checks/documents.py compares). Each picture is 700 wide, as a page shows it, but
 for the deployment, which fits a telephone. No text is below 11 px. A reader with a dark screen gets dark colours.
 Looking at one: `rsvg-convert NAME.svg -o NAME.png`. What stands between backticks is a line of the log, a word of the program or the
-name of a contract, as docs/TEXTS.md and the crates have it.
+name of a contract, as docs/LOG.md and the crates have it.
 """
 import os
 from html import escape
@@ -155,11 +155,14 @@ def deployment():
     p.box(15, 300, 165, 74, "device server", "`ser2net` on this machine,\nor a box beside it", "far")
     p.way([(97, 374), (97, 426)], "wire")
     p.text(107, 398, "one serial line\nIEC 60870-5-101", "small", "start")
-    p.way([(60, 426), (320, 426)], "wire")
-    for x, number in ((15, 1), (135, 2), (255, 32)):
-        p.way([(x + 55, 426), (x + 55, 444)], "wire")
-        p.box(x, 444, 110, 40, f"outstation {number}", "", "far")
-    p.text(250, 468, "..", "small")
+    # The bar ends at the first and at the last outstation, and is broken where some are left out.
+    for begin, end in ((67.5, 233), (261, 312.5)):
+        p.way([(begin, 426), (end, 426)], "wire")
+    p.text(247, 430, "..")
+    p.text(247, 468, "..")
+    for x, number in ((15, 1), (129, 2), (257, 32)):
+        p.way([(x + 54, 426), (x + 54, 444)], "wire")
+        p.box(x, 444, 108, 40, f"outstation {number}", "", "far")
     arrows = "An arrow goes from the one that opens a\nconnection to the one that accepts it."
     p.text(15, 510, f"{arrows}\nThick lines: the serial line, and what telegate writes.", "small", "start")
     return p
@@ -211,12 +214,12 @@ COMMAND = [
         "(DFC), behind those before it.",
     ], [
         ("Taken back: it never goes out", [
-            "Its connection ends. No answer, and no line of its own.",
-            "`connection lost: CAUSE`, `connection closed: CAUSE`",
+            "Its connection ends. No answer.",
+            "`.. not sent: its connection ended`",
         ]),
         ("Given up by a restart: it never goes out", [
-            "No answer, and no line. With `--state`:",
-            "`telegate state` shows it before the start.",
+            "No answer. With `--state` the log of the start has:",
+            "`waiting command of type T to C/O, given up at a start`",
         ]),
     ]),
     ("It goes to the line", "box", [
@@ -245,8 +248,9 @@ COMMAND = [
             "`.. given up: station A doesn't answer`",
         ]),
         ("Given up by a restart: it may have taken it", [
-            "It isn't repeated. No answer, and no line. With",
-            "`--state`: `telegate state` shows it before the start.",
+            "No repeat, no answer. With `--state` the log of the start has:",
+            "`command without an answer of type T to C/O,`",
+            "`given up at a start`",
         ]),
     ]),
     ("The station accepts it", "far", ["ACK or E5 on the line: no line of", "the log, no answer to the centre"], [
@@ -325,7 +329,7 @@ def command():
     return Way("The way of a command, and all its ends", [
         "`..` stands for how each line of a command begins, such as `command C_SC_NA_1 execute 1/200 on`.",
         "A solid arrow is the way on, a dashed one leads to an end. No answer: the control centre hears nothing.",
-        "Of several lines of one kind within a second the log has the last, with the number of those before.",
+        "Each line stands in the log; of refusals within a second only the last, with the number of those before.",
     ], COMMAND)
 
 
@@ -338,7 +342,7 @@ def report():
 
 def station():
     """A station's states, with the lines of the log on the arrows."""
-    p = Picture(WIDTH, 484, "The states of a station")
+    p = Picture(WIDTH, 496, "The states of a station")
     p.box(20, 130, 150, 76, "down", "link status requested,\nonce a turn")
     p.box(255, 130, 125, 76, "known", "its link is reset")
     p.box(480, 130, 130, 76, "up", "polled; commands\ngo down")
@@ -346,7 +350,7 @@ def station():
     p.way([(170, 152), (255, 152)])
     p.text(212, 127, "status\nof link (11)", "small")
     p.way([(380, 152), (480, 152)])
-    p.text(430, 127, "reset confirmed\n`station A up`", "small")
+    p.text(430, 127, "reset\nconfirmed", "small")
     p.way([(255, 186), (170, 186)])
     p.text(212, 203, "no answer", "small")
     p.way([(590, 130), (590, 70), (95, 70), (95, 130)])
@@ -361,10 +365,11 @@ def station():
     doubted = "It answers 14 or 15. Or, behind a restart of\ntelegate, it answers its status twice, and the\nrequest not at all."
     p.text(103, 316, doubted, "small", "start")
     p.text(103, 384, "`station A down`, once its status is asked", "small", "start")
-    first = "At the first request: `station A link status requested`. Asked `retries` + 1 times, and not up:"
-    held = "`station A doesn't answer`. Held for more than a minute: `station A still doesn't answer: ..`"
-    p.text(20, 420, f"{first}\n{held}", "small", "start")
-    p.text(20, 460, "A reset ended a session amid a poll: `station A gap: reports of it may be lost`", "loss", "start")
+    first = "At the first request: `station A link status requested`. At the first answer to a poll or a command:"
+    silent = "`station A up`. Asked `retries` + 1 times, and not up: `station A doesn't answer`."
+    held = "Held for more than a minute: `station A still doesn't answer: ..`"
+    p.text(20, 420, f"{first}\n{silent}\n{held}", "small", "start")
+    p.text(20, 474, "A reset ended a session amid a poll: `station A gap: reports of it may be lost`", "loss", "start")
     return p
 
 
@@ -399,7 +404,7 @@ USES = {
 AROUND = [
     (25, 100, "A live run", ["live runlog status"],
      ["the_log_has_what_passed", "what_is_gathered_is_logged_or_counted"]),
-    (360, 100, "Its state on the disk", ["state state_files state_words", "segments statetext"],
+    (360, 100, "Its state on the disk", ["state segments statetext"],
      ["nothing_goes_out_before_it_is_on_disk", "Segment::survives"]),
     (25, 196, "Settings", ["settings"],
      ["read_config", "read_site"]),

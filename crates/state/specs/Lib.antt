@@ -18,3 +18,13 @@ pub mod Directories
 pub mod Sights
 pub mod Crashed
 pub mod Returns
+pub mod FileNames
+pub mod Marks
+pub mod FolderFaults
+pub mod Copying
+pub mod StartNotes
+pub mod StationLines
+pub mod ChangedSettings
+pub mod Dates
+pub mod QueuedReports
+pub mod StateText

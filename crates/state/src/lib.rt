@@ -1,11 +1,14 @@
-//! A run whose events are kept on a disk (this gateway's own profile).
+//! A run whose events are kept on a disk (this gateway's own profile): how it is kept and gone on
+//! with, the directory in the system's files, and what is said of it.
 #![tactic(auto)]
 
 mod beginning;
 mod counting;
+mod description;
 mod disk_store;
 mod ends;
 mod event_text;
+mod files;
 mod folder;
 mod form_laws;
 mod given_up;
@@ -26,9 +29,18 @@ mod store;
 mod trail;
 
 pub use beginning::{Begun, Origin, begin};
+pub use description::{
+    describe_state, each_station_has_its_line, note_of, note_of_damage, note_of_given_up,
+    note_of_queue, note_of_settings, the_first_lines_say_how_a_run_begins,
+};
 pub use disk_store::DiskStore;
 pub use ends::Ends;
 pub use event_text::EventText;
+pub use files::{
+    Directory, Starts, Stood, a_directory_is_refused_for_its_reason, a_file_is_looked_at_whole,
+    a_lock_is_told_where_it_is_taken, a_mark_is_made_where_there_is_none,
+    a_mark_is_on_the_disk_where_it_is_told, files_are_put_aside_in_pairs, mark_beside, stood_in,
+};
 pub use folder::{Folder, FolderFault};
 pub use form_laws::{
     commands_are_kept_in_this_form, lines_of_a_state_are_these_texts, links_are_kept_in_this_form,

@@ -7,7 +7,7 @@ use Rattle.clap.specs.Words.{Text}
 use Rattle.settings.specs.declared.site.Site.{Site as SiteFile}
 use Rattle.telegate.specs.Shell.{IsNoSite, IsNotRead, IsUnread, ReplaysFile, Responds, RunsAsSaid}
 use Rattle.telegate.specs.Shell.{ChecksBehind, PlayFiles, RunsAtSite, ShowsState, files_of}
-use Rattle.state_files.specs.declared.looking.Stood.{Stood}
+use Rattle.state.specs.declared.files.reading.Stood.{Stood}
 use Rattle.telegate.specs.CommandLine.{text_of}
 use Rattle.telegate.specs.Wishes.{IsSiteIn, site_files}
 use Rattle.telegate.specs.declared.run_words.RunWords.{RunWords}

@@ -5,7 +5,7 @@ use Rattle.runlog.specs.Logging.{Book}
 use Rattle.runlog.specs.declared.note.Note.{Note}
 use Rattle.state.specs.declared.beginning.Origin.{Origin}
 use Rattle.state.specs.declared.start.Beginning.{Beginning}
-use Rattle.state_words.specs.Notes.{note_of, note_of_damage, note_of_given_up, note_of_settings}
+use Rattle.state.specs.StartNotes.{note_of, note_of_damage, note_of_given_up, note_of_settings}
 use Rattle.telegate.specs.Law.{LogsAll}
 use Rattle.telegate.specs.Logged.{LogsBeginning, LogsGap, LogsNoteIf, note_if_on}
 

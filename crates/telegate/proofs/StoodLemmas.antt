@@ -1,7 +1,7 @@
 -- What is answered of a directory that has this.
 use Rattle.std.proofs.Common.{ℕ, Bool, List, Option}
 use Rattle.std.specs.Prelude.{Result, Ok, Err}
-use Rattle.state_files.specs.declared.looking.Stood.{Stood}
+use Rattle.state.specs.declared.files.reading.Stood.{Stood}
 use Rattle.telegate.specs.Stood.{IsStateShown, IsStoodShown}
 use Rattle.telegate.specs.declared.answer.CommandAnswer.{CommandAnswer}
 use Rattle.telegate.specs.declared.fault.Fault.{Fault}

@@ -10,8 +10,8 @@ use Rattle.runlog.specs.declared.note.Note.TheVariants as note
 use Rattle.runlog.specs.declared.note.Obstacle.{Obstacle}
 use Rattle.runlog.specs.declared.note.Trouble.TheVariants as trouble
 use Rattle.state.specs.declared.beginning.Origin.{Origin}
-use Rattle.state_words.specs.Notes.{note_of, note_of_damage, note_of_given_up, note_of_queue}
-use Rattle.state_words.specs.Notes.{note_of_settings}
+use Rattle.state.specs.StartNotes.{note_of, note_of_damage, note_of_given_up, note_of_queue}
+use Rattle.state.specs.StartNotes.{note_of_settings}
 use Rattle.telegate.specs.Law.{LogsAll}
 use Rattle.telegate.specs.declared.fault.RunFault.{RunFault}
 use Rattle.telegate.specs.declared.fault.RunFault.TheVariants.{EndUnusable, NoMemory, StateInUse}

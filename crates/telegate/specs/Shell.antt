@@ -8,7 +8,7 @@ use Rattle.clap.specs.declared.error.Error.{Error}
 use Rattle.clap.specs.declared.error.kind.ErrorKind.{ErrorKind}
 use Rattle.clap.specs.declared.error.kind.ErrorKind.TheVariants as kind
 use Rattle.settings.specs.declared.site.Site.{Site as SiteFile}
-use Rattle.state_files.specs.declared.looking.Stood.{Stood}
+use Rattle.state.specs.declared.files.reading.Stood.{Stood}
 use Rattle.telegate.specs.Answers.{IsReplayed, Performs, Runs}
 use Rattle.telegate.specs.Given.{GivesAnswer}
 use Rattle.telegate.specs.Asking.{IsUnanswered, ShowsStatus}

@@ -6,8 +6,8 @@ use Rattle.state.specs.Sights.{IsSight}
 use Rattle.state.specs.declared.looking.Sight.{Sight}
 use Rattle.state.specs.declared.start.Beginning.{Beginning}
 use Rattle.state.specs.declared.start.Beginning.TheVariants as beginnings
-use Rattle.state_files.specs.declared.looking.Stood.{Stood}
-use Rattle.state_words.specs.Text.{IsStateText}
+use Rattle.state.specs.declared.files.reading.Stood.{Stood}
+use Rattle.state.specs.StateText.{IsStateText}
 use Rattle.telegate.specs.declared.answer.CommandAnswer.{CommandAnswer}
 use Rattle.telegate.specs.declared.fault.Fault.{Fault}
 use Rattle.telegate.specs.declared.fault.Fault.TheVariants.{Unread, NoMemory}

@@ -15,7 +15,7 @@ ghost use Rattle.state.specs.declared.start.Beginning.TheVariants as beginning;
 ghost use Rattle.telegate.specs.AsWished.{IsAsWished};
 ghost use Rattle.telegate.specs.Asked.{RecordAt, StateIn, StatusAt, UnclockedIfErr, asked_for};
 ghost use Rattle.telegate.specs.Asked.{call_if, ends_asked, listen_asked, scribes_asked};
-ghost use Rattle.state_words.specs.Notes.{note_of_given_up};
+ghost use Rattle.state.specs.StartNotes.{note_of_given_up};
 ghost use Rattle.telegate.specs.Kept.{HasLivedFrom, HasLivedOn, IsEndFault, IsKeptFault};
 ghost use Rattle.telegate.specs.Kept.{first_moment};
 ghost use Rattle.telegate.specs.Law.{LogsAll};
@@ -42,9 +42,8 @@ use runlog::{LogSink, Logger, Note, Obstacle, Trouble, Watch};
 use settings::{ConfigFault, LiveSettings, read_live_config};
 use state::{
     Beginning, Begun, DiskStore, Folder, FolderFault, GivenUp, Keeper, Origin, Pair, ReportedGap,
-    begin,
+    begin, note_of, note_of_damage, note_of_given_up, note_of_queue, note_of_settings,
 };
-use state_words::{note_of, note_of_damage, note_of_given_up, note_of_queue, note_of_settings};
 use status::Lookout;
 use std::alloc::Global;
 use std::net::SocketAddr;

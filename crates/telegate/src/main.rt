@@ -71,7 +71,7 @@ use performing::write_fault;
 use shell::obey;
 use site::{Notes, SiteRequest};
 use sqlite_std_file::Unknown;
-use state_files::Starts;
+use state::Starts;
 use std::io::{IsTerminal, Write};
 use std::process::ExitCode;
 use std::rt::Env;

@@ -18,7 +18,7 @@ ghost use Rattle.runlog.specs.declared.note.Obstacle.{Obstacle};
 ghost use Rattle.runlog.specs.declared.note.Trouble.TheVariants as trouble;
 ghost use Rattle.state.specs.declared.beginning.Origin.{Origin};
 ghost use Rattle.state.specs.declared.start.Beginning.TheVariants as beginning;
-ghost use Rattle.state_words.specs.Notes.{note_of_given_up};
+ghost use Rattle.state.specs.StartNotes.{note_of_given_up};
 ghost use Rattle.telegate.specs.Asked.{Asked};
 ghost use Rattle.telegate.specs.Law.{LogsAll};
 ghost use Rattle.telegate.specs.Logged.{IsRefused, IsUnkept, LogsBeginning, LogsWithout};

@@ -15,8 +15,7 @@ use live::{
 use record::{RecordSheet, StandardOutput};
 use runlog::{LogNames, LogSink, StandardError, Trouble};
 use settings::LiveSettings;
-use state::Folder;
-use state_files::{Directory, Starts, mark_beside};
+use state::{Directory, Folder, Starts, mark_beside};
 use status::VisitorListener;
 use std::alloc::{AllocError, Global};
 use std::io;

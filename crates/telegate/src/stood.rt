@@ -6,9 +6,7 @@ ghost use Rattle.telegate.specs.Stood.{status_of_sight};
 use crate::answer::CommandAnswer;
 use crate::fault::{BAD_CONTENT, DONE, Fault};
 use checkpoint::StateFault;
-use state::{Beginning, Sight, look};
-use state_files::Stood;
-use state_words::describe_state;
+use state::{Beginning, Sight, Stood, describe_state, look};
 use std::alloc::Global;
 
 /// What a start would find in a directory, in lines, with the exit status: 1 if what is there can't

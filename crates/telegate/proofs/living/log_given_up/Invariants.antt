@@ -1,6 +1,6 @@
 use Rattle.std.proofs.Common.{◌≡◌, length, map}
 use Rattle.runlog.specs.Logging.{Book, book_fixture}
-use Rattle.state_words.specs.Notes.{note_of_given_up}
+use Rattle.state.specs.StartNotes.{note_of_given_up}
 use Rattle.telegate.specs.Law.{LogsAll}
 use Rattle.telegate.proofs.living.log_given_up.Given as goal
 

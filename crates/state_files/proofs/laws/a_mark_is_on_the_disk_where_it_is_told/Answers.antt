@@ -1,5 +1,0 @@
-use Rattle.state_files.proofs.Calls.{marked}
-use Rattle.state_files.proofs.laws.a_mark_is_on_the_disk_where_it_is_told.Goals as goal
-
-pub returns : goal.returns
-returns c = marked

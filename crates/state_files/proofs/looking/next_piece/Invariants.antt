@@ -1,6 +1,0 @@
-use Rattle.std.specs.Io.KnownBytes.{Keeps}
-use Rattle.state_files.proofs.looking.next_piece.Given as goal
-
--- the reads that failed took nothing
-abbrev pub invariant-reading : goal.invariant-reading
-invariant-reading g l = Keeps (g.R.Read.remaining l.initial.from) (g.R.Read.remaining l.from)

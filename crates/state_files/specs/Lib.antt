@@ -1,4 +1,0 @@
-pub mod Names
-pub mod Beside
-pub mod Faults
-pub mod Copying
