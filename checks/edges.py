@@ -209,6 +209,15 @@ def audited_over_a_restart(count, program):
                 record.write(text[: text.rindex("\n") + 1])
             audit = subprocess.run([program, "audit", gateway.config, place], capture_output=True, text=True, timeout=120)
             count.judge(f"life {life}: audit says same", audit.stdout.startswith("same, ") and audit.returncode == 0, (audit.stdout, audit.stderr, text[:300]))
+        # A record behind another one is of another run: it is told at its first line.
+        lengths = []
+        for life in (1, 2):
+            with open(os.path.join(folder, f"record{life}")) as record, open(os.path.join(folder, "both"), "a") as both:
+                lines = record.readlines()
+                both.writelines(lines)
+                lengths.append(len(lines))
+        audit = subprocess.run([program, "audit", gateway.config, os.path.join(folder, "both")], capture_output=True, text=True, timeout=120)
+        count.compare("two records in one file", (audit.stdout, audit.returncode), (f"line {lengths[0] + 1} differs\n", 1))
         gateway.field.server.close()
 
 
