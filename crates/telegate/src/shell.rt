@@ -30,8 +30,9 @@ use crate::job::Job;
 use crate::manner::{Manner, manner_of};
 use crate::performing::{give, perform, write_fault};
 use crate::piping::{Piped, end_pipe, pipe};
-use crate::pointing::{NamedText, point_keys, point_line, point_record, point_script};
-use crate::pointing::{point_settings, point_site};
+use crate::pointing::{
+    NamedText, point_keys, point_line, point_record, point_script, point_settings, point_site,
+};
 use crate::replay::{AskedReplay, replay};
 use crate::run_words::RunWords;
 use crate::source::{HeldText, Source};
