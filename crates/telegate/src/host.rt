@@ -35,10 +35,9 @@ use sqlite_std_file::FileFrom;
 use state::{Directory, Folder, Starts, Stood, stood_in};
 use std::alloc::{AllocError, Global};
 use std::fs::File;
-use std::io;
 use std::io::{Read, Write};
-use std::mem;
 use std::rt::Files;
+use std::{io, mem};
 
 /// The name of standard input.
 pub(crate) const INPUT: &str = "-";
