@@ -32,6 +32,7 @@ and `--allow`.
 All of it is on the loopback.
 """
 import datetime
+import errno
 import os
 import re
 import socket
@@ -357,7 +358,8 @@ def second(count, program, folder):
             config = os.path.join(folder, "live.toml")
             done = subprocess.run([program, "run", "--log", *flags, config], capture_output=True, timeout=ends.PATIENCE)
             said = done.stderr.decode().splitlines()
-            is_right = done.returncode == 3 and len(said) == 2 and said[0].endswith(" 0 port in use") and said[1] == "device failed"
+            why = frame.reason("listener", "%s:%d" % run.listener, errno.EADDRINUSE).strip()
+            is_right = done.returncode == 3 and said[:1] + said[2:] == [why, "device failed"] and said[1].endswith(" 0 port in use")
             count.judge("a second run", is_right, (done.returncode, said))
             time.sleep(0.3)
             count.judge("the first keeps its line", not any(line.startswith("line lost") for line in run.log.lines), run.log.lines)

@@ -69,6 +69,22 @@ pub(crate) fn point_site<H: Host, E: Write>(
     }
 }
 
+/// Writes in which directory the state can't be kept, and why.
+pub(crate) fn point_directory<E: Write>(name: Option<&str>, fault: &Fault, err: &mut E) {
+    let Some(name) = name else {
+        return;
+    };
+    match fault {
+        Fault::StateInUse => {
+            let _ = writeln!(err, "error: state {name}: in use by another process");
+        }
+        Fault::StateUnusable(cause) => {
+            let _ = writeln!(err, "error: state {name}: {cause}");
+        }
+        _ => {}
+    }
+}
+
 /// Writes all that is wrong with settings that a command only compares, if anything is.
 pub(crate) fn point_settings<E: Write>(alloc: Global, config: NamedText<'_>, err: &mut E) {
     if let Err(why) = settings::read_config(alloc, config.octets, false) {
@@ -98,8 +114,8 @@ pub(crate) fn point_script<E: Write>(
 }
 
 /// Writes what is wrong with each line of a script, from the first wrong one on, which has this
-/// number. A line that was told is passed over then, as a comment is. That `turns` is missing is told
-/// alone, since the line that was meant may be a wrong one.
+/// number. A line that was told is passed over then, as a comment is. That `turns` is missing is
+/// told alone, since the line that was meant may be a wrong one.
 fn point_lines<E: Write>(
     alloc: Global,
     config: &Config,

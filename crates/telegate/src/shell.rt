@@ -31,7 +31,8 @@ use crate::manner::{Manner, manner_of};
 use crate::performing::{give, perform, write_fault};
 use crate::piping::{Piped, end_pipe, pipe};
 use crate::pointing::{
-    NamedText, point_keys, point_line, point_record, point_script, point_settings, point_site,
+    NamedText, point_directory, point_keys, point_line, point_record, point_script, point_settings,
+    point_site,
 };
 use crate::replay::{AskedReplay, replay};
 use crate::run_words::RunWords;
@@ -630,10 +631,12 @@ fn run_live<H: Host, E: Write>(
 ) -> u8
     ensures { HasEndedLive (H.ran host.old host.new) config.entry.octets.now wishes.entry result }
 {
+    let directory = wishes.state;
     match host.run(config.octets, wishes) {
         Ok(()) => DONE,
         Err(fault) => {
             point_keys(alloc, config, true, &fault, err);
+            point_directory(directory, &fault, err);
             write_fault(&fault, err)
         }
     }
