@@ -382,6 +382,35 @@ def judge_releases(count, program, folder):
         count.compare(f"a release, {told}", package and field_of(package, "Version"), f"{own}{wanted}")
 
 
+def judge_checkout(count, program, folder):
+    """Of the program that ./build made a package is made if the commit that is checked out is the program's."""
+    if not shutil.which("git"):
+        raise frame.Skipped("no git")
+    repository, into = Repository(os.path.join(folder, "repository")), os.path.join(folder, "made")
+    os.makedirs(into)
+    for name in ("docs", "examples", "packaging"):
+        shutil.copytree(os.path.join(TOP, name), os.path.join(repository.folder, name), dirs_exist_ok=True)
+    for path in [os.path.join(TOP, "tools/origin"), *glob.glob(os.path.join(TOP, "*.md")), *glob.glob(os.path.join(TOP, "LICENSE-*"))]:
+        copy = os.path.join(repository.folder, os.path.relpath(path, TOP))
+        os.makedirs(os.path.dirname(copy), exist_ok=True)
+        shutil.copy2(path, copy)
+    before = repository.name()
+    repository.commit()
+    call = [os.path.join(repository.folder, "packaging/deb"), into]
+    environment = {name: value for name, value in os.environ.items() if name != "TELEGATE_PROGRAM"}
+    ran = run(call, env=environment)
+    count.compare("nothing built", (ran.returncode, said(ran)), (1, "deb: no program: run ./build first"))
+    built = placed(program, os.path.join(repository.folder, "crates/telegate/out"), (f"proved by a-kit, commit {before}", MOMENT))
+    ran = run(call, env=environment)
+    told = f"deb: {built} isn't of the commit that is checked out: run ./build first"
+    count.compare("built of an earlier commit", (ran.returncode, said(ran), os.listdir(into)), (1, told, []))
+    frame.note_origin(built, f"proved by a-kit, commit {repository.name()}", MOMENT)
+    ran = run(call, env=environment)
+    own = run([program, "--version"]).stdout.split()[1]
+    made = [f"telegate_{own}+git20260203040506.{repository.name()}_amd64.deb"]
+    count.compare("built of this commit", (ran.returncode, os.listdir(into)), (0, made))
+
+
 def judge_package(count, program, folder):
     """The package itself; answers its file."""
     package, told = make_package(program, os.path.join(folder, "first"))
@@ -547,6 +576,7 @@ def a_package(count, program, folder):
         raise frame.Skipped(f"no {', '.join(lacks)}")
     judge_origins(count, program, os.path.join(folder, "origins"))
     judge_releases(count, program, os.path.join(folder, "releases"))
+    judge_checkout(count, program, os.path.join(folder, "checkout"))
     package = judge_package(count, program, folder)
     if package and (count.options.chroot or count.options.base):
         judge_chroot(count, package, count.options.base, folder)
