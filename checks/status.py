@@ -538,10 +538,21 @@ def chart(count, program, folder):
         count.judge("a bar a minute, the last one at the right", re.search(r'<path d="M59 100V100h1V100z"/>', page), page)
 
 
+# A report of 70 objects. A piece has at most 60 of its type, of 4 octets each (249 octets, IEC 60870-5-104, 5).
+LONG = bytes([1, 70, 3, 1]) + b"".join(number.to_bytes(2, "little") + b"\1" for number in range(1, 71))
+
+
 def oldest(count, program, folder):
-    """How long the oldest report has waited at least, while others come and leave. The queue is counted
-    once a second, so the mark and the count are each up to a second late."""
+    """How long the oldest report has waited at least, while others come and leave, in one piece each or in two."""
     stations = Stations([1])
+    waits(count, program, folder, stations, 1, stations.stations[1].report)
+    stations = Stations([1])
+    waits(count, program, folder, stations, 2, lambda number: stations.stations[1].urgent.extend([LONG] * number))
+
+
+def waits(count, program, folder, stations, pieces, report):
+    """A report comes, and three more two seconds later. It leaves before these. The queue is counted once
+    a second, so the mark and the count are each up to a second late."""
 
     def shown(run):
         page = re.search(r"<th>queue</th><td>(.*?) <meter", get(run.status, "/").body.decode())[1]
@@ -554,27 +565,27 @@ def oldest(count, program, folder):
         count.judge("on no page", shown(run) == ("0 of 1000", 0), shown(run))
         centre.send(ends.START)
         begun = time.monotonic()
-        stations.stations[1].report(1)
+        report(1)
         time.sleep(2)
         later = time.monotonic()
-        stations.stations[1].report(3)
+        report(3)
         time.sleep(3)
         page, seconds = shown(run)
         queue, passed = run.json()["queue"], time.monotonic() - begun
-        count.judge("four are queued", queue["taken"] == 4, queue)
+        count.judge("four are queued", queue["taken"] == 4 * pieces, queue)
         count.judge("the oldest waits at least", 2000 <= queue["oldest_ms"] <= 1000 * passed, (queue, passed))
         count.judge("in the metrics", 2 <= seconds <= passed, (seconds, passed))
-        told = re.fullmatch(r"4 of 1000, the oldest for at least (\d+) s *", page)
+        told = re.fullmatch(rf"{4 * pieces} of 1000, the oldest for at least (\d+) s *", page)
         count.judge("on the page", told and 2 <= int(told[1]) <= passed, (page, passed))
-        centre.received = 1
+        centre.received = pieces
         centre.acknowledge()
-        gone = run.waits(lambda s: s["queue"]["taken"] == 3)
+        gone = run.waits(lambda s: s["queue"]["taken"] == 3 * pieces)
         queue, passed = run.json()["queue"], time.monotonic() - later
         count.judge("of the others the oldest waits less", gone and queue["oldest_ms"] <= 1000 * passed, (queue, passed))
         time.sleep(3)
         again, passed = run.json()["queue"], time.monotonic() - later
         count.judge("and goes on to wait", 1000 + queue["oldest_ms"] <= again["oldest_ms"] <= 1000 * passed, (queue, again, passed))
-        centre.received = 4
+        centre.received = 4 * pieces
         centre.acknowledge()
         count.judge("none waits any more", run.waits(lambda s: s["queue"]["taken"] == 0), run.json()["queue"])
         count.judge("and none is shown", run.json()["queue"]["oldest_ms"] is None and shown(run) == ("0 of 1000", 0), shown(run))

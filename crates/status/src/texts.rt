@@ -150,7 +150,7 @@ pub(crate) fn seconds(now_ms: u64, since_ms: u64) -> u64
     now_ms.saturating_sub(since_ms) / 1000
 }
 
-/// For how many whole seconds the oldest report of the queue has waited at least, 0 if none is there.
+/// For how many seconds the oldest report of the queue has waited at least, 0 if none is there.
 pub(crate) fn oldest_seconds(queue: &Queue<'_>) -> u64
     ensures { result ≡ spec.oldest_seconds queue.now }
 {

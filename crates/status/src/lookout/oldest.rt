@@ -22,7 +22,7 @@ pub(crate) struct Mark {
     come: u64,
 }
 
-/// How many reports have come from the stations.
+/// How many reports have come from the stations, also such as aren't queued.
 fn come_from(traffic: &[Traffic]) -> u64
     ensures { result ≡ spec.come_from 0 traffic.now }
 {
@@ -33,7 +33,7 @@ fn come_from(traffic: &[Traffic]) -> u64
     come
 }
 
-/// How many reports are queued at least, if any is.
+/// How many reports are queued at least, if any is: so many pieces end one.
 fn queued(gateway: &Gateway) -> u64
     ensures { result ≡ spec.queued gateway.now }
 {
