@@ -48,6 +48,8 @@ def program(rt):
 
 def git(*words):
     """What git says of this repository, or nothing."""
+    if not shutil.which("git"):
+        return ""
     ran = subprocess.run(["git", "-C", TOP, *words], capture_output=True, text=True)
     return ran.stdout.strip() if ran.returncode == 0 else ""
 
