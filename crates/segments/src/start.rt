@@ -318,7 +318,9 @@ fn log_behind(
     let Ok(read) = read_sealed(alloc, sum, room) else {
         return Err(SegmentFault::NoMemory);
     };
-    let is_damaged = read.is_damaged || !are_blocks(room.len());
+    // The last octet of a log is zero (its text is never as long as its room), unless it was cut.
+    let is_cut = !are_blocks(room.len()) || room.last().copied() != Some(0);
+    let is_damaged = read.is_damaged || is_cut;
     Ok(FoundLog {
         lines: read.lines,
         damage: damage_at(is_damaged, at + read.end),
