@@ -13,7 +13,7 @@ ghost use Rattle.segments.specs.Crashes.{AreOlder, StaysBacked};
 ghost use Rattle.segments.specs.Starts.{IsBacked, IsSound};
 ghost use Rattle.segments.specs.Writer.{appended_to};
 ghost use Rattle.state.specs.Doubts.{AreUndoubted};
-ghost use Rattle.state.specs.Lines.{IsRefusedBy, longest_line, seal_octets};
+ghost use Rattle.state.specs.Lines.{IsRefusedBy, longest_line, most_octets, seal_octets};
 ghost use Rattle.state.specs.Logs.{AreAmid, AreFilesOf, HasFreshLog, IsOneOf, WasOpen};
 ghost use Rattle.statetext.specs.Text.{lines_in};
 
