@@ -1,6 +1,6 @@
 //! The log of a run in two files of a directory.
 ghost use Rattle.std.specs.Io.Iter.{u64_saturate};
-ghost use Rattle.std.specs.Prelude.{◌≡◌, ◌⊎◌, ◌+◌, ◌*◌, ◌++◌, ◌∷◌, [], List, ℕ, IfOk, IfSome};
+ghost use Rattle.std.specs.Prelude.{◌≡◌, ◌⊎◌, ◌+◌, ◌++◌, ◌∷◌, [], List, ℕ, IfOk, IfSome};
 ghost use Rattle.std.specs.Prelude.{IsTrue, IfErr, OnOk};
 ghost use Rattle.std.specs.Prelude.{◌<◌, ◌≤◌, Option, Some, length, true, false};
 ghost use Rattle.std.specs.List.{concat};
