@@ -190,6 +190,13 @@ def cut_to_blocks(life, chance, part):
     return f"file ends at {place}, {place - begins} behind the checkpoint"
 
 
+def cut_by_block(life, chance, part):
+    """The last block of zeros behind the lines is gone."""
+    path = life.newest()
+    os.truncate(path, os.path.getsize(path) - BLOCK)
+    return "file is a block shorter"
+
+
 def emptied(count, program, lives, left):
     """Of the newest file, or of the only one that was written, nothing is left but such octets."""
     with tempfile.TemporaryDirectory() as folder:
@@ -760,6 +767,7 @@ PARTS = [
     damage_part("short files", cut_short, 8),
     damage_part("shortened behind its last line", cut_to_used, 2),
     damage_part("shortened to whole blocks", cut_to_blocks, 4, never="resumed", turns=80),
+    damage_part("shortened by a block", cut_by_block, 2, never="resumed"),
     *(alone(f"emptied in life {lives}, {len(left)} left", emptied, lives, left) for lives in (1, 2, 3) for left in (b"", b"t")),
     alone("first log of an older version", first_of_an_older_version),
     damage_part("sectors exchanged", exchange, 6),
