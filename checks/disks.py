@@ -31,7 +31,7 @@ import kept
 from kept import PAUSE, alone, drained, gaps, has_gone_round, looked, numbered, queue_up, quiet, resets_of, until
 from outstations import CONFIRMATION, Operator, command
 
-SECTOR = 512
+SECTOR, BLOCK = 512, 4096
 # The last lines may not be synced, and what is left of them is no damage.
 TAIL = 300
 SHORT = {"answer_ms": 250, "retries": 1}
@@ -40,12 +40,13 @@ SHORT = {"answer_ms": 250, "retries": 1}
 class Life:
     """A run that was killed: with reports that were taken, reports that wait, a command that was operated, and one on the line."""
 
-    def __init__(self, program, folder, lives=1):
+    def __init__(self, program, folder, lives=1, turns=0):
         self.folder = folder
         self.gateway = quiet(program, folder, **SHORT)
         self.field = self.gateway.field
         self.field.pause = PAUSE
         self.heard, self.wrong = set(), []
+        self.turns = turns
         for _ in range(lives):
             self.live()
 
@@ -62,6 +63,8 @@ class Life:
         operator.centre.command(command(1, number))
         operator.waits(lambda: (1, number) in operator.answers(CONFIRMATION))
         operator.centre.stream.close()
+        # Polls that bring nothing make the log longer.
+        has_gone_round(gateway, self.turns)
         queue_up(gateway, 6)
         operator = Operator(gateway.listener, acknowledges=False)
         field.mute_at_command = True
@@ -177,6 +180,23 @@ def cut_to_used(life, chance, part):
     return "file ends behind its last line"
 
 
+def cut_to_blocks(life, chance, part):
+    """What stands behind the checkpoint ends with a whole block, amid lines."""
+    path = life.newest()
+    begins = kept.head_of(path)[1]
+    blocks = (len(used(path)) - TAIL - begins) // BLOCK
+    place = begins + BLOCK * (1 + blocks * part // 10)
+    os.truncate(path, place)
+    return f"file ends at {place}, {place - begins} behind the checkpoint"
+
+
+def cut_by_block(life, chance, part):
+    """The last block of zeros behind the lines is gone."""
+    path = life.newest()
+    os.truncate(path, os.path.getsize(path) - BLOCK)
+    return "file is a block shorter"
+
+
 def emptied(count, program, lives, left):
     """Of the newest file, or of the only one that was written, nothing is left but such octets."""
     with tempfile.TemporaryDirectory() as folder:
@@ -222,12 +242,12 @@ def exchange(life, chance, part):
     return f"sectors {one} and {other} of {sectors} exchanged"
 
 
-def damaged(count, program, damage, cases, never=""):
+def damaged(count, program, damage, cases, never="", turns=0):
     """Each case is a run that is killed, a damage, and a start, which never says this."""
     seen, chance = {}, random.Random(count.options.seed)
     for case in range(cases):
         with tempfile.TemporaryDirectory() as folder:
-            life = Life(program, folder, lives=1 + case % 2)
+            life = Life(program, folder, lives=1 + case % 2, turns=turns)
             what = damage(life, chance, case * 10 // cases)
             faults, says = life.goes_on()
             seen[says] = seen.get(says, 0) + 1
@@ -640,20 +660,42 @@ def stops(count, program, name):
         case.field.server.close()
 
 
-def no_file(count, program):
-    """A FIFO stands in the place of a file of the state."""
+def no_file(count, program, name):
+    """A FIFO stands in the place of a file of the state: a start goes on, and a look at it ends."""
     with tempfile.TemporaryDirectory() as folder:
         runtime = os.path.join(folder, "runtime")
         os.mkdir(runtime)
         gateway = quiet(program, folder, environment={**os.environ, "RUNTIME_DIRECTORY": runtime}, **SHORT)
         gateway.field.pause = PAUSE
         os.mkdir(gateway.state)
-        os.mkfifo(os.path.join(gateway.state, "segments"))
+        os.mkfifo(os.path.join(gateway.state, name))
+        try:
+            status = looked(gateway, gateway.state)[1]
+        except subprocess.TimeoutExpired:
+            status = None
+        count.judge(f"a FIFO as {name}: a look at it ends", status not in (None, 0), status)
         gateway.start()
-        is_up = has_gone_round(gateway, 4)
-        count.judge("a FIFO: it goes on", is_up and gateway.process.poll() is None, (gateway.process.poll(), gateway.logged()))
+        until(lambda: "listening" in gateway.logged() or gateway.process.poll() is not None, 20)
+        is_up = "listening" in gateway.logged() and has_gone_round(gateway, 4)
+        count.judge(f"a FIFO as {name}: it goes on", is_up and gateway.process.poll() is None, (gateway.process.poll(), gateway.logged()))
         told = gateway.kill()
-        count.judge("a FIFO: it says so", f"{WITHOUT}: segments: unsupported" in told, told)
+        count.judge(f"a FIFO as {name}: it says so", f"{WITHOUT}: {name}: unsupported" in told, told)
+        gateway.field.server.close()
+
+
+def no_directory(count, program):
+    """A file stands in the place of the directory."""
+    with tempfile.TemporaryDirectory() as folder:
+        runtime = os.path.join(folder, "runtime")
+        os.mkdir(runtime)
+        gateway = quiet(program, folder, environment={**os.environ, "RUNTIME_DIRECTORY": runtime}, **SHORT)
+        gateway.field.pause = PAUSE
+        with open(gateway.state, "w"):
+            pass
+        gateway.start()
+        count.judge("no directory: it goes on", has_gone_round(gateway, 4), gateway.logged())
+        told = gateway.kill()
+        count.judge("no directory: it says so", f"{WITHOUT}: lock: not a directory" in told, told)
         gateway.field.server.close()
 
 
@@ -713,8 +755,8 @@ def each_octet_once(count, program):
         case.field.server.close()
 
 
-def damage_part(name, damage, cases, never=""):
-    return name, lambda count, program, _folder: damaged(count, program, damage, cases, never)
+def damage_part(name, damage, cases, never="", turns=0):
+    return name, lambda count, program, _folder: damaged(count, program, damage, cases, never, turns)
 
 
 PARTS = [
@@ -724,6 +766,8 @@ PARTS = [
     alone("damaged and cut", damaged_and_cut),
     damage_part("short files", cut_short, 8),
     damage_part("shortened behind its last line", cut_to_used, 2),
+    damage_part("shortened to whole blocks", cut_to_blocks, 4, never="resumed", turns=80),
+    damage_part("shortened by a block", cut_by_block, 2, never="resumed"),
     *(alone(f"emptied in life {lives}, {len(left)} left", emptied, lives, left) for lives in (1, 2, 3) for left in (b"", b"t")),
     alone("first log of an older version", first_of_an_older_version),
     damage_part("sectors exchanged", exchange, 6),
@@ -736,7 +780,8 @@ PARTS = [
     *(alone(f"disk reason: {name}, amid a run", says_reason, name, True) for name in FAULTS),
     *(alone(f"start reason: {name}", says_reason, name, False) for name in FAULTS),
     *(alone(f"or stop: {name}", stops, name) for name in ("EIO", "read-only")),
-    alone("FIFO", no_file),
+    *(alone(f"FIFO as {name}", no_file, name) for name in ("segments", "origin")),
+    alone("no directory", no_directory),
     alone("disk slow", slow_syncs),
     alone("each octet once", each_octet_once),
     alone("mark that can't be looked for", mark_unseen),

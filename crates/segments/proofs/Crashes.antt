@@ -21,7 +21,7 @@ use Rattle.segments.specs.Crashes.{AreBoth, AreOlder, AreShutOr, HasWhole, IsTha
 use Rattle.segments.specs.Crashes.{StandsIn}
 use Rattle.segments.specs.Crashes.{StaysBacked}
 use Rattle.segments.specs.Crashes.{Survives, damage_behind, lines_behind, log_text}
-use Rattle.segments.specs.Room.{are_blocks, before_zero, damage_in, is_sealed, log_in}
+use Rattle.segments.specs.Room.{is_room, before_zero, damage_in, is_sealed, log_in}
 use Rattle.statetext.specs.Sealed.{AreLines, end_in, is_damaged_in, mark_of, sealed_text}
 use Rattle.statetext.specs.Sealed.{writes_in}
 use Rattle.std.specs.List.{concat}
@@ -235,23 +235,23 @@ module _ (at : ℕ) (file : List ℕ) (head : SegmentHead) (holds : Holds file 0
 
   pub damage_sealed : head.is_sealed ≡ true
       → damage_in at file ≡ (if is_damaged_in (head_of head) (drop at file)
-      || not (are_blocks (length file - at))
+      || not (is_room (length file - at))
       then Some (at + end_in (head_of head) (drop at file)) else None)
   unfolding damage_in
   damage_sealed sealed =
       ap (λ (b : Bool). if b && (is_damaged_in (take 87 file) (drop at file)
-      || not (are_blocks (length file - at)))
+      || not (is_room (length file - at)))
       then Some (at + end_in (take 87 file) (drop at file)) else None)
       (sealed_so file head holds ∙ sealed)
       ∙ ap (λ (l : List ℕ). if is_damaged_in l (drop at file)
-      || not (are_blocks (length file - at)) then Some (at + end_in l (drop at file)) else None)
+      || not (is_room (length file - at)) then Some (at + end_in l (drop at file)) else None)
       line
 
   pub damage_older : head.is_sealed ≡ false → damage_in at file ≡ None
   unfolding damage_in
   damage_older older =
       ap (λ (b : Bool). if b && (is_damaged_in (take 87 file) (drop at file)
-      || not (are_blocks (length file - at)))
+      || not (is_room (length file - at)))
       then Some (at + end_in (take 87 file) (drop at file)) else None)
       (sealed_so file head holds ∙ older)
 
@@ -347,11 +347,11 @@ module _ (outcomes : List ℕ → Type 0) (number : ℕ) (body : List ℕ) (writ
     pub undamaged_left : damage_behind body c ≡ None
     undamaged_left =
         damage_sealed (87 + length body) c own whole_left.first refl
-        ∙ ap (λ (b : Bool). if b || not (are_blocks (length c - (87 + length body)))
+        ∙ ap (λ (b : Bool). if b || not (is_room (length c - (87 + length body)))
         then Some (87 + length body + end_in (head_of own) room) else None) sound
         ∙ ap (λ (b : Bool). if not b
         then Some (87 + length body + end_in (head_of own) room) else None)
-        (ap (λ (n : ℕ). are_blocks (n - (87 + length body))) (s.long c is) ∙ s.blocks)
+        (ap (λ (n : ℕ). is_room (n - (87 + length body))) (s.long c is) ∙ s.blocks)
 
 -- Two files
 
@@ -455,7 +455,7 @@ summed_front number end sum remainder seen body text few value summed =
 -- What is left when the last octet couldn't be written, or may not have been
 
 whole_or_shut : (outcomes : List ℕ → Type 0) (number : ℕ) (body : List ℕ) (size : ℕ)
-    → Fits (head_for number body) → are_blocks (size - (87 + length body)) ≡ true
+    → Fits (head_for number body) → is_room (size - (87 + length body)) ≡ true
     → AreShutOr outcomes (IsTextTo size (whole_text number body))
     → AreShutOr outcomes (HasWhole number body)
 whole_or_shut outcomes number body size fits blocks kept c left = elim (kept c left) [
@@ -470,14 +470,14 @@ whole_or_shut outcomes number body size fits blocks kept c left = elim (kept c l
     whole d text = record {
       fits = fits;
       text = text.0;
-      blocks = ap (λ (n : ℕ). are_blocks (n - (87 + length body))) text.1 ∙ blocks;
+      blocks = ap (λ (n : ℕ). is_room (n - (87 + length body))) text.1 ∙ blocks;
     }
 
 pub few_or_shut : (outcomes : List ℕ → Type 0) (number octets sum remainder : ℕ) (body : List ℕ)
     (size : ℕ)
     → number < 2 ^ 64 → length body ≤ octets → sum < 2 ^ 32 → sum ≡ bit_xor remainder 0xffffffff
     → remainder ≡ remainder_after 0xffffffff body → IsShut outcomes ⊎ (octets < 2 ^ 64)
-    → are_blocks (size - (87 + length body)) ≡ true
+    → is_room (size - (87 + length body)) ≡ true
     → AreShutOr outcomes (IsTextTo size (whole_text number body))
     → AreShutOr outcomes (HasWhole number body)
 few_or_shut outcomes number octets sum remainder body size few long small value summed (inl shut)
@@ -566,7 +566,7 @@ none_passed begins place file before behind within few sealed undamaged few' sta
     (omega (arith, few, length-drop begins file)) few'
     (stands ∙ append_assoc before (mark_of place) behind)
     (by (is_sealed file) (is_damaged_in (take 87 file) (drop begins file))
-    (not (are_blocks (length file - begins))) sealed undamaged)
+    (not (is_room (length file - begins))) sealed undamaged)
   where
     by : (a b e : Bool) → a ≡ true
         → (if a && (b || e) then Some (begins + end_in (take 87 file) (drop begins file)) else None)

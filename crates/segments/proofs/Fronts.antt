@@ -2,7 +2,7 @@
 use Rattle.std.proofs.Common.{◌≡◌, ◌∙◌, Bool, inl, inr, ℕ, ◌+◌, ◌<◌, ◌≤◌, List, [], ◌∷◌, length}
 use Rattle.std.proofs.Common.{drop, take, max, min, slice_index, IfOk, IfNone, IfSome, Option, Some}
 use Rattle.std.proofs.Common.{None, Result}
-use Rattle.std.proofs.Common.{Ok, Err, OnOk, is_err, true, false, refl, ap, sym, subst, arith}
+use Rattle.std.proofs.Common.{Ok, Err, true, false, refl, ap, sym, subst, arith}
 use Rattle.std.proofs.lemmas.Bool.{cases_lt, leb-false, lt-leb}
 use Rattle.std.proofs.lemmas.List.{ext_get_or, get_or-drop, get_or-take, length-drop}
 use Rattle.std.proofs.lemmas.List.{length-take-le}

@@ -1,10 +1,10 @@
 -- What a segment holds as lines come, and as they are sealed.
 use Rattle.std.proofs.Common.{◌≡◌, ◌∙◌, inl, inr, ℕ, ◌+◌, ◌-◌, ◌<◌, ◌≤◌, List, [], ◌∷◌, ◌++◌}
 use Rattle.std.proofs.Common.{length, take, slice_index, refl, sym, ap, subst, arith}
-use Rattle.std.proofs.Common.{append_assoc, length-append, ◌*◌, ◌%◌, ◌==◌, ◌&&◌, nat_lt, Bool, true}
+use Rattle.std.proofs.Common.{append_assoc, length-append, ◌*◌, true}
 use Rattle.std.proofs.Common.{Result, Ok, Err}
 use Rattle.std.specs.Prelude.{IfOk}
-use Rattle.segments.specs.Room.{are_blocks}
+use Rattle.segments.specs.Room.{is_room}
 use Rattle.std.proofs.lemmas.Bool.{cases_lt}
 use Rattle.std.proofs.lemmas.List.{append-nil, get_or_append_left, get_or-append-add, get_or_past}
 use Rattle.std.proofs.lemmas.List.{length-take-le}
@@ -206,10 +206,5 @@ if_ok_later (Err e) P h = tt
 
 -- The room behind a checkpoint
 
-pub blocks_so : (blocks end size : ℕ) → 0 < blocks → size ≡ end + blocks * 4096
-    → are_blocks (size - end) ≡ true
-blocks_so blocks end size some is =
-    ap are_blocks (let e : size - end ≡ blocks * 4096 = omega (arith, is) in e)
-    ∙ ap (λ (b : Bool). b && nat_lt 0 (blocks * 4096))
-    (let e : (blocks * 4096 % 4096 == 0) ≡ true = grind arith in e)
-    ∙ (let e : nat_lt 0 (blocks * 4096) ≡ true = grind (arith, some) in e)
+pub blocks_so : (end size : ℕ) → size ≡ end + 976 * 4096 → is_room (size - end) ≡ true
+blocks_so end size is = ap is_room (let e : size - end ≡ 976 * 4096 = omega (arith, is) in e)

@@ -2,7 +2,7 @@
 use Rattle.std.specs.Prelude.{◌≡◌, ◌⊎◌, true, ℕ, ◌+◌, ◌-◌, ◌<◌, ◌≤◌, List, ◌++◌, length, Option}
 use Rattle.segments.specs.Crash.{BeginsWith, HasLength, HasText}
 use Rattle.segments.specs.Head.{Fits, head_for, head_of, whole_text}
-use Rattle.segments.specs.Room.{are_blocks, damage_in, log_in}
+use Rattle.segments.specs.Room.{is_room, damage_in, log_in}
 use Rattle.segments.specs.Starts.{IsBacked, IsBlank, IsFoundIn, IsShut}
 use Rattle.statetext.specs.Sealed.{AreWrites, sealed_text}
 use Rattle.segments.specs.declared.head.SegmentHead.{SegmentHead}
@@ -13,14 +13,14 @@ log_text number body writes =
     whole_text number body ++ sealed_text (head_of (head_for number body)) writes
 
 -- Whatever a crash leaves of a segment's file: the segment has this number and this checkpoint, and
--- behind that these writes, which are synced. The file goes on for whole blocks behind it.
+-- behind that these writes, which are synced. The file goes on for its whole room behind it.
 pub record Survives (outcomes : List ℕ → Type 0) (number : ℕ) (body : List ℕ)
     (writes : List (List ℕ)) : Type 0 where
   pub fits : Fits (head_for number body)
   pub are : AreWrites writes
   pub size : ℕ
   pub long : HasLength outcomes size
-  pub blocks : are_blocks (size - (87 + length body)) ≡ true
+  pub blocks : is_room (size - (87 + length body)) ≡ true
   pub room : length (log_text number body writes) ≤ size
   pub kept : BeginsWith outcomes (length (log_text number body writes))
       (log_text number body writes)
@@ -40,12 +40,11 @@ IsShutAmong these file =
 abbrev pub AreShutOr : (outcomes : List ℕ → Type 0) → (List ℕ → Type 0) → Type 0
 AreShutOr outcomes these = (c : List ℕ) → outcomes c → IsShutAmong these c ⊎ these c
 
--- a file has the segment with this number and this checkpoint, and zeros alone behind it: whole
--- blocks
+-- a file has the segment with this number and this checkpoint, and zeros alone behind it: its room
 pub record HasWhole (number : ℕ) (body file : List ℕ) : Type 0 where
   pub fits : Fits (head_for number body)
   pub text : HasText (whole_text number body) file
-  pub blocks : are_blocks (length file - (87 + length body)) ≡ true
+  pub blocks : is_room (length file - (87 + length body)) ≡ true
 
 -- whatever a crash leaves of a file has the segment with this number, whole
 abbrev pub StandsIn : (List ℕ → Type 0) → ℕ → Type 0

@@ -1,5 +1,5 @@
 -- What a start reads behind the checkpoint of a file (profile).
-use Rattle.std.specs.Prelude.{ℕ, ◌+◌, ◌-◌, ◌%◌, ◌==◌, ◌&&◌, ◌||◌, nat_lt, not, Bool, List, length}
+use Rattle.std.specs.Prelude.{ℕ, ◌+◌, ◌-◌, ◌*◌, ◌==◌, ◌&&◌, ◌||◌, not, Bool, List, length}
 use Rattle.std.specs.Prelude.{take, drop, slice_index, position, Option, Some, None}
 use Rattle.std.specs.Prelude.{if◌then◌else◌}
 use Rattle.std.specs.List.{concat}
@@ -24,14 +24,15 @@ log_in begins file =
     if is_sealed file then concat (writes_in (take 87 file) (drop begins file))
     else before_zero (drop begins file)
 
--- so many octets are whole blocks of 4,096, at least one
-abbrev pub are_blocks : ℕ → Bool
-are_blocks n = n % 4096 == 0 && nat_lt 0 n
+-- so many octets are the room for the lines of a segment: 976 blocks of 4,096
+abbrev pub is_room : ℕ → Bool
+is_room n = n == 976 * 4096
 
 -- The octet of the file from which on nothing is read, if that is for damage: where the whole
--- beginning ends. What follows isn't what a crash leaves of a write, or the file was cut.
+-- beginning ends. What follows isn't what a crash leaves of a write, or the file isn't as long as
+-- it was reserved.
 unfoldable pub damage_in : (begins : ℕ) → (file : List ℕ) → Option ℕ
 damage_in begins file =
     if is_sealed file && (is_damaged_in (take 87 file) (drop begins file)
-    || not (are_blocks (length file - begins)))
+    || not (is_room (length file - begins)))
     then Some (begins + end_in (take 87 file) (drop begins file)) else None

@@ -20,6 +20,10 @@ pub(crate) const SHUT: u8 = b'-';
 /// How many zeros are written at once.
 pub(crate) const BLOCK: usize = 4_096;
 
+/// How many blocks of them stand behind a checkpoint, the room for the lines to come: a file that
+/// isn't as long was cut. That many have 3,997,696 octets, so two logs have at most 8,000,000.
+pub(crate) const BLOCKS: usize = 976;
+
 /// What a call of the disk answered: of its error the kind.
 pub(crate) fn done(answer: std::io::Result<()>) -> Result<(), SegmentFault>
     ensures { is_ok result ≡ is_ok answer }

@@ -12,7 +12,7 @@ ghost use Rattle.segments.specs.Crash.{AreMixing, HasLength, BeginsWith, HasAt, 
 ghost use Rattle.segments.specs.Crash.{IsBlankFrom};
 ghost use Rattle.segments.specs.Crashes.{StandsIn, StaysBacked, Survives, log_text};
 ghost use Rattle.segments.specs.Head.{Fits, head_for, head_of, whole_text};
-ghost use Rattle.segments.specs.Room.{are_blocks};
+ghost use Rattle.segments.specs.Room.{is_room};
 ghost use Rattle.segments.specs.Starts.{BeginsNewer};
 ghost use Rattle.segments.specs.Written.{text_in};
 ghost use Rattle.sqlite_disk.specs.Disk.{Only};
@@ -68,7 +68,7 @@ pub struct Segment<D: Disk> {
     ghost within: { stored + length page.items ≤ size },
     ghost sealable: { durable < stored + length page.items →
         stored + length page.items + 27 ≤ size },
-    ghost blocks: { are_blocks (size - begins) ≡ true },
+    ghost blocks: { is_room (size - begins) ≡ true },
     ghost sized: { length (D.Disk.seen file) ≡ size },
     ghost usable: { IsTrue is_open → IsTrue (D.Disk.is_usable file) },
     ghost blank: { IsTrue is_open → IsBlankFrom stored (D.Disk.seen file) },
@@ -175,7 +175,7 @@ impl<D: Disk> Segment<D> {
         requires summed { sum_of (drop 87 (take end (D.Disk.seen file))) < 2 ^ 32 }
         requires whole { take end (D.Disk.seen file)
             ≡ whole_text number (drop 87 (take end (D.Disk.seen file))) }
-        requires blocks { are_blocks (size - end) ≡ true }
+        requires blocks { is_room (size - end) ≡ true }
         requires within { end ≤ size }
         requires sized { length (D.Disk.seen file) ≡ size }
         requires synced { Only (D.Disk.seen file) (D.Disk.may_leave file) }

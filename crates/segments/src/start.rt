@@ -9,7 +9,7 @@ ghost use Rattle.std.specs.Prelude.{IfSome, Some};
 ghost use Rattle.std.specs.Prelude.{if◌then◌else◌};
 ghost use Rattle.sqlite_disk.specs.Disk.{Holds};
 ghost use Rattle.segments.specs.Head.{Fits, head_of};
-ghost use Rattle.segments.specs.Room.{are_blocks, before_zero, damage_in, log_in};
+ghost use Rattle.segments.specs.Room.{is_room, before_zero, damage_in, log_in};
 ghost use Rattle.segments.specs.Starts.{ArePlaced, BeginsNewer, FitsIn, HasNoNewer, HasNone};
 ghost use Rattle.segments.specs.Crash.{IsShut as IsShutThere};
 ghost use Rattle.segments.specs.Starts.{IsAbove, IsBlank, first_number};
@@ -21,7 +21,7 @@ ghost use Rattle.segments.specs.declared.start.FileFront.TheVariants.{Head};
 ghost use Rattle.statetext.specs.Sum.{sum_of};
 
 use crate::SegmentFault;
-use crate::gate::{BLOCK, HEAD, SHUT, done, shut};
+use crate::gate::{BLOCK, BLOCKS, HEAD, SHUT, done, shut};
 use crate::head::{SegmentHead, parse, print};
 use sqlite_disk::{Disk, Files};
 use statetext::{Sum, read_sealed};
@@ -274,11 +274,11 @@ pub struct FoundLog {
     pub damage: Option<usize>,
 }
 
-/// Whether so many octets are whole blocks, at least one.
-fn are_blocks(octets: usize) -> bool
-    ensures { result ≡ are_blocks octets }
+/// Whether so many octets are the room for the lines of a segment, as it was reserved.
+fn is_room(octets: usize) -> bool
+    ensures { result ≡ is_room octets }
 {
-    octets % BLOCK == 0 && octets > 0
+    octets == BLOCKS * BLOCK
 }
 
 /// The place, if there is damage.
@@ -318,7 +318,7 @@ fn log_behind(
     let Ok(read) = read_sealed(alloc, sum, room) else {
         return Err(SegmentFault::NoMemory);
     };
-    let is_damaged = read.is_damaged || !are_blocks(room.len());
+    let is_damaged = read.is_damaged || !is_room(room.len());
     Ok(FoundLog {
         lines: read.lines,
         damage: damage_at(is_damaged, at + read.end),

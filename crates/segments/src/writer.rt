@@ -11,7 +11,7 @@ ghost use Rattle.segments.specs.Crashes.{AreShutOr, HasWhole, StaysBacked};
 ghost use Rattle.segments.specs.Written.{text_in};
 ghost use Rattle.statetext.specs.Sum.{remainder_after};
 
-use crate::gate::{BLOCK, HEAD, publish, shut, write_behind, write_zeros};
+use crate::gate::{BLOCK, BLOCKS, HEAD, publish, shut, write_behind, write_zeros};
 use crate::head::{SegmentHead, print};
 use crate::{Segment, SegmentFault};
 use checkpoint::StateFault;
@@ -91,18 +91,17 @@ impl<D: Disk> Writer<D> {
         Failed { file, fault }
     }
 
-    /// Finishes the segment: behind the text come so many blocks of 4,096 zeros, the room for the
-    /// lines to come. All is synced. An `Err` gives the file back; then it is shut, or it has the
-    /// whole segment.
-    pub fn finish(self, alloc: Global, number: u64, blocks: usize) -> Result<Segment<D>, Failed<D>>
-        requires { 0 < blocks }
+    /// Finishes the segment: behind the text come 976 blocks of 4,096 zeros, the room for the lines
+    /// to come. All is synced. An `Err` gives the file back; then it is shut, or it has the whole
+    /// segment.
+    pub fn finish(self, alloc: Global, number: u64) -> Result<Segment<D>, Failed<D>>
         ensures number { IfOk result (λ s. own_number s ≡ number) }
         ensures body { IfOk result (λ s. body_of s ≡ appended_to self) }
         ensures fits { IfOk result (λ _. Fits (head_for number (appended_to self))) }
         ensures writes { IfOk result (λ s. writes_of s ≡ []) }
         ensures none { IfOk result (λ s. open_of s ≡ []) }
         ensures octets { IfOk result (λ s. octets_of s ≡ 87 + length (appended_to self)) }
-        ensures room { IfOk result (λ s. size_of s ≡ octets_of s + blocks * 4096) }
+        ensures room { IfOk result (λ s. size_of s ≡ octets_of s + 976 * 4096) }
         ensures open { IfOk result (λ s. IsTrue (is_open s)) }
         ensures crash { IfErr result (λ failed. IsTextIfOpen (D.Disk.may_leave failed.file)
             (whole_text number (appended_to self))) }
@@ -121,7 +120,7 @@ impl<D: Disk> Writer<D> {
             return Err(Failed { file, fault });
         }
         let _sum = sum.value();
-        match fill(alloc, &mut file, stored, &page, number, sum, blocks) {
+        match fill(alloc, &mut file, stored, &page, number, sum, BLOCKS) {
             Ok((end, size, seed)) => Ok(Segment::begun(file, number, end, size, seed, alloc)),
             Err(fault) => Err(Failed { file, fault }),
         }

@@ -1,5 +1,5 @@
 -- Both files that couldn't be read have other names, and a mark is taken away.
-use Rattle.std.proofs.Common.{◌≡◌, ◌∙◌, ap, ℕ, Bool, true, false, List, [], ◌++◌, codes}
+use Rattle.std.proofs.Common.{◌≡◌, ◌∙◌, ap, ℕ, Bool, true, false, [], ◌++◌, codes}
 use Rattle.std.specs.Prelude.{IfOk, Result, Ok, Err, Some}
 use Rattle.state.specs.FileNames.{AreRenamed, HasNoneBeside, IsRenamed, Renamed, Sought, Steps}
 use Rattle.state.specs.FileNames.{Synced, Taken, answer_of, is_done, noted}

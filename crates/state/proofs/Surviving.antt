@@ -20,7 +20,6 @@ use Rattle.segments.specs.Crashes.{AreOlder, StandsIn, Survives, damage_behind, 
 use Rattle.segments.specs.Crashes.{IsShutAmong, log_text}
 use Rattle.segments.specs.Head.{Fits, head_for}
 use Rattle.segments.specs.Segment.{body_of, open_of, outcomes_of, own_number, writes_of}
-use Rattle.segments.specs.Starts as starts
 use Rattle.segments.specs.Starts.{IsBlank, IsFoundIn, IsSound}
 use Rattle.segments.specs.declared.head.SegmentHead.{SegmentHead}
 use Rattle.segments.proofs.Crashes.{one_segment, same_first, whole_left}

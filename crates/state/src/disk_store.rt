@@ -1,6 +1,6 @@
 //! The log of a run in two files of a directory.
 ghost use Rattle.std.specs.Io.Iter.{u64_saturate};
-ghost use Rattle.std.specs.Prelude.{◌≡◌, ◌⊎◌, ◌+◌, ◌*◌, ◌++◌, ◌∷◌, [], List, ℕ, IfOk, IfSome};
+ghost use Rattle.std.specs.Prelude.{◌≡◌, ◌⊎◌, ◌+◌, ◌++◌, ◌∷◌, [], List, ℕ, IfOk, IfSome};
 ghost use Rattle.std.specs.Prelude.{IsTrue, IfErr, OnOk};
 ghost use Rattle.std.specs.Prelude.{◌<◌, ◌≤◌, Option, Some, length, true, false};
 ghost use Rattle.std.specs.List.{concat};
@@ -13,7 +13,7 @@ ghost use Rattle.segments.specs.Crashes.{AreOlder, StaysBacked};
 ghost use Rattle.segments.specs.Starts.{IsBacked, IsSound};
 ghost use Rattle.segments.specs.Writer.{appended_to};
 ghost use Rattle.state.specs.Doubts.{AreUndoubted};
-ghost use Rattle.state.specs.Lines.{IsRefusedBy, longest_line, seal_octets};
+ghost use Rattle.state.specs.Lines.{IsRefusedBy, longest_line, most_octets, seal_octets};
 ghost use Rattle.state.specs.Logs.{AreAmid, AreFilesOf, HasFreshLog, IsOneOf, WasOpen};
 ghost use Rattle.statetext.specs.Text.{lines_in};
 
@@ -220,11 +220,8 @@ impl<F: Folder + Drop> DiskStore<F> {
             self.opened = Opened::Neither;
             return false;
         };
-        let blocks = self.folder.blocks();
         let settings = &self.settings;
-        let segment = write_segment(
-            self.alloc, spare, &newest, number, blocks, settings, gateway,
-        );
+        let segment = write_segment(self.alloc, spare, &newest, number, settings, gateway);
         let segment = match segment {
             Ok(segment) => segment,
             Err(Failed { file: spare, fault }) => {
@@ -536,28 +533,28 @@ fn with_head<D: Disk + Drop>(
     }
 }
 
-/// Writes a segment with this head into a file, with room for lines: so many blocks. An `Err` gives
-/// the file back. Then it is shut, or as it was, or has the segment whole.
+/// Writes a segment with this head into a file, with room for lines: if no new log is due yet, for
+/// the longest line and its seal. An `Err` gives the file back. Then it is shut, or as it was, or
+/// has the segment whole.
 fn write_segment<D: Disk + Drop>(
     alloc: Global,
     spare: D,
     newest: &D,
     number: u64,
-    blocks: usize,
     settings: &[u8],
     gateway: &Gateway,
 ) -> Result<Segment<D>, Failed<D>>
     requires usable { IsTrue (D.Disk.is_usable spare) }
     requires backed { IsTrue (D.Disk.is_clean newest.now) → IsTrue (D.Disk.is_clean spare) →
         StaysBacked (D.Disk.may_leave newest.now) (D.Disk.seen spare) }
-    requires some { 0 < blocks }
     ensures head { IfOk result
         (λ s. lines_in (body_of s) ≡ settings.now ∷ state_lines gateway.now) }
     ensures savable { IsBetweenSteps gateway.now → OnOk result (IsSavable gateway.now) }
     ensures writes { IfOk result (λ s. (writes_of s ≡ []) × (open_of s ≡ [])) }
     ensures number { IfOk result (λ s. own_number s ≡ number) }
     ensures octets { IfOk result (λ s. octets_of s ≡ 87 + length (body_of s)) }
-    ensures room { IfOk result (λ s. size_of s ≡ octets_of s + blocks * 4096) }
+    ensures room { IfOk result (λ s.
+        octets_of s + most_octets + longest_line + seal_octets ≤ size_of s) }
     ensures fresh { IfOk result (λ s. AreMixing D.Disk → (file : List ℕ) → outcomes_of s file →
         HasFreshLog number settings.now (state_lines gateway.now) file) }
     ensures amid { IfErr result (λ failed. AreMixing D.Disk → AreAmid (D.Disk.may_leave spare)
@@ -568,7 +565,7 @@ fn write_segment<D: Disk + Drop>(
         Err(failed) => return Err(failed),
     };
     let writer = with_head(alloc, writer, settings, gateway)?;
-    match writer.finish(alloc, number, blocks) {
+    match writer.finish(alloc, number) {
         Ok(segment) => {
             segment.survives();
             Ok(segment)

@@ -5,9 +5,6 @@ use sqlite_disk::{Disk, Files};
 use std::io::ErrorKind;
 use thiserror::Error;
 
-/// That many have 3,997,696 octets.
-const BLOCKS: usize = 976;
-
 /// Why the state of a directory isn't opened.
 #[derive(Clone, Copy, Debug, PartialEq, Eq, Error)]
 pub enum FolderFault {
@@ -31,8 +28,7 @@ pub trait Folder {
     ghost use Rattle.state.specs.Unread.{IsUnread};
     ghost use Rattle.std.specs.Prelude.{◌≡◌, ℕ, List, [], Option, Some, Bool, true, false, IfOk};
     ghost use Rattle.std.specs.Prelude.{MatchResult, None, OnOk};
-    ghost use Rattle.std.specs.Prelude.{IsTrue, ◌+◌, ◌*◌, ◌≤◌};
-    ghost use Rattle.state.specs.Lines.{longest_line, most_octets, seal_octets};
+    ghost use Rattle.std.specs.Prelude.{IsTrue};
 
     type File: Disk + Drop;
 
@@ -53,16 +49,6 @@ pub trait Folder {
 
     /// The mark was asked for, and couldn't be made.
     ghost refused: { Self → Type 0 } = { λ _. Unit {0} };
-
-    /// How many blocks of 4,096 zeros stand behind a checkpoint, for the lines to come: if no new
-    /// log is due yet, there is room for the longest line and its seal. Two logs have 8,000,000
-    /// octets of them at most.
-    fn blocks(&self) -> usize
-        ensures room { most_octets + longest_line + seal_octets ≤ result * 4096 }
-        ensures most { 2 * (result * 4096) ≤ 8000000 }
-    {
-        BLOCKS
-    }
 
     /// Opens both files, locked. Neither may be open: they are dropped before.
     fn open(&mut self) -> Result<Files<Self::File>, FolderFault>

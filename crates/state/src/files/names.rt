@@ -153,7 +153,12 @@ impl Names for SystemNames {
         let file = match self.lock.take() {
             Some(file) => file,
             None => {
-                fs::create_dir_all(&self.rt, self.path.as_str())?;
+                match fs::create_dir_all(&self.rt, self.path.as_str()) {
+                    Ok(()) => {}
+                    // What stands there the lock tells: no directory, or a disk that fails.
+                    Err(fault) if fault.kind() == ErrorKind::AlreadyExists => {}
+                    Err(fault) => return Err(fault),
+                }
                 self.opened("lock")?
             }
         };

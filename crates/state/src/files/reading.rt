@@ -78,7 +78,15 @@ fn has(rt: &HostRuntime, path: &str, name: &str) -> io::Result<bool> {
 
 /// A file in a directory, if it is there, opened for reading alone.
 pub(crate) fn opened(rt: &HostRuntime, path: &str, name: &str) -> io::Result<Option<fs::File>> {
-    match fs::File::open(rt, path_of(rt.alloc(), path, name)?.as_str()) {
+    let path = path_of(rt.alloc(), path, name)?;
+    // To open a FIFO waits for who writes into it.
+    match fs::metadata(rt, path.as_str()) {
+        Ok(found) if !found.is_file() => return Err(ErrorKind::Unsupported.into()),
+        Ok(_) => {}
+        Err(fault) if fault.kind() == ErrorKind::NotFound => return Ok(None),
+        Err(fault) => return Err(fault),
+    }
+    match fs::File::open(rt, path.as_str()) {
         Ok(file) => Ok(Some(file)),
         Err(fault) if fault.kind() == ErrorKind::NotFound => Ok(None),
         Err(fault) => Err(fault),

@@ -6,7 +6,7 @@ use Rattle.std.specs.Prelude.{if◌then◌else◌}
 use Rattle.statetext.specs.Sealed.{end_in, is_damaged_in, writes_in}
 use Rattle.statetext.specs.Sum.{remainder_after}
 use Rattle.segments.specs.Head.{head_of}
-use Rattle.segments.specs.Room.{are_blocks, before_zero}
+use Rattle.segments.specs.Room.{before_zero, is_room}
 use Rattle.segments.proofs.Crashes.{damage_older, damage_sealed, lines_older, lines_sealed}
 use Rattle.segments.proofs.start.log_behind.Goals as goal
 use Rattle.segments.proofs.start.log_behind.Goals.{then-read, else-read}
@@ -50,18 +50,18 @@ returns-clause-damage c = λ file holds is.
     let end : read.end ≡ end_in head (drop at file) =
     c.in-Ok-read_sealed.ensures.end head sum ∙ ap (end_in head) same in
     let either : c.if-read.is_damaged
-    ≡ (is_damaged_in head (drop at file) || not (are_blocks (length file - at))) =
+    ≡ (is_damaged_in head (drop at file) || not (is_room (length file - at))) =
     elim c.if-read.branch [
       | then-read w ↦ w.is_damaged-is
           ∙ first_so read.is_damaged (is_damaged_in head (drop at file))
-          (not (are_blocks (length file - at))) w.if-read.true damaged
+          (not (is_room (length file - at))) w.if-read.true damaged
       | else-read w ↦ w.is_damaged-is
-          ∙ ap (λ (b : Bool). not b) (w.are_blocks.ensures
-          ∙ ap are_blocks (ap length same ∙ length-drop at file))
+          ∙ ap (λ (b : Bool). not b) (w.is_room.ensures
+          ∙ ap is_room (ap length same ∙ length-drop at file))
           ∙ second_so read.is_damaged (is_damaged_in head (drop at file))
-          (not (are_blocks (length file - at))) w.if-read.false damaged
+          (not (is_room (length file - at))) w.if-read.false damaged
     ] in
     c.damage_at.ensures ∙ ap (λ (b : Bool). if b then Some (at + read.end) else None) either
-    ∙ ap (λ (n : ℕ). if is_damaged_in head (drop at file) || not (are_blocks (length file - at))
+    ∙ ap (λ (n : ℕ). if is_damaged_in head (drop at file) || not (is_room (length file - at))
     then Some (at + n) else None) end
     ∙ sym (damage_sealed at file c.args.head.now holds c.if-not-head.false)

@@ -1,7 +1,7 @@
 use Rattle.std.proofs.Common.{◌∙◌, ◌≡◌, ◌-◌, ℕ, ap, arith, length, length-append, subst, sym, true}
 use Rattle.segments.specs.Crash.{BeginsWith}
 use Rattle.segments.specs.Crashes.{log_text}
-use Rattle.segments.specs.Room.{are_blocks}
+use Rattle.segments.specs.Room.{is_room}
 use Rattle.segments.proofs.CrashLemmas.{length_text}
 use Rattle.segments.proofs.Crashes.{stands}
 use Rattle.segments.proofs.segment.Segment.survives.Goals as goal
@@ -21,7 +21,7 @@ returns-clause-survives g c are =
       are = are;
       size = s.size;
       long = s.long;
-      blocks = subst (λ (n : ℕ). are_blocks (s.size - n) ≡ true) s.begun s.blocks;
+      blocks = subst (λ (n : ℕ). is_room (s.size - n) ≡ true) s.begun s.blocks;
       room = omega (arith, s.safe, s.ordered, s.within);
       kept = subst (λ (n : ℕ). BeginsWith (g.D.Disk.may_leave s.file) n
           (log_text s.number w.body w.writes)) s.safe s.kept;

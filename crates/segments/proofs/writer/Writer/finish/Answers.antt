@@ -50,17 +50,16 @@ returns-clause-mixed g c mixing =
     ) in
     few_or_shut (g.D.Disk.may_leave c.fill.new.file) c.args.number
     (s.stored + length s.page.items) c.value-sum.result s.sum.remainder body
-    (s.stored + length s.page.items + c.args.blocks * 4096) number long few
+    (s.stored + length s.page.items + 976 * 4096) number long few
     c.value-sum.ensures s.summed
     (subst (λ (h : List ℕ). IsShut (g.D.Disk.may_leave c.fill.new.file)
     ⊎ (s.stored + length h < 2 ^ 64)) c.deref.ensures.value c.in-Err.ensures.few)
-    (blocks_so c.args.blocks (87 + length body)
-    (s.stored + length s.page.items + c.args.blocks * 4096) c.requires
-    (ap (λ (n : ℕ). n + c.args.blocks * 4096)
+    (blocks_so (87 + length body) (s.stored + length s.page.items + 976 * 4096)
+    (ap (λ (n : ℕ). n + 976 * 4096)
     (page_length s.stored (g.D.Disk.seen s.file) s.page.items (s.sized c.if-not-is_open.false)
     s.behind)))
     (subst (λ (h : List ℕ). AreShutOr (g.D.Disk.may_leave c.fill.new.file)
-    (IsTextTo (s.stored + length h + c.args.blocks * 4096)
+    (IsTextTo (s.stored + length h + 976 * 4096)
     (whole_text c.args.number (drop 87 (text_in s.stored (g.D.Disk.seen s.file) h)))))
     c.deref.ensures.value (c.in-Err.ensures.mixed mixing))
 
@@ -93,7 +92,7 @@ begun-requires-clause-behind g c =
 
 pub begun-requires-clause-blocks : goal.begun-requires-clause-blocks
 begun-requires-clause-blocks g c =
-    blocks_so c.args.blocks c.in-Ok.end c.in-Ok.size c.requires c.in-Ok.ensures.size
+    blocks_so c.in-Ok.end c.in-Ok.size c.in-Ok.ensures.size
 
 pub begun-requires-clause-seeded : goal.begun-requires-clause-seeded
 begun-requires-clause-seeded g c =
@@ -134,4 +133,4 @@ returns-in-Ok-clause-octets g c =
 pub returns-in-Ok-clause-room : goal.returns-in-Ok-clause-room
 returns-in-Ok-clause-room g c =
     c.begun.ensures.size ∙ c.in-Ok.ensures.size
-    ∙ ap (λ (n : ℕ). n + c.args.blocks * 4096) (sym c.begun.ensures.octets)
+    ∙ ap (λ (n : ℕ). n + 976 * 4096) (sym c.begun.ensures.octets)

@@ -6,7 +6,7 @@ pub invariant_of-current : goal.invariant_of-current
 invariant_of-current g c = record {
   own = c.in-Ok.ensures.number;
   counted = begun_counted _ _ _ _ c.in-Ok.ensures.writes.0 c.in-Ok.ensures.writes.1;
-  room = omega (arith, c.in-Ok.ensures.room, c.in-Ok.ensures.octets, c.blocks-blocks.ensures.room);
+  room = omega (arith, c.in-Ok.ensures.room, c.in-Ok.ensures.octets);
   sound = c.in-Some-mended.ensures.sound;
   older = c.in-Some-mended.ensures.older;
 }

@@ -1,4 +1,4 @@
-use Rattle.std.proofs.Common.{◌≡◌, ◌≤◌}
+use Rattle.std.proofs.Common.{◌≡◌}
 use Rattle.state.proofs.files.marks.Marks.unread_number.Given as goal
 
 abbrev pub invariant-loop-number : goal.invariant-loop-number
