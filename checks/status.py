@@ -179,7 +179,7 @@ def examples():
 
 def dead_first(stations):
     """The stations as the page has them: those that don't answer stand before the others."""
-    return sorted(stations, key=lambda station: station["standing"] not in ("silent", "down"))
+    return sorted(stations, key=lambda station: station["standing"] not in ("no reply", "down"))
 
 
 def promtool(count, listener):
@@ -398,7 +398,7 @@ def a_run(count, program, folder):
         row = next(row for row in page.rows if len(row) == 10 and row[1] == "1")
         count.judge("the row of station 1", (row[3], row[6]) == ("up", "7"), row)
         stations.silent.add(2)
-        count.judge("station 2 falls silent", run.waits(lambda s: standing(s, 2)["standing"] in ("silent", "down")), run.json())
+        count.judge("station 2 falls silent", run.waits(lambda s: standing(s, 2)["standing"] in ("no reply", "down")), run.json())
         client(count, run, "WARNING")
         dead = standing(run.json(), 2)
         count.judge("what it didn't answer is counted", dead["requests"] > dead["repeats"] > 0 < dead["unanswered"], dead)
@@ -682,7 +682,7 @@ def largest(count, program, folder):
             file.write(f'[[station]]\nlink = {address}\nname = "Substation Northfield feeder bay {address:02}"\n'.replace("bay ", "bay"))
     stations.silent |= {7, 30}
     with Run(program, folder, stations, "--site", site) as run:
-        count.judge("two are silent", run.waits(lambda s: sum(station["standing"] in ("silent", "down") for station in s["stations"]) == 2, 60), run.json())
+        count.judge("two are silent", run.waits(lambda s: sum(station["standing"] in ("no reply", "down") for station in s["stations"]) == 2, 60), run.json())
         telephone(count, run.status, folder)
         for path in PATHS:
             answer = get(run.status, path)

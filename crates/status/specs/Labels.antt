@@ -18,7 +18,7 @@ abbrev pub standing_text : LinkState → List ℕ
 standing_text NotAsked = codes "not requested"
 standing_text Asked = codes "requested"
 standing_text Up = codes "up"
-standing_text Silent = codes "silent"
+standing_text Silent = codes "no reply"
 standing_text Down = codes "down"
 
 -- the same with spaces behind it up to the longest text
@@ -26,7 +26,7 @@ abbrev pub wide_text : LinkState → List ℕ
 wide_text NotAsked = codes "not requested"
 wide_text Asked = codes "requested    "
 wide_text Up = codes "up           "
-wide_text Silent = codes "silent       "
+wide_text Silent = codes "no reply     "
 wide_text Down = codes "down         "
 
 -- a moment in whole seconds

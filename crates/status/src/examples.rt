@@ -37,7 +37,7 @@ pub fn pages_by_example()
           late = 13;
         })
         ≡ codes "{\"name\":\"A<\\\"B\\\\\",\"address\":1,\"common_address\":2,"
-        ++ codes "\"standing\":\"silent\",\"since_ms\":3,\"last_report_ms\":4,\"reports\":5,"
+        ++ codes "\"standing\":\"no reply\",\"since_ms\":3,\"last_report_ms\":4,\"reports\":5,"
         ++ codes "\"skipped\":6,\"gaps\":7,\"commands\":8,\"requests\":9,\"repeats\":10,"
         ++ codes "\"unanswered\":11,\"spoilt\":12,\"late\":13}" }
     ensures centre { (s : Snapshot) →
@@ -125,7 +125,7 @@ pub fn pages_by_example()
           gaps = 7;
           commands = 8;
         })
-        ≡ codes "      1      2  silent            7 s       "
+        ≡ codes "      1      2  no reply          7 s       "
         ++ codes "    6 s          5        6     7         8  Mill\n" }
     ensures cells { (s : StationView) → s.name.now ≡ codes "A<\"&" →
         html.text_of_row 10000 (record s {
@@ -139,8 +139,8 @@ pub fn pages_by_example()
           gaps = 7;
           commands = 8;
         })
-        ≡ codes "<tr class=\"silent\"><td>A&lt;&quot;&amp;</td><td class=\"n\">1</td>"
-        ++ codes "<td class=\"n\">2</td><td class=\"s\">silent</td>"
+        ≡ codes "<tr class=\"no reply\"><td>A&lt;&quot;&amp;</td><td class=\"n\">1</td>"
+        ++ codes "<td class=\"n\">2</td><td class=\"s\">no reply</td>"
         ++ codes "<td class=\"n\">7 s  </td><td class=\"n\">6 s  </td>"
         ++ codes "<td class=\"n\">5</td><td class=\"n\">6</td><td class=\"n\">7</td>"
         ++ codes "<td class=\"n\">8</td></tr>\n" }

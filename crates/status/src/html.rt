@@ -18,7 +18,7 @@ const HEAD: &str = "<!doctype html>\n<html lang=\"en\">\n<head>\n<meta charset=\
 <meta name=\"viewport\" content=\"width=device-width, initial-scale=1\">\n\
 <meta http-equiv=\"refresh\" content=\"5\">\n<title>";
 
-/// What stands between the title and the heading.
+/// What stands between the title and the heading. Each word of a standing is a class of its row.
 const STYLE: &str = "</title>\n<style>\n\
 :root { color-scheme: light dark; --line: #ccc; --good: #1a7f37; --bad: #c62828; --warn: #9a6700;\
  --soft: #666 }\n\
@@ -35,7 +35,7 @@ th, td { border-bottom: 1px solid var(--line); padding: .25rem .8rem .25rem 0; t
 th { color: var(--soft); font-weight: 500 }\n\
 td.n { font-variant-numeric: tabular-nums; text-align: right }\n\
 tr.up td.s, tr.notice td.e { color: var(--good) }\n\
-tr.silent td.s, tr.down td.s, tr.error td.e { color: var(--bad) }\n\
+tr.reply td.s, tr.down td.s, tr.error td.e { color: var(--bad) }\n\
 tr.warning td.e { color: var(--warn) } td.e { white-space: normal }\n\
 meter { width: 7rem }\n\
 .hour { position: relative; max-width: 30rem; margin: 0 1rem 2.5rem .5rem }\n\

@@ -14,7 +14,7 @@ pub(crate) fn standing_text(standing: LinkState) -> &'static str
         LinkState::NotAsked => "not requested",
         LinkState::Asked => "requested",
         LinkState::Up => "up",
-        LinkState::Silent => "silent",
+        LinkState::Silent => "no reply",
         LinkState::Down => "down",
     }
 }
@@ -27,7 +27,7 @@ pub(crate) fn wide_text(standing: LinkState) -> &'static str
         LinkState::NotAsked => "not requested",
         LinkState::Asked => "requested    ",
         LinkState::Up => "up           ",
-        LinkState::Silent => "silent       ",
+        LinkState::Silent => "no reply     ",
         LinkState::Down => "down         ",
     }
 }
