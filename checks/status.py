@@ -15,7 +15,7 @@ and what they cost.
 - How long the oldest queued report has waited at least is true, whether others come or leave.
 - On a telephone each standing of 32 stations is seen, and nothing is cut off on the way to the side.
 - Settings of 32 stations fit a page.
-- The syncs of a slow disk stand on each page, with their times.
+- The latest sync's time stands in the JSON and the metrics, and a slow disk's on each page.
 - Python reads the JSON and the HTML. Prometheus' own `promtool` reads the metrics. Headless
   Chromium shows the page, on a screen of a telephone and on a large one, light and dark. The last
   two are skipped if Debian's package isn't installed.
@@ -598,10 +598,14 @@ def slow_disk(count, program, folder):
     """The syncs of a slow disk are counted on each page, and those of a fast one aren't there."""
     status = ("127.0.0.1", ends.free_port())
     case = disks.Failing(program, folder, 0, slow=150, flags=["--status", "{}:{}".format(*status)])
-    told = lambda: json.loads(get(status, "/status.json").body)["slow_syncs"]
+    whole = lambda: json.loads(get(status, "/status.json").body)
+    told = lambda: whole()["slow_syncs"]
+    seconds = lambda: metrics_of(get(status, "/metrics").body.decode())["telegate_latest_sync_seconds"]
     row = lambda: [cells[1] for cells in Page(get(status, "/").body.decode()).rows if cells[:1] == ["slow syncs"]]
     case.begin()
     before = told()
+    latest = whole()["latest_sync_ms"], seconds()
+    count.judge("the latest sync on a normal disk", all(0 <= each < most for each, most in zip(latest, (5000, 5))), latest)
     if before["count"] == 0:
         count.judge("no slow sync in the JSON", before == {"count": 0, "last_ms": 0, "longest_ms": 0}, before)
         count.judge("none on the page", not row(), row())
@@ -622,6 +626,8 @@ def slow_disk(count, program, folder):
     count.judge("the table has them in a line", re.search(r"^slow syncs      \d", shown["the table"], re.M), shown["the table"])
     samples = metrics_of(get(status, "/metrics").body.decode())
     count.judge("slow syncs in the metrics", samples["telegate_slow_syncs_total"] >= after["count"], samples)
+    latest = whole()["latest_sync_ms"], seconds()
+    count.judge("the latest sync on a slow disk", 150 <= latest[0] < 10_000 and 0.15 <= latest[1] < 10, latest)
     longest = samples["telegate_longest_sync_seconds"]
     count.judge("the longest sync in the metrics, in seconds", after["longest_ms"] / 1000 <= longest < 10, (after, longest))
     promtool(count, status)

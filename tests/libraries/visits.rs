@@ -1,5 +1,5 @@
 //! Visitors over streams in memory.
-use live::SlowSyncs;
+use live::SyncTimes;
 use noted_ends::OneVisitor;
 use status::{CentreView, Keeping, LineView, Queue, Snapshot, Visitors};
 use std::test::Fail;
@@ -32,7 +32,7 @@ fn snapshot() -> Snapshot<'static> {
         },
         keeping: Keeping::Off,
         lost_by: None,
-        syncs: SlowSyncs::none(),
+        syncs: SyncTimes::none(),
         stations: &[],
         latest: &[],
         settings: &[],

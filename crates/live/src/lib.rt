@@ -113,5 +113,5 @@ pub use sockets::{
 pub use stream_laws::{
     a_write_is_taken_where_all_its_octets_are, what_waits_is_dropped_to_its_end,
 };
-pub use syncs::SlowSyncs;
+pub use syncs::SyncTimes;
 pub use watched::{EndsSight, Failure, Notice, Watched};

@@ -11,7 +11,7 @@ ghost use Rattle.live.specs.OctetStreams.{IsNew};
 ghost use Rattle.live.specs.Passed.{HasNoAttempts};
 ghost use Rattle.live.specs.Runs.{IsStart, ShowsRun};
 ghost use Rattle.live.specs.Sights.{ShowsEnds};
-ghost use Rattle.live.specs.Syncs.{none_slow};
+ghost use Rattle.live.specs.Syncs.{no_sync};
 ghost use Rattle.live.specs.Timing.{is_behind, moment_at};
 ghost use Rattle.live.specs.Looks.{LooksInRound, LooksAt};
 ghost use Rattle.gateway.specs.Log.{with_news, Went};
@@ -24,7 +24,7 @@ use crate::ends::{Accepted, CutCause, Got, Listener, OctetStream, Reached, RunCl
 use crate::found::{SourceEvent, brings_frame, event_at};
 use crate::held::HeldOctets;
 use crate::source::EventSource;
-use crate::syncs::SlowSyncs;
+use crate::syncs::SyncTimes;
 use crate::timing::Timing;
 use crate::walled::Walled;
 use crate::watched::{EndsSight, Failure, Notice, Watched};
@@ -214,7 +214,7 @@ impl<S: OctetStream + Reached, L: Listener + Drop, C: RunClock + Drop> Watched f
         ensures shows { ShowsRun self.now result }
         ensures failure { result.failure ≡ failure_of self.now.failed }
         ensures failed { is_some result.failure ≡ nat_lt 0 self.now.failed }
-        ensures syncs { result.syncs ≡ none_slow }
+        ensures syncs { result.syncs ≡ no_sync }
     {
         self.ends.sight()
     }
@@ -608,7 +608,7 @@ impl<S: OctetStream + Reached, L: Listener + Drop, C: RunClock + Drop> Ends<S, L
     fn sight(&self) -> EndsSight
         ensures shows { ShowsEnds self.now result }
         ensures failure { result.failure ≡ failure_of self.now.failed }
-        ensures syncs { result.syncs ≡ none_slow }
+        ensures syncs { result.syncs ≡ no_sync }
     {
         EndsSight {
             line: self.line.presence(),
@@ -624,7 +624,7 @@ impl<S: OctetStream + Reached, L: Listener + Drop, C: RunClock + Drop> Ends<S, L
             } else {
                 Some(Failure::Line)
             },
-            syncs: SlowSyncs::none(),
+            syncs: SyncTimes::none(),
         }
     }
 }

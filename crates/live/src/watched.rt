@@ -3,7 +3,7 @@ ghost use Rattle.std.specs.Option.{is_some};
 ghost use Rattle.std.specs.Prelude.{◌≡◌, nat_lt};
 
 use crate::ends::{CutCause, Presence, RefusedPeers};
-use crate::syncs::SlowSyncs;
+use crate::syncs::SyncTimes;
 use gateway::{Gateway, Port};
 use std::io::ErrorKind;
 use std::net::IpAddr;
@@ -24,8 +24,8 @@ pub struct EndsSight {
     pub late_octets: u64,
     /// What has failed, if the device has.
     pub failure: Option<Failure>,
-    /// Which syncs of the state on the disk were slow, if a state is kept.
-    pub syncs: SlowSyncs,
+    /// How long syncs of the state on the disk took, if a state is kept.
+    pub syncs: SyncTimes,
 }
 
 /// What of a device has failed, so that the run ends.

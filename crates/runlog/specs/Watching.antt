@@ -16,9 +16,9 @@ use Rattle.gateway.specs.declared.settings.StationSettings.{StationSettings}
 use Rattle.live.specs.declared.watched.Failure.{Failure}
 use Rattle.live.specs.declared.watched.Failure.TheVariants as failure
 use Rattle.live.specs.declared.watched.EndsSight.{EndsSight}
-use Rattle.live.specs.Syncs.{none_slow}
+use Rattle.live.specs.Syncs.{no_sync}
 use Rattle.live.specs.declared.ends.Presence.TheVariants.{Away}
-use Rattle.live.specs.declared.syncs.SlowSyncs.{SlowSyncs}
+use Rattle.live.specs.declared.syncs.SyncTimes.{SyncTimes}
 use Rattle.runlog.specs.Ends.{new_limit, changed, new_line, new_listener, new_connection}
 use Rattle.runlog.specs.Ends.{line_seen}
 use Rattle.runlog.specs.Ends.{listener_seen, connection_opened, connection_cut, connection_sent}
@@ -105,8 +105,8 @@ pub record Watching : Type 0 where
   pub seen : Counts
   -- how many octets of the line were dropped before requests, as far as that was seen
   pub late : ℕ
-  -- which syncs of the state were slow, as far as that was seen, and what was logged of them
-  pub syncs : SlowSyncs
+  -- how long syncs of the state took, as far as that was seen, and what was logged of them
+  pub syncs : SyncTimes
   pub slow : SyncWatch
   -- when a line was sought among what is gathered
   pub sought : ℕ
@@ -140,7 +140,7 @@ new_watching c = record {
   exchange = new_exchange c.line.answer_ms;
   seen = record { skipped = 0; mirrors = 0; lost = 0; spoilt = 0 };
   late = 0;
-  syncs = none_slow;
+  syncs = no_sync;
   slow = new_syncs;
   sought = 0;
   wall = None;

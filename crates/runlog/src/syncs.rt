@@ -5,7 +5,7 @@ ghost use Rattle.runlog.specs.SyncLines as spec;
 use crate::ends::changed;
 use crate::limit::Limit;
 use crate::note::{LogLine, Note};
-use live::SlowSyncs;
+use live::SyncTimes;
 
 /// What is logged of slow syncs.
 #[derive(Clone, Copy, PartialEq, Eq)]
@@ -27,7 +27,7 @@ impl SyncWatch {
 
     /// These were slow so far. A line says the last and the longest of them, once a minute at most
     /// and only if there are more.
-    pub(crate) fn see(&mut self, syncs: SlowSyncs, now: u64) -> Option<LogLine>
+    pub(crate) fn see(&mut self, syncs: SyncTimes, now: u64) -> Option<LogLine>
         ensures { (self.new, result) ≡ spec.syncs_seen syncs now self.old }
     {
         if syncs.count <= self.told || !self.limit.is_minute_after(now) {

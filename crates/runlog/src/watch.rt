@@ -21,7 +21,7 @@ use crate::trail::Trail;
 use asdu::Sizes;
 use ft12::LinkSize;
 use gateway::{Action, Config, Counts, Gateway, Next};
-use live::{EndsSight, Failure, Presence, SlowSyncs};
+use live::{EndsSight, Failure, Presence, SyncTimes};
 use session::Close;
 use std::alloc::{AllocError, Global};
 use std::marker::Model;
@@ -70,8 +70,8 @@ pub struct Watch {
     seen: Counts,
     /// How many octets of the line were dropped before requests, as far as that was seen.
     late: u64,
-    /// Which syncs of the state were slow, as far as that was seen.
-    syncs: SlowSyncs,
+    /// How long syncs of the state took, as far as that was seen.
+    syncs: SyncTimes,
     slow: SyncWatch,
     /// The moment at which a line was sought among what is gathered, in ms.
     sought: u64,
@@ -171,7 +171,7 @@ impl Watch {
                 spoilt: 0,
             },
             late: 0,
-            syncs: SlowSyncs::none(),
+            syncs: SyncTimes::none(),
             slow: SyncWatch::new(),
             sought: 0,
             wall: None,
@@ -248,8 +248,8 @@ impl Watch {
         self.latest.as_slice()
     }
 
-    /// Which syncs of the state on the disk were slow, as far as that was seen.
-    pub fn syncs(&self) -> SlowSyncs
+    /// How long syncs of the state on the disk took, as far as that was seen.
+    pub fn syncs(&self) -> SyncTimes
         ensures { result ≡ self.now.syncs }
     {
         self.syncs

@@ -15,7 +15,7 @@ use crate::renewal::is_renewal_due;
 use crate::store::Store;
 use crate::trail::{Done, Trail};
 use gateway::{Action, Gateway, LAST_MOMENT, Next};
-use live::{EndsSight, SlowSyncs, Timed, Watched};
+use live::{EndsSight, SyncTimes, Timed, Watched};
 use segments::row_with_room;
 use std::alloc::{AllocError, Global};
 use std::io::ErrorKind;
@@ -30,8 +30,8 @@ pub struct Pair<P: Watched + Timed + Drop, S: Store + Drop> {
     store: S,
     /// The line of an event, while that is appended.
     page: Page,
-    /// Which syncs of the store were slow.
-    syncs: SlowSyncs,
+    /// How long syncs of the store took.
+    syncs: SyncTimes,
     trail: Trail,
 }
 
@@ -67,7 +67,7 @@ impl<P: Watched + Timed + Drop, S: Store + Drop> Pair<P, S> {
             port,
             store,
             page: Page::holding(row_with_room(alloc, ROW)),
-            syncs: SlowSyncs::none(),
+            syncs: SyncTimes::none(),
             trail: Trail::new(),
         }
     }
@@ -234,7 +234,7 @@ impl<P: Watched + Timed + Drop, S: Store + Drop> Ends for Pair<P, S> {
         self.port.failures()
     }
 
-    /// The slow syncs are the store's: its port has none.
+    /// The syncs are the store's: its port has none.
     fn sight(&self) -> EndsSight {
         EndsSight {
             syncs: self.syncs,

@@ -103,7 +103,8 @@ json_before_hour s = joined (parts_before_hour s)
 abbrev pub json_before_stations : Snapshot → List ℕ
 json_before_stations s = joined (
     codes "]},\"state\":\"" ∷ keeping_text s.keeping
-    ∷ codes "\",\"slow_syncs\":{\"count\":" ∷ decimal s.syncs.count
+    ∷ codes "\",\"latest_sync_ms\":" ∷ decimal s.syncs.latest_ms
+    ∷ codes ",\"slow_syncs\":{\"count\":" ∷ decimal s.syncs.count
     ∷ codes ",\"last_ms\":" ∷ decimal s.syncs.last_ms
     ∷ codes ",\"longest_ms\":" ∷ decimal s.syncs.longest_ms ∷ codes "},\"stations\":[" ∷ [])
 

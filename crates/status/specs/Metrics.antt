@@ -101,6 +101,9 @@ keeping_parts s =
     ∷ gauge_text (codes "telegate_state_lost")
     (codes "Whether the state is to be kept on the disk and can not be.")
     (if cannot_keep s.keeping then codes "1" else codes "0")
+    ∷ gauge_text (codes "telegate_latest_sync_seconds")
+    (codes "How long the latest sync of the state took, 0 before the first.")
+    (thousandths s.syncs.latest_ms)
     ∷ gauge_text (codes "telegate_longest_sync_seconds")
     (codes "How long the longest slow sync of the state took.") (thousandths s.syncs.longest_ms)
     ∷ []

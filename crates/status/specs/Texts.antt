@@ -3,7 +3,7 @@ use Rattle.std.specs.Prelude.{ℕ, ◌-◌, ◌/◌, ◌==◌, nat_lt, Bool, not
 use Rattle.std.specs.Prelude.{Option, Some, None, codes, if◌then◌else◌, unwrap_or}
 use Rattle.std.specs.Option.{is_some}
 use Rattle.std.specs.Fmt.{decimal}
-use Rattle.live.specs.declared.syncs.SlowSyncs.{SlowSyncs}
+use Rattle.live.specs.declared.syncs.SyncTimes.{SyncTimes}
 use Rattle.status.specs.Words.{escaped, escaped_behind, joined, right}
 use Rattle.status.specs.Judge.{cannot_keep, has_gone, is_awaited, is_full, is_off, is_up}
 use Rattle.status.specs.Judge.{judgement_of, keeps}
@@ -66,7 +66,7 @@ line_text marks s = joined (
     ∷ codes " for " ∷ [])
 
 -- which syncs of the state were slow, behind this, if any was
-abbrev pub syncs_text : (before : List ℕ) → SlowSyncs → List ℕ
+abbrev pub syncs_text : (before : List ℕ) → SyncTimes → List ℕ
 syncs_text before s =
     if s.count == 0 then [] else joined (
     before ∷ decimal s.count ∷ codes ", the last " ∷ decimal s.last_ms

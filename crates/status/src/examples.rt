@@ -50,11 +50,12 @@ pub fn pages_by_example()
     ensures state { (s : Snapshot) →
         json_before_stations (record s {
           keeping = NotKept;
-          syncs = record { count = 1; last_ms = 2; longest_ms = 3 };
+          syncs = record { latest_ms = 4; count = 1; last_ms = 2; longest_ms = 3 };
         })
-        ≡ codes "]},\"state\":\"not kept\",\"slow_syncs\":{\"count\":1,\"last_ms\":2,"
-        ++ codes "\"longest_ms\":3},\"stations\":[" }
+        ≡ codes "]},\"state\":\"not kept\",\"latest_sync_ms\":4,\"slow_syncs\":{\"count\":1,"
+        ++ codes "\"last_ms\":2,\"longest_ms\":3},\"stations\":[" }
     ensures syncs { syncs_text (codes "slow syncs: ") (record {
+      latest_ms = 4;
       count = 1;
       last_ms = 2;
       longest_ms = 3;

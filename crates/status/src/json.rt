@@ -224,7 +224,9 @@ fn put_before_stations(page: &mut TextPage, snapshot: &Snapshot<'_>)
         &[
             Word::Text("]},\"state\":\""),
             Word::Keeps(snapshot.keeping),
-            Word::Text("\",\"slow_syncs\":{\"count\":"),
+            Word::Text("\",\"latest_sync_ms\":"),
+            Word::Number(snapshot.syncs.latest_ms),
+            Word::Text(",\"slow_syncs\":{\"count\":"),
             Word::Number(snapshot.syncs.count),
             Word::Text(",\"last_ms\":"),
             Word::Number(snapshot.syncs.last_ms),

@@ -235,6 +235,11 @@ fn put_keeping(page: &mut TextPage, snapshot: &Snapshot<'_>)
             value: Word::Either(cannot_keep(snapshot.keeping), "1", "0"),
         },
         Gauge {
+            name: "telegate_latest_sync_seconds",
+            help: "How long the latest sync of the state took, 0 before the first.",
+            value: Word::Thousandths(snapshot.syncs.latest_ms),
+        },
+        Gauge {
             name: "telegate_longest_sync_seconds",
             help: "How long the longest slow sync of the state took.",
             value: Word::Thousandths(snapshot.syncs.longest_ms),

@@ -1,7 +1,7 @@
 //! What a page shows: plain data that the caller fills in and lends.
 
 use arrayvec::ArrayString;
-use live::SlowSyncs;
+use live::SyncTimes;
 use runlog::{RequestCounts, Severity, Subject};
 
 /// How a station stands.
@@ -144,8 +144,8 @@ pub struct Snapshot<'a> {
     pub keeping: Keeping,
     /// Why the state can't be kept, if that is known.
     pub lost_by: Option<&'static str>,
-    /// Which syncs of the state on the disk were slow since this process began.
-    pub syncs: SlowSyncs,
+    /// How long syncs of the state on the disk took since this process began.
+    pub syncs: SyncTimes,
     pub stations: &'a [StationView<'a>],
     /// The latest lines of the log, the newest first.
     pub latest: &'a [EventView],

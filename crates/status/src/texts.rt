@@ -9,7 +9,7 @@ use crate::judging::{cannot_keep, has_gone, is_awaited, is_full, is_off, is_up, 
 use crate::page::TextPage;
 use crate::snapshot::{Queue, Snapshot, StationView};
 use crate::words::{Marks, Word, put_words};
-use live::SlowSyncs;
+use live::SyncTimes;
 
 /// How many stations are up.
 pub(crate) fn count_up(stations: &[StationView<'_>]) -> u64
@@ -98,7 +98,7 @@ pub(crate) fn put_line(page: &mut TextPage, marks: Marks, snapshot: &Snapshot<'_
 }
 
 /// Puts which syncs of the state were slow, behind this, if any was.
-pub(crate) fn put_syncs(page: &mut TextPage, before: &str, syncs: &SlowSyncs)
+pub(crate) fn put_syncs(page: &mut TextPage, before: &str, syncs: &SyncTimes)
     ensures { page.new ≡ put (spec.syncs_text before.now syncs.now) page.old }
 {
     if syncs.count == 0 {
