@@ -475,12 +475,12 @@ def refused(count, program, folder):
         judge("stations taken.toml one.script", f"line tcp:{here}: {in_use}", "device failed")
         judge("stations host.toml one.script", f"line tcp:{nobody}: {LOOKED_UP}", "device failed")
         judge("stations path.toml one.script", f"line unix:nowhere/line: {absent}", "device failed")
-        judge(f"centre {shut} interrogate", f"gateway {shut}: {closed}", f"no answer from {shut}")
-        judge(f"centre {nobody} interrogate", f"gateway {nobody}: {LOOKED_UP}", f"no answer from {nobody}")
-        judge(f"status {shut}", f"status {shut}: {closed}", f"no answer from {shut}")
-        judge(f"status {nobody}", f"status {nobody}: {LOOKED_UP}", f"no answer from {nobody}")
+        judge(f"centre {shut} interrogate", f"gateway {shut}: {closed}", f"no reply from {shut}")
+        judge(f"centre {nobody} interrogate", f"gateway {nobody}: {LOOKED_UP}", f"no reply from {nobody}")
+        judge(f"status {shut}", f"status {shut}: {closed}", f"no reply from {shut}")
+        judge(f"status {nobody}", f"status {nobody}: {LOOKED_UP}", f"no reply from {nobody}")
         # It takes connections, and answers nothing.
-        judge(f"status {here}", f"status {here}: timed out", f"no answer from {here}")
+        judge(f"status {here}", f"status {here}: timed out", f"no reply from {here}")
         # A log says so, too.
         moment = r"\S+Z 0 "
         judge("run --log taken.toml", f"listener {here}: {in_use}", f"{moment}port in use\ndevice failed")
