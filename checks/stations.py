@@ -462,23 +462,24 @@ WRONG = [
     ("turns 1\nat 10 reset 1\n", 2),
     # `turns` may be missing, but it stands once.
     ("turns 1\nturns 2\n", 2),
-    # The first wrong line of either kind.
-    (f"turns 1\nat 9 {REPORT}\ncut x\n", 2),
-    (f"turns 1\ncut x\nat 9 {REPORT}\n", 2),
+    # Wrong lines of either kind.
+    (f"turns 1\nat 9 {REPORT}\ncut x\n", 2, 3),
+    (f"turns 1\ncut x\nat 9 {REPORT}\n", 2, 3),
     ("turns 1\n" + f"at 10 {REPORT}\n" * 1001, 1002),
 ]
 
 
 def wrong_lines(count, program, folder):
-    for number, (script, line) in enumerate(WRONG, 1):
+    for number, (script, *lines) in enumerate(WRONG, 1):
         with Played(program, folder, f"tcp:127.0.0.1:{ends.free_port()}", script) as played:
             out, err = played.process.communicate(timeout=ends.PATIENCE)
             told, last = err.splitlines()[:-1], err.splitlines(True)[-1]
-            wanted = (b"", b"script: line %d\n" % line, 1)
+            wanted = (b"", b"script: line %d\n" % lines[0], 1)
             count.compare(f"wrong script {number}", (out, last, played.process.returncode), wanted)
-            # Before that it says where the line is wrong, and why.
-            place = b"one.script:%d:" % line
-            count.judge(f"wrong script {number}: why", len(told) == 1 and place in told[0], err)
+            # Before that it says where each wrong line is, and why.
+            places = [b"one.script:%d:" % line for line in lines]
+            are_told = len(told) == len(places) and all(map(bytes.__contains__, told, places))
+            count.judge(f"wrong script {number}: why", are_told, err)
     # The edges of the ranges, comments between them, and 1,000 lines are right.
     own = f"at 10 {REPORT}\nevery 86400000 {REPORT}\nconfirm 2\nrefuse 1\ndelay answer 0 10\ndelay answer 1 86400000\n"
     right = f"# at 1\n{own}lose answer 1\nspoil answer 1 1\n" + f"at 10 {REPORT}\n" * 993 + "at 86400000 restart 2"
