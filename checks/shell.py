@@ -257,7 +257,7 @@ ROWS = [
     ("run --state kept good.toml", "", "config: live.line\n", 1),
     ("run nowhere --state kept", "", unread("nowhere"), 3),
     ("run --state kept no-line.toml", "", NO_LINE, 3),
-    ("run --state empty no-line.toml", "", "error: state empty: entity already exists\nstate: can't be kept there: entity already exists\n", 3),
+    ("run --state empty no-line.toml", "", "error: state empty: not a directory\nstate: can't be kept there: not a directory\n", 3),
     ("run --state-or-stop nowhere", "", "error: --state-or-stop needs --state with a directory\n", 2),
     ("run --state-or-stop good.toml --state kept", "", "config: live.line\n", 1),
     # The file of a site is read and judged before the settings are read; what words say wins.
