@@ -558,7 +558,12 @@ def waits(count, program, folder, stations, pieces, report):
         page = re.search(r"<th>queue</th><td>(.*?) <meter", get(run.status, "/").body.decode())[1]
         return page, metrics_of(get(run.status, "/metrics").body.decode())["telegate_queue_oldest_seconds"]
 
-    with Run(program, folder, stations) as run, socket.create_connection(run.listener, timeout=ends.PATIENCE) as stream:
+    def connected(run):
+        # A run listens for visitors before it listens for control centres.
+        run.waits(lambda s: standing(s, 1)["standing"] == "up")
+        return socket.create_connection(run.listener, timeout=ends.PATIENCE)
+
+    with Run(program, folder, stations) as run, connected(run) as stream:
         centre = ends.Centre(stream)
         count.judge("station 1 comes up", run.waits(lambda s: standing(s, 1)["standing"] == "up"), run.json())
         count.judge("no report waits", run.json()["queue"]["oldest_ms"] is None, run.json()["queue"])
